@@ -1,0 +1,5 @@
+pub mod ModifiedUtf8
+pub mod Names
+pub mod Pool
+pub mod Spelling
+pub mod PlainClassFile

@@ -1,0 +1,22 @@
+//! Class files as values: texts, names, the constant pool and the class file itself
+//! (JVM Specification SE 8, chapter 4), below every other crate of the optimiser.
+#![tactic(auto)]
+
+mod class_file;
+mod fault;
+mod list;
+mod memory;
+mod names;
+mod pool;
+mod text;
+
+pub use class_file::ClassFile;
+pub use fault::ClassFault;
+pub use list::{ByteList, ListOf};
+pub use memory::NoMemory;
+pub use names::{BadName, parse_class_name};
+pub use pool::{Const, Pool};
+pub use text::{Text, TextFault};
+
+#[cfg(test)]
+mod tests;

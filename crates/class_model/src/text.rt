@@ -1,0 +1,135 @@
+//! Texts of the constant pool.
+ghost use Rattle.std.specs.Prelude.{◌≡◌, ◌↔◌, ℕ, List, ◌++◌, ◌==◌, OnOk, IfOk, IfSome, IfNone, IsTrue};
+ghost use Rattle.std.specs.Result.{IsErrOf};
+ghost use Rattle.std.specs.Hash as fed;
+ghost use Rattle.std.specs.Cmp.Rules.{comparing, hashing};
+ghost use Rattle.std.specs.Cmp.Lexicographic.{pointwise};
+ghost use Rattle.std.proofs.Common.{rules};
+ghost use Rattle.class_model.specs.ModifiedUtf8.{IsText, IsModifiedUtf8, IsCodeUnit, unit_bytes};
+ghost use Rattle.class_model.specs.declared.text.TextFault.TheVariants.{NoMemory as no_memory};
+
+use std::alloc::{AllocError, Global};
+use std::hash::{Hash, Hasher};
+use std::marker::Model;
+use std::rc::RcSlice;
+
+use crate::memory::NoMemory;
+
+/// A text of at most 65,535 bytes in modified UTF-8 (JVM Specification SE 8, 4.4.7). Contracts see
+/// the list of its bytes. The bytes are shared: a copy copies none of them.
+#[derive(Debug, Drop)]
+pub struct Text {
+    bytes: RcSlice<u8>,
+}
+
+impl PartialEq for Text {
+    ghost eq = { pointwise ◌==◌ };
+
+    ghost laws = { Prim.search (comparing, rules) };
+
+    fn eq(&self, other: &Self) -> bool {
+        self.bytes() == other.bytes()
+    }
+}
+
+impl Eq for Text {
+    ghost laws = { Prim.search (comparing, rules) };
+}
+
+impl Hash for Text {
+    ghost hash_input = { fed.slice fed.u8 };
+
+    ghost respects_eq = { Prim.search (hashing, rules) };
+
+    fn hash<H: Hasher>(&self, state: &mut H) {
+        self.bytes().hash(state);
+    }
+}
+
+/// Why bytes are no text.
+#[derive(Clone, Copy, Debug, PartialEq, Eq)]
+pub enum TextFault {
+    /// They are not modified UTF-8, or are more than 65,535.
+    BadText,
+    /// Memory ran out.
+    NoMemory,
+}
+
+impl From<AllocError> for TextFault {
+    ghost from_gives = { λ _ fault. fault ≡ no_memory };
+
+    fn from(_: AllocError) -> Self {
+        TextFault::NoMemory
+    }
+}
+
+impl Model for Text {
+    ghost use Rattle.std.specs.Prelude.{ℕ, List};
+    ghost use Rattle.std.specs.Rc.{rc_slice_items};
+    ghost use Rattle.class_model.specs.ModifiedUtf8.{IsText, IsModifiedUtf8, IsCodeUnit, unit_bytes};
+
+    ghost Value = { List ℕ };
+
+    ghost view = { λ text. rc_slice_items text.bytes };
+
+    ghost invariant = { λ text. IsText (rc_slice_items text.bytes) };
+}
+
+impl Text {
+    /// The text of these bytes, which it copies.
+    pub fn of_bytes(alloc: Global, bytes: &[u8]) -> Result<Text, TextFault>
+        ensures same { IfOk result (λ text. text ≡ bytes.now) }
+        ensures text { OnOk result (IsText bytes.now) }
+        ensures bad_text { IsErrOf result TextFault.BadText → ¬ IsText bytes.now }
+    {
+        if bytes.len() > MAX_LEN || !is_modified_utf8(bytes) {
+            return Err(TextFault::BadText);
+        }
+        let bytes = RcSlice::from_slice(alloc, bytes)?;
+        Ok(Text { bytes })
+    }
+
+    /// The bytes of the text.
+    pub fn bytes(&self) -> &[u8]
+        ensures same { result.now ≡ self.now }
+        ensures text { IsText self.now }
+    {
+        self.bytes.as_slice()
+    }
+
+    /// An equal text, which shares the bytes.
+    pub fn copy(&self) -> Result<Text, NoMemory>
+        ensures { IfOk result (λ copy. copy ≡ self.now) }
+    {
+        let bytes = self.bytes.clone()?;
+        Ok(Text { bytes })
+    }
+}
+
+const MAX_LEN: usize = 65_535;
+
+// Whether the bytes are modified UTF-8.
+fn is_modified_utf8(bytes: &[u8]) -> bool
+    ensures { IsTrue result ↔ IsModifiedUtf8 bytes.now }
+{
+    let mut rest = bytes;
+    while let Some(after) = after_unit(rest) {
+        rest = after;
+    }
+    rest.is_empty()
+}
+
+// The bytes after the first code unit, if one is spelled there.
+fn after_unit(bytes: &[u8]) -> Option<&[u8]>
+    ensures some { IfSome result (λ rest. (unit : ℕ) × IsCodeUnit unit × (bytes.now ≡ unit_bytes unit ++ rest.now)) }
+    ensures none { IfNone result ((unit : ℕ) (rest : List ℕ) → IsCodeUnit unit → bytes.now ≡ unit_bytes unit ++ rest → ⊥) }
+{
+    match bytes {
+        [0x01..=0x7F, rest @ ..]
+        | [0xC0, 0x80, rest @ ..]
+        | [0xC2..=0xDF, 0x80..=0xBF, rest @ ..]
+        | [0xE0, 0xA0..=0xBF, 0x80..=0xBF, rest @ ..]
+        | [0xE1..=0xEF, 0x80..=0xBF, 0x80..=0xBF, rest @ ..] => Some(rest),
+        _ => None,
+    }
+}
