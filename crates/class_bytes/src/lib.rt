@@ -1,0 +1,15 @@
+//! Class files read from bytes and written to bytes (JVM Specification SE 8, chapter 4).
+#![tactic(auto)]
+
+mod items;
+mod laws;
+mod pool;
+mod reading;
+mod writing;
+
+pub use laws::spelling_has_one_value;
+pub use reading::read_class;
+pub use writing::write_class;
+
+#[cfg(test)]
+mod tests;
