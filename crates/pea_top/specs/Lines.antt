@@ -1,0 +1,37 @@
+-- The printed lines.
+use Rattle.std.specs.Prelude.{ℕ, ◌+◌, ◌/◌, ◌%◌, ◌&&◌, nat_le, nat_lt, ◌==◌, not, List, [], ◌∷◌, ◌++◌, codes, decimal, if◌then◌else◌}
+use Rattle.std.specs.List.{flat_map}
+use Rattle.host_tree.specs.Host.{Bytes}
+use Rattle.pea_top.specs.declared.status.Status.{Status}
+use Rattle.pea_top.specs.declared.status.Status.TheVariants.{Done, Usage, HostFault, NoMemory, NotYet}
+
+-- a hexadecimal digit in lower case
+abbrev pub hex_digit : ℕ → ℕ
+hex_digit digit = if nat_lt digit 10 then 48 + digit else 87 + digit
+
+-- a visible ASCII byte other than % stands for itself, and every other byte is % and two digits
+abbrev pub printed_byte : ℕ → List ℕ
+printed_byte byte = if nat_le 0x21 byte && nat_le byte 0x7E && not (byte == 0x25) then byte ∷ [] else 0x25 ∷ hex_digit (byte / 16) ∷ hex_digit (byte % 16) ∷ []
+
+-- The empty text prints as a dash, and so the text of a dash does not.
+abbrev pub printed_text : Bytes → Bytes
+printed_text [] = codes "-"
+printed_text (byte ∷ []) = if byte == 45 then codes "%2d" else printed_byte byte
+printed_text (first ∷ second ∷ rest) = flat_map printed_byte (first ∷ second ∷ rest)
+
+-- a line ends with a line feed
+abbrev pub line : Bytes → Bytes
+line text = text ++ 10 ∷ []
+
+-- what a command that was done prints: how many files were written, and how many of them are class
+-- files. These have no methods, so none was rewritten or kept.
+unfoldable pub summary_line : ℕ → ℕ → Bytes
+summary_line files classes = line (codes "done files=" ++ decimal files ++ codes " classes=" ++ decimal classes ++ codes " rewritten=0 kept=0")
+
+-- what is printed of a refusal; the other statuses print none
+unfoldable pub refusal_line : Status → Bytes
+refusal_line Usage = line (codes "refused 1 Usage")
+refusal_line (NotYet name) = line (codes "refused 10 NotYet " ++ printed_text name)
+refusal_line Done = []
+refusal_line (HostFault call) = []
+refusal_line NoMemory = []

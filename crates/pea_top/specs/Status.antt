@@ -1,0 +1,11 @@
+-- The exit status of the process for each outcome.
+use Rattle.std.specs.Prelude.{ℕ}
+use Rattle.pea_top.specs.declared.status.Status.{Status}
+use Rattle.pea_top.specs.declared.status.Status.TheVariants.{Done, Usage, HostFault, NoMemory, NotYet}
+
+abbrev pub code_of : Status → ℕ
+code_of Done = 0
+code_of Usage = 1
+code_of (HostFault call) = 6
+code_of NoMemory = 9
+code_of (NotYet name) = 10
