@@ -4,3 +4,6 @@ pub mod Folders
 pub mod Lines
 pub mod Answer
 pub mod Effects
+pub mod Reading
+pub mod Writing
+pub mod CommandView

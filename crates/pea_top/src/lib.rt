@@ -2,6 +2,14 @@
 #![tactic(auto)]
 
 mod folder;
+mod laws;
+mod lines;
+mod reading;
 mod status;
+mod top;
+mod words;
+mod writing;
 
+pub use laws::words_spell_one_command;
 pub use status::Status;
+pub use top::pea;
