@@ -1,0 +1,19 @@
+# Proves, builds, runs and tests the optimiser. All that is needed is the Rattle kit (the command rt).
+
+sources := $(shell find crates -name out -prune -o -type f -print) crates.txt
+
+.PHONY: all run test bench
+
+all: bin/pea
+
+bin/pea: $(sources)
+	bash scripts/build.sh
+
+run: bin/pea
+	bash scripts/run-example.sh
+
+test:
+	bash .ci/run
+
+bench: bin/pea
+	bash bench/copy.sh

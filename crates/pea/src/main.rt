@@ -1,0 +1,28 @@
+//! The program `pea`: its words, the real host, and the exit status.
+#![tactic(auto)]
+
+use std::env;
+use std::io::ErrorKind;
+use std::process::ExitCode;
+
+use class_model::NoMemory;
+use host_tree::RealHost;
+use pea_top::{Status, pea};
+
+// The words after the program's name. Words that cannot be had as text make no command, and so none
+// are passed on.
+fn words_of(rt: &HostRuntime) -> Result<Vec<String>, NoMemory> {
+    match env::args(rt) {
+        Ok(args) => Ok(args.skip(1).collect(rt.alloc())?),
+        Err(error) if error.kind() == ErrorKind::OutOfMemory => Err(NoMemory),
+        Err(_) => Ok(Vec::new(rt.alloc())),
+    }
+}
+
+fn main(rt: HostRuntime) -> ExitCode {
+    let status = match words_of(&rt) {
+        Ok(words) => pea(rt.alloc(), &words, &mut RealHost::new(rt)),
+        Err(NoMemory) => Status::NoMemory,
+    };
+    ExitCode::from(status.code())
+}
