@@ -7,3 +7,6 @@ pub mod Effects
 pub mod Reading
 pub mod Writing
 pub mod CommandView
+pub mod CommandEffects
+pub mod ReadingSteps
+pub mod Seen

@@ -1,13 +1,22 @@
 //! The top call.
-ghost use Rattle.std.specs.Prelude.{◌≡◌, ◌⊎◌, map, string_bytes, IsTrue};
+ghost use Rattle.std.specs.Prelude.{◌≡◌, ◌⊎◌, List, ◌++◌, map, string_bytes, IsTrue};
 ghost use Rattle.host_tree.specs.declared.call.HostCall.{HostCall};
-ghost use Rattle.host_tree.specs.Counts.{NeverFalls, Rose};
-ghost use Rattle.pea_top.specs.Words.{IsUsage};
+ghost use Rattle.host_tree.specs.Host.{SameFiles, IsPrefixPrinted};
+ghost use Rattle.host_tree.specs.Counts.{NeverFalls, Rose, CountsOnly};
+ghost use Rattle.pea_top.specs.Words.{Word, Spells, IsUsage};
+ghost use Rattle.pea_top.specs.CommandView.{command_view};
+ghost use Rattle.pea_top.specs.Lines.{refusal_line};
 ghost use Rattle.pea_top.specs.Answer.{HasCause};
-ghost use Rattle.pea_top.specs.Effects.{LeavesFiles, LeavesPrinted};
+ghost use Rattle.pea_top.specs.Effects.{LeavesFiles, LeavesPrinted, PrintsRefusal};
+ghost use Rattle.pea_top.specs.CommandEffects.{class_count, LeavesWritten, PrintsWritten};
 
+use crate::folder::{NamedFile, is_class_file};
+use crate::lines::{refusal, summary};
+use crate::reading::{ReadStop, read_folder};
 use crate::status::Status;
-use host_tree::Host;
+use crate::words::{Command, command_of};
+use crate::writing::write_files;
+use host_tree::{Host, HostCall, HostFail};
 use std::alloc::Global;
 
 /// Does what the words behind the program's name ask for, on a host.
@@ -32,5 +41,92 @@ pub fn pea<H: Host>(alloc: Global, words: &[String], host: &mut H) -> Status
     ensures printed { IsTrue H.tells → LeavesPrinted (map string_bytes words.now) (H.file host.old)
         (Rose (H.faults host.old HostCall.Print) (H.faults host.new HostCall.Print)) (H.printed host.old) (H.printed host.new) result }
 {
-    Status::NoMemory
+    match command_of(words) {
+        Some(command) => optimise(alloc, command, host),
+        None => refuse(alloc, host, Status::Usage),
+    }
+}
+
+/// Reads the input of a command whole, and only then writes the output.
+fn optimise<H: Host>(alloc: Global, command: Command<'_>, host: &mut H) -> Status
+    ensures not_usage { ¬ (result ≡ Status.Usage) }
+    ensures fault { (call : HostCall) → result ≡ Status.HostFault call → Rose (H.faults host.old call) (H.faults host.new call) }
+    ensures counts { (call : HostCall) → NeverFalls (H.faults host.old call) (H.faults host.new call) }
+    ensures cause { (words : List Word) → Spells (command_view command.entry) words → IsTrue H.tells → HasCause words (H.file host.old) result }
+    ensures files { (words : List Word) → Spells (command_view command.entry) words → IsTrue H.tells → LeavesFiles words (H.file host.old) (H.file host.new) result }
+    ensures printed { (words : List Word) → Spells (command_view command.entry) words → IsTrue H.tells → LeavesPrinted words (H.file host.old)
+        (Rose (H.faults host.old HostCall.Print) (H.faults host.new HostCall.Print)) (H.printed host.old) (H.printed host.new) result }
+{
+    match read_folder(alloc, host, command.input) {
+        Ok(files) => write_out(alloc, host, command.output, files.as_slice()),
+        Err(ReadStop::Fault(call)) => Status::HostFault(call),
+        Err(ReadStop::NoMemory) => Status::NoMemory,
+        Err(ReadStop::NotYet(name)) => refuse(alloc, host, Status::NotYet { name }),
+    }
+}
+
+/// Writes the files under a root and prints their summary. All memory of its own is taken before the
+/// first write.
+fn write_out<H: Host>(alloc: Global, host: &mut H, root: &str, files: &[NamedFile]) -> Status
+    ensures not_usage { ¬ (result ≡ Status.Usage) }
+    ensures fault { (call : HostCall) → result ≡ Status.HostFault call → Rose (H.faults host.old call) (H.faults host.new call) }
+    ensures counts { (call : HostCall) → NeverFalls (H.faults host.old call) (H.faults host.new call) }
+    ensures files { IsTrue H.tells → LeavesWritten root.now files.now (H.file host.old) (H.file host.new) result }
+    ensures printed { IsTrue H.tells → PrintsWritten files.now (H.printed host.old) (H.printed host.new) result }
+{
+    let Ok(line) = summary(alloc, files.len(), class_files(files)) else {
+        return Status::NoMemory;
+    };
+    match write_files(alloc, host, root, files) {
+        Ok(()) => finish(alloc, host, line.as_slice()),
+        Err(HostFail::Failed) => Status::HostFault(HostCall::Write),
+        Err(HostFail::NoMemory) => Status::NoMemory,
+        Err(HostFail::Absent) => unreachable!(),
+    }
+}
+
+/// How many of the files are class files.
+fn class_files(files: &[NamedFile]) -> usize
+    ensures { result ≡ class_count files.now }
+{
+    files
+        .iter()
+        .filter(|file| is_class_file(&file.name))
+        .count()
+}
+
+/// Prints the last line of a command that was done.
+fn finish<H: Host>(alloc: Global, host: &mut H, line: &[u8]) -> Status
+    ensures answer { (result ≡ Status.Done) ⊎ ((result ≡ Status.HostFault HostCall.Print) ⊎ (result ≡ Status.NoMemory)) }
+    ensures failed { result ≡ Status.HostFault HostCall.Print → Rose (H.faults host.old HostCall.Print) (H.faults host.new HostCall.Print) }
+    ensures counts { CountsOnly HostCall.Print (H.faults host.old) (H.faults host.new) }
+    ensures files { IsTrue H.tells → SameFiles (H.file host.old) (H.file host.new) }
+    ensures all { IsTrue H.tells → result ≡ Status.Done → H.printed host.new ≡ H.printed host.old ++ line.now }
+    ensures prefix { IsTrue H.tells → IsPrefixPrinted line.now (H.printed host.old) (H.printed host.new) }
+{
+    match host.print(alloc, line) {
+        Ok(()) => Status::Done,
+        Err(HostFail::Failed) => Status::HostFault(HostCall::Print),
+        Err(HostFail::NoMemory) => Status::NoMemory,
+        Err(HostFail::Absent) => unreachable!(),
+    }
+}
+
+/// Prints the line of a refusal. The status stays where the print fails.
+fn refuse<H: Host>(alloc: Global, host: &mut H, status: Status) -> Status
+    ensures answer { (result ≡ status) ⊎ (result ≡ Status.NoMemory) }
+    ensures counts { CountsOnly HostCall.Print (H.faults host.old) (H.faults host.new) }
+    ensures files { IsTrue H.tells → SameFiles (H.file host.old) (H.file host.new) }
+    ensures printed { IsTrue H.tells → result ≡ status → PrintsRefusal status
+        (Rose (H.faults host.old HostCall.Print) (H.faults host.new HostCall.Print)) (H.printed host.old) (H.printed host.new) }
+    ensures prefix { IsTrue H.tells → IsPrefixPrinted (refusal_line status) (H.printed host.old) (H.printed host.new) }
+{
+    let Ok(line) = refusal(alloc, &status) else {
+        return Status::NoMemory;
+    };
+    match host.print(alloc, line.as_slice()) {
+        Ok(()) | Err(HostFail::Failed) => status,
+        Err(HostFail::NoMemory) => Status::NoMemory,
+        Err(HostFail::Absent) => unreachable!(),
+    }
 }

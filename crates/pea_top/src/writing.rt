@@ -22,5 +22,8 @@ pub(crate) fn write_files<H: Host>(
     ensures failed { IsErrOf result HostFail.Failed → Rose (H.faults host.old HostCall.Write) (H.faults host.new HostCall.Write) }
     ensures not_absent { ¬ IsErrOf result HostFail.Absent }
 {
-    Err(HostFail::NoMemory)
+    for file in files {
+        host.write(alloc, root, file.name.as_str(), file.bytes.as_slice())?;
+    }
+    Ok(())
 }

@@ -1,0 +1,134 @@
+-- The files of a folder, put in their order under another root.
+use Rattle.std.proofs.Common.{◌≡◌, ◌≢◌, ℕ, zero, suc, ◌+◌, ◌<◌, Bool, true, false, List, [], ◌∷◌, ◌++◌, map, cond, bytes_eq, Option, Some, None, Decides, refl, sym, ap, ◌∙◌, subst, arith}
+use Rattle.std.specs.Cmp.Lexicographic.{slice_cmp}
+use Rattle.std.specs.List.{AllByRecursion}
+use Rattle.std.specs.List.Sorted.{IsSorted}
+use Rattle.std.specs.Option.{is_some}
+use Rattle.std.specs.Ordering.{nat_cmp}
+use Rattle.std.proofs.lemmas.Bool.{cond-false, false_from_ne_true}
+use Rattle.std.proofs.lemmas.List.{map-append}
+use Rattle.std.proofs.lemmas.List.Sums.{sum_by-append}
+use Rattle.std.proofs.lemmas.Slice.Eq.{bytes_eq-Decides}
+use Rattle.host_tree.specs.Host.{Bytes, Folder, Files, times}
+use Rattle.pea_top.specs.declared.folder.NamedFile.{NamedFile}
+use Rattle.pea_top.specs.Effects.{IsCopied, IsPartlyCopied}
+use Rattle.pea_top.specs.Folders.{AreFiles, IsBefore}
+use Rattle.pea_top.specs.Words.{Command}
+use Rattle.pea_top.specs.Writing.{content_after, Puts, PutsSome}
+use Rattle.pea_top.proofs.NamesInOrder.{times-cons, IsBefore-other, later_not_before, earlier_not_after}
+
+abbrev names_of : List NamedFile → List Bytes
+names_of files = map (λ file. file.name) files
+
+abbrev AreContents : Folder → List NamedFile → Type 0
+AreContents folder files = AllByRecursion (λ file. folder file.name ≡ Some file.bytes) files
+
+absent_step : (same : Bool) (file : NamedFile) (files : List NamedFile) (name : Bytes) (old : Option Bytes) → cond same 1 0 + times name (names_of files) ≡ 0
+    → ((before : Option Bytes) → times name (names_of files) ≡ 0 → content_after files name before ≡ before) → content_after files name (cond same (Some file.bytes) old) ≡ old
+absent_step true file files name old none rest = absurd (omega arith)
+absent_step false file files name old none rest = rest old (omega arith)
+
+-- a name that no file has keeps what it had
+content_after-absent : (files : List NamedFile) (name : Bytes) (old : Option Bytes) → times name (names_of files) ≡ 0 → content_after files name old ≡ old
+content_after-absent [] name old none = refl
+content_after-absent (file ∷ files) name old none =
+    absent_step (bytes_eq name file.name) file files name old (sym (times-cons name file.name (names_of files)) ∙ none) (content_after-absent files name)
+
+-- by whether the file has the name
+put_step : (folder : Folder) (same : Bool) (file : NamedFile) (name : Bytes) (old : Option Bytes) → Decides same (name ≡ file.name) → folder file.name ≡ Some file.bytes
+    → old ≡ folder name → cond same (Some file.bytes) old ≡ folder name
+put_step folder true file name old is here before = sym here ∙ ap folder (sym (is.0 refl))
+put_step folder false file name old is here before = before
+
+-- where the folder's content stood already, it stands afterwards
+content_after-keeps : (folder : Folder) (files : List NamedFile) (name : Bytes) (old : Option Bytes) → AreContents folder files → old ≡ folder name → content_after files name old ≡ folder name
+content_after-keeps folder [] name old are before = before
+content_after-keeps folder (file ∷ files) name old are before =
+    content_after-keeps folder files name (cond (bytes_eq name file.name) (Some file.bytes) old) are.1 (put_step folder (bytes_eq name file.name) file name old (bytes_eq-Decides name file.name) are.0 before)
+
+here_step : (folder : Folder) (same : Bool) (file : NamedFile) (files : List NamedFile) (name : Bytes) (old : Option Bytes) → Decides same (name ≡ file.name) → folder file.name ≡ Some file.bytes
+    → AreContents folder files → 0 < cond same 1 0 + times name (names_of files) → (0 < times name (names_of files) → content_after files name old ≡ folder name)
+    → content_after files name (cond same (Some file.bytes) old) ≡ folder name
+here_step folder true file files name old is here are some rest = content_after-keeps folder files name (Some file.bytes) are (sym here ∙ ap folder (sym (is.0 refl)))
+here_step folder false file files name old is here are some rest = rest (omega arith)
+
+-- a name that some file has gets what the folder has under it
+content_after-here : (folder : Folder) (files : List NamedFile) (name : Bytes) (old : Option Bytes) → AreContents folder files → 0 < times name (names_of files) → content_after files name old ≡ folder name
+content_after-here folder [] name old are some = absurd (omega arith)
+content_after-here folder (file ∷ files) name old are some =
+    let counted : 0 < cond (bytes_eq name file.name) 1 0 + times name (names_of files) = omega (arith, times-cons name file.name (names_of files)) in
+    here_step folder (bytes_eq name file.name) file files name old (bytes_eq-Decides name file.name) are.0 are.1 counted (content_after-here folder files name old are.1)
+
+-- a name that the folder has stands among the names, and no other does
+times-some : (folder : Folder) (files : List NamedFile) (name bytes : Bytes) → AreFiles folder files → folder name ≡ Some bytes → times name (names_of files) ≡ 1
+times-some folder files name bytes are there = are.names.once name ∙ ap (λ o. cond (is_some o) 1 0) there
+
+times-none : (folder : Folder) (files : List NamedFile) (name : Bytes) → AreFiles folder files → folder name ≡ None → times name (names_of files) ≡ 0
+times-none folder files name are there = are.names.once name ∙ ap (λ o. cond (is_some o) 1 0) there
+
+-- all of the files of the input were put
+pub IsCopied-puts : (command : Command) (files : List NamedFile) (old new : Files) → AreFiles (old command.input) files → Puts command.output files old new → IsCopied command old new
+IsCopied-puts command files old new are puts = record {
+  put = λ name bytes there.
+      let once = times-some (old command.input) files name bytes are there in
+      puts.put name ∙ content_after-here (old command.input) files name (old command.output name) are.contents (omega (arith, once)) ∙ there;
+  kept = λ name none. puts.put name ∙ content_after-absent files name (old command.output name) (times-none (old command.input) files name are none);
+  others = puts.others;
+}
+
+contents_before : (folder : Folder) (done left : List NamedFile) → AreContents folder (done ++ left) → AreContents folder done
+contents_before folder [] left are = tt
+contents_before folder (file ∷ done) left are = (are.0, contents_before folder done left are.1)
+
+contents_after : (folder : Folder) (done left : List NamedFile) → AreContents folder (done ++ left) → AreContents folder left
+contents_after folder [] left are = are
+contents_after folder (file ∷ done) left are = contents_after folder done left are.1
+
+none_from : (n : ℕ) → ¬ (0 < n) → n ≡ 0
+none_from zero none = refl
+none_from (suc n) none = absurd (none (omega arith))
+
+-- the files around one whose write failed
+module _ (command : Command) (done : List NamedFile) (failing : NamedFile) (left : List NamedFile) (old new : Files) (are : AreFiles (old command.input) (done ++ failing ∷ left))
+    (put : (name : Bytes) → name ≢ failing.name → new command.output name ≡ content_after done name (old command.output name))
+    (others : (other name : Bytes) → other ≢ command.output → new other name ≡ old other name) where
+  names_parts : names_of (done ++ failing ∷ left) ≡ names_of done ++ failing.name ∷ names_of left
+  names_parts = map-append (λ file. file.name) done (failing ∷ left)
+
+  in_order : IsSorted (slice_cmp nat_cmp) (names_of done ++ failing.name ∷ names_of left)
+  in_order = subst (IsSorted (slice_cmp nat_cmp)) names_parts are.names.in_order
+
+  times_parts : (name : Bytes) → times name (names_of (done ++ failing ∷ left)) ≡ times name (names_of done) + (cond (bytes_eq name failing.name) 1 0 + times name (names_of left))
+  times_parts name = ap (times name) names_parts ∙ sum_by-append _ (names_of done) (failing.name ∷ names_of left) ∙ ap (λ n. times name (names_of done) + n) (times-cons name failing.name (names_of left))
+
+  there_failing : old command.input failing.name ≡ Some failing.bytes
+  there_failing = (contents_after (old command.input) done (failing ∷ left) are.contents).0
+
+  put_before : (name bytes : Bytes) → IsBefore name failing.name → old command.input name ≡ Some bytes → new command.output name ≡ Some bytes
+  put_before name bytes before there =
+      let other = IsBefore-other name failing.name before in
+      let apart : cond {A = ℕ} (bytes_eq name failing.name) 1 0 ≡ 0 = cond-false (bytes_eq name failing.name) 1 0 (false_from_ne_true (bytes_eq name failing.name) (λ e. other ((bytes_eq-Decides name failing.name).0 e))) in
+      let none_later = none_from (times name (names_of left)) (λ some. later_not_before (names_of done) failing.name (names_of left) in_order name some before) in
+      let once = times-some (old command.input) (done ++ failing ∷ left) name bytes are there in
+      let earlier : 0 < times name (names_of done) = omega (arith, times_parts name) in
+      put name other ∙ content_after-here (old command.input) done name (old command.output name) (contents_before (old command.input) done (failing ∷ left) are.contents) earlier ∙ there
+
+  kept_absent : (name : Bytes) → times name (names_of done) ≡ 0 → name ≢ failing.name → new command.output name ≡ old command.output name
+  kept_absent name none other = put name other ∙ content_after-absent done name (old command.output name) none
+
+  IsPartlyCopied-parts : IsPartlyCopied command old new
+  IsPartlyCopied-parts = record {
+    failing = failing.name;
+    is_input = ap is_some there_failing;
+    before = put_before;
+    after = λ name behind. kept_absent name (none_from _ (λ some. earlier_not_after (names_of done) failing.name (names_of left) in_order name some behind)) (λ same. IsBefore-other failing.name name behind (sym same));
+    kept = λ name none other.
+        let nowhere = times-none (old command.input) (done ++ failing ∷ left) name are none in
+        kept_absent name (omega (arith, times_parts name)) other;
+    others = others;
+  }
+
+-- some of the files of the input were put
+pub IsPartlyCopied-puts : (command : Command) (files : List NamedFile) (old new : Files) → AreFiles (old command.input) files → PutsSome command.output files old new → IsPartlyCopied command old new
+IsPartlyCopied-puts command files old new are puts =
+    IsPartlyCopied-parts command puts.done puts.failing puts.left old new (subst (AreFiles (old command.input)) puts.parts are) puts.put puts.others

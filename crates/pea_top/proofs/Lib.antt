@@ -1,0 +1,9 @@
+pub mod FaultCounts
+pub mod Puts
+pub mod NamesInOrder
+pub mod Copying
+pub mod Outcomes
+pub mod CallCounts
+pub mod FolderReads
+pub mod WordGrammar
+pub mod WordsSeen
