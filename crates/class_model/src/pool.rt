@@ -3,11 +3,10 @@ ghost use Rattle.std.specs.Prelude.{◌≡◌, ◌+◌, ◌<◌, ◌≤◌, [], 
 ghost use Rattle.std.specs.Option.{option_copied};
 ghost use Rattle.class_model.specs.Pool.{constant_at};
 
-use std::alloc::Global;
-use std::marker::Model;
-
 use crate::memory::NoMemory;
 use crate::text::Text;
+use std::alloc::Global;
+use std::marker::Model;
 
 /// A constant (JVM Specification SE 8, 4.4).
 #[derive(Debug, Drop)]
