@@ -60,10 +60,11 @@ impl Pool {
     pub fn get(&self, index: u16) -> Option<&Const>
         ensures { option_copied result ≡ constant_at self.now index }
     {
+        let entries = self.entries.as_slice();
         if index == 0 {
             return None;
         }
-        match self.entries.get(usize::from(index) - 1) {
+        match entries.get(usize::from(index) - 1) {
             Some(entry) => entry.as_ref(),
             None => None,
         }
