@@ -77,10 +77,10 @@ three_spelled a b c s =
       | inl one ↦ absurd cc
       | inr (inl two) ↦ absurd cc
       | inr (inr three) ↦
-        let first : 0xE0 + s.0 / 0x1000 ≡ a = cc in
-        let second : 0x80 + s.0 / 0x40 % 0x40 ≡ b = cc in
-        let third : 0x80 + s.0 % 0x40 ≡ c = cc in
-        (omega arith, omega arith, omega arith, omega arith, λ e. omega arith)
+          let first : 0xE0 + s.0 / 0x1000 ≡ a = cc in
+          let second : 0x80 + s.0 / 0x40 % 0x40 ≡ b = cc in
+          let third : 0x80 + s.0 % 0x40 ≡ c = cc in
+          (omega arith, omega arith, omega arith, omega arith, λ e. omega arith)
     ]
 
 -- the bytes of a code unit are no front of those of another

@@ -7,9 +7,10 @@ use Rattle.class_model.proofs.text.is_modified_utf8.Goals as goal
 
 pub returns : goal.returns
 returns c =
-    let rest = c.loop-after.rest.now in
-    (λ t. c.loop-after.invariant.0 (subst IsModifiedUtf8 (sym (nil_from_length rest (eqb-true _ _ (sym c.is_empty.ensures ∙ t)))) utf8_none),
-     λ m. c.is_empty.ensures ∙ eq-eqb _ _ (ap length (nothing_follows rest (λ after f. c.in_default.ensures.none f.0 after f.1 f.2) (c.loop-after.invariant.1 m))))
+    let rest = c.loop-after.rest.now in (
+      λ t. c.loop-after.invariant.0 (subst IsModifiedUtf8 (sym (nil_from_length rest (eqb-true _ _ (sym c.is_empty.ensures ∙ t)))) utf8_none),
+      λ m. c.is_empty.ensures ∙ eq-eqb _ _ (ap length (nothing_follows rest (λ after f. c.in_default.ensures.none f.0 after f.1 f.2) (c.loop-after.invariant.1 m))),
+    )
 
 pub loop-after-preserved : goal.loop-after-preserved
 loop-after-preserved c =

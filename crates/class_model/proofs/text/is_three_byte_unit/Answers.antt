@@ -9,8 +9,8 @@ returns-then-is_continuation c =
     let third = c.is_continuation-then-is_continuation.ensures in
     elim c.if-second-ge160.branch [
       | then-second-ge160 w ↦
-        let second = w.is_continuation.ensures.0 (cc (w.value-is, c.if-is_continuation.true)) in
-        (λ t. let h = third.0 t in spells_three _ _ _ (omega arith, omega arith, second.0, second.1, h.0, h.1) (inr (omega arith)), λ s. let h = three_spelled _ _ _ s in third.1 (h.2, h.3))
+          let second = w.is_continuation.ensures.0 (cc (w.value-is, c.if-is_continuation.true)) in
+          (λ t. let h = third.0 t in spells_three _ _ _ (omega arith, omega arith, second.0, second.1, h.0, h.1) (inr (omega arith)), λ s. let h = three_spelled _ _ _ s in third.1 (h.2, h.3))
       | else-second-ge160 w ↦ let high : 160 ≤ c.args.second = leb-true _ _ (cc (w.value-is, c.if-is_continuation.true)) in absurd (omega arith)
     ]
 
