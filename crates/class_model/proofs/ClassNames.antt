@@ -61,13 +61,6 @@ slash_after bytes rest =
       | inr slash ↦ slash.rest
     ]
 
-pub no_first_slash : (bytes : List ℕ) → Rest true (47 ∷ bytes) → ⊥
-no_first_slash bytes rest =
-    elim (first_byte true 47 bytes rest) [
-      | inl part ↦ part.is_named.no_slash refl
-      | inr slash ↦ slash.inside refl
-    ]
-
 -- after another byte
 pub byte_before : (starts_part : Bool) (byte : ℕ) (bytes : List ℕ) → IsNameByte byte → Rest false bytes → Rest starts_part (byte ∷ bytes)
 byte_before starts_part byte bytes is_named rest =
@@ -104,15 +97,6 @@ pub after_byte : {W : Type 0} (starts_part : Bool) (bytes : List ℕ) (index : �
 after_byte starts_part bytes index in_range is_named now =
     let e = drop_more bytes index 0 in_range in
     (λ rest. now.0 (subst (Rest starts_part) (sym e) (byte_before starts_part _ _ is_named rest)), λ w. (byte_after starts_part _ _ is_named.no_slash (subst (Rest starts_part) e (now.1 w))).rest)
-
-pub refused_slash : {W : Type 0} (bytes : List ℕ) (index : ℕ) → index < length bytes → get_or bytes index 0 ≡ 47 → FromIndex W true bytes index → W → ⊥
-refused_slash bytes index in_range slash now w =
-    let e : drop index bytes ≡ 47 ∷ drop (index + 1) bytes = drop_more bytes index 0 in_range ∙ ap (λ (b : ℕ). b ∷ drop (index + 1) bytes) slash in
-    no_first_slash _ (subst (Rest true) e (now.1 w))
-
-pub refused_byte : {W : Type 0} (starts_part : Bool) (bytes : List ℕ) (index : ℕ) → index < length bytes → get_or bytes index 0 ≢ 47 → (IsNameByte (get_or bytes index 0) → ⊥) → FromIndex W starts_part bytes index → W → ⊥
-refused_byte starts_part bytes index in_range other refused now w =
-    refused (byte_after starts_part _ _ other (subst (Rest starts_part) (drop_more bytes index 0 in_range) (now.1 w))).is_named
 
 pub refused_end : {W : Type 0} (bytes : List ℕ) (index : ℕ) → length bytes ≤ index → FromIndex W true bytes index → W → ⊥
 refused_end bytes index past now w = no_part_at_end (subst (Rest true) (drop_all index bytes past) (now.1 w))

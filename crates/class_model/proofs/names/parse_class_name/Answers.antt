@@ -1,6 +1,6 @@
 use Rattle.std.proofs.Common.{◌+◌, Bool, ◌≡◌, subst, sym, refl}
 use Rattle.class_model.specs.Names.{IsClassName}
-use Rattle.class_model.proofs.ClassNames.{FromIndex, Rest, name_of_rest, rest_of_name, after_slash, after_byte, refused_slash, refused_byte, refused_end, ended}
+use Rattle.class_model.proofs.ClassNames.{FromIndex, Rest, name_of_rest, rest_of_name, after_slash, after_byte, refused_end, ended}
 use Rattle.class_model.proofs.names.parse_class_name.Goals as goal
 use Rattle.class_model.proofs.names.parse_class_name.Goals.{in-47-2, in_default}
 
@@ -18,11 +18,6 @@ loop-byte-preserved c =
       | in-47-2 w ↦ subst At (sym w.starts_part-is) (after_slash bytes index c.loop-byte-test.true w.in-47.is (rw w.if-starts_part.false at c.loop-byte.invariant))
       | in_default w ↦ subst At (sym w.starts_part-is) (after_byte c.loop-byte.starts_part bytes index c.loop-byte-test.true (w.is_name_byte.ensures.0 w.if-is_name_byte.true) c.loop-byte.invariant)
     ]
-
-pub returns-in-47 : goal.returns-in-47
-returns-in-47 c =
-    let now = rw c.if-starts_part.true at c.loop-byte.invariant in
-    (λ e. absurd cc, λ name. absurd (refused_slash _ _ c.loop-byte-test.true c.in-47.is now name))
 
 pub returns-then-starts_part-2 : goal.returns-then-starts_part-2
 returns-then-starts_part-2 c =
