@@ -46,6 +46,9 @@ unit_forms unit =
 abbrev pub Spells : List ℕ → Type 0
 Spells bytes = (unit : ℕ) × (unit < 2 ^ 16) × (unit_bytes unit ≡ bytes)
 
+pub spells_one : (a : ℕ) → (1 ≤ a) × (a ≤ 0x7F) → Spells (a ∷ [])
+spells_one a h = (a, omega arith, (one_byte a h.0 (omega arith)).bytes)
+
 pub spells_two : (a b : ℕ) → (0xC2 ≤ a) × (a ≤ 0xDF) → (0x80 ≤ b) × (b ≤ 0xBF) → Spells (a ∷ b ∷ [])
 spells_two a b ha hb =
     let unit = (a - 0xC0) * 0x40 + (b - 0x80) in

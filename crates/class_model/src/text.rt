@@ -124,13 +124,20 @@ fn after_unit(bytes: &[u8]) -> Option<&[u8]>
     ensures none { IfNone result ((unit : ℕ) (rest : List ℕ) → IsCodeUnit unit → bytes.now ≡ unit_bytes unit ++ rest → ⊥) }
 {
     match bytes {
-        [0x01..=0x7F, rest @ ..] => Some(rest),
+        [first, rest @ ..] if is_one_byte_unit(*first) => Some(rest),
         [first, second, rest @ ..] if is_two_byte_unit(*first, *second) => Some(rest),
         [first, second, third, rest @ ..] if is_three_byte_unit(*first, *second, *third) => {
             Some(rest)
         }
         _ => None,
     }
+}
+
+// Whether a byte spells a code unit: one from 1 to 7F.
+fn is_one_byte_unit(byte: u8) -> bool
+    ensures { IsTrue result ↔ ((unit : ℕ) × IsCodeUnit unit × (unit_bytes unit ≡ byte ∷ [])) }
+{
+    matches!(byte, 0x01..=0x7F)
 }
 
 // Whether two bytes spell a code unit: 0, or one from 80 to 7FF.
