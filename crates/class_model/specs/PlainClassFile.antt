@@ -1,6 +1,6 @@
 -- The class files that are read today: public classes with a pool of texts and class names alone, and
 -- with no interfaces, members or attributes.
-use Rattle.std.specs.Prelude.{◌≡◌, ℕ, ◌≤◌, List, ◌∷◌, map, length, Option, Some, None}
+use Rattle.std.specs.Prelude.{◌≡◌, ℕ, ◌≤◌, List, ◌∷◌, map, length, Some, None}
 use Rattle.std.specs.List.{AllByRecursion}
 use Rattle.class_model.specs.ModifiedUtf8.{IsText}
 use Rattle.class_model.specs.Pool.{Constants, NamesClass, NamesClassName}

@@ -2,9 +2,8 @@
 ghost use Rattle.std.specs.Prelude.{◌≡◌};
 ghost use Rattle.class_model.specs.declared.fault.ClassFault.TheVariants.{NoMemory as no_memory};
 
-use thiserror::Error;
-
 use crate::memory::NoMemory;
+use thiserror::Error;
 
 /// Why bytes are not read as a class file.
 #[derive(Clone, Copy, PartialEq, Eq, Debug, Error)]

@@ -1,6 +1,6 @@
 //! The grammar of names.
-ghost use Rattle.std.specs.Prelude.{◌↔◌, IsOk};
-ghost use Rattle.class_model.specs.Names.{IsClassName};
+ghost use Rattle.std.specs.Prelude.{◌↔◌, IsOk, IsTrue};
+ghost use Rattle.class_model.specs.Names.{IsClassName, IsNameByte};
 
 use crate::text::Text;
 
@@ -18,9 +18,16 @@ pub fn parse_class_name(text: &Text) -> Result<(), BadName>
         match *byte {
             b'/' if starts_part => return Err(BadName),
             b'/' => starts_part = true,
-            b'.' | b';' | b'[' => return Err(BadName),
-            _ => starts_part = false,
+            byte if is_name_byte(byte) => starts_part = false,
+            _ => return Err(BadName),
         }
     }
     if starts_part { Err(BadName) } else { Ok(()) }
+}
+
+// Whether an unqualified name may have a byte (4.2.2).
+fn is_name_byte(byte: u8) -> bool
+    ensures { IsTrue result ↔ IsNameByte byte }
+{
+    !matches!(byte, b'.' | b'/' | b';' | b'[')
 }

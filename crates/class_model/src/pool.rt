@@ -3,11 +3,10 @@ ghost use Rattle.std.specs.Prelude.{◌≡◌, ◌+◌, ◌<◌, ◌≤◌, [], 
 ghost use Rattle.std.specs.Option.{option_copied};
 ghost use Rattle.class_model.specs.Pool.{constant_at};
 
-use std::alloc::Global;
-use std::marker::Model;
-
 use crate::memory::NoMemory;
 use crate::text::Text;
+use std::alloc::Global;
+use std::marker::Model;
 
 /// A constant (JVM Specification SE 8, 4.4).
 #[derive(Debug, Drop)]
@@ -61,10 +60,11 @@ impl Pool {
     pub fn get(&self, index: u16) -> Option<&Const>
         ensures { option_copied result ≡ constant_at self.now index }
     {
+        let entries = self.entries.as_slice();
         if index == 0 {
             return None;
         }
-        match self.entries.get(usize::from(index) - 1) {
+        match entries.get(usize::from(index) - 1) {
             Some(entry) => entry.as_ref(),
             None => None,
         }

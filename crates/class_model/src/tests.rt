@@ -1,0 +1,98 @@
+use super::*;
+use std::test::Fail;
+
+#[test]
+fn bytes_of_texts(rt: HostRuntime) -> Result<(), Fail> {
+    let table: [(&[u8], bool); 16] = [
+        (&[], true),
+        (&[0x41], true),
+        (&[0x00], false),
+        (&[0x7F], true),
+        (&[0x80], false),
+        (&[0xC0, 0x80], true),
+        (&[0xC1, 0x81], false),
+        (&[0xC2, 0x80], true),
+        (&[0xDF, 0xBF], true),
+        (&[0xE0, 0x80, 0x80], false),
+        (&[0xE0, 0xA0, 0x80], true),
+        (&[0xE2, 0x82], false),
+        // a surrogate
+        (&[0xED, 0xA0, 0x80], true),
+        (&[0xEF, 0xBF, 0xBF], true),
+        (&[0xF0, 0x9F, 0x98, 0x80], false),
+        (&[0x41, 0xE2, 0x82, 0xAC, 0xC3, 0xA9], true),
+    ];
+    for (bytes, good) in table {
+        match Text::of_bytes(rt.alloc(), bytes) {
+            Ok(text) => assert!(rt; good && text.bytes() == bytes, "at {bytes:?}"),
+            Err(fault) => assert!(rt; !good && fault == TextFault::BadText, "at {bytes:?}"),
+        }
+    }
+    Ok(())
+}
+
+#[test]
+fn lengths_of_texts(rt: HostRuntime) -> Result<(), Fail> {
+    let bytes = vec![in rt.alloc(); b'a'; 65_536]?;
+    let long = Text::of_bytes(rt.alloc(), &bytes);
+    assert!(rt; matches!(long, Err(TextFault::BadText)));
+    let text = Text::of_bytes(rt.alloc(), &bytes[1..])?;
+    assert_eq!(rt; text.bytes().len(), 65_535);
+    let copy = text.copy()?;
+    assert_eq!(rt; copy, text);
+    assert_eq!(rt; copy.bytes(), text.bytes());
+    let other = Text::of_bytes(rt.alloc(), b"a")?;
+    assert!(rt; copy != other);
+    Ok(())
+}
+
+#[test]
+fn class_names(rt: HostRuntime) -> Result<(), Fail> {
+    let table = [
+        ("java/lang/Object", true),
+        ("A", true),
+        ("", false),
+        ("/A", false),
+        ("A/", false),
+        ("A//B", false),
+        ("[I", false),
+        ("a.b", false),
+        ("a;b", false),
+    ];
+    for (name, good) in table {
+        let text = Text::of_bytes(rt.alloc(), name.as_bytes())?;
+        assert_eq!(rt; parse_class_name(&text).is_ok(), good, "at {name}");
+    }
+    Ok(())
+}
+
+#[test]
+fn pools(rt: HostRuntime) -> Result<(), Fail> {
+    let mut pool = Pool::new(rt.alloc());
+    assert_eq!(rt; pool.count(), 1);
+    assert!(rt; pool.get(0).is_none());
+    let text = Text::of_bytes(rt.alloc(), b"A")?;
+    pool.push(Const::Utf8(text.copy()?))?;
+    pool.push(Const::Class(1))?;
+    assert_eq!(rt; pool.count(), 3);
+    assert!(rt; pool.get(0).is_none());
+    assert!(rt; matches!(pool.get(1), Some(Const::Utf8(found)) if *found == text));
+    assert!(rt; matches!(pool.get(2), Some(Const::Class(1))));
+    assert!(rt; pool.get(3).is_none());
+    Ok(())
+}
+
+#[test]
+fn lists(rt: HostRuntime) -> Result<(), Fail> {
+    let mut list: ListOf<u16> = ListOf::new(rt.alloc());
+    assert!(rt; list.is_empty());
+    list.push(3)?;
+    list.push(500)?;
+    assert_eq!(rt; list.len(), 2);
+    assert_eq!(rt; list.get(1), Some(&500));
+    assert_eq!(rt; list.get(2), None);
+    assert_eq!(rt; list.as_slice(), [3, 500].as_slice());
+    let bytes = ByteList::from_vec(vec![in rt.alloc(); 1, 2]?);
+    assert_eq!(rt; bytes.into_vec().as_slice(), [1, 2].as_slice());
+    Ok(())
+}

@@ -1,5 +1,5 @@
 //! Texts of the constant pool.
-ghost use Rattle.std.specs.Prelude.{◌≡◌, ◌↔◌, ℕ, List, ◌++◌, ◌==◌, OnOk, IfOk, IfSome, IfNone, IsTrue};
+ghost use Rattle.std.specs.Prelude.{◌≡◌, ◌↔◌, ◌≤◌, ℕ, List, [], ◌∷◌, ◌++◌, ◌==◌, OnOk, IfOk, IfSome, IfNone, IsTrue};
 ghost use Rattle.std.specs.Result.{IsErrOf};
 ghost use Rattle.std.specs.Hash as fed;
 ghost use Rattle.std.specs.Cmp.Rules.{comparing, hashing};
@@ -8,12 +8,11 @@ ghost use Rattle.std.proofs.Common.{rules};
 ghost use Rattle.class_model.specs.ModifiedUtf8.{IsText, IsModifiedUtf8, IsCodeUnit, unit_bytes};
 ghost use Rattle.class_model.specs.declared.text.TextFault.TheVariants.{NoMemory as no_memory};
 
+use crate::memory::NoMemory;
 use std::alloc::{AllocError, Global};
 use std::hash::{Hash, Hasher};
 use std::marker::Model;
 use std::rc::RcSlice;
-
-use crate::memory::NoMemory;
 
 /// A text of at most 65,535 bytes in modified UTF-8 (JVM Specification SE 8, 4.4.7). Contracts see
 /// the list of its bytes. The bytes are shared: a copy copies none of them.
@@ -125,11 +124,48 @@ fn after_unit(bytes: &[u8]) -> Option<&[u8]>
     ensures none { IfNone result ((unit : ℕ) (rest : List ℕ) → IsCodeUnit unit → bytes.now ≡ unit_bytes unit ++ rest → ⊥) }
 {
     match bytes {
-        [0x01..=0x7F, rest @ ..]
-        | [0xC0, 0x80, rest @ ..]
-        | [0xC2..=0xDF, 0x80..=0xBF, rest @ ..]
-        | [0xE0, 0xA0..=0xBF, 0x80..=0xBF, rest @ ..]
-        | [0xE1..=0xEF, 0x80..=0xBF, 0x80..=0xBF, rest @ ..] => Some(rest),
+        [first, rest @ ..] if is_one_byte_unit(*first) => Some(rest),
+        [first, second, rest @ ..] if is_two_byte_unit(*first, *second) => Some(rest),
+        [first, second, third, rest @ ..] if is_three_byte_unit(*first, *second, *third) => {
+            Some(rest)
+        }
         _ => None,
     }
+}
+
+// Whether a byte spells a code unit: one from 1 to 7F.
+fn is_one_byte_unit(byte: u8) -> bool
+    ensures { IsTrue result ↔ ((unit : ℕ) × IsCodeUnit unit × (unit_bytes unit ≡ byte ∷ [])) }
+{
+    matches!(byte, 0x01..=0x7F)
+}
+
+// Whether two bytes spell a code unit: 0, or one from 80 to 7FF.
+fn is_two_byte_unit(first: u8, second: u8) -> bool
+    ensures { IsTrue result ↔ ((unit : ℕ) × IsCodeUnit unit × (unit_bytes unit ≡ first ∷ second ∷ [])) }
+{
+    match first {
+        0xC0 => second == 0x80,
+        0xC2..=0xDF => is_continuation(second),
+        _ => false,
+    }
+}
+
+// Whether three bytes spell a code unit: one from 800 on.
+fn is_three_byte_unit(first: u8, second: u8, third: u8) -> bool
+    ensures { IsTrue result
+        ↔ ((unit : ℕ) × IsCodeUnit unit × (unit_bytes unit ≡ first ∷ second ∷ third ∷ [])) }
+{
+    match first {
+        0xE0 => 0xA0 <= second && is_continuation(second) && is_continuation(third),
+        0xE1..=0xEF => is_continuation(second) && is_continuation(third),
+        _ => false,
+    }
+}
+
+// Whether a byte is a second or third byte of a code unit: its two high bits are 10.
+fn is_continuation(byte: u8) -> bool
+    ensures { IsTrue result ↔ ((0x80 ≤ byte) × (byte ≤ 0xBF)) }
+{
+    matches!(byte, 0x80..=0xBF)
 }

@@ -1,0 +1,149 @@
+-- Which bytes spell one code unit.
+use Rattle.std.proofs.Common.{◌≡◌, ℕ, ◌+◌, ◌-◌, ◌*◌, ◌/◌, ◌%◌, ◌^◌, ◌<◌, ◌≤◌, ◌⊎◌, inl, inr, List, [], ◌∷◌, ◌++◌, length, arith, refl, sym, ap, subst, ◌∙◌}
+use Rattle.std.proofs.lemmas.Bool.Decides.{nat_tests}
+use Rattle.std.proofs.lemmas.Bool.{cases_lt}
+use Rattle.class_model.specs.ModifiedUtf8.{IsCodeUnit, IsModifiedUtf8, unit_bytes}
+use Rattle.std.specs.List.{flat_map, AllByRecursion}
+
+-- a code unit's bytes, by the form that it has
+pub record OneByte (unit : ℕ) : Type 0 where
+  pub low : 0 < unit
+  pub high : unit < 0x80
+  pub bytes : unit_bytes unit ≡ unit ∷ []
+
+pub record TwoBytes (unit : ℕ) : Type 0 where
+  pub low : (unit ≡ 0) ⊎ (0x80 ≤ unit)
+  pub high : unit < 0x800
+  pub bytes : unit_bytes unit ≡ (0xC0 + unit / 0x40) ∷ (0x80 + unit % 0x40) ∷ []
+
+pub record ThreeBytes (unit : ℕ) : Type 0 where
+  pub low : 0x800 ≤ unit
+  pub bytes : unit_bytes unit ≡ (0xE0 + unit / 0x1000) ∷ (0x80 + unit / 0x40 % 0x40) ∷ (0x80 + unit % 0x40) ∷ []
+
+one_byte : (unit : ℕ) → 0 < unit → unit < 0x80 → OneByte unit
+one_byte unit low high = record { low = low; high = high; bytes = grind (arith, nat_tests) }
+
+two_bytes : (unit : ℕ) → (unit ≡ 0) ⊎ (0x80 ≤ unit) → unit < 0x800 → TwoBytes unit
+two_bytes unit low high = record { low = low; high = high; bytes = grind (arith, nat_tests) }
+
+three_bytes : (unit : ℕ) → 0x800 ≤ unit → ThreeBytes unit
+three_bytes unit low = record { low = low; bytes = grind (arith, nat_tests) }
+
+unit_forms : (unit : ℕ) → OneByte unit ⊎ (TwoBytes unit ⊎ ThreeBytes unit)
+unit_forms unit =
+    elim (cases_lt 0 unit) [
+      | inr zero ↦ inr (inl (two_bytes unit (inl (omega arith)) (omega arith)))
+      | inl some ↦ elim (cases_lt unit 0x80) [
+        | inl low ↦ inl (one_byte unit some low)
+        | inr more ↦ elim (cases_lt unit 0x800) [
+          | inl middle ↦ inr (inl (two_bytes unit (inr more) middle))
+          | inr high ↦ inr (inr (three_bytes unit high))
+        ]
+      ]
+    ]
+
+-- some code unit has these bytes
+abbrev pub Spells : List ℕ → Type 0
+Spells bytes = (unit : ℕ) × (unit < 2 ^ 16) × (unit_bytes unit ≡ bytes)
+
+pub spells_one : (a : ℕ) → (1 ≤ a) × (a ≤ 0x7F) → Spells (a ∷ [])
+spells_one a h = (a, omega arith, (one_byte a h.0 (omega arith)).bytes)
+
+pub spells_two : (a b : ℕ) → (0xC2 ≤ a) × (a ≤ 0xDF) → (0x80 ≤ b) × (b ≤ 0xBF) → Spells (a ∷ b ∷ [])
+spells_two a b ha hb =
+    let unit = (a - 0xC0) * 0x40 + (b - 0x80) in
+    let first : 0xC0 + unit / 0x40 ≡ a = omega arith in
+    let second : 0x80 + unit % 0x40 ≡ b = omega arith in
+    let form = two_bytes unit (inr (omega arith)) (omega arith) in
+    (unit, omega arith, cc)
+
+pub two_spelled : (a b : ℕ) → Spells (a ∷ b ∷ []) → (0x80 ≤ b) × (b ≤ 0xBF)
+two_spelled a b s =
+    elim (unit_forms s.0) [
+      | inl one ↦ absurd cc
+      | inr (inl two) ↦ let second : 0x80 + s.0 % 0x40 ≡ b = cc in (omega arith, omega arith)
+      | inr (inr three) ↦ absurd cc
+    ]
+
+pub spells_three : (a b c : ℕ) → (0xE0 ≤ a) × (a ≤ 0xEF) × (0x80 ≤ b) × (b ≤ 0xBF) × (0x80 ≤ c) × (c ≤ 0xBF) → (0xE1 ≤ a) ⊎ (0xA0 ≤ b) → Spells (a ∷ b ∷ c ∷ [])
+spells_three a b c h low =
+    let unit = (a - 0xE0) * 0x1000 + (b - 0x80) * 0x40 + (c - 0x80) in
+    let first : 0xE0 + unit / 0x1000 ≡ a = omega arith in
+    let second : 0x80 + unit / 0x40 % 0x40 ≡ b = omega arith in
+    let third : 0x80 + unit % 0x40 ≡ c = omega arith in
+    let form = three_bytes unit (elim low [ inl high ↦ omega arith | inr high ↦ omega arith ]) in
+    (unit, omega arith, cc)
+
+pub three_spelled : (a b c : ℕ) → Spells (a ∷ b ∷ c ∷ []) → (0x80 ≤ b) × (b ≤ 0xBF) × (0x80 ≤ c) × (c ≤ 0xBF) × (a ≡ 0xE0 → 0xA0 ≤ b)
+three_spelled a b c s =
+    elim (unit_forms s.0) [
+      | inl one ↦ absurd cc
+      | inr (inl two) ↦ absurd cc
+      | inr (inr three) ↦
+          let first : 0xE0 + s.0 / 0x1000 ≡ a = cc in
+          let second : 0x80 + s.0 / 0x40 % 0x40 ≡ b = cc in
+          let third : 0x80 + s.0 % 0x40 ≡ c = cc in
+          (omega arith, omega arith, omega arith, omega arith, λ e. omega arith)
+    ]
+
+-- the bytes of a code unit are no front of those of another
+same_rest : (u v : ℕ) (r s : List ℕ) → unit_bytes u ++ r ≡ unit_bytes v ++ s → r ≡ s
+same_rest u v r s e =
+    elim (unit_forms u) [
+      | inl a ↦ elim (unit_forms v) [
+        | inl b ↦ let h : u ∷ r ≡ v ∷ s = rw (a.bytes, b.bytes) at e in cc
+        | inr (inl b) ↦ let h : u ≡ 0xC0 + v / 0x40 = cc (rw (a.bytes, b.bytes) at e) in absurd (omega arith)
+        | inr (inr b) ↦ let h : u ≡ 0xE0 + v / 0x1000 = cc (rw (a.bytes, b.bytes) at e) in absurd (omega arith)
+      ]
+      | inr (inl a) ↦ elim (unit_forms v) [
+        | inl b ↦ let h : 0xC0 + u / 0x40 ≡ v = cc (rw (a.bytes, b.bytes) at e) in absurd (omega arith)
+        | inr (inl b) ↦ cc (rw (a.bytes, b.bytes) at e)
+        | inr (inr b) ↦ let h : 0xC0 + u / 0x40 ≡ 0xE0 + v / 0x1000 = cc (rw (a.bytes, b.bytes) at e) in absurd (omega arith)
+      ]
+      | inr (inr a) ↦ elim (unit_forms v) [
+        | inl b ↦ let h : 0xE0 + u / 0x1000 ≡ v = cc (rw (a.bytes, b.bytes) at e) in absurd (omega arith)
+        | inr (inl b) ↦ let h : 0xE0 + u / 0x1000 ≡ 0xC0 + v / 0x40 = cc (rw (a.bytes, b.bytes) at e) in absurd (omega arith)
+        | inr (inr b) ↦ cc (rw (a.bytes, b.bytes) at e)
+      ]
+    ]
+
+-- a code unit has a byte
+shorter : (unit : ℕ) (rest : List ℕ) → length rest < length (unit_bytes unit ++ rest)
+shorter unit rest =
+    elim (unit_forms unit) [
+      | inl a ↦ rw a.bytes (omega arith)
+      | inr (inl a) ↦ rw a.bytes (omega arith)
+      | inr (inr a) ↦ rw a.bytes (omega arith)
+    ]
+
+-- the bytes begin with a code unit, and these come after it
+abbrev pub Follows : List ℕ → List ℕ → Type 0
+Follows bytes after = (unit : ℕ) × (unit < 2 ^ 16) × (bytes ≡ unit_bytes unit ++ after)
+
+pub follows_shorter : (bytes after : List ℕ) → Follows bytes after → length after < length bytes
+follows_shorter bytes after f = rw f.2 (shorter f.0 after)
+
+pub utf8_before : (bytes after : List ℕ) → Follows bytes after → IsModifiedUtf8 after → IsModifiedUtf8 bytes
+utf8_before bytes after f m = record { units = f.0 ∷ m.units; each = (f.1, m.each); spelled = f.2 ∙ ap (λ (t : List ℕ). unit_bytes f.0 ++ t) m.spelled }
+
+-- a first code unit, if bytes spell one or more
+first_follows : (bytes units : List ℕ) → AllByRecursion IsCodeUnit units → bytes ≡ flat_map unit_bytes units → (bytes ≡ []) ⊎ ((after : List ℕ) × Follows bytes after × IsModifiedUtf8 after)
+first_follows bytes [] each e = inl e
+first_follows bytes (unit ∷ units) each e = inr (flat_map unit_bytes units, (unit, each.0, e), record { units = units; each = each.1; spelled = refl })
+
+pub utf8_after : (bytes after : List ℕ) → Follows bytes after → IsModifiedUtf8 bytes → IsModifiedUtf8 after
+utf8_after bytes after f m =
+    elim (first_follows bytes m.units m.each m.spelled) [
+      | inl none ↦ absurd (omega (arith, follows_shorter bytes after f, ap length none))
+      | inr g ↦ subst IsModifiedUtf8 (same_rest g.1.0 f.0 g.0 after (sym g.1.2 ∙ f.2)) g.2
+    ]
+
+pub utf8_none : IsModifiedUtf8 []
+utf8_none = record { units = []; each = tt; spelled = refl }
+
+pub nothing_follows : (bytes : List ℕ) → ((after : List ℕ) → Follows bytes after → ⊥) → IsModifiedUtf8 bytes → bytes ≡ []
+nothing_follows bytes none m =
+    elim (first_follows bytes m.units m.each m.spelled) [
+      | inl e ↦ e
+      | inr g ↦ absurd (none g.0 g.1)
+    ]
