@@ -1,4 +1,3 @@
-pub mod FaultCounts
 pub mod Puts
 pub mod NamesInOrder
 pub mod Copying

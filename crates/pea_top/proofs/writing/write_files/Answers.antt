@@ -1,5 +1,5 @@
 use Rattle.std.proofs.Common.{Result, Ok, Err, OnErr, ◌∙◌}
-use Rattle.pea_top.proofs.FaultCounts.{CountsOnly-trans}
+use Rattle.pea_top.proofs.CallCounts.{CountsOnly-trans}
 use Rattle.pea_top.proofs.Puts.{Puts-more, PutsSome-fails}
 use Rattle.pea_top.proofs.writing.write_files.Goals as goal
 
@@ -15,5 +15,5 @@ pub loop-file-preserved : goal.loop-file-preserved
 loop-file-preserved g c = (
   λ tells. Puts-more _ _ _ _ _ _ _ _ _ c.loop-file-test.true c.file-item.is c.as_str.ensures (c.loop-file.invariant.0 tells) (c.write.ensures.elsewhere tells) c.as_slice.ensures (c.in_ok-write.ensures.written tells),
   λ tells. c.write.ensures.printed tells ∙ c.loop-file.invariant.1 tells,
-  CountsOnly-trans _ _ _ _ c.loop-file.invariant.2 c.write.ensures.counts,
+  CountsOnly-trans _ c.loop-file.invariant.2 c.write.ensures.counts,
 )
