@@ -5,4 +5,5 @@ pub mod Outcomes
 pub mod CallCounts
 pub mod FolderReads
 pub mod WordGrammar
+pub mod Completing
 pub mod WordsSeen

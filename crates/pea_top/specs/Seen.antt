@@ -20,7 +20,7 @@ library_words Missing = []
 library_words Awaited = []
 library_words (Given folder) = folder.now ∷ []
 
--- the word that was seen and is not yet part of a value
+-- the option, where it was seen and its value is the next word
 abbrev pub awaiting : Library → List Word
 awaiting Missing = []
 awaiting Awaited = codes "--lib" ∷ []
@@ -40,15 +40,15 @@ pub record Completes (seen_folders seen_libraries words : List Word) (command : 
 abbrev pub Ends : Seen → List Word → Command → Type 0
 Ends seen rest command = Completes (folder_words seen.folders) (library_words seen.library) (awaiting seen.library ++ rest) command
 
--- Seen with this word behind them, the words are next.
+-- With this word behind the words seen, the words seen are next.
 abbrev pub Leads : Seen → Word → Seen → Type 0
 Leads seen word next = (rest : List Word) (command : Command) → Ends next rest command ↔ Ends seen (word ∷ rest) command
 
--- This word can not stand behind the words seen.
+-- This word cannot stand behind the words seen.
 abbrev pub Fails : Seen → Word → Type 0
 Fails seen word = (rest : List Word) (command : Command) → ¬ Ends seen (word ∷ rest) command
 
--- the word is neither the option, unless its value was seen, nor the value of the option
+-- the word is not the value of the option, and is the option only where its value was seen before
 pub record MayBeFolder (seen : Seen) (word : Word) : Type 0 where
   pub none_awaited : awaiting seen.library ≡ []
   pub separate : word ≡ codes "--lib" → length (library_words seen.library) ≡ 1

@@ -1,3 +1,4 @@
+-- The format writes the line, which groups to the right.
 use Rattle.std.proofs.Common.{◌∙◌, append_assoc}
 use Rattle.pea_top.specs.Lines.{summary_line}
 use Rattle.pea_top.proofs.lines.summary.Goals as goal

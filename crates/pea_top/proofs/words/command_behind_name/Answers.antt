@@ -1,3 +1,4 @@
+-- What the words complete stays the same as one more word is seen.
 use Rattle.std.proofs.Common.{◌≡◌, [], drop, map, arith}
 use Rattle.std.specs.Prelude.{string_bytes}
 use Rattle.std.proofs.lemmas.List.{drop_all}

@@ -1,4 +1,6 @@
-use Rattle.pea_top.proofs.WordsSeen.{behind_name, none_then}
+-- Behind the name, words that spell a command complete it.
+use Rattle.pea_top.proofs.Completing.{behind_name}
+use Rattle.pea_top.proofs.WordsSeen.{none_then}
 use Rattle.pea_top.proofs.words.command_of.Goals as goal
 
 pub returns-then-eq-clause-none : goal.returns-then-eq-clause-none

@@ -1,3 +1,4 @@
+-- Where no word is left, two folders and the option were seen.
 use Rattle.pea_top.proofs.WordsSeen.{ended, not_two, not_one}
 use Rattle.pea_top.proofs.words.Seen.command.Goals as goal
 

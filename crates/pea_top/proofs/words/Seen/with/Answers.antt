@@ -1,3 +1,4 @@
+-- The value of the option follows it, and nothing else can.
 use Rattle.pea_top.proofs.WordsSeen.{value_leads, value_fails}
 use Rattle.pea_top.proofs.words.Seen.with.Goals as goal
 

@@ -1,5 +1,4 @@
-use Rattle.std.proofs.Common.{◌≡◌, ◌++◌, [], ◌∷◌}
-use Rattle.pea_top.specs.Seen.{folder_words}
+-- A folder can follow where two were not seen, and nothing else can.
 use Rattle.pea_top.proofs.WordsSeen.{folder_leads, folder_fails}
 use Rattle.pea_top.proofs.words.Seen.with_folder.Goals as goal
 

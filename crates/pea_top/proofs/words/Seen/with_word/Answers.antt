@@ -1,3 +1,4 @@
+-- The word is the option and its value.
 use Rattle.pea_top.proofs.WordsSeen.{joined_leads}
 use Rattle.pea_top.proofs.words.Seen.with_word.Goals as goal
 
