@@ -13,3 +13,6 @@ mod writing;
 pub use laws::words_spell_one_command;
 pub use status::Status;
 pub use top::pea;
+
+#[cfg(test)]
+mod tests;
