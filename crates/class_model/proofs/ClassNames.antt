@@ -17,12 +17,14 @@ of_parts : (bytes : List ℕ) (parts : List (List ℕ)) → parts ≢ [] → All
 of_parts bytes [] some unqualified joined = absurd (some refl)
 of_parts bytes (front ∷ parts) some unqualified joined = record { front = front; parts = parts; some = λ _. unqualified.0.some; named = unqualified.0.bytes; unqualified = unqualified.1; joined = joined }
 
+-- a class name is the rest of one before its first byte
 pub rest_of_name : (bytes : List ℕ) → IsClassName bytes → Rest true bytes
 rest_of_name bytes name = of_parts bytes name.parts name.some name.unqualified name.joined
 
 pub name_of_rest : (bytes : List ℕ) → Rest true bytes → IsClassName bytes
 name_of_rest bytes rest = record { parts = rest.front ∷ rest.parts; some = λ e. absurd cc; unqualified = (record { some = rest.some refl; bytes = rest.named }, rest.unqualified); joined = rest.joined }
 
+-- one byte more in the first part
 join-front : (byte : ℕ) (front : List ℕ) (parts : List (List ℕ)) → join_with_byte 47 ((byte ∷ front) ∷ parts) ≡ byte ∷ join_with_byte 47 (front ∷ parts)
 join-front byte front [] = refl
 join-front byte front (part ∷ parts) = refl
@@ -47,6 +49,7 @@ first_of_parts starts_part byte bytes (first ∷ front) parts some named unquali
     let same : first ≡ byte = cc in
     inl (record { is_named = subst IsNameByte same named.0; rest = record { front = front; parts = parts; some = λ e. absurd cc; named = named.1; unqualified = unqualified; joined = cc } })
 
+-- each first byte is one or the other
 first_byte : (starts_part : Bool) (byte : ℕ) (bytes : List ℕ) → Rest starts_part (byte ∷ bytes) → InPart byte bytes ⊎ AtSlash starts_part byte bytes
 first_byte starts_part byte bytes rest = first_of_parts starts_part byte bytes rest.front rest.parts rest.some rest.named rest.unqualified rest.joined
 

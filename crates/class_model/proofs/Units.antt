@@ -1,22 +1,22 @@
--- Which bytes spell one code unit.
+-- Which bytes spell a code unit, and what stands after it.
 use Rattle.std.proofs.Common.{◌≡◌, ℕ, ◌+◌, ◌-◌, ◌*◌, ◌/◌, ◌%◌, ◌^◌, ◌<◌, ◌≤◌, ◌⊎◌, inl, inr, List, [], ◌∷◌, ◌++◌, length, arith, refl, sym, ap, subst, ◌∙◌}
-use Rattle.std.proofs.lemmas.Bool.Decides.{nat_tests}
-use Rattle.std.proofs.lemmas.Bool.{cases_lt}
-use Rattle.class_model.specs.ModifiedUtf8.{IsCodeUnit, IsModifiedUtf8, unit_bytes}
 use Rattle.std.specs.List.{flat_map, AllByRecursion}
+use Rattle.std.proofs.lemmas.Bool.{cases_lt}
+use Rattle.std.proofs.lemmas.Bool.Decides.{nat_tests}
+use Rattle.class_model.specs.ModifiedUtf8.{IsCodeUnit, IsModifiedUtf8, unit_bytes}
 
--- a code unit's bytes, by the form that it has
-pub record OneByte (unit : ℕ) : Type 0 where
+-- A code unit's bytes, by how many they are.
+record OneByte (unit : ℕ) : Type 0 where
   pub low : 0 < unit
   pub high : unit < 0x80
   pub bytes : unit_bytes unit ≡ unit ∷ []
 
-pub record TwoBytes (unit : ℕ) : Type 0 where
+record TwoBytes (unit : ℕ) : Type 0 where
   pub low : (unit ≡ 0) ⊎ (0x80 ≤ unit)
   pub high : unit < 0x800
   pub bytes : unit_bytes unit ≡ (0xC0 + unit / 0x40) ∷ (0x80 + unit % 0x40) ∷ []
 
-pub record ThreeBytes (unit : ℕ) : Type 0 where
+record ThreeBytes (unit : ℕ) : Type 0 where
   pub low : 0x800 ≤ unit
   pub bytes : unit_bytes unit ≡ (0xE0 + unit / 0x1000) ∷ (0x80 + unit / 0x40 % 0x40) ∷ (0x80 + unit % 0x40) ∷ []
 
@@ -29,6 +29,7 @@ two_bytes unit low high = record { low = low; high = high; bytes = grind (arith,
 three_bytes : (unit : ℕ) → 0x800 ≤ unit → ThreeBytes unit
 three_bytes unit low = record { low = low; bytes = grind (arith, nat_tests) }
 
+-- each code unit has one of the three forms
 unit_forms : (unit : ℕ) → OneByte unit ⊎ (TwoBytes unit ⊎ ThreeBytes unit)
 unit_forms unit =
     elim (cases_lt 0 unit) [
@@ -46,47 +47,48 @@ unit_forms unit =
 abbrev pub Spells : List ℕ → Type 0
 Spells bytes = (unit : ℕ) × (unit < 2 ^ 16) × (unit_bytes unit ≡ bytes)
 
-pub spells_one : (a : ℕ) → (1 ≤ a) × (a ≤ 0x7F) → Spells (a ∷ [])
-spells_one a h = (a, omega arith, (one_byte a h.0 (omega arith)).bytes)
+-- a byte that is the code unit itself
+pub spells_one : (byte : ℕ) → (1 ≤ byte) × (byte ≤ 0x7F) → Spells (byte ∷ [])
+spells_one byte h = (byte, omega arith, (one_byte byte h.0 (omega arith)).bytes)
 
-pub spells_two : (a b : ℕ) → (0xC2 ≤ a) × (a ≤ 0xDF) → (0x80 ≤ b) × (b ≤ 0xBF) → Spells (a ∷ b ∷ [])
-spells_two a b ha hb =
-    let unit = (a - 0xC0) * 0x40 + (b - 0x80) in
-    let first : 0xC0 + unit / 0x40 ≡ a = omega arith in
-    let second : 0x80 + unit % 0x40 ≡ b = omega arith in
+-- the code unit of two bytes, where the first is not C0
+pub spells_two : (first second : ℕ) → (0xC2 ≤ first) × (first ≤ 0xDF) → (0x80 ≤ second) × (second ≤ 0xBF) → Spells (first ∷ second ∷ [])
+spells_two first second h k =
+    let unit = (first - 0xC0) * 0x40 + (second - 0x80) in
+    let e : 0xC0 + unit / 0x40 ≡ first = omega arith in
+    let f : 0x80 + unit % 0x40 ≡ second = omega arith in
     let form = two_bytes unit (inr (omega arith)) (omega arith) in
     (unit, omega arith, cc)
 
-pub two_spelled : (a b : ℕ) → Spells (a ∷ b ∷ []) → (0x80 ≤ b) × (b ≤ 0xBF)
-two_spelled a b s =
+-- a second byte of two has the high bits 10
+pub two_spelled : (first second : ℕ) → Spells (first ∷ second ∷ []) → (0x80 ≤ second) × (second ≤ 0xBF)
+two_spelled first second s =
     elim (unit_forms s.0) [
       | inl one ↦ absurd cc
-      | inr (inl two) ↦ let second : 0x80 + s.0 % 0x40 ≡ b = cc in (omega arith, omega arith)
+      | inr (inl two) ↦ let e : 0x80 + s.0 % 0x40 ≡ second = cc in (omega arith, omega arith)
       | inr (inr three) ↦ absurd cc
     ]
 
-pub spells_three : (a b c : ℕ) → (0xE0 ≤ a) × (a ≤ 0xEF) × (0x80 ≤ b) × (b ≤ 0xBF) × (0x80 ≤ c) × (c ≤ 0xBF) → (0xE1 ≤ a) ⊎ (0xA0 ≤ b) → Spells (a ∷ b ∷ c ∷ [])
-spells_three a b c h low =
-    let unit = (a - 0xE0) * 0x1000 + (b - 0x80) * 0x40 + (c - 0x80) in
-    let first : 0xE0 + unit / 0x1000 ≡ a = omega arith in
-    let second : 0x80 + unit / 0x40 % 0x40 ≡ b = omega arith in
-    let third : 0x80 + unit % 0x40 ≡ c = omega arith in
+-- the code unit of three bytes
+pub spells_three : (first second third : ℕ) → (0xE0 ≤ first) × (first ≤ 0xEF) × (0x80 ≤ second) × (second ≤ 0xBF) × (0x80 ≤ third) × (third ≤ 0xBF) → (0xE1 ≤ first) ⊎ (0xA0 ≤ second) → Spells (first ∷ second ∷ third ∷ [])
+spells_three first second third h low =
+    let unit = (first - 0xE0) * 0x1000 + (second - 0x80) * 0x40 + (third - 0x80) in
+    let e : 0xE0 + unit / 0x1000 ≡ first = omega arith in
+    let f : 0x80 + unit / 0x40 % 0x40 ≡ second = omega arith in
+    let g : 0x80 + unit % 0x40 ≡ third = omega arith in
     let form = three_bytes unit (elim low [ inl high ↦ omega arith | inr high ↦ omega arith ]) in
     (unit, omega arith, cc)
 
-pub three_spelled : (a b c : ℕ) → Spells (a ∷ b ∷ c ∷ []) → (0x80 ≤ b) × (b ≤ 0xBF) × (0x80 ≤ c) × (c ≤ 0xBF) × (a ≡ 0xE0 → 0xA0 ≤ b)
-three_spelled a b c s =
+-- a third byte has the high bits 10
+pub three_spelled : (first second third : ℕ) → Spells (first ∷ second ∷ third ∷ []) → (0x80 ≤ third) × (third ≤ 0xBF)
+three_spelled first second third s =
     elim (unit_forms s.0) [
       | inl one ↦ absurd cc
       | inr (inl two) ↦ absurd cc
-      | inr (inr three) ↦
-          let first : 0xE0 + s.0 / 0x1000 ≡ a = cc in
-          let second : 0x80 + s.0 / 0x40 % 0x40 ≡ b = cc in
-          let third : 0x80 + s.0 % 0x40 ≡ c = cc in
-          (omega arith, omega arith, omega arith, omega arith, λ e. omega arith)
+      | inr (inr three) ↦ let e : 0x80 + s.0 % 0x40 ≡ third = cc in (omega arith, omega arith)
     ]
 
--- the bytes of a code unit are no front of those of another
+-- the bytes of a code unit are no front of those of another, so what stands after it is known
 same_rest : (u v : ℕ) (r s : List ℕ) → unit_bytes u ++ r ≡ unit_bytes v ++ s → r ≡ s
 same_rest u v r s e =
     elim (unit_forms u) [
@@ -120,9 +122,11 @@ shorter unit rest =
 abbrev pub Follows : List ℕ → List ℕ → Type 0
 Follows bytes after = (unit : ℕ) × (unit < 2 ^ 16) × (bytes ≡ unit_bytes unit ++ after)
 
+-- so the rest gets shorter
 pub follows_shorter : (bytes after : List ℕ) → Follows bytes after → length after < length bytes
 follows_shorter bytes after f = rw f.2 (shorter f.0 after)
 
+-- a code unit before modified UTF-8
 pub utf8_before : (bytes after : List ℕ) → Follows bytes after → IsModifiedUtf8 after → IsModifiedUtf8 bytes
 utf8_before bytes after f m = record { units = f.0 ∷ m.units; each = (f.1, m.each); spelled = f.2 ∙ ap (λ (t : List ℕ). unit_bytes f.0 ++ t) m.spelled }
 
@@ -131,6 +135,7 @@ first_follows : (bytes units : List ℕ) → AllByRecursion IsCodeUnit units →
 first_follows bytes [] each e = inl e
 first_follows bytes (unit ∷ units) each e = inr (flat_map unit_bytes units, (unit, each.0, e), record { units = units; each = each.1; spelled = refl })
 
+-- modified UTF-8 after its first code unit
 pub utf8_after : (bytes after : List ℕ) → Follows bytes after → IsModifiedUtf8 bytes → IsModifiedUtf8 after
 utf8_after bytes after f m =
     elim (first_follows bytes m.units m.each m.spelled) [
@@ -138,9 +143,11 @@ utf8_after bytes after f m =
       | inr g ↦ subst IsModifiedUtf8 (same_rest g.1.0 f.0 g.0 after (sym g.1.2 ∙ f.2)) g.2
     ]
 
+-- no code unit at all
 pub utf8_none : IsModifiedUtf8 []
 utf8_none = record { units = []; each = tt; spelled = refl }
 
+-- only no bytes are modified UTF-8 that begins with no code unit
 pub nothing_follows : (bytes : List ℕ) → ((after : List ℕ) → Follows bytes after → ⊥) → IsModifiedUtf8 bytes → bytes ≡ []
 nothing_follows bytes none m =
     elim (first_follows bytes m.units m.each m.spelled) [
