@@ -6,5 +6,4 @@ ghost use Rattle.class_model.specs.declared.class_file.ClassFile.{ClassFile};
 /// Bytes spell one plain class file at most.
 pub fn spelling_has_one_value()
     ensures { (bytes : List ℕ) (one other : ClassFile) → IsPlainFile bytes one → IsPlainFile bytes other → one ≡ other }
-{
-}
+{}

@@ -3,6 +3,7 @@
 
 mod items;
 mod laws;
+mod plain;
 mod pool;
 mod reading;
 mod writing;

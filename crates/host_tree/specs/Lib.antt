@@ -1,3 +1,6 @@
 pub mod Counts
 pub mod Host
 pub mod Faults
+pub mod Tree
+pub mod Memory
+pub mod Paths

@@ -4,11 +4,10 @@ ghost use Rattle.host_tree.specs.declared.call.HostCall.{HostCall};
 ghost use Rattle.host_tree.specs.Host.{Files, SameFiles, SameElsewhere, IsListing, IsReadOf, IsPrefixPrinted};
 ghost use Rattle.host_tree.specs.Counts.{Rose, CountsOnly};
 
-use class_model::ByteList;
-use std::alloc::Global;
-
 use crate::call::{HostCall, HostFail};
 use crate::file_name::FileNameList;
+use class_model::ByteList;
+use std::alloc::Global;
 
 /// A host. What it holds is told or not told, by its type. Four counts of faults, one for each kind
 /// of call, never fall, and stand still at 2^64 - 1. Each call, also a refused one, leaves the files,
@@ -38,7 +37,13 @@ pub trait Host {
 
     /// The first `most` bytes of a file, or all of it where it is shorter. `Absent` where the root
     /// does not hold the name.
-    fn read(&mut self, alloc: Global, root: &str, name: &str, most: u64) -> Result<ByteList, HostFail>
+    fn read(
+        &mut self,
+        alloc: Global,
+        root: &str,
+        name: &str,
+        most: u64,
+    ) -> Result<ByteList, HostFail>
         ensures bytes { IsTrue tells → IfOk result (IsReadOf (file self.old root.now name.now) most) }
         ensures files { IsTrue tells → SameFiles (file self.old) (file self.new) }
         ensures printed { IsTrue tells → printed self.new ≡ printed self.old }

@@ -4,8 +4,16 @@ mod call;
 mod faults;
 mod file_name;
 mod host;
+mod memory;
+mod real;
+mod stream;
+#[cfg(test)]
+mod tests;
+mod tree;
+mod walk;
 
 pub use call::{HostCall, HostFail};
 pub use file_name::{FileName, FileNameList};
 pub use host::Host;
-
+pub use memory::{CallNumberList, MemoryHost};
+pub use real::RealHost;

@@ -1,0 +1,4 @@
+pub mod Listings
+pub mod Trees
+pub mod Streams
+pub mod Buffers

@@ -1,0 +1,164 @@
+//! A host in memory, for tests.
+ghost use Rattle.std.specs.Prelude.{◌≡◌, ℕ, ◌+◌, ◌-◌, ◌^◌, List, [], true, None, Some, take, min, IfOk, IsOk, OnOk, OnErr};
+ghost use Rattle.std.specs.Option.{option_copied};
+ghost use Rattle.host_tree.specs.declared.call.HostCall.{HostCall};
+ghost use Rattle.host_tree.specs.Host.{SameFiles, SameElsewhere};
+ghost use Rattle.host_tree.specs.Counts.{last_count};
+ghost use Rattle.host_tree.specs.Memory.{stored, printed_by, faults_of, is_refused};
+
+use crate::call::{HostCall, HostFail};
+use crate::faults::Faults;
+use crate::file_name::FileNameList;
+use crate::host::Host;
+use crate::tree::FileTree;
+use class_model::{ByteList, ListOf, NoMemory};
+use std::alloc::Global;
+
+/// Numbers of calls, counted from 0.
+pub type CallNumberList = ListOf<u64>;
+
+/// A host in memory, which tells everything. Its calls are numbered from 0 by a number that stands
+/// still at `u64::MAX`. A call whose number is among those to refuse is refused with `Failed`, and
+/// changes nothing but the count of its kind; a read of a name that is not there is `Absent` always.
+#[derive(Drop)]
+pub struct MemoryHost {
+    tree: FileTree,
+    printed: Vec<u8>,
+    fail: CallNumberList,
+    next_call: u64,
+    faults: Faults,
+}
+
+impl MemoryHost {
+    /// A host with no files, of which nothing was printed, and the numbers of the calls to refuse.
+    pub fn new(alloc: Global, fail: CallNumberList) -> Result<MemoryHost, NoMemory>
+        ensures ok { IsOk result }
+        ensures files { IfOk result (λ host. (root name : List ℕ) → stored host root name ≡ None) }
+        ensures printed { IfOk result (λ host. printed_by host ≡ []) }
+        ensures counts { IfOk result (λ host. (of : HostCall) → faults_of host of ≡ 0) }
+        ensures calls { IfOk result (λ host. (host.next_call ≡ 0) × (host.fail ≡ fail)) }
+    {
+        Ok(MemoryHost {
+            tree: FileTree::new(alloc),
+            printed: Vec::new(alloc),
+            fail,
+            next_call: 0,
+            faults: Faults::none(),
+        })
+    }
+
+    /// Puts a file under a name, in the place of one that is there. It is no numbered call.
+    pub fn put(
+        &mut self,
+        alloc: Global,
+        root: &str,
+        name: &str,
+        bytes: &[u8],
+    ) -> Result<(), NoMemory>
+        ensures ok { OnOk result (stored self.new root.now name.now ≡ Some bytes.now) }
+        ensures elsewhere { SameElsewhere root.now name.now (stored self.old) (stored self.new) }
+        ensures err { OnErr result (SameFiles (stored self.old) (stored self.new)) }
+        ensures rest { self.new ≡ record self.old { tree = self.new.tree } }
+    {
+        self.tree.put(alloc, root, name, bytes)
+    }
+
+    /// The bytes of a file.
+    pub fn file(&self, root: &str, name: &str) -> Option<&[u8]>
+        ensures { option_copied result ≡ stored self.now root.now name.now }
+    {
+        self.tree.get(root, name)
+    }
+
+    /// The bytes printed so far.
+    pub fn printed(&self) -> &[u8]
+        ensures { result.now ≡ printed_by self.now }
+    {
+        self.printed.as_slice()
+    }
+
+    /// How often calls of one kind have failed.
+    pub fn faults(&self, of: HostCall) -> u64
+        ensures { result ≡ faults_of self.now of }
+    {
+        self.faults.of(of)
+    }
+
+    /// Numbers a call, and says whether it is to be refused.
+    fn number_call(&mut self) -> bool
+        ensures refused { result ≡ is_refused self.old }
+        ensures numbered { self.new ≡ record self.old { next_call = min (self.old.next_call + 1) last_count } }
+    {
+        let call = self.next_call;
+        self.next_call = call.saturating_add(1);
+        self.fail.as_slice().iter().any(|number| *number == call)
+    }
+}
+
+/// The first `most` bytes, or all of them where they are fewer.
+fn first_bytes(alloc: Global, bytes: &[u8], most: u64) -> Result<ByteList, NoMemory>
+    ensures { IfOk result (λ first. first ≡ take most bytes.now) }
+{
+    let count = most.min(bytes.len() as u64) as usize;
+    Ok(ByteList::from_vec(Vec::from_slice(alloc, &bytes[..count])?))
+}
+
+impl Host for MemoryHost {
+    ghost tells = { true };
+
+    ghost file = { stored };
+
+    ghost printed = { printed_by };
+
+    ghost faults = { faults_of };
+
+    fn list(&mut self, alloc: Global, root: &str, most: u64) -> Result<FileNameList, HostFail> {
+        if self.number_call() {
+            self.faults.raise(HostCall::List);
+            return Err(HostFail::Failed);
+        }
+        Ok(self.tree.list(alloc, root, most)?)
+    }
+
+    fn read(
+        &mut self,
+        alloc: Global,
+        root: &str,
+        name: &str,
+        most: u64,
+    ) -> Result<ByteList, HostFail> {
+        let refused = self.number_call();
+        let Some(bytes) = self.tree.get(root, name) else {
+            return Err(HostFail::Absent);
+        };
+        if refused {
+            self.faults.raise(HostCall::Read);
+            return Err(HostFail::Failed);
+        }
+        Ok(first_bytes(alloc, bytes, most)?)
+    }
+
+    fn write(
+        &mut self,
+        alloc: Global,
+        root: &str,
+        name: &str,
+        bytes: &[u8],
+    ) -> Result<(), HostFail> {
+        if self.number_call() {
+            self.faults.raise(HostCall::Write);
+            return Err(HostFail::Failed);
+        }
+        self.tree.put(alloc, root, name, bytes)?;
+        Ok(())
+    }
+
+    fn print(&mut self, _alloc: Global, bytes: &[u8]) -> Result<(), HostFail> {
+        if self.number_call() {
+            self.faults.raise(HostCall::Print);
+            return Err(HostFail::Failed);
+        }
+        self.printed.extend_from_slice(bytes)?;
+        Ok(())
+    }
+}
