@@ -10,11 +10,11 @@ use Rattle.class_model.specs.Pool.{Constants}
 use Rattle.class_model.specs.Spelling.{u2, constant_bytes, entry_bytes, pool_bytes}
 use Rattle.class_bytes.specs.Reading.{IsU2, FitsConstant, FitsPool, FitsCount, entries_bytes}
 
--- from what follows a value, the value and what follows it are known
+-- no spelling is the front of another, so bytes begin with one at most, and what follows it is known
 abbrev pub IsFront : {X : Type 0} (Allowed : X → Type 0) (spelling : X → List ℕ) → Type 0
 IsFront {X} Allowed spelling = (x y : X) (r t : List ℕ) → Allowed x → Allowed y → spelling x ++ r ≡ spelling y ++ t → (x ≡ y) × (r ≡ t)
 
--- fronts of one length
+-- two fronts of one length
 pub split_same : (a b r t : List ℕ) → length a ≡ length b → a ++ r ≡ b ++ t → (a ≡ b) × (r ≡ t)
 split_same [] [] r t len e = (refl, e)
 split_same [] (y ∷ b) r t len e = absurd cc
@@ -61,7 +61,7 @@ pub entries_are : (constants : List Const) → flat_map entry_bytes (None ∷ ma
 entries_are [] = refl
 entries_are (c ∷ cs) = ap (λ (bytes : List ℕ). constant_bytes c ++ bytes) (entries_are cs)
 
-abbrev pub pool_is : (pool : Constants) (fits : FitsPool pool) → entries_bytes pool ≡ flat_map constant_bytes fits.constants
+pool_is : (pool : Constants) (fits : FitsPool pool) → entries_bytes pool ≡ flat_map constant_bytes fits.constants
 pool_is pool fits = ap entries_bytes fits.all ∙ entries_are fits.constants
 
 -- entries of pools of one count

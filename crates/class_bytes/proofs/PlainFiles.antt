@@ -56,7 +56,7 @@ each_fits pool [] count plain = tt
 each_fits pool (Utf8 text ∷ cs) count plain = (plain.0, each_fits pool cs count plain.1)
 each_fits pool (Class n ∷ cs) count plain = (named_below pool n (Utf8 plain.0.text) count plain.0.is_utf8, each_fits pool cs count plain.1)
 
--- each item of a plain class file can stand by itself
+-- each item of a plain class file is in its range
 pub plain_fits : (class : ClassFile) → IsPlain class → FitsClass class
 plain_fits class plain = record {
   minor = omega (arith, plain.minor);

@@ -37,12 +37,12 @@ IsU2 number = number < 2 ^ 16
 abbrev pub text_bytes : List ℕ → List ℕ
 text_bytes text = u2 (length text) ++ text
 
--- what a constant can hold by itself
+-- what a constant can hold, whatever the rest of the pool
 abbrev pub FitsConstant : Const → Type 0
 FitsConstant (Utf8 text) = IsText text
 FitsConstant (Class name_index) = IsU2 name_index
 
--- a pool each of whose constants can stand by itself
+-- a pool of constants that fit, with none at index 0
 pub record FitsPool (pool : Constants) : Type 0 where
   pub constants : List Const
   pub all : pool ≡ None ∷ map Some constants
@@ -58,7 +58,7 @@ pub record FitsCount (count : ℕ) (pool : Constants) : Type 0 where
 abbrev pub entries_bytes : Constants → List ℕ
 entries_bytes pool = flat_map entry_bytes pool
 
--- a class file each of whose items can stand by itself
+-- a class file whose items are each in their range
 pub record FitsClass (class : ClassFile) : Type 0 where
   pub minor : IsU2 class.minor
   pub major : IsU2 class.major

@@ -9,7 +9,7 @@ use class_model::{ClassFile, Const, Pool, parse_class_name};
 // A public class that is called in the ordinary way: ACC_PUBLIC and ACC_SUPER.
 const PLAIN_FLAGS: u16 = 0x0021;
 
-/// Whether a class file is plain, each of whose items can stand by itself.
+/// Whether a class file whose items are each in their range is plain.
 pub(crate) fn is_plain(class: &ClassFile) -> bool
     requires { FitsClass class.now }
     ensures { IsTrue result ↔ IsPlain class.now }

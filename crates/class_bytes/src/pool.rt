@@ -1,5 +1,5 @@
 //! The constant pool.
-ghost use Rattle.std.specs.Prelude.{◌≡◌, ◌<◌, ◌≤◌, length};
+ghost use Rattle.std.specs.Prelude.{◌<◌};
 ghost use Rattle.class_model.specs.ModifiedUtf8.{IsText};
 ghost use Rattle.class_model.specs.Spelling.{constant_bytes, pool_bytes};
 ghost use Rattle.class_bytes.specs.Reading.{Reads, text_bytes, FitsConstant, FitsPool, FitsCount, entries_bytes};

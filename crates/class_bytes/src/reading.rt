@@ -15,7 +15,7 @@ use std::alloc::Global;
 /// The plain class file that the bytes spell, all of the bytes.
 ///
 /// # Errors
-/// `NotYet` where the bytes spell no plain class file, and never where they spell one.
+/// `NotYet` only where the bytes spell no plain class file, and `NoMemory` where memory runs out.
 pub fn read_class(alloc: Global, bytes: &[u8]) -> Result<ClassFile, ClassFault>
     ensures read { IfOk result (IsPlainFile bytes.now) }
     ensures not_yet { IsErrOf result ClassFault.NotYet → (class : ClassFile) → ¬ IsPlainFile bytes.now class }

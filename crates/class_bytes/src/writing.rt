@@ -23,7 +23,7 @@ pub fn write_class(alloc: Global, class: &ClassFile) -> Result<ByteList, NoMemor
     Ok(ListOf::from_vec(out))
 }
 
-// Appends the count of a pool and its constants.
+// Appends the count of a pool and its constants. Index 0 has no constant.
 fn push_pool(out: &mut Vec<u8>, pool: &Pool) -> Result<(), NoMemory>
     ensures { OnOk result (out.new.items ≡ out.old.items ++ pool_bytes pool.now) }
 {

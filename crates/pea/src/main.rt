@@ -1,16 +1,27 @@
 //! The program `pea`: its words, the real host, and the exit status.
 #![tactic(auto)]
 
-use std::env;
-use std::io::ErrorKind;
-use std::process::ExitCode;
+ghost use Rattle.std.specs.Prelude.{◌≡◌};
+ghost use Rattle.std.specs.Process.{exit_status};
+ghost use Rattle.pea_top.specs.Status.{code_of};
 
 use class_model::NoMemory;
 use host_tree::RealHost;
 use pea_top::{Status, pea};
+use std::env;
+use std::io::ErrorKind;
+use std::process::ExitCode;
 
-// The words after the program's name. Words that cannot be had as text make no command, and so none
-// are passed on.
+fn main(rt: HostRuntime) -> ExitCode {
+    let status = match words_of(&rt) {
+        Ok(words) => pea(rt.alloc(), &words, &mut RealHost::new(rt)),
+        Err(NoMemory) => Status::NoMemory,
+    };
+    exit_code(&status)
+}
+
+/// The words after the program's name. Words that cannot be had as text make no command, and so none
+/// are passed on.
 fn words_of(rt: &HostRuntime) -> Result<Vec<String>, NoMemory> {
     match env::args(rt) {
         Ok(args) => Ok(args.skip(1).collect(rt.alloc())?),
@@ -19,10 +30,9 @@ fn words_of(rt: &HostRuntime) -> Result<Vec<String>, NoMemory> {
     }
 }
 
-fn main(rt: HostRuntime) -> ExitCode {
-    let status = match words_of(&rt) {
-        Ok(words) => pea(rt.alloc(), &words, &mut RealHost::new(rt)),
-        Err(NoMemory) => Status::NoMemory,
-    };
+/// The exit code of a status.
+fn exit_code(status: &Status) -> ExitCode
+    ensures { exit_status result ≡ code_of status.now }
+{
     ExitCode::from(status.code())
 }
