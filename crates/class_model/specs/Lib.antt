@@ -1,5 +1,6 @@
 pub mod ModifiedUtf8
 pub mod Names
+pub mod Descriptors
 pub mod Pool
 pub mod Spelling
 pub mod PlainClassFile

@@ -3,6 +3,7 @@
 #![tactic(auto)]
 
 mod class_file;
+mod descriptor;
 mod fault;
 mod list;
 mod memory;
@@ -11,6 +12,9 @@ mod pool;
 mod text;
 
 pub use class_file::ClassFile;
+pub use descriptor::{
+    Descriptor, FieldType, FieldTypeList, Kind, NameFault, parse_descriptor, parse_field_type,
+};
 pub use fault::ClassFault;
 pub use list::{ByteList, ListOf};
 pub use memory::NoMemory;
