@@ -1,3 +1,4 @@
 pub mod Units
 pub mod Constants
 pub mod ClassNames
+pub mod DescriptorGrammar

@@ -13,7 +13,7 @@ mod text;
 
 pub use class_file::ClassFile;
 pub use descriptor::{
-    Descriptor, FieldType, FieldTypeList, Kind, NameFault, parse_descriptor, parse_field_type,
+    Descriptor, FieldType, FieldTypeList, Kind, NameFault, is_array_type, parse_descriptor, parse_field_type,
 };
 pub use fault::ClassFault;
 pub use list::{ByteList, ListOf};
