@@ -1,10 +1,12 @@
 -- The field type at the front of bytes is one only, and so are the bytes after it.
-use Rattle.std.proofs.Common.{◌≡◌, ◌≢◌, ◌==◌, ℕ, zero, suc, ◌≤◌, Bool, true, false, ◌||◌, is_some, List, [], ◌∷◌, ◌++◌, replicate, ◌⊎◌, inl, inr, Option, Some, None, refl, sym, ap, subst, ◌∙◌, arith, append_assoc}
+use Rattle.std.proofs.Common.{◌≡◌, ◌≢◌, ◌==◌, ◌↔◌, IsTrue, eq-eqb, Bool, true, false, is_some, ℕ, zero, suc, ◌+◌, ◌-◌, ◌<◌, ◌≤◌, List, [], ◌∷◌, ◌++◌, length, get_or, take, drop, replicate, ◌⊎◌, inl, inr, Option, Some, None, IfSome, IfNone, Bor, refl, sym, ap, subst, ◌∙◌, arith, append_assoc, length-append}
+use Rattle.std.proofs.lemmas.List.{append-nil, nil_from_length, get_or_at, take_at, length-replicate}
+use Rattle.std.proofs.lemmas.Bool.{eqb-true}
 use Rattle.std.proofs.lemmas.Bool.Decides.{nat_tests}
 use Rattle.std.specs.List.{AllByRecursion, join_with_byte}
 use Rattle.class_model.specs.ModifiedUtf8.{IsText}
 use Rattle.class_model.specs.Names.{IsNameByte, IsUnqualifiedName, IsClassName}
-use Rattle.class_model.specs.Descriptors.{named_text, field_type_text, IsElementType, IsArrayType, IsReferenceName, IsFieldType}
+use Rattle.class_model.specs.Descriptors.{named_text, field_type_text, IsElementType, IsArrayType, IsReferenceName, IsFieldType, SpellsFieldType}
 use Rattle.class_model.specs.DescriptorParts.{base_type_of, ClassNameAt, ElementAt, BracketsAt, ArrayAt, FieldTypeAt}
 use Rattle.class_model.specs.declared.descriptor.FieldType.{FieldType}
 use Rattle.class_model.specs.declared.descriptor.FieldType.TheVariants.{Byte, Char, Short, Bool as Boolean, Int, Long, Float, Double, Named}
@@ -39,6 +41,24 @@ one_split (a ∷ name) (b ∷ other) rest last hn ho e =
     let same : a ≡ b = cc in
     let tails = one_split name other rest last hn.1 ho.1 (cc) in
     (cc (tails.0), tails.1)
+
+-- what stands before and after the first semicolon
+pub split_first : (bytes : List ℕ) (end : ℕ) → end < length bytes → get_or bytes end 0 ≡ 59 → ((k : ℕ) → k < end → get_or bytes k 0 ≢ 59) → LacksSemicolon (take end bytes) × (bytes ≡ take end bytes ++ 59 ∷ drop (suc end) bytes)
+split_first [] end within found before = absurd (omega arith)
+split_first (b ∷ bytes) zero within found before = (tt, cc)
+split_first (b ∷ bytes) (suc end) within found before =
+    let tails = split_first bytes end (omega arith) found (λ k h. before (suc k) (omega arith)) in
+    ((before zero (omega arith), tails.0), ap (λ (t : List ℕ). b ∷ t) tails.1)
+
+pub name_before : (bytes : List ℕ) (end : ℕ) → end < length bytes → get_or bytes end 0 ≡ 59 → ((k : ℕ) → k < end → get_or bytes k 0 ≢ 59) → (name rest : List ℕ) → ClassNameAt bytes name rest → IsClassName (take end bytes)
+name_before bytes end within found before name rest at =
+    let parts = split_first bytes end within found before in
+    let same = one_split name (take end bytes) rest (drop (suc end) bytes) (name_lacks name at.is_name) parts.0 (sym at.spelled ∙ parts.1) in
+    subst IsClassName same.0 at.is_name
+
+pub no_semicolon : (bytes : List ℕ) → ((k : ℕ) → k < length bytes → get_or bytes k 0 ≢ 59) → (name rest : List ℕ) → ¬ ClassNameAt bytes name rest
+no_semicolon bytes none name rest at =
+    none (length name) (omega (arith, ap length at.spelled, length-append name (59 ∷ rest))) (rw at.spelled (get_or_at name 59 rest 0 (length name) refl))
 
 -- what a class name begins with
 record Head (name : List ℕ) : Type 0 where
@@ -197,3 +217,138 @@ one_field_type one other rest last ho hl e =
 
 pub one_at : (bytes : List ℕ) (one other : FieldType) (rest last : List ℕ) → FieldTypeAt bytes one rest → FieldTypeAt bytes other last → (one ≡ other) × (rest ≡ last)
 one_at bytes one other rest last a b = one_field_type one other rest last a.is_type b.is_type (sym a.spelled ∙ b.spelled)
+
+-- what stands at the front
+pub base_text : (byte : ℕ) (type : FieldType) → base_type_of byte ≡ Some type → IsElementType type × (field_type_text type ≡ byte ∷ [])
+base_text byte type e = grind (arith, nat_tests)
+
+class_spelled : (after name rest : List ℕ) → ClassNameAt after name rest → 76 ∷ after ≡ named_text name ++ rest
+class_spelled after name rest at = rw (class_text name at.is_name) (ap (λ (t : List ℕ). 76 ∷ t) (at.spelled ∙ sym (append_assoc name (59 ∷ []) rest)))
+
+pub element_of_class : (bytes after name rest : List ℕ) → bytes ≡ 76 ∷ after → ClassNameAt after name rest → ElementAt bytes rest
+element_of_class bytes after name rest e at = record { element = Named name; is_element = at.is_name; spelled = e ∙ class_spelled after name rest at }
+
+pub element_of_base : (bytes after : List ℕ) (first : ℕ) (found : Option FieldType) → bytes ≡ first ∷ after → found ≡ base_type_of first → is_some found ≡ true → ElementAt bytes after
+element_of_base bytes after first None e is some = absurd cc
+element_of_base bytes after first (Some type) e is some = let h = base_text first type (sym is) in record { element = type; is_element = h.0; spelled = rw h.1 e }
+
+class_of_element : (bytes after rest : List ℕ) → bytes ≡ 76 ∷ after → ElementAt bytes rest → (name : List ℕ) × ClassNameAt after name rest
+class_of_element bytes after rest e at =
+    elim (element_form at.element at.is_element) [
+      | inl a ↦ let h : 76 ∷ after ≡ a.0 ∷ rest = sym e ∙ rw a.1.text at at.spelled in
+                let byte : a.0 ≡ 76 = cc in
+                absurd (cc (rw byte at a.1.of_byte))
+      | inr a ↦ let h : 76 ∷ after ≡ 76 ∷ ((a.0 ++ 59 ∷ []) ++ rest) = sym e ∙ rw a.1.text at at.spelled in
+                (a.0, record { is_name = a.1.is_name; spelled = cc (append_assoc a.0 (59 ∷ []) rest) })
+    ]
+
+pub no_element : (bytes after : List ℕ) (first : ℕ) → bytes ≡ first ∷ after → first ≢ 76 → is_some (base_type_of first) ≡ false → (rest : List ℕ) → ¬ ElementAt bytes rest
+no_element bytes after first e other none rest at =
+    elim (element_form at.element at.is_element) [
+      | inl a ↦ let h : first ∷ after ≡ a.0 ∷ rest = sym e ∙ rw a.1.text at at.spelled in
+                let byte : a.0 ≡ first = cc in
+                absurd (cc (a.1.of_byte, none))
+      | inr a ↦ let h : first ∷ after ≡ 76 ∷ ((a.0 ++ 59 ∷ []) ++ rest) = sym e ∙ rw a.1.text at at.spelled in other (cc)
+    ]
+
+pub no_class : (bytes after : List ℕ) → bytes ≡ 76 ∷ after → ((name rest : List ℕ) → ¬ ClassNameAt after name rest) → (rest : List ℕ) → ¬ ElementAt bytes rest
+no_class bytes after e none rest at = let class = class_of_element bytes after rest e at in none class.0 rest class.1
+
+-- arrays
+count_is : (bytes rest : List ℕ) (at : BracketsAt bytes rest) → length bytes ≡ at.count + length rest
+count_is bytes rest at = omega (arith, ap length at.spelled, length-append (replicate at.count 91) rest, length-replicate {A = ℕ} at.count 91)
+
+array_of_element : (bytes element rest : List ℕ) (at : BracketsAt bytes element) → 1 ≤ at.count → at.count ≤ 255 → ElementAt element rest → (text : List ℕ) × ArrayAt bytes text rest
+array_of_element bytes element rest at some few found = (
+  replicate at.count 91 ++ field_type_text found.element,
+  record {
+    is_array = record { dimensions = at.count; element = found.element; some = some; few = few; is_element = found.is_element; spelled = refl };
+    spelled = at.spelled ∙ ap (λ (t : List ℕ). replicate at.count 91 ++ t) found.spelled ∙ sym (append_assoc (replicate at.count 91) (field_type_text found.element) rest);
+  },
+)
+
+element_of_array : (bytes element text rest : List ℕ) (at : BracketsAt bytes element) → ArrayAt bytes text rest → (1 ≤ at.count) × (at.count ≤ 255) × ElementAt element rest
+element_of_array bytes element text rest at array =
+    let a = array.is_array in
+    let parts = one_count a.dimensions at.count _ element (element_lacks a.element rest a.is_element) at.no_more (sym (array_parts text bytes rest a array.spelled) ∙ at.spelled) in
+    (omega (arith, a.some, parts.0), omega (arith, a.few, parts.0), record { element = a.element; is_element = a.is_element; spelled = sym parts.1 })
+
+pub bad_count : (bytes element : List ℕ) → BracketsAt bytes element → (length bytes - length element ≡ 0) ⊎ (255 < length bytes - length element) → (text rest : List ℕ) → ¬ ArrayAt bytes text rest
+bad_count bytes element at bad text rest array =
+    let count = count_is bytes element at in
+    let h = element_of_array bytes element text rest at array in
+    elim bad [ inl none ↦ omega (arith, h.0) | inr many ↦ omega (arith, h.1) ]
+
+-- with a good number of brackets, an array is what its element is
+pub some_array : (bytes element : List ℕ) → BracketsAt bytes element → length bytes - length element ≢ 0 → length bytes - length element ≤ 255 → (found : Option (Bor (List ℕ))) → IfSome found (λ rest. ElementAt element rest.now) → IfSome found (λ rest. (text : List ℕ) × ArrayAt bytes text rest.now)
+some_array bytes element at some few None h = tt
+some_array bytes element at some few (Some rest) h = let count = count_is bytes element at in array_of_element bytes element rest.now at (omega (arith, some)) (omega arith) h
+
+pub no_array : (bytes element : List ℕ) → BracketsAt bytes element → (found : Option (Bor (List ℕ))) → IfNone found ((rest : List ℕ) → ¬ ElementAt element rest) → IfNone found ((text rest : List ℕ) → ¬ ArrayAt bytes text rest)
+no_array bytes element at None none = λ text rest array. none rest (element_of_array bytes element text rest at array).2
+no_array bytes element at (Some rest) none = tt
+
+pub at_whole : (bytes : List ℕ) → IsArrayType bytes → ArrayAt bytes bytes []
+at_whole bytes array = record { is_array = array; spelled = sym (append-nil bytes) }
+
+whole_array : (bytes text rest : List ℕ) → rest ≡ [] → ArrayAt bytes text rest → IsArrayType bytes
+whole_array bytes text rest none at = subst IsArrayType (sym (at.spelled ∙ ap (λ (t : List ℕ). text ++ t) none ∙ append-nil text)) at.is_array
+
+pub decides_array : (bytes text rest : List ℕ) (empty : Bool) → ArrayAt bytes text rest → empty ≡ (length rest == 0) → IsTrue empty ↔ IsArrayType bytes
+decides_array bytes text rest empty at is = (
+  λ e. whole_array bytes text rest (nil_from_length rest (eqb-true _ _ (sym is ∙ e))) at,
+  λ array. is ∙ eq-eqb (length rest) 0 (ap length (one_array bytes text bytes rest [] at (at_whole bytes array)).1),
+)
+
+array_is_front : (bytes text rest : List ℕ) → ArrayAt bytes text rest → take (length bytes - length rest) bytes ≡ text
+array_is_front bytes text rest at = rw at.spelled (take_at text rest _ (omega (arith, length-append text rest)))
+
+pub only_front : (bytes text rest : List ℕ) → ArrayAt bytes text rest → ¬ IsText (take (length bytes - length rest) bytes) → (other last : List ℕ) → IsText other → ¬ ArrayAt bytes other last
+only_front bytes text rest at none other last is_text found = none (subst IsText ((one_array bytes other text last rest found at).0 ∙ sym (array_is_front bytes text rest at)) is_text)
+
+-- field types
+pub type_of_array : (bytes text rest : List ℕ) (type : FieldType) → ArrayAt bytes text rest → type ≡ Named (take (length bytes - length rest) bytes) → IsText (take (length bytes - length rest) bytes) → FieldTypeAt bytes type rest
+type_of_array bytes text rest type at same is_text =
+    let front = array_is_front bytes text rest at in
+    subst (λ (t : FieldType). FieldTypeAt bytes t rest) (sym (same ∙ ap Named front)) (record { is_type = (subst IsText front is_text, inr at.is_array); spelled = rw (array_text text at.is_array) at.spelled })
+
+pub type_of_class : (bytes name rest : List ℕ) (type : FieldType) → ClassNameAt bytes name rest → type ≡ Named name → IsText name → FieldTypeAt (76 ∷ bytes) type rest
+type_of_class bytes name rest type at same is_text = subst (λ (t : FieldType). FieldTypeAt (76 ∷ bytes) t rest) (sym same) (record { is_type = (is_text, inl at.is_name); spelled = class_spelled bytes name rest at })
+
+pub only_name : (bytes name rest : List ℕ) → ClassNameAt bytes name rest → ¬ IsText name → (other last : List ℕ) → IsText other → ¬ ClassNameAt bytes other last
+only_name bytes name rest at none other last is_text found = none (subst IsText (one_split other name last rest (name_lacks other found.is_name) (name_lacks name at.is_name) (sym found.spelled ∙ at.spelled)).0 is_text)
+
+named_text_is : (type : FieldType) (text : List ℕ) → type ≡ Named text → IsFieldType type → IsText text
+named_text_is type text same is_type = (subst IsFieldType same is_type).0
+
+pub array_of_type : (bytes after rest : List ℕ) (type : FieldType) → bytes ≡ 91 ∷ after → FieldTypeAt bytes type rest → (text : List ℕ) × IsText text × ArrayAt bytes text rest
+array_of_type bytes after rest type e at =
+    elim (field_form type at.is_type) [
+      | inl a ↦ absurd (element_lacks type rest a after (sym at.spelled ∙ e))
+      | inr a ↦ (a.0, named_text_is type a.0 a.2 at.is_type, record { is_array = a.1; spelled = rw a.3 at at.spelled })
+    ]
+
+pub class_of_type : (bytes after rest : List ℕ) (type : FieldType) → bytes ≡ 76 ∷ after → FieldTypeAt bytes type rest → (name : List ℕ) × IsText name × ClassNameAt after name rest
+class_of_type bytes after rest type e at =
+    elim (field_form type at.is_type) [
+      | inl a ↦ elim (element_form type a) [
+        | inl b ↦ let h : 76 ∷ after ≡ b.0 ∷ rest = sym e ∙ rw b.1.text at at.spelled in
+                  let byte : b.0 ≡ 76 = cc in
+                  absurd (cc (rw byte at b.1.of_byte))
+        | inr b ↦ let h : 76 ∷ after ≡ 76 ∷ ((b.0 ++ 59 ∷ []) ++ rest) = sym e ∙ rw b.1.text at at.spelled in
+                  (b.0, named_text_is type b.0 b.1.same at.is_type, record { is_name = b.1.is_name; spelled = cc (append_assoc b.0 (59 ∷ []) rest) })
+      ]
+      | inr a ↦ let head = array_head a.0 a.1 in
+                let h : 76 ∷ after ≡ 91 ∷ (head.0 ++ rest) = sym e ∙ at.spelled ∙ ap (λ (t : List ℕ). t ++ rest) (a.3 ∙ head.1) in
+                let byte : ◌≡◌ {A = ℕ} 76 91 = cc in
+                absurd (omega (arith, byte))
+    ]
+
+-- the whole
+pub type_at_whole : (bytes : List ℕ) (type : FieldType) → SpellsFieldType bytes type → FieldTypeAt bytes type []
+type_at_whole bytes type spells = record { is_type = spells.is_type; spelled = spells.spelled ∙ sym (append-nil (field_type_text type)) }
+
+pub only_whole : (bytes rest : List ℕ) (found : FieldType) (empty : Bool) → FieldTypeAt bytes found rest → empty ≡ (length rest == 0) → empty ≡ false → (type : FieldType) → ¬ SpellsFieldType bytes type
+only_whole bytes rest found empty at is some type spells =
+    let none = (one_at bytes found type rest [] at (type_at_whole bytes type spells)).1 in
+    absurd (cc (some, is, eq-eqb (length rest) 0 (ap length none)))

@@ -2,3 +2,4 @@ pub mod Units
 pub mod Constants
 pub mod ClassNames
 pub mod DescriptorGrammar
+pub mod Variants

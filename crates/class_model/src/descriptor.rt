@@ -1,5 +1,5 @@
 //! Descriptors: field types and method descriptors (JVM Specification SE 8, 4.3).
-ghost use Rattle.std.specs.Prelude.{◌≡◌, ◌≢◌, ◌↔◌, ◌∷◌, ℕ, List, Option, IfOk, OnOk, IsErrOf, IfSome, IfNone, IsTrue};
+ghost use Rattle.std.specs.Prelude.{◌≡◌, ◌≢◌, ◌<◌, ◌↔◌, ◌∷◌, ℕ, List, length, slice_index, EachIndex, Option, IfOk, OnOk, IsErrOf, IfSome, IfNone, IsTrue};
 ghost use Rattle.class_model.specs.ModifiedUtf8.{IsText};
 ghost use Rattle.class_model.specs.Descriptors.{IsArrayType, SpellsFieldType, SpellsDescriptor, kind_of, units_of};
 ghost use Rattle.class_model.specs.DescriptorParts.{base_type_of, ClassNameAt, ElementAt, BracketsAt, ArrayAt, FieldTypeAt, ParametersAt, SpellsResult};
@@ -333,11 +333,21 @@ fn class_name_at(bytes: &[u8]) -> Option<(&[u8], &[u8])>
     ensures some { IfSome result (λ found. ClassNameAt bytes.now found.0.now found.1.now) }
     ensures none { IfNone result ((name rest : List ℕ) → ¬ ClassNameAt bytes.now name rest) }
 {
-    let end = bytes.iter().position(|byte| *byte == b';')?;
+    let end = first_semicolon(bytes)?;
     let name = &bytes[..end];
     if is_class_name(name) {
         Some((name, &bytes[end + 1..]))
     } else {
         None
     }
+}
+
+// The index of the first semicolon.
+fn first_semicolon(bytes: &[u8]) -> Option<usize>
+    ensures within { IfSome result (λ end. end < length bytes.now) }
+    ensures found { IfSome result (λ end. slice_index bytes.now end ≡ 59) }
+    ensures before { IfSome result (λ end. (k : ℕ) → k < end → slice_index bytes.now k ≢ 59) }
+    ensures none { IfNone result (EachIndex bytes.now (λ k. slice_index bytes.now k ≢ 59)) }
+{
+    bytes.iter().position(|byte| *byte == b';')
 }
