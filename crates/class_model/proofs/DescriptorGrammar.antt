@@ -1,5 +1,5 @@
 -- The field type at the front of bytes is one only, and so are the bytes after it.
-use Rattle.std.proofs.Common.{◌≡◌, ◌≢◌, ◌==◌, ◌↔◌, IsTrue, eq-eqb, Bool, true, false, is_some, ℕ, zero, suc, ◌+◌, ◌-◌, ◌<◌, ◌≤◌, List, [], ◌∷◌, ◌++◌, length, get_or, take, drop, replicate, ◌⊎◌, inl, inr, Option, Some, None, IfSome, IfNone, Bor, refl, sym, ap, subst, ◌∙◌, arith, append_assoc, length-append}
+use Rattle.std.proofs.Common.{◌≡◌, ◌≢◌, ◌==◌, ◌↔◌, IsTrue, eq-eqb, Bool, true, false, ◌||◌, is_some, ℕ, zero, suc, ◌+◌, ◌-◌, ◌<◌, ◌≤◌, List, [], ◌∷◌, ◌++◌, length, get_or, take, drop, replicate, ◌⊎◌, inl, inr, Option, Some, None, IfSome, IfNone, Bor, refl, sym, ap, subst, ◌∙◌, arith, append_assoc, length-append}
 use Rattle.std.proofs.lemmas.List.{append-nil, nil_from_length, get_or_at, take_at, length-replicate}
 use Rattle.std.proofs.lemmas.Bool.{eqb-true}
 use Rattle.std.proofs.lemmas.Bool.Decides.{nat_tests}
@@ -352,3 +352,36 @@ pub only_whole : (bytes rest : List ℕ) (found : FieldType) (empty : Bool) → 
 only_whole bytes rest found empty at is some type spells =
     let none = (one_at bytes found type rest [] at (type_at_whole bytes type spells)).1 in
     absurd (cc (some, is, eq-eqb (length rest) 0 (ap length none)))
+
+-- the first byte of a field type
+abbrev begins_type : ℕ → Bool
+begins_type byte = is_some (base_type_of byte) || byte == 76 || byte == 91
+
+pub record Begins (type : FieldType) : Type 0 where
+  pub first : ℕ
+  pub more : List ℕ
+  pub text : field_type_text type ≡ first ∷ more
+  pub begins : begins_type first ≡ true
+
+pub begins : (type : FieldType) → IsFieldType type → Begins type
+begins type is_type =
+    elim (field_form type is_type) [
+      | inl element ↦ elim (element_form type element) [
+        | inl a ↦ record { first = a.0; more = []; text = a.1.text; begins = rw a.1.of_byte refl }
+        | inr a ↦ record { first = 76; more = a.0 ++ 59 ∷ []; text = a.1.text; begins = refl }
+      ]
+      | inr a ↦ let head = array_head a.0 a.1 in record { first = 91; more = head.0; text = a.3 ∙ head.1; begins = refl }
+    ]
+
+pub no_type_at : (byte : ℕ) (after bytes rest : List ℕ) (type : FieldType) → begins_type byte ≡ false → bytes ≡ byte ∷ after → ¬ FieldTypeAt bytes type rest
+no_type_at byte after bytes rest type not_first e at =
+    let head = begins type at.is_type in
+    let h : byte ∷ after ≡ head.first ∷ (head.more ++ rest) = sym e ∙ at.spelled ∙ ap (λ (t : List ℕ). t ++ rest) head.text in
+    let same : byte ≡ head.first = cc in
+    absurd (cc (not_first, head.begins))
+
+pub shorter : (bytes rest : List ℕ) (type : FieldType) → FieldTypeAt bytes type rest → length rest < length bytes
+shorter bytes rest type at =
+    let head = begins type at.is_type in
+    let h : bytes ≡ head.first ∷ (head.more ++ rest) = at.spelled ∙ ap (λ (t : List ℕ). t ++ rest) head.text in
+    omega (arith, ap length h, length-append head.more rest)

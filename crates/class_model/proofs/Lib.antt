@@ -2,4 +2,5 @@ pub mod Units
 pub mod Constants
 pub mod ClassNames
 pub mod DescriptorGrammar
+pub mod Parameters
 pub mod Variants
