@@ -8,7 +8,7 @@ use Rattle.class_model.specs.Descriptors.{field_type_text, IsFieldType, kind_of,
 use Rattle.class_model.specs.DescriptorParts.{FieldTypeAt, ParametersAt, SpellsResult}
 use Rattle.class_model.specs.declared.descriptor.FieldType.{FieldType}
 use Rattle.class_model.specs.declared.descriptor.Descriptor.{Descriptor}
-use Rattle.class_model.proofs.DescriptorGrammar.{one_at, no_type_at}
+use Rattle.class_model.proofs.DescriptorGrammar.{one_at, no_type_at, type_at_whole}
 
 -- the bytes spell parameters that take at most so many units
 pub record Left (units : ℕ) (bytes : List ℕ) : Type 0 where
@@ -91,3 +91,47 @@ module _ (bytes : List ℕ) (types : List FieldType) (units : ℕ) (rest : List 
 
 pub all_read : (bytes rest after : List ℕ) (types : List FieldType) (units : ℕ) → Read bytes types units rest → rest ≡ 41 ∷ after → ParametersAt 255 bytes types after
 all_read bytes rest after types units read e = record { each = read.each; units_fit = omega (arith, read.sum, read.few); spelled = read.spelled ∙ ap (λ (t : List ℕ). flat_map field_type_text types ++ t) e }
+
+-- one list of parameters
+at_first : (type : FieldType) (types : List FieldType) (rest : List ℕ) → IsFieldType type → FieldTypeAt (flat_map field_type_text (type ∷ types) ++ 41 ∷ rest) type (flat_map field_type_text types ++ 41 ∷ rest)
+at_first type types rest is_type = record { is_type = is_type; spelled = append_assoc (field_type_text type) (flat_map field_type_text types) (41 ∷ rest) }
+
+one_list : (types others : List FieldType) (rest last : List ℕ) → AllByRecursion IsFieldType types → AllByRecursion IsFieldType others → flat_map field_type_text types ++ 41 ∷ rest ≡ flat_map field_type_text others ++ 41 ∷ last → (types ≡ others) × (rest ≡ last)
+one_list [] [] rest last each each' e = (refl, cc)
+one_list [] (type ∷ others) rest last each each' e = absurd (no_type_at 41 rest _ _ type refl (sym e) (at_first type others last each'.0))
+one_list (type ∷ types) [] rest last each each' e = absurd (no_type_at 41 last _ _ type refl e (at_first type types rest each.0))
+one_list (type ∷ types) (other ∷ others) rest last each each' e =
+    let front = one_at _ type other _ _ (at_first type types rest each.0) (subst (λ (t : List ℕ). FieldTypeAt t other (flat_map field_type_text others ++ 41 ∷ last)) (sym e) (at_first other others last each'.0)) in
+    let tails = one_list types others rest last each.1 each'.1 front.1 in
+    (cc (front.0, tails.0), tails.1)
+
+pub one_parameters : (units : ℕ) (bytes : List ℕ) (types others : List FieldType) (rest last : List ℕ) → ParametersAt units bytes types rest → ParametersAt units bytes others last → (types ≡ others) × (rest ≡ last)
+one_parameters units bytes types others rest last a b = one_list types others rest last a.each b.each (sym a.spelled ∙ b.spelled)
+
+-- one result
+pub one_field_type : (bytes : List ℕ) (one other : FieldType) → SpellsFieldType bytes one → SpellsFieldType bytes other → one ≡ other
+one_field_type bytes one other a b = (one_at bytes one other [] [] (type_at_whole bytes one a) (type_at_whole bytes other b)).0
+
+none_or_some : (bytes : List ℕ) (type : FieldType) → bytes ≡ 86 ∷ [] → ¬ SpellsFieldType bytes type
+none_or_some bytes type e spells = no_type_at 86 [] bytes [] type refl e (type_at_whole bytes type spells)
+
+one_result : (bytes : List ℕ) (one other : Option FieldType) → SpellsResult bytes one → SpellsResult bytes other → one ≡ other
+one_result bytes None None a b = refl
+one_result bytes None (Some type) a b = absurd (none_or_some bytes type a.spelled (record { is_type = b.is_type; spelled = b.spelled }))
+one_result bytes (Some type) None a b = absurd (none_or_some bytes type b.spelled (record { is_type = a.is_type; spelled = a.spelled }))
+one_result bytes (Some type) (Some other) a b = ap Some (one_field_type bytes type other (record { is_type = a.is_type; spelled = a.spelled }) (record { is_type = b.is_type; spelled = b.spelled }))
+
+-- a descriptor, by its parts
+pub parameters_of : (bytes after : List ℕ) (descriptor : Descriptor) → bytes ≡ 40 ∷ after → SpellsDescriptor bytes descriptor → ParametersAt 255 after descriptor.params (result_text descriptor.result)
+parameters_of bytes after descriptor e spells = record { each = spells.is_descriptor.params; units_fit = spells.is_descriptor.units; spelled = cc (e, spells.spelled) }
+
+pub result_of : (bytes after rest : List ℕ) (params : List FieldType) (descriptor : Descriptor) → bytes ≡ 40 ∷ after → ParametersAt 255 after params rest → SpellsDescriptor bytes descriptor → SpellsResult rest descriptor.result
+result_of bytes after rest params descriptor e at spells = record { is_type = spells.is_descriptor.result; spelled = (one_parameters 255 after params descriptor.params rest _ at (parameters_of bytes after descriptor e spells)).1 }
+
+pub one_descriptor : (text : List ℕ) (one other : Descriptor) → SpellsDescriptor text one → SpellsDescriptor text other → one ≡ other
+one_descriptor text one other a b =
+    let after = flat_map field_type_text one.params ++ 41 ∷ result_text one.result in
+    let params = one_parameters 255 after one.params other.params _ _ (parameters_of text after one a.spelled a) (parameters_of text after other a.spelled b) in
+    let result = one_result (result_text one.result) one.result other.result (record { is_type = a.is_descriptor.result; spelled = refl }) (record { is_type = b.is_descriptor.result; spelled = params.1 }) in
+    let same_params : one ≡ record { params = other.params; result = one.result } = ap (λ (p : List FieldType). let d : Descriptor = record { params = p; result = one.result } in d) params.0 in
+    same_params ∙ ap (λ (r : Option FieldType). let d : Descriptor = record { params = other.params; result = r } in d) result

@@ -5,6 +5,7 @@
 mod class_file;
 mod descriptor;
 mod fault;
+mod laws;
 mod list;
 mod memory;
 mod names;
@@ -16,6 +17,7 @@ pub use descriptor::{
     Descriptor, FieldType, FieldTypeList, Kind, NameFault, is_array_type, parse_descriptor, parse_field_type,
 };
 pub use fault::ClassFault;
+pub use laws::{a_text_spells_one_descriptor, a_text_spells_one_field_type};
 pub use list::{ByteList, ListOf};
 pub use memory::NoMemory;
 pub use names::{BadName, parse_class_name};
