@@ -1,4 +1,5 @@
 pub mod Units
+pub mod TextParts
 pub mod Constants
 pub mod ClassNames
 pub mod DescriptorGrammar

@@ -29,7 +29,7 @@ two_bytes unit low high = record { low = low; high = high; bytes = grind (arith,
 three_bytes : (unit : ℕ) → 0x800 ≤ unit → ThreeBytes unit
 three_bytes unit low = record { low = low; bytes = grind (arith, nat_tests) }
 
-unit_forms : (unit : ℕ) → OneByte unit ⊎ (TwoBytes unit ⊎ ThreeBytes unit)
+pub unit_forms : (unit : ℕ) → OneByte unit ⊎ (TwoBytes unit ⊎ ThreeBytes unit)
 unit_forms unit =
     elim (cases_lt 0 unit) [
       | inr zero ↦ inr (inl (two_bytes unit (inl (omega arith)) (omega arith)))

@@ -141,6 +141,17 @@ pub fn parse_descriptor(alloc: Global, text: &Text) -> Result<Descriptor, NameFa
     Ok(Descriptor { params, result })
 }
 
+/// Whether a text's bytes spell a field type. It takes no memory.
+pub fn is_field_type(bytes: &[u8]) -> bool
+    requires { IsText bytes.now }
+    ensures { IsTrue result ↔ ((type : FieldType) × SpellsFieldType bytes.now type) }
+{
+    match after_element(bytes) {
+        Some(rest) => rest.is_empty(),
+        None => is_array_type(bytes),
+    }
+}
+
 /// Whether bytes are an array type. It takes no memory.
 pub fn is_array_type(bytes: &[u8]) -> bool
     ensures { IsTrue result ↔ IsArrayType bytes.now }

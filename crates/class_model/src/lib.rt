@@ -14,7 +14,7 @@ mod text;
 
 pub use class_file::ClassFile;
 pub use descriptor::{
-    Descriptor, FieldType, FieldTypeList, Kind, NameFault, is_array_type, parse_descriptor, parse_field_type,
+    Descriptor, FieldType, FieldTypeList, Kind, NameFault, is_array_type, is_field_type, parse_descriptor, parse_field_type,
 };
 pub use fault::ClassFault;
 pub use laws::{a_text_spells_one_descriptor, a_text_spells_one_field_type};
