@@ -125,20 +125,20 @@ one_element one other rest last ho hl e =
     elim (element_form one ho) [
       | inl a ↦ elim (element_form other hl) [
         | inl b ↦ let h : a.0 ∷ rest ≡ b.0 ∷ last = rw (a.1.text, b.1.text) at e in
-                  let byte : a.0 ≡ b.0 = cc in
-                  (cc (a.1.of_byte, b.1.of_byte), cc)
+            let byte : a.0 ≡ b.0 = cc in
+            (cc (a.1.of_byte, b.1.of_byte), cc)
         | inr b ↦ let h : a.0 ∷ rest ≡ 76 ∷ (b.0 ++ 59 ∷ []) ++ last = rw (a.1.text, b.1.text) at e in
-                  let byte : a.0 ≡ 76 = cc in
-                  absurd (cc (rw byte at a.1.of_byte))
+            let byte : a.0 ≡ 76 = cc in
+            absurd (cc (rw byte at a.1.of_byte))
       ]
       | inr a ↦ elim (element_form other hl) [
         | inl b ↦ let h : 76 ∷ (a.0 ++ 59 ∷ []) ++ rest ≡ b.0 ∷ last = rw (a.1.text, b.1.text) at e in
-                  let byte : b.0 ≡ 76 = cc in
-                  absurd (cc (rw byte at b.1.of_byte))
+            let byte : b.0 ≡ 76 = cc in
+            absurd (cc (rw byte at b.1.of_byte))
         | inr b ↦ let h : 76 ∷ (a.0 ++ 59 ∷ []) ++ rest ≡ 76 ∷ (b.0 ++ 59 ∷ []) ++ last = rw (a.1.text, b.1.text) at e in
-                  let split : a.0 ++ 59 ∷ rest ≡ b.0 ++ 59 ∷ last = cc (append_assoc a.0 (59 ∷ []) rest, append_assoc b.0 (59 ∷ []) last) in
-                  let found = one_split a.0 b.0 rest last (name_lacks a.0 a.1.is_name) (name_lacks b.0 b.1.is_name) split in
-                  (a.1.same ∙ ap Named found.0 ∙ sym b.1.same, found.1)
+            let split : a.0 ++ 59 ∷ rest ≡ b.0 ++ 59 ∷ last = cc (append_assoc a.0 (59 ∷ []) rest, append_assoc b.0 (59 ∷ []) last) in
+            let found = one_split a.0 b.0 rest last (name_lacks a.0 a.1.is_name) (name_lacks b.0 b.1.is_name) split in
+            (a.1.same ∙ ap Named found.0 ∙ sym b.1.same, found.1)
       ]
     ]
 
@@ -161,11 +161,11 @@ element_lacks : (element : FieldType) (rest : List ℕ) → IsElementType elemen
 element_lacks element rest is_element after e =
     elim (element_form element is_element) [
       | inl a ↦ let h : a.0 ∷ rest ≡ 91 ∷ after = rw a.1.text at e in
-                let byte : a.0 ≡ 91 = cc in
-                absurd (cc (rw byte at a.1.of_byte))
+          let byte : a.0 ≡ 91 = cc in
+          absurd (cc (rw byte at a.1.of_byte))
       | inr a ↦ let h : 76 ∷ (a.0 ++ 59 ∷ []) ++ rest ≡ 91 ∷ after = rw a.1.text at e in
-                let byte : ◌≡◌ {A = ℕ} 76 91 = cc in
-                absurd (omega (arith, byte))
+          let byte : ◌≡◌ {A = ℕ} 76 91 = cc in
+          absurd (omega (arith, byte))
     ]
 
 -- one array type
@@ -212,7 +212,7 @@ one_field_type one other rest last ho hl e =
       | inr a ↦ elim (field_form other hl) [
         | inl b ↦ absurd (not_both other a.0 last rest b a.1 (sym (rw a.3 at e)))
         | inr b ↦ let found = one_array (a.0 ++ rest) a.0 b.0 rest last (record { is_array = a.1; spelled = refl }) (record { is_array = b.1; spelled = rw (a.3, b.3) at e }) in
-                  (a.2 ∙ ap Named found.0 ∙ sym b.2, found.1)
+            (a.2 ∙ ap Named found.0 ∙ sym b.2, found.1)
       ]
     ]
 
@@ -237,18 +237,18 @@ class_of_element : (bytes after rest : List ℕ) → bytes ≡ 76 ∷ after → 
 class_of_element bytes after rest e at =
     elim (element_form at.element at.is_element) [
       | inl a ↦ let h : 76 ∷ after ≡ a.0 ∷ rest = sym e ∙ rw a.1.text at at.spelled in
-                let byte : a.0 ≡ 76 = cc in
-                absurd (cc (rw byte at a.1.of_byte))
+          let byte : a.0 ≡ 76 = cc in
+          absurd (cc (rw byte at a.1.of_byte))
       | inr a ↦ let h : 76 ∷ after ≡ 76 ∷ ((a.0 ++ 59 ∷ []) ++ rest) = sym e ∙ rw a.1.text at at.spelled in
-                (a.0, record { is_name = a.1.is_name; spelled = cc (append_assoc a.0 (59 ∷ []) rest) })
+          (a.0, record { is_name = a.1.is_name; spelled = cc (append_assoc a.0 (59 ∷ []) rest) })
     ]
 
 pub no_element : (bytes after : List ℕ) (first : ℕ) → bytes ≡ first ∷ after → first ≢ 76 → is_some (base_type_of first) ≡ false → (rest : List ℕ) → ¬ ElementAt bytes rest
 no_element bytes after first e other none rest at =
     elim (element_form at.element at.is_element) [
       | inl a ↦ let h : first ∷ after ≡ a.0 ∷ rest = sym e ∙ rw a.1.text at at.spelled in
-                let byte : a.0 ≡ first = cc in
-                absurd (cc (a.1.of_byte, none))
+          let byte : a.0 ≡ first = cc in
+          absurd (cc (a.1.of_byte, none))
       | inr a ↦ let h : first ∷ after ≡ 76 ∷ ((a.0 ++ 59 ∷ []) ++ rest) = sym e ∙ rw a.1.text at at.spelled in other (cc)
     ]
 
@@ -334,15 +334,15 @@ class_of_type bytes after rest type e at =
     elim (field_form type at.is_type) [
       | inl a ↦ elim (element_form type a) [
         | inl b ↦ let h : 76 ∷ after ≡ b.0 ∷ rest = sym e ∙ rw b.1.text at at.spelled in
-                  let byte : b.0 ≡ 76 = cc in
-                  absurd (cc (rw byte at b.1.of_byte))
+            let byte : b.0 ≡ 76 = cc in
+            absurd (cc (rw byte at b.1.of_byte))
         | inr b ↦ let h : 76 ∷ after ≡ 76 ∷ ((b.0 ++ 59 ∷ []) ++ rest) = sym e ∙ rw b.1.text at at.spelled in
-                  (b.0, named_text_is type b.0 b.1.same at.is_type, record { is_name = b.1.is_name; spelled = cc (append_assoc b.0 (59 ∷ []) rest) })
+            (b.0, named_text_is type b.0 b.1.same at.is_type, record { is_name = b.1.is_name; spelled = cc (append_assoc b.0 (59 ∷ []) rest) })
       ]
       | inr a ↦ let head = array_head a.0 a.1 in
-                let h : 76 ∷ after ≡ 91 ∷ (head.0 ++ rest) = sym e ∙ at.spelled ∙ ap (λ (t : List ℕ). t ++ rest) (a.3 ∙ head.1) in
-                let byte : ◌≡◌ {A = ℕ} 76 91 = cc in
-                absurd (omega (arith, byte))
+          let h : 76 ∷ after ≡ 91 ∷ (head.0 ++ rest) = sym e ∙ at.spelled ∙ ap (λ (t : List ℕ). t ++ rest) (a.3 ∙ head.1) in
+          let byte : ◌≡◌ {A = ℕ} 76 91 = cc in
+          absurd (omega (arith, byte))
     ]
 
 -- the whole
@@ -408,13 +408,13 @@ SpellsSome bytes = (type : FieldType) × SpellsFieldType bytes type
 pub decides_element : (bytes rest : List ℕ) (empty : Bool) → IsText bytes → ElementAt bytes rest → empty ≡ (length rest == 0) → IsTrue empty ↔ SpellsSome bytes
 decides_element bytes rest empty text at is = (
   λ e. let none = nil_from_length rest (eqb-true _ _ (sym is ∙ e)) in
-       let spelled = at.spelled ∙ ap (λ (t : List ℕ). field_type_text at.element ++ t) none ∙ append-nil (field_type_text at.element) in
-       (at.element, record { is_type = type_of_element bytes at.element text at.is_element spelled; spelled = spelled }),
+      let spelled = at.spelled ∙ ap (λ (t : List ℕ). field_type_text at.element ++ t) none ∙ append-nil (field_type_text at.element) in
+      (at.element, record { is_type = type_of_element bytes at.element text at.is_element spelled; spelled = spelled }),
   λ s. let whole = type_at_whole bytes s.0 s.1 in
-       elim (field_form s.0 s.1.is_type) [
-         | inl element ↦ is ∙ eq-eqb (length rest) 0 (ap length (one_element at.element s.0 rest [] at.is_element element (sym at.spelled ∙ whole.spelled)).1)
-         | inr a ↦ absurd (not_both at.element a.0 rest [] at.is_element a.1 (sym at.spelled ∙ rw a.3 at whole.spelled))
-       ],
+      elim (field_form s.0 s.1.is_type) [
+        | inl element ↦ is ∙ eq-eqb (length rest) 0 (ap length (one_element at.element s.0 rest [] at.is_element element (sym at.spelled ∙ whole.spelled)).1)
+        | inr a ↦ absurd (not_both at.element a.0 rest [] at.is_element a.1 (sym at.spelled ∙ rw a.3 at whole.spelled))
+      ],
 )
 
 pub decides_named : (bytes : List ℕ) (is : Bool) → IsText bytes → ((rest : List ℕ) → ¬ ElementAt bytes rest) → IsTrue is ↔ IsArrayType bytes → IsTrue is ↔ SpellsSome bytes

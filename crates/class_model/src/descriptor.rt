@@ -7,12 +7,11 @@ ghost use Rattle.class_model.specs.declared.descriptor.FieldType.{FieldType};
 ghost use Rattle.class_model.specs.declared.descriptor.Descriptor.{Descriptor};
 ghost use Rattle.class_model.specs.declared.descriptor.NameFault.TheVariants.{NoMemory as no_memory};
 
-use std::alloc::{AllocError, AllocFailed, Global};
-
 use crate::list::ListOf;
 use crate::memory::NoMemory;
 use crate::names::is_class_name;
 use crate::text::{Text, TextFault};
+use std::alloc::{AllocError, AllocFailed, Global};
 
 /// The kinds of values that instructions tell apart (JVM Specification SE 8, 2.11.1).
 #[derive(Clone, Copy, Debug, PartialEq, Eq)]

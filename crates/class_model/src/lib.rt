@@ -14,7 +14,8 @@ mod text;
 
 pub use class_file::ClassFile;
 pub use descriptor::{
-    Descriptor, FieldType, FieldTypeList, Kind, NameFault, is_array_type, is_field_type, parse_descriptor, parse_field_type,
+    Descriptor, FieldType, FieldTypeList, Kind, NameFault, is_array_type, is_field_type,
+    parse_descriptor, parse_field_type,
 };
 pub use fault::ClassFault;
 pub use laws::{a_text_spells_one_descriptor, a_text_spells_one_field_type};
@@ -24,5 +25,7 @@ pub use names::{BadName, parse_class_name};
 pub use pool::{Const, Pool};
 pub use text::{Text, TextFault};
 
+#[cfg(test)]
+mod descriptor_tests;
 #[cfg(test)]
 mod tests;

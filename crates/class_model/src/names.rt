@@ -13,7 +13,11 @@ pub struct BadName;
 pub fn parse_class_name(text: &Text) -> Result<(), BadName>
     ensures { IsOk result ↔ IsClassName text.now }
 {
-    if is_class_name(text.bytes()) { Ok(()) } else { Err(BadName) }
+    if is_class_name(text.bytes()) {
+        Ok(())
+    } else {
+        Err(BadName)
+    }
 }
 
 // Whether bytes are a class name in internal form.
