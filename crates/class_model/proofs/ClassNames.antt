@@ -1,5 +1,5 @@
 -- A class name from left to right.
-use Rattle.std.proofs.Common.{◌≡◌, ◌≢◌, ℕ, ◌+◌, ◌<◌, ◌≤◌, Bool, true, false, List, [], ◌∷◌, length, get_or, drop, ◌⊎◌, inl, inr, ◌↔◌, refl, sym, ap, subst, ◌∙◌}
+use Rattle.std.proofs.Common.{◌≡◌, ◌≢◌, ℕ, ◌+◌, ◌<◌, ◌≤◌, Bool, true, false, List, [], ◌∷◌, length, get_or, drop, ◌⊎◌, inl, inr, ◌↔◌, IsTrue, not, refl, sym, ap, subst, ◌∙◌}
 use Rattle.std.proofs.lemmas.List.{drop_more, drop_all}
 use Rattle.std.specs.List.{AllByRecursion, join_with_byte}
 use Rattle.class_model.specs.Names.{IsNameByte, IsUnqualifiedName, IsClassName}
@@ -25,7 +25,7 @@ pub name_of_rest : (bytes : List ℕ) → Rest true bytes → IsClassName bytes
 name_of_rest bytes rest = record { parts = rest.front ∷ rest.parts; some = λ e. absurd cc; unqualified = (record { some = rest.some refl; bytes = rest.named }, rest.unqualified); joined = rest.joined }
 
 -- one byte more in the first part
-join-front : (byte : ℕ) (front : List ℕ) (parts : List (List ℕ)) → join_with_byte 47 ((byte ∷ front) ∷ parts) ≡ byte ∷ join_with_byte 47 (front ∷ parts)
+pub join-front : (byte : ℕ) (front : List ℕ) (parts : List (List ℕ)) → join_with_byte 47 ((byte ∷ front) ∷ parts) ≡ byte ∷ join_with_byte 47 (front ∷ parts)
 join-front byte front [] = refl
 join-front byte front (part ∷ parts) = refl
 
@@ -101,8 +101,12 @@ after_byte starts_part bytes index in_range is_named now =
     let e = drop_more bytes index 0 in_range in
     (λ rest. now.0 (subst (Rest starts_part) (sym e) (byte_before starts_part _ _ is_named rest)), λ w. (byte_after starts_part _ _ is_named.no_slash (subst (Rest starts_part) e (now.1 w))).rest)
 
-pub refused_end : {W : Type 0} (bytes : List ℕ) (index : ℕ) → length bytes ≤ index → FromIndex W true bytes index → W → ⊥
+refused_end : {W : Type 0} (bytes : List ℕ) (index : ℕ) → length bytes ≤ index → FromIndex W true bytes index → W → ⊥
 refused_end bytes index past now w = no_part_at_end (subst (Rest true) (drop_all index bytes past) (now.1 w))
 
-pub ended : {W : Type 0} (bytes : List ℕ) (index : ℕ) → length bytes ≤ index → FromIndex W false bytes index → W
+ended : {W : Type 0} (bytes : List ℕ) (index : ℕ) → length bytes ≤ index → FromIndex W false bytes index → W
 ended bytes index past now = now.0 (subst (Rest false) (sym (drop_all index bytes past)) ends_part)
+
+pub at_end : {W : Type 0} (starts_part : Bool) (bytes : List ℕ) (index : ℕ) → length bytes ≤ index → FromIndex W starts_part bytes index → IsTrue (not starts_part) ↔ W
+at_end true bytes index past now = (λ e. absurd cc, λ w. absurd (refused_end bytes index past now w))
+at_end false bytes index past now = (λ _. ended bytes index past now, λ _. refl)

@@ -30,7 +30,7 @@ three_bytes : (unit : ℕ) → 0x800 ≤ unit → ThreeBytes unit
 three_bytes unit low = record { low = low; bytes = grind (arith, nat_tests) }
 
 -- each code unit has one of the three forms
-unit_forms : (unit : ℕ) → OneByte unit ⊎ (TwoBytes unit ⊎ ThreeBytes unit)
+pub unit_forms : (unit : ℕ) → OneByte unit ⊎ (TwoBytes unit ⊎ ThreeBytes unit)
 unit_forms unit =
     elim (cases_lt 0 unit) [
       | inr zero ↦ inr (inl (two_bytes unit (inl (omega arith)) (omega arith)))

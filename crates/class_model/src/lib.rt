@@ -3,7 +3,9 @@
 #![tactic(auto)]
 
 mod class_file;
+mod descriptor;
 mod fault;
+mod laws;
 mod list;
 mod memory;
 mod names;
@@ -11,12 +13,19 @@ mod pool;
 mod text;
 
 pub use class_file::ClassFile;
+pub use descriptor::{
+    Descriptor, FieldType, FieldTypeList, Kind, NameFault, is_array_type, is_field_type,
+    parse_descriptor, parse_field_type,
+};
 pub use fault::ClassFault;
+pub use laws::{a_text_spells_one_descriptor, a_text_spells_one_field_type};
 pub use list::{ByteList, ListOf};
 pub use memory::NoMemory;
 pub use names::{BadName, parse_class_name};
 pub use pool::{Const, Pool};
 pub use text::{Text, TextFault};
 
+#[cfg(test)]
+mod descriptor_tests;
 #[cfg(test)]
 mod tests;

@@ -13,16 +13,27 @@ pub struct BadName;
 pub fn parse_class_name(text: &Text) -> Result<(), BadName>
     ensures { IsOk result ↔ IsClassName text.now }
 {
+    if is_class_name(text.bytes()) {
+        Ok(())
+    } else {
+        Err(BadName)
+    }
+}
+
+// Whether bytes are a class name in internal form.
+pub(crate) fn is_class_name(bytes: &[u8]) -> bool
+    ensures { IsTrue result ↔ IsClassName bytes.now }
+{
     let mut starts_part = true;
-    for byte in text.bytes() {
+    for byte in bytes {
         match *byte {
-            b'/' if starts_part => return Err(BadName),
+            b'/' if starts_part => return false,
             b'/' => starts_part = true,
             byte if is_name_byte(byte) => starts_part = false,
-            _ => return Err(BadName),
+            _ => return false,
         }
     }
-    if starts_part { Err(BadName) } else { Ok(()) }
+    !starts_part
 }
 
 // Whether an unqualified name may have a byte (4.2.2).

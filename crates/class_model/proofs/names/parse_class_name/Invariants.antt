@@ -1,6 +1,0 @@
-use Rattle.class_model.specs.Names.{IsClassName}
-use Rattle.class_model.proofs.ClassNames.{FromIndex}
-use Rattle.class_model.proofs.names.parse_class_name.Given as goal
-
-abbrev pub invariant-loop-byte : goal.invariant-loop-byte
-invariant-loop-byte l = FromIndex (IsClassName l.text) l.starts_part l.byte-items l.byte-index

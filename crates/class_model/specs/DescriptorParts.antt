@@ -1,0 +1,58 @@
+-- What stands at the front of bytes that spell a descriptor, and the bytes after it.
+use Rattle.std.specs.Prelude.{◌≡◌, ◌≢◌, ◌==◌, ℕ, ◌+◌, ◌≤◌, List, ◌∷◌, ◌++◌, replicate, Option, Some, None, IfSome, if◌then◌else◌}
+use Rattle.std.specs.List.{flat_map, AllByRecursion}
+use Rattle.class_model.specs.Names.{IsClassName}
+use Rattle.class_model.specs.Descriptors.{field_type_text, IsElementType, IsArrayType, IsFieldType, parameter_units, result_text}
+use Rattle.class_model.specs.declared.descriptor.FieldType.{FieldType}
+use Rattle.class_model.specs.declared.descriptor.FieldType.TheVariants.{Byte, Char, Short, Bool, Int, Long, Float, Double}
+
+-- the base type of a letter (4.3.2)
+abbrev pub base_type_of : ℕ → Option FieldType
+base_type_of byte =
+    if byte == 66 then Some Byte
+    else (if byte == 67 then Some Char
+    else (if byte == 68 then Some Double
+    else (if byte == 70 then Some Float
+    else (if byte == 73 then Some Int
+    else (if byte == 74 then Some Long
+    else (if byte == 83 then Some Short
+    else (if byte == 90 then Some Bool
+    else None)))))))
+
+-- a class name and a semicolon
+pub record ClassNameAt (bytes name rest : List ℕ) : Type 0 where
+  pub is_name : IsClassName name
+  pub spelled : bytes ≡ name ++ 59 ∷ rest
+
+-- a field type that is no array
+pub record ElementAt (bytes rest : List ℕ) : Type 0 where
+  pub element : FieldType
+  pub is_element : IsElementType element
+  pub spelled : bytes ≡ field_type_text element ++ rest
+
+-- all brackets up to another byte or the end
+pub record BracketsAt (bytes rest : List ℕ) : Type 0 where
+  pub count : ℕ
+  pub spelled : bytes ≡ replicate count 91 ++ rest
+  pub no_more : (after : List ℕ) → rest ≢ 91 ∷ after
+
+-- an array type
+pub record ArrayAt (bytes text rest : List ℕ) : Type 0 where
+  pub is_array : IsArrayType text
+  pub spelled : bytes ≡ text ++ rest
+
+-- a field type
+pub record FieldTypeAt (bytes : List ℕ) (type : FieldType) (rest : List ℕ) : Type 0 where
+  pub is_type : IsFieldType type
+  pub spelled : bytes ≡ field_type_text type ++ rest
+
+-- field types, whose values take at most so many local units, and a closing parenthesis
+pub record ParametersAt (units : ℕ) (bytes : List ℕ) (types : List FieldType) (rest : List ℕ) : Type 0 where
+  pub each : AllByRecursion IsFieldType types
+  pub units_fit : parameter_units types ≤ units
+  pub spelled : bytes ≡ flat_map field_type_text types ++ 41 ∷ rest
+
+-- the result, and nothing after it
+pub record SpellsResult (bytes : List ℕ) (type : Option FieldType) : Type 0 where
+  pub is_type : IfSome type IsFieldType
+  pub spelled : bytes ≡ result_text type
