@@ -6,17 +6,17 @@ use Rattle.std.proofs.lemmas.Bool.Decides.{nat_tests}
 use Rattle.class_model.specs.ModifiedUtf8.{IsCodeUnit, IsModifiedUtf8, unit_bytes}
 
 -- A code unit's bytes, by how many they are.
-record OneByte (unit : ℕ) : Type 0 where
+pub record OneByte (unit : ℕ) : Type 0 where
   pub low : 0 < unit
   pub high : unit < 0x80
   pub bytes : unit_bytes unit ≡ unit ∷ []
 
-record TwoBytes (unit : ℕ) : Type 0 where
+pub record TwoBytes (unit : ℕ) : Type 0 where
   pub low : (unit ≡ 0) ⊎ (0x80 ≤ unit)
   pub high : unit < 0x800
   pub bytes : unit_bytes unit ≡ (0xC0 + unit / 0x40) ∷ (0x80 + unit % 0x40) ∷ []
 
-record ThreeBytes (unit : ℕ) : Type 0 where
+pub record ThreeBytes (unit : ℕ) : Type 0 where
   pub low : 0x800 ≤ unit
   pub bytes : unit_bytes unit ≡ (0xE0 + unit / 0x1000) ∷ (0x80 + unit / 0x40 % 0x40) ∷ (0x80 + unit % 0x40) ∷ []
 
