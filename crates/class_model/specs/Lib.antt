@@ -2,6 +2,13 @@ pub mod ModifiedUtf8
 pub mod Names
 pub mod Descriptors
 pub mod DescriptorParts
+pub mod Checks
 pub mod Pool
 pub mod Spelling
+pub mod Cutting
+pub mod PoolChecks
+pub mod Instructions
+pub mod Frames
+pub mod Members
+pub mod Code
 pub mod PlainClassFile

@@ -1,5 +1,5 @@
--- Names of classes (JVM Specification SE 8, 4.2.1 and 4.2.2), over the bytes of a text.
-use Rattle.std.specs.Prelude.{◌≡◌, ◌≢◌, ℕ, List, []}
+-- Names of classes, fields and methods (JVM Specification SE 8, 4.2.1 and 4.2.2), over the bytes of a text.
+use Rattle.std.specs.Prelude.{◌≡◌, ◌≢◌, ◌⊎◌, ℕ, List, [], ◌∷◌, codes}
 use Rattle.std.specs.List.{AllByRecursion, join_with_byte}
 
 -- A byte of an unqualified name is none of . ; [ and /
@@ -19,3 +19,33 @@ pub record IsClassName (name : List ℕ) : Type 0 where
   pub some : parts ≢ []
   pub unqualified : AllByRecursion IsUnqualifiedName parts
   pub joined : name ≡ join_with_byte 47 parts
+
+-- a byte is neither < nor >
+pub record IsNoAngle (byte : ℕ) : Type 0 where
+  pub no_less : byte ≢ 60
+  pub no_greater : byte ≢ 62
+
+-- the names of instance and of class initialisers (2.9)
+abbrev pub init : List ℕ
+init = codes "<init>"
+
+abbrev pub clinit : List ℕ
+clinit = codes "<clinit>"
+
+pub record IsPlainMethodName (name : List ℕ) : Type 0 where
+  pub unqualified : IsUnqualifiedName name
+  pub no_angles : AllByRecursion IsNoAngle name
+
+-- A method's name has no < or >, but for the names of initialisers.
+abbrev pub IsMethodName : List ℕ → Type 0
+IsMethodName name = (name ≡ init) ⊎ ((name ≡ clinit) ⊎ IsPlainMethodName name)
+
+-- the first byte is not <
+abbrev pub BeginsOtherwise : List ℕ → Type 0
+BeginsOtherwise [] = Unit {0}
+BeginsOtherwise (first ∷ rest) = first ≢ 60
+
+-- A field's name; this project's profile refuses one that begins with <.
+pub record IsFieldName (name : List ℕ) : Type 0 where
+  pub unqualified : IsUnqualifiedName name
+  pub otherwise : BeginsOtherwise name

@@ -1,6 +1,6 @@
 -- The class files that are read today: public classes with a pool of texts and class names alone, and
 -- with no interfaces, members or attributes.
-use Rattle.std.specs.Prelude.{◌≡◌, ℕ, ◌≤◌, List, ◌∷◌, map, length, Some, None}
+use Rattle.std.specs.Prelude.{◌≡◌, ℕ, ◌≤◌, List, [], ◌∷◌, map, length, Some, None}
 use Rattle.std.specs.List.{AllByRecursion}
 use Rattle.class_model.specs.ModifiedUtf8.{IsText}
 use Rattle.class_model.specs.Pool.{Constants, NamesClass, NamesClassName}
@@ -13,6 +13,7 @@ use Rattle.class_model.specs.declared.class_file.ClassFile.{ClassFile}
 abbrev pub IsPlainConstant : Constants → Const → Type 0
 IsPlainConstant pool (Utf8 text) = IsText text
 IsPlainConstant pool (Class name_index) = NamesClassName pool name_index
+IsPlainConstant pool other = ⊥
 
 -- Each index from 1 on has a constant, and each is plain.
 pub record IsPlainPool (pool : Constants) : Type 0 where
@@ -29,6 +30,10 @@ pub record IsPlain (class : ClassFile) : Type 0 where
   pub flags : class.flags ≡ 0x21
   pub this_class : NamesClass class.pool class.this_class
   pub super_class : NamesClass class.pool class.super_class
+  pub interfaces : class.interfaces ≡ []
+  pub fields : class.fields ≡ []
+  pub methods : class.methods ≡ []
+  pub attrs : class.attrs ≡ []
 
 -- The bytes are the spelling of this plain class file.
 pub record IsPlainFile (bytes : List ℕ) (class : ClassFile) : Type 0 where

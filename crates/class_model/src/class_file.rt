@@ -1,7 +1,80 @@
-//! The class file.
+//! The class file (JVM Specification SE 8, 4.1).
+use crate::list::{ByteList, ListOf};
 use crate::pool::Pool;
 
-/// A class file (JVM Specification SE 8, 4.1) with no interfaces, members or attributes.
+/// A list of indices of the constant pool.
+pub type IndexList = ListOf<u16>;
+
+/// An attribute that is kept as bytes (JVM Specification SE 8, 4.7): the index of its name, and its
+/// content.
+#[derive(Debug, Drop)]
+pub struct InnerAttr {
+    pub name: u16,
+    pub bytes: ByteList,
+}
+
+/// A list of attributes that are kept as bytes.
+pub type InnerAttrList = ListOf<InnerAttr>;
+
+/// An entry of an exception table (JVM Specification SE 8, 4.7.3): the range from `start` up to and
+/// without `end`, the handler, and the index of the caught class, or 0. Offsets are in bytes.
+#[derive(Clone, Copy, Debug, PartialEq, Eq)]
+pub struct Handler {
+    pub start: u16,
+    pub end: u16,
+    pub at: u16,
+    pub catch_type: u16,
+}
+
+/// An exception table.
+pub type HandlerList = ListOf<Handler>;
+
+/// The content of a Code attribute (JVM Specification SE 8, 4.7.3). Its attributes are kept as bytes,
+/// since none of them is a Code attribute.
+#[derive(Debug, Drop)]
+pub struct CodePart {
+    pub max_stack: u16,
+    pub max_locals: u16,
+    pub code: ByteList,
+    pub handlers: HandlerList,
+    pub attrs: InnerAttrList,
+}
+
+/// An attribute of a class, field or method. `Code` stands in methods alone.
+#[derive(Debug, Drop)]
+pub enum Attr {
+    Raw { name: u16, bytes: ByteList },
+    Code { name: u16, part: CodePart },
+}
+
+/// A list of attributes.
+pub type AttrList = ListOf<Attr>;
+
+/// A field (JVM Specification SE 8, 4.5).
+#[derive(Debug, Drop)]
+pub struct Field {
+    pub flags: u16,
+    pub name: u16,
+    pub desc: u16,
+    pub attrs: AttrList,
+}
+
+/// A list of fields.
+pub type FieldList = ListOf<Field>;
+
+/// A method (JVM Specification SE 8, 4.6).
+#[derive(Debug, Drop)]
+pub struct Method {
+    pub flags: u16,
+    pub name: u16,
+    pub desc: u16,
+    pub attrs: AttrList,
+}
+
+/// A list of methods.
+pub type MethodList = ListOf<Method>;
+
+/// A class file (JVM Specification SE 8, 4.1). Members and classes are named by indices of its pool.
 #[derive(Debug, Drop)]
 pub struct ClassFile {
     pub major: u16,
@@ -11,6 +84,10 @@ pub struct ClassFile {
     pub flags: u16,
     /// The index of the Class constant of the class itself.
     pub this_class: u16,
-    /// The index of the Class constant of its superclass.
+    /// The index of the Class constant of its superclass, or 0.
     pub super_class: u16,
+    pub interfaces: IndexList,
+    pub fields: FieldList,
+    pub methods: MethodList,
+    pub attrs: AttrList,
 }

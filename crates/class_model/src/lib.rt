@@ -5,6 +5,9 @@
 mod class_file;
 mod descriptor;
 mod fault;
+mod frame;
+mod header;
+mod instr;
 mod laws;
 mod list;
 mod memory;
@@ -12,12 +15,18 @@ mod names;
 mod pool;
 mod text;
 
-pub use class_file::ClassFile;
+pub use class_file::{
+    Attr, AttrList, ClassFile, CodePart, Field, FieldList, Handler, HandlerList, IndexList, InnerAttr,
+    InnerAttrList, Method, MethodList,
+};
 pub use descriptor::{
     Descriptor, FieldType, FieldTypeList, Kind, NameFault, is_array_type, is_field_type,
     parse_descriptor, parse_field_type,
 };
-pub use fault::ClassFault;
+pub use fault::{ClassFault, FileRule};
+pub use frame::{Frame, PlacedFrame, PlacedFrameList, VType, VTypeList};
+pub use header::{Header, Member, MemberList, TextList};
+pub use instr::{Imm, Instr, Pair, PairList, Placed, PlacedList, TargetList};
 pub use laws::{a_text_spells_one_descriptor, a_text_spells_one_field_type};
 pub use list::{ByteList, ListOf};
 pub use memory::NoMemory;

@@ -1,0 +1,300 @@
+-- The instructions and the bytes that spell them (JVM Specification SE 8, 6.5): one table, a row a form.
+use Rattle.std.specs.Prelude.{◌≡◌, ◌==◌, ◌&&◌, ◌+◌, ◌-◌, ◌*◌, ◌/◌, ◌%◌, ◌^◌, nat_lt, nat_le, not, ℕ, zero, suc, ℤ, pos, negsuc, int_lt, int_le, Bool, true, false, List, [], ◌∷◌, ◌++◌, length, drop, take, map, Option, Some, None, Result, Ok, Err, if◌then◌else◌}
+use Rattle.std.specs.Int.{w8, w16, w32, from_be_bytes, cast_signed, cast_unsigned}
+use Rattle.class_model.specs.Checks.{Fault, fault, ◌>>=◌}
+use Rattle.class_model.specs.declared.descriptor.Kind.{Kind}
+use Rattle.class_model.specs.declared.descriptor.Kind.TheVariants as kinds
+use Rattle.class_model.specs.declared.fault.FileRule.TheVariants as rules
+use Rattle.class_model.specs.declared.instr.Imm.{Imm}
+use Rattle.class_model.specs.declared.instr.Imm.TheVariants as imms
+use Rattle.class_model.specs.declared.instr.Pair.{Pair}
+use Rattle.class_model.specs.declared.instr.Placed.{Placed}
+use Rattle.class_model.specs.declared.instr.Instr.{Instr}
+use Rattle.class_model.specs.declared.instr.Instr.TheVariants.{Nop, Const, Ldc, Ldc2, Load, Store, Iinc, ArrayLoad, ArrayStore, Shuffle, Pure, Divide, FloatAsk, If, If2, IfSame, IfNull, Goto, Table, Lookup, Return, GetStatic, PutStatic, GetField, PutField, Invoke, Dynamic, New, NewArray, NewRefArray, NewMulti, Length, Throw, Cast, InstanceOf, Enter, Leave}
+
+-- ---- operands
+
+-- What stands behind an opcode: numbers of one, two or four bytes, unsigned (U) or signed (S), jump offsets,
+-- and the operands of the longer forms. Each says which instruction it makes.
+pub data Operands : Type 0 where
+  Alone : Instr → Operands
+  U1 : (ℕ → Instr) → Operands
+  U2 : (ℕ → Instr) → Operands
+  S1 : (ℤ → Instr) → Operands
+  S2 : (ℤ → Instr) → Operands
+  U1S1 : (ℕ → ℤ → Instr) → Operands
+  U2U1 : (ℕ → ℕ → Instr) → Operands
+  -- an index, a count and a byte that is zero
+  U2U1Zero : (ℕ → ℕ → Instr) → Operands
+  -- an index and two bytes that are zero
+  U2ZeroZero : (ℕ → Instr) → Operands
+  -- the target of a jump of two or four bytes
+  Jump2 : (ℕ → Instr) → Operands
+  Jump4 : (ℕ → Instr) → Operands
+  TableSwitch : Operands
+  LookupSwitch : Operands
+  Wide : Operands
+
+-- the opcodes from low to high, and what stands behind each
+pub record Row : Type 0 where
+  pub low : ℕ
+  pub high : ℕ
+  pub operands : ℕ → Operands
+
+abbrev row : ℕ → ℕ → (ℕ → Operands) → Row
+row low high operands = record { low = low; high = high; operands = operands }
+
+-- int, long, float, double and reference, as the opcodes of loads, stores and returns count them
+abbrev pub kind_at : ℕ → Kind
+kind_at zero = kinds.Int
+kind_at (suc zero) = kinds.Long
+kind_at (suc (suc zero)) = kinds.Float
+kind_at (suc (suc (suc zero))) = kinds.Double
+kind_at (suc (suc (suc (suc n)))) = kinds.Ref
+
+-- the bits of the floats 0, 1 and 2, and of the doubles 0 and 1
+abbrev float_bits : ℕ → ℕ
+float_bits zero = 0
+float_bits (suc zero) = 0x3F800000
+float_bits (suc (suc n)) = 0x40000000
+
+abbrev double_bits : ℕ → ℕ
+double_bits zero = 0
+double_bits (suc n) = 0x3FF0000000000000
+
+abbrev pub rows : List Row
+rows =
+    row 0 0 (λ o. Alone Nop)
+    ∷ row 1 1 (λ o. Alone (Const imms.Null))
+    ∷ row 2 2 (λ o. Alone (Const (imms.Int (negsuc 0))))
+    ∷ row 3 8 (λ o. Alone (Const (imms.Int (pos (o - 3)))))
+    ∷ row 9 10 (λ o. Alone (Const (imms.Long (pos (o - 9)))))
+    ∷ row 11 13 (λ o. Alone (Const (imms.Float (float_bits (o - 11)))))
+    ∷ row 14 15 (λ o. Alone (Const (imms.Double (double_bits (o - 14)))))
+    ∷ row 16 16 (λ o. S1 (λ n. Const (imms.Int n)))
+    ∷ row 17 17 (λ o. S2 (λ n. Const (imms.Int n)))
+    ∷ row 18 18 (λ o. U1 Ldc)
+    ∷ row 19 19 (λ o. U2 Ldc)
+    ∷ row 20 20 (λ o. U2 Ldc2)
+    ∷ row 21 25 (λ o. U1 (Load (kind_at (o - 21))))
+    ∷ row 26 45 (λ o. Alone (Load (kind_at ((o - 26) / 4)) ((o - 26) % 4)))
+    ∷ row 46 53 (λ o. Alone (ArrayLoad o))
+    ∷ row 54 58 (λ o. U1 (Store (kind_at (o - 54))))
+    ∷ row 59 78 (λ o. Alone (Store (kind_at ((o - 59) / 4)) ((o - 59) % 4)))
+    ∷ row 79 86 (λ o. Alone (ArrayStore o))
+    ∷ row 87 95 (λ o. Alone (Shuffle o))
+    ∷ row 96 97 (λ o. Alone (Pure o))
+    ∷ row 98 99 (λ o. Alone (FloatAsk o))
+    ∷ row 100 101 (λ o. Alone (Pure o))
+    ∷ row 102 103 (λ o. Alone (FloatAsk o))
+    ∷ row 104 105 (λ o. Alone (Pure o))
+    ∷ row 106 107 (λ o. Alone (FloatAsk o))
+    ∷ row 108 109 (λ o. Alone (Divide o))
+    ∷ row 110 111 (λ o. Alone (FloatAsk o))
+    ∷ row 112 113 (λ o. Alone (Divide o))
+    ∷ row 114 115 (λ o. Alone (FloatAsk o))
+    ∷ row 116 117 (λ o. Alone (Pure o))
+    ∷ row 118 119 (λ o. Alone (FloatAsk o))
+    ∷ row 120 131 (λ o. Alone (Pure o))
+    ∷ row 132 132 (λ o. U1S1 Iinc)
+    ∷ row 133 133 (λ o. Alone (Pure o))
+    ∷ row 134 135 (λ o. Alone (FloatAsk o))
+    ∷ row 136 136 (λ o. Alone (Pure o))
+    ∷ row 137 144 (λ o. Alone (FloatAsk o))
+    ∷ row 145 148 (λ o. Alone (Pure o))
+    ∷ row 149 152 (λ o. Alone (FloatAsk o))
+    ∷ row 153 158 (λ o. Jump2 (If o))
+    ∷ row 159 164 (λ o. Jump2 (If2 o))
+    ∷ row 165 166 (λ o. Jump2 (IfSame o))
+    ∷ row 167 167 (λ o. Jump2 Goto)
+    ∷ row 170 170 (λ o. TableSwitch)
+    ∷ row 171 171 (λ o. LookupSwitch)
+    ∷ row 172 176 (λ o. Alone (Return (Some (kind_at (o - 172)))))
+    ∷ row 177 177 (λ o. Alone (Return None))
+    ∷ row 178 178 (λ o. U2 GetStatic)
+    ∷ row 179 179 (λ o. U2 PutStatic)
+    ∷ row 180 180 (λ o. U2 GetField)
+    ∷ row 181 181 (λ o. U2 PutField)
+    ∷ row 182 184 (λ o. U2 (λ method. Invoke o method 0))
+    ∷ row 185 185 (λ o. U2U1Zero (Invoke o))
+    ∷ row 186 186 (λ o. U2ZeroZero Dynamic)
+    ∷ row 187 187 (λ o. U2 New)
+    ∷ row 188 188 (λ o. U1 NewArray)
+    ∷ row 189 189 (λ o. U2 NewRefArray)
+    ∷ row 190 190 (λ o. Alone Length)
+    ∷ row 191 191 (λ o. Alone Throw)
+    ∷ row 192 192 (λ o. U2 Cast)
+    ∷ row 193 193 (λ o. U2 InstanceOf)
+    ∷ row 194 194 (λ o. Alone Enter)
+    ∷ row 195 195 (λ o. Alone Leave)
+    ∷ row 196 196 (λ o. Wide)
+    ∷ row 197 197 (λ o. U2U1 NewMulti)
+    ∷ row 198 199 (λ o. Jump2 (IfNull o))
+    ∷ row 200 200 (λ o. Jump4 Goto)
+    ∷ []
+
+-- what stands behind an opcode in rows, if it has a form there
+abbrev pub operands_in : List Row → ℕ → Option Operands
+operands_in [] opcode = None
+operands_in (r ∷ others) opcode = if nat_le r.low opcode && nat_le opcode r.high then Some (r.operands opcode) else operands_in others opcode
+
+-- behind a wide: the loads and stores with two bytes, and iinc with two and two (6.5.wide)
+abbrev pub wide_rows : List Row
+wide_rows =
+    row 21 25 (λ o. U2 (Load (kind_at (o - 21))))
+    ∷ row 54 58 (λ o. U2 (Store (kind_at (o - 54))))
+    ∷ []
+
+-- ---- what is read
+
+-- an instruction, and how many bytes it takes
+abbrev pub Read : Type 0
+Read = Result (Instr × ℕ) Fault
+
+-- the unsigned number of some bytes of a list, from a place on
+abbrev pub u1_in : List ℕ → ℕ → ℕ
+u1_in bytes at = from_be_bytes w16 (0 ∷ take 1 (drop at bytes))
+
+abbrev pub u2_in : List ℕ → ℕ → ℕ
+u2_in bytes at = from_be_bytes w16 (take 2 (drop at bytes))
+
+abbrev pub u4_in : List ℕ → ℕ → ℕ
+u4_in bytes at = from_be_bytes w32 (take 4 (drop at bytes))
+
+abbrev pub s1_in : List ℕ → ℕ → ℤ
+s1_in bytes at = cast_signed w8 (u1_in bytes at)
+
+abbrev pub s2_in : List ℕ → ℕ → ℤ
+s2_in bytes at = cast_signed w16 (u2_in bytes at)
+
+abbrev pub s4_in : List ℕ → ℕ → ℤ
+s4_in bytes at = cast_signed w32 (u4_in bytes at)
+
+-- A target is the opcode's offset and the signed number, in 32 bits. One before the code's start is then no
+-- offset of a code.
+abbrev pub target_of : ℕ → ℤ → ℕ
+target_of at offset = (at + cast_unsigned w32 offset) % 2 ^ 32
+
+-- an instruction of so many bytes, where there are so many
+abbrev pub sized : ℕ → List ℕ → ℕ → Instr → Read
+sized at bytes len instr = if nat_lt (length bytes) len then Err (fault at rules.Operand) else Ok (instr, len)
+
+-- the same, where its operands are allowed
+abbrev pub sized_if : Bool → ℕ → List ℕ → ℕ → Instr → Read
+sized_if allowed at bytes len instr = if nat_lt (length bytes) len then Err (fault at rules.Operand) else (if allowed then Ok (instr, len) else Err (fault at rules.Operand))
+
+-- the pad bytes behind the opcode of a switch: the operands begin at a multiple of four
+abbrev pub pad_of : ℕ → ℕ
+pad_of at = 3 - at % 4
+
+-- so many targets of four bytes each, from a place of the bytes on
+abbrev pub targets_in : ℕ → List ℕ → ℕ → ℕ → List ℕ
+targets_in at bytes from zero = []
+targets_in at bytes from (suc count) = target_of at (s4_in bytes from) ∷ targets_in at bytes (from + 4) count
+
+-- so many pairs of a key and a target
+abbrev pub pairs_in : ℕ → List ℕ → ℕ → ℕ → List Pair
+pairs_in at bytes from zero = []
+pairs_in at bytes from (suc count) = record { key = s4_in bytes from; to = target_of at (s4_in bytes (from + 4)) } ∷ pairs_in at bytes (from + 8) count
+
+-- the keys increase
+abbrev pub keys_increase : List Pair → Bool
+keys_increase [] = true
+keys_increase (p ∷ []) = true
+keys_increase (p ∷ q ∷ pairs) = int_lt p.key q.key && keys_increase (q ∷ pairs)
+
+-- how many numbers there are from low to high
+abbrev pub span : ℤ → ℤ → ℕ
+span low high = (cast_unsigned w32 high + 2 ^ 32 - cast_unsigned w32 low) % 2 ^ 32 + 1
+
+-- tableswitch (6.5.tableswitch): pad, default, low, high, and a target for each key
+abbrev pub table_at : ℕ → List ℕ → Read
+table_at at bytes =
+    let start = 1 + pad_of at in
+    let low = s4_in bytes (start + 4) in
+    let high = s4_in bytes (start + 8) in
+    if nat_lt (length bytes) (start + 12) then Err (fault at rules.Operand)
+    else (if int_lt high low then Err (fault at rules.Operand)
+    else (let count = span low high in
+          if nat_lt (length bytes) (start + 12 + 4 * count) then Err (fault at rules.Operand)
+          else Ok (Table low (target_of at (s4_in bytes start)) (targets_in at bytes (start + 12) count), start + 12 + 4 * count)))
+
+-- lookupswitch (6.5.lookupswitch): pad, default, a count that is not negative, and keys that increase
+abbrev pub lookup_at : ℕ → List ℕ → Read
+lookup_at at bytes =
+    let start = 1 + pad_of at in
+    let count = u4_in bytes (start + 4) in
+    if nat_lt (length bytes) (start + 8) then Err (fault at rules.Operand)
+    else (if nat_le (2 ^ 31) count then Err (fault at rules.Operand)
+    else (if nat_lt (length bytes) (start + 8 + 8 * count) then Err (fault at rules.Operand)
+    else (let pairs = pairs_in at bytes (start + 8) count in
+          if keys_increase pairs then Ok (Lookup (target_of at (s4_in bytes start)) pairs, start + 8 + 8 * count) else Err (fault at rules.Operand))))
+
+-- wide (6.5.wide), whose opcode is the second byte
+abbrev pub wide_operands : ℕ → List ℕ → Option Operands → Read
+wide_operands at bytes (Some (U2 makes)) = sized at bytes 4 (makes (u2_in bytes 2))
+wide_operands at bytes other = if u1_in bytes 1 == 132 then sized at bytes 6 (Iinc (u2_in bytes 2) (s2_in bytes 4)) else Err (fault at rules.Opcode)
+
+abbrev pub wide_at : ℕ → List ℕ → Read
+wide_at at bytes = if nat_lt (length bytes) 2 then Err (fault at rules.Operand) else wide_operands at bytes (operands_in wide_rows (u1_in bytes 1))
+
+-- the codes of the primitive types that newarray makes arrays of (6.5.newarray)
+abbrev pub is_array_code : Instr → Bool
+is_array_code (NewArray code) = nat_le 4 code && nat_le code 11
+is_array_code other = true
+
+-- multianewarray makes at least one dimension
+abbrev pub has_dimensions : Instr → Bool
+has_dimensions (NewMulti class dimensions) = nat_lt 0 dimensions
+has_dimensions other = true
+
+abbrev pub with_operands : ℕ → List ℕ → Option Operands → Read
+with_operands at bytes None = Err (fault at rules.Opcode)
+with_operands at bytes (Some (Alone instr)) = Ok (instr, 1)
+with_operands at bytes (Some (U1 makes)) = sized_if (is_array_code (makes (u1_in bytes 1))) at bytes 2 (makes (u1_in bytes 1))
+with_operands at bytes (Some (U2 makes)) = sized at bytes 3 (makes (u2_in bytes 1))
+with_operands at bytes (Some (S1 makes)) = sized at bytes 2 (makes (s1_in bytes 1))
+with_operands at bytes (Some (S2 makes)) = sized at bytes 3 (makes (s2_in bytes 1))
+with_operands at bytes (Some (U1S1 makes)) = sized at bytes 3 (makes (u1_in bytes 1) (s1_in bytes 2))
+with_operands at bytes (Some (U2U1 makes)) = sized_if (has_dimensions (makes (u2_in bytes 1) (u1_in bytes 3))) at bytes 4 (makes (u2_in bytes 1) (u1_in bytes 3))
+with_operands at bytes (Some (U2U1Zero makes)) = sized_if (u1_in bytes 4 == 0) at bytes 5 (makes (u2_in bytes 1) (u1_in bytes 3))
+with_operands at bytes (Some (U2ZeroZero makes)) = sized_if (u2_in bytes 3 == 0) at bytes 5 (makes (u2_in bytes 1))
+with_operands at bytes (Some (Jump2 makes)) = sized at bytes 3 (makes (target_of at (s2_in bytes 1)))
+with_operands at bytes (Some (Jump4 makes)) = sized at bytes 5 (makes (target_of at (s4_in bytes 1)))
+with_operands at bytes (Some TableSwitch) = table_at at bytes
+with_operands at bytes (Some LookupSwitch) = lookup_at at bytes
+with_operands at bytes (Some Wide) = wide_at at bytes
+
+-- The instruction at an offset of a code, whose bytes from there on these are: the first of them is its
+-- opcode.
+unfoldable pub instr_at : ℕ → List ℕ → Read
+instr_at at bytes = with_operands at bytes (operands_in rows (u1_in bytes 0))
+
+-- These bytes, whatever follows them, are the instruction at this offset.
+abbrev pub IsSpelling : ℕ → Instr → List ℕ → Type 0
+IsSpelling at instr bytes = (rest : List ℕ) → instr_at at (bytes ++ rest) ≡ Ok (instr, length bytes)
+
+-- The instructions of a code from an offset on, one after the other to its end. The first number bounds how
+-- many there are.
+unfoldable pub instrs_at : ℕ → ℕ → List ℕ → Result (List Placed) Fault
+instrs_at left at [] = Ok []
+instrs_at zero at (byte ∷ bytes) = Ok []
+instrs_at (suc left) at (byte ∷ bytes) = do
+  read ← instr_at at (byte ∷ bytes)
+  others ← instrs_at left (at + read.1) (drop read.1 (byte ∷ bytes))
+  Ok (record { at = at; len = read.1; instr = read.0 } ∷ others)
+
+-- all instructions of a code (4.7.3, 4.9.1)
+abbrev pub decoded : List ℕ → Result (List Placed) Fault
+decoded code = instrs_at (length code) 0 code
+
+-- the targets of an instruction: of a switch the default first
+abbrev pub targets : Instr → List ℕ
+targets (If opcode to) = to ∷ []
+targets (If2 opcode to) = to ∷ []
+targets (IfSame opcode to) = to ∷ []
+targets (IfNull opcode to) = to ∷ []
+targets (Goto to) = to ∷ []
+targets (Table low other to) = other ∷ to
+targets (Lookup other pairs) = other ∷ map (λ p. p.to) pairs
+targets instr = []

@@ -1,0 +1,168 @@
+-- What the constants of a pool are asked, in the order of their indices (JVM Specification SE 8, 4.4). Each is
+-- asked all that can be said of it, also through its name and descriptor; where an index further down names
+-- nothing of its kind, that is the lower entry's own fault. A fault stands at the constant's tag.
+use Rattle.std.specs.Prelude.{◌≡◌, ◌≢◌, ◌⊎◌, ℕ, ◌+◌, ◌≤◌, List, [], ◌∷◌, ◌++◌, length, Option, Some, None, IfSome, IsSome, option_and_then}
+use Rattle.class_model.specs.Checks.{Check, check}
+use Rattle.class_model.specs.Descriptors.{IsReferenceName, SpellsFieldType, SpellsDescriptor}
+use Rattle.class_model.specs.ModifiedUtf8.{IsModifiedUtf8}
+use Rattle.class_model.specs.Names.{init, clinit, IsUnqualifiedName, IsMethodName, IsFieldName}
+use Rattle.class_model.specs.Pool.{Constants, constant_at}
+use Rattle.class_model.specs.Spelling.{constant_bytes}
+use Rattle.class_model.specs.declared.descriptor.FieldType.{FieldType}
+use Rattle.class_model.specs.declared.descriptor.Descriptor.{Descriptor}
+use Rattle.class_model.specs.declared.fault.FileRule.TheVariants as rules
+use Rattle.class_model.specs.declared.pool.Const.{Const}
+use Rattle.class_model.specs.declared.pool.Const.TheVariants.{Utf8, Integer, Float, Long, Double, Class, String, Fieldref, Methodref, InterfaceMethodref, NameAndType, MethodHandle, MethodType, InvokeDynamic}
+
+-- ---- what indices name
+
+abbrev text_of : Const → Option (List ℕ)
+text_of (Utf8 text) = Some text
+text_of other = None
+
+abbrev class_name_of : Const → Option ℕ
+class_name_of (Class name) = Some name
+class_name_of other = None
+
+abbrev name_and_type_of : Const → Option (ℕ × ℕ)
+name_and_type_of (NameAndType name descriptor) = Some (name, descriptor)
+name_and_type_of other = None
+
+-- the text of the Utf8 constant at an index
+abbrev pub utf8_at : Constants → ℕ → Option (List ℕ)
+utf8_at pool index = option_and_then text_of (constant_at pool index)
+
+-- the index names a Class constant
+abbrev pub IsClassAt : Constants → ℕ → Type 0
+IsClassAt pool index = IsSome (option_and_then class_name_of (constant_at pool index))
+
+-- the name of the class of the Class constant at an index
+abbrev pub class_at : Constants → ℕ → Option (List ℕ)
+class_at pool index = option_and_then (utf8_at pool) (option_and_then class_name_of (constant_at pool index))
+
+-- the index names a NameAndType constant
+abbrev pub IsNameAndTypeAt : Constants → ℕ → Type 0
+IsNameAndTypeAt pool index = IsSome (option_and_then name_and_type_of (constant_at pool index))
+
+-- its name, and its descriptor
+abbrev pub name_at : Constants → ℕ → Option (List ℕ)
+name_at pool index = option_and_then (λ n. utf8_at pool n.0) (option_and_then name_and_type_of (constant_at pool index))
+
+abbrev pub descriptor_at : Constants → ℕ → Option (List ℕ)
+descriptor_at pool index = option_and_then (λ n. utf8_at pool n.1) (option_and_then name_and_type_of (constant_at pool index))
+
+-- ---- sorts of descriptors
+
+abbrev pub IsFieldDescriptor : List ℕ → Type 0
+IsFieldDescriptor text = (type : FieldType) × SpellsFieldType text type
+
+abbrev pub IsMethodDescriptor : List ℕ → Type 0
+IsMethodDescriptor text = (descriptor : Descriptor) × SpellsDescriptor text descriptor
+
+-- a method descriptor without a result
+pub record ReturnsVoid (text : List ℕ) : Type 0 where
+  pub descriptor : Descriptor
+  pub spelled : SpellsDescriptor text descriptor
+  pub no_result : descriptor.result ≡ None
+
+-- An instance initialiser has no result. It is asked of method descriptors alone.
+abbrev pub InitIsVoid : List ℕ → Option (List ℕ) → Type 0
+InitIsVoid name descriptor = IfSome descriptor (λ text. name ≡ init → IsMethodDescriptor text → ReturnsVoid text)
+
+-- ---- the checks
+
+-- a name by itself: with a method descriptor it is that of a method
+abbrev pub FitsDescriptor : Option (List ℕ) → List ℕ → Type 0
+FitsDescriptor descriptor name = IsUnqualifiedName name × IfSome descriptor (λ text. IsMethodDescriptor text → IsMethodName name) × InitIsVoid name descriptor
+
+-- the name of a method that is called: a class initialiser is not
+abbrev pub IsCalledName : Option (List ℕ) → List ℕ → Type 0
+IsCalledName descriptor name = IsMethodName name × (name ≢ clinit) × InitIsVoid name descriptor
+
+-- a field reference (4.4.2)
+abbrev pub fieldref_checks : ℕ → Constants → ℕ → ℕ → List Check
+fieldref_checks at pool class member =
+    check at rules.Index (IsClassAt pool class × IsNameAndTypeAt pool member)
+    ∷ check at rules.Name (IfSome (name_at pool member) IsFieldName)
+    ∷ check at rules.Descriptor (IfSome (descriptor_at pool member) IsFieldDescriptor)
+    ∷ []
+
+-- a method reference, of a class or an interface (4.4.2)
+abbrev pub methodref_checks : ℕ → Constants → ℕ → ℕ → List Check
+methodref_checks at pool class member =
+    check at rules.Index (IsClassAt pool class × IsNameAndTypeAt pool member)
+    ∷ check at rules.Name (IfSome (name_at pool member) (IsCalledName (descriptor_at pool member)))
+    ∷ check at rules.Descriptor (IfSome (descriptor_at pool member) IsMethodDescriptor)
+    ∷ []
+
+-- what a method handle of a kind refers to (4.4.8)
+abbrev IsField : Option Const → Type 0
+IsField (Some (Fieldref class member)) = Unit {0}
+IsField other = ⊥
+
+abbrev IsMethod : Option Const → Type 0
+IsMethod (Some (Methodref class member)) = Unit {0}
+IsMethod other = ⊥
+
+abbrev IsInterfaceMethod : Option Const → Type 0
+IsInterfaceMethod (Some (InterfaceMethodref class member)) = Unit {0}
+IsInterfaceMethod other = ⊥
+
+abbrev member_of : Const → Option ℕ
+member_of (Fieldref class member) = Some member
+member_of (Methodref class member) = Some member
+member_of (InterfaceMethodref class member) = Some member
+member_of other = None
+
+-- the name of the member that a reference at an index names
+abbrev pub referred_name : Constants → ℕ → Option (List ℕ)
+referred_name pool index = option_and_then (name_at pool) (option_and_then member_of (constant_at pool index))
+
+abbrev pub IsMethodOf : ℕ → Option Const → Type 0
+IsMethodOf major constant = IsMethod constant ⊎ ((major ≡ 52) × IsInterfaceMethod constant)
+
+-- Kinds 1 to 4 name a field, 5 and 8 a method, 6 and 7 a method that in version 52 may be an interface's, and 9
+-- an interface's method. Kind 8 names an instance initialiser, and 5, 6, 7 and 9 do not.
+abbrev pub RefersWell : ℕ → Constants → ℕ → ℕ → Type 0
+RefersWell major pool kind reference =
+    let constant = constant_at pool reference in
+    let name = referred_name pool reference in
+    ((1 ≤ kind) × (kind ≤ 4) × IsField constant)
+    ⊎ (((kind ≡ 5) × IsMethod constant × IfSome name (λ n. n ≢ init))
+    ⊎ (((6 ≤ kind) × (kind ≤ 7) × IsMethodOf major constant × IfSome name (λ n. n ≢ init))
+    ⊎ (((kind ≡ 8) × IsMethod constant × IfSome name (λ n. n ≡ init))
+    ⊎ ((kind ≡ 9) × IsInterfaceMethod constant × IfSome name (λ n. n ≢ init)))))
+
+-- a constant at a place, in a class file of this major version
+abbrev pub constant_checks : ℕ → Constants → ℕ → Const → List Check
+constant_checks major pool at (Utf8 text) = check at rules.Text (IsModifiedUtf8 text) ∷ []
+constant_checks major pool at (Integer number) = []
+constant_checks major pool at (Float bits) = []
+constant_checks major pool at (Long number) = []
+constant_checks major pool at (Double bits) = []
+constant_checks major pool at (Class name) =
+    check at rules.Index (IsSome (utf8_at pool name)) ∷ check at rules.Name (IfSome (utf8_at pool name) IsReferenceName) ∷ []
+constant_checks major pool at (String text) = check at rules.Index (IsSome (utf8_at pool text)) ∷ []
+constant_checks major pool at (Fieldref class member) = fieldref_checks at pool class member
+constant_checks major pool at (Methodref class member) = methodref_checks at pool class member
+constant_checks major pool at (InterfaceMethodref class member) = methodref_checks at pool class member
+constant_checks major pool at (NameAndType name descriptor) =
+    check at rules.Index (IsSome (utf8_at pool name) × IsSome (utf8_at pool descriptor))
+    ∷ check at rules.Name (IfSome (utf8_at pool name) (FitsDescriptor (utf8_at pool descriptor)))
+    ∷ check at rules.Descriptor (IfSome (utf8_at pool descriptor) (λ text. IsFieldDescriptor text ⊎ IsMethodDescriptor text))
+    ∷ []
+constant_checks major pool at (MethodHandle kind reference) = check at rules.Index (RefersWell major pool kind reference) ∷ []
+constant_checks major pool at (MethodType descriptor) =
+    check at rules.Index (IsSome (utf8_at pool descriptor)) ∷ check at rules.Descriptor (IfSome (utf8_at pool descriptor) IsMethodDescriptor) ∷ []
+constant_checks major pool at (InvokeDynamic bootstrap member) =
+    check at rules.Index (IsNameAndTypeAt pool member)
+    ∷ check at rules.Name (IfSome (name_at pool member) (λ name. IsMethodName name × InitIsVoid name (descriptor_at pool member)))
+    ∷ check at rules.Descriptor (IfSome (descriptor_at pool member) IsMethodDescriptor)
+    ∷ []
+
+-- entries one after the other, from a place on
+abbrev pub entries_checks : ℕ → Constants → ℕ → Constants → List Check
+entries_checks major pool at [] = []
+entries_checks major pool at (None ∷ entries) = entries_checks major pool at entries
+entries_checks major pool at (Some constant ∷ entries) =
+    constant_checks major pool at constant ++ entries_checks major pool (at + length (constant_bytes constant)) entries

@@ -1,0 +1,62 @@
+//! Frames of verification types (JVM Specification SE 8, 4.7.4 and 4.10.1.2).
+ghost use Rattle.std.specs.Prelude.{◌≡◌, IfOk};
+
+use crate::list::ListOf;
+use crate::memory::NoMemory;
+use crate::text::Text;
+
+/// A verification type.
+#[derive(Debug, Drop)]
+pub enum VType {
+    Top,
+    Int,
+    Float,
+    Long,
+    Double,
+    Null,
+    UninitThis,
+    /// A class by its name, or an array by its descriptor.
+    Object(Text),
+    /// An object made by the `new` at this offset and not initialised.
+    Uninit(u32),
+}
+
+impl VType {
+    /// An equal type. It shares the bytes of a name.
+    pub fn copy(&self) -> Result<VType, NoMemory>
+        ensures { IfOk result (λ copy. copy ≡ self.now) }
+    {
+        Ok(match self {
+            VType::Top => VType::Top,
+            VType::Int => VType::Int,
+            VType::Float => VType::Float,
+            VType::Long => VType::Long,
+            VType::Double => VType::Double,
+            VType::Null => VType::Null,
+            VType::UninitThis => VType::UninitThis,
+            VType::Object(name) => VType::Object(name.copy()?),
+            VType::Uninit(at) => VType::Uninit(*at),
+        })
+    }
+}
+
+/// A list of verification types.
+pub type VTypeList = ListOf<VType>;
+
+/// A frame: the types of the locals by unit, where a long or double is followed by `Top`, and of the
+/// stack's entries, the lowest first.
+#[derive(Debug, Drop)]
+pub struct Frame {
+    pub locals: VTypeList,
+    pub stack: VTypeList,
+}
+
+/// A frame that is stated for an offset of a code.
+#[derive(Debug, Drop)]
+pub struct PlacedFrame {
+    pub at: u32,
+    pub frame: Frame,
+}
+
+/// A list of placed frames.
+pub type PlacedFrameList = ListOf<PlacedFrame>;
