@@ -232,6 +232,6 @@ this_type flags name class = if has flags STATIC then [] else (if is_text init (
   of_class (Some class) = types.Object class ∷ []
   of_class None = types.Top ∷ []
 
-abbrev pub entry_frame : ℕ → List ℕ → Option (List ℕ) → Descriptor → ℕ → Frame
-entry_frame flags name class descriptor max_locals =
-    record { locals = filled max_locals (this_type flags name class ++ map verification_type descriptor.params); stack = [] }
+abbrev pub entry_frame : ℕ → List ℕ → Option (List ℕ) → List FieldType → ℕ → Frame
+entry_frame flags name class params max_locals =
+    record { locals = filled max_locals (this_type flags name class ++ map verification_type params); stack = [] }

@@ -1,5 +1,5 @@
 -- Descriptors (JVM Specification SE 8, 4.3): the texts of field types and of methods.
-use Rattle.std.specs.Prelude.{◌≡◌, ◌==◌, ◌⊎◌, ℕ, ◌≤◌, List, [], ◌∷◌, ◌++◌, replicate, sum_by, Option, Some, None, IfSome, if◌then◌else◌}
+use Rattle.std.specs.Prelude.{◌≡◌, ◌==◌, ◌⊎◌, ℕ, zero, suc, ◌+◌, ◌-◌, ◌≤◌, not, List, [], ◌∷◌, ◌++◌, length, take, drop, take_while, replicate, sum_by, Option, Some, None, IfSome, if◌then◌else◌}
 use Rattle.std.specs.List.{flat_map, AllByRecursion}
 use Rattle.class_model.specs.ModifiedUtf8.{IsText}
 use Rattle.class_model.specs.Names.{IsClassName}
@@ -111,3 +111,38 @@ pub record IsDescriptor (descriptor : Descriptor) : Type 0 where
 pub record SpellsDescriptor (text : List ℕ) (descriptor : Descriptor) : Type 0 where
   pub is_descriptor : IsDescriptor descriptor
   pub spelled : text ≡ descriptor_text descriptor
+
+-- ---- a text cut into the types that it spells
+
+-- the number of brackets at the front
+abbrev pub brackets : List ℕ → ℕ
+brackets bytes = length (take_while (λ b. b == 91) bytes)
+
+-- how many bytes the field type at the front takes, by its first byte behind the brackets: up to a semicolon
+-- behind L, and else one
+abbrev element_len : List ℕ → ℕ
+element_len [] = 0
+element_len (first ∷ rest) = if first == 76 then length (take_while (λ b. not (b == 59)) rest) + 2 else 1
+
+abbrev pub type_len : List ℕ → ℕ
+type_len bytes = brackets bytes + element_len (drop (brackets bytes) bytes)
+
+-- the field type of a text, by its first byte
+abbrev pub type_of : List ℕ → FieldType
+type_of [] = Named []
+type_of (first ∷ rest) =
+    if first == 66 then Byte else (if first == 67 then Char else (if first == 68 then Double else (if first == 70 then Float
+    else (if first == 73 then Int else (if first == 74 then Long else (if first == 83 then Short else (if first == 90 then Bool
+    else (if first == 76 then Named (take (length rest - 1) rest) else Named (first ∷ rest)))))))))
+
+-- The parameters of a method descriptor's text, from behind its first parenthesis on: the types up to the second.
+-- The first number bounds how many there are.
+unfoldable pub types_before : ℕ → List ℕ → List FieldType
+types_before zero bytes = []
+types_before (suc left) [] = []
+types_before (suc left) (first ∷ rest) =
+    if first == 41 then [] else type_of (take (type_len (first ∷ rest)) (first ∷ rest)) ∷ types_before left (drop (type_len (first ∷ rest)) (first ∷ rest))
+
+-- the parameters that the text of a method descriptor spells
+abbrev pub parameters_of : List ℕ → List FieldType
+parameters_of text = types_before (length text) (drop 1 text)

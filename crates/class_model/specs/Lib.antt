@@ -11,4 +11,6 @@ pub mod Instructions
 pub mod Frames
 pub mod Members
 pub mod Code
+pub mod Methods
+pub mod ClassOf
 pub mod PlainClassFile
