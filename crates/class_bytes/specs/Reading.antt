@@ -1,5 +1,5 @@
 -- What it means that a part of a class file is read at the front of bytes.
-use Rattle.std.specs.Prelude.{◌≡◌, ℕ, ◌<◌, ◌≤◌, ◌^◌, List, ◌∷◌, ◌++◌, map, length, Result, Ok, Err, Some, None}
+use Rattle.std.specs.Prelude.{◌≡◌, ℕ, ◌<◌, ◌≤◌, ◌^◌, List, [], ◌∷◌, ◌++◌, map, length, Result, Ok, Err, Some, None}
 use Rattle.std.specs.Borrow.{Bor}
 use Rattle.std.specs.List.{flat_map, AllByRecursion}
 use Rattle.class_model.specs.declared.fault.ClassFault.{ClassFault}
@@ -37,10 +37,11 @@ IsU2 number = number < 2 ^ 16
 abbrev pub text_bytes : List ℕ → List ℕ
 text_bytes text = u2 (length text) ++ text
 
--- what a constant can hold, whatever the rest of the pool
+-- what a constant that is read can hold, whatever the rest of the pool
 abbrev pub FitsConstant : Const → Type 0
 FitsConstant (Utf8 text) = IsText text
 FitsConstant (Class name_index) = IsU2 name_index
+FitsConstant other = ⊥
 
 -- a pool of constants that fit, with none at index 0
 pub record FitsPool (pool : Constants) : Type 0 where
@@ -58,7 +59,11 @@ pub record FitsCount (count : ℕ) (pool : Constants) : Type 0 where
 abbrev pub entries_bytes : Constants → List ℕ
 entries_bytes pool = flat_map entry_bytes pool
 
--- a class file whose items are each in their range
+-- the counts of a class file with no interfaces, fields, methods or attributes
+abbrev pub no_members : List ℕ
+no_members = 0 ∷ 0 ∷ 0 ∷ 0 ∷ 0 ∷ 0 ∷ 0 ∷ 0 ∷ []
+
+-- a class file with none of them, whose items are each in their range
 pub record FitsClass (class : ClassFile) : Type 0 where
   pub minor : IsU2 class.minor
   pub major : IsU2 class.major
@@ -66,6 +71,10 @@ pub record FitsClass (class : ClassFile) : Type 0 where
   pub flags : IsU2 class.flags
   pub this_class : IsU2 class.this_class
   pub super_class : IsU2 class.super_class
+  pub interfaces : class.interfaces ≡ []
+  pub fields : class.fields ≡ []
+  pub methods : class.methods ≡ []
+  pub attrs : class.attrs ≡ []
 
 -- a Class constant at this index names a class name
 abbrev pub IsPlainAt : Constants → ℕ → Type 0
