@@ -3,7 +3,7 @@ use Rattle.std.specs.Prelude.{◌≡◌, ℕ, ◌<◌, ◌≤◌, ◌^◌, List,
 use Rattle.std.specs.Borrow.{Bor}
 use Rattle.std.specs.List.{flat_map, AllByRecursion}
 use Rattle.class_model.specs.declared.fault.ClassFault.{ClassFault}
-use Rattle.class_model.specs.declared.fault.ClassFault.TheVariants.{NotYet, NoMemory}
+use Rattle.class_model.specs.declared.fault.ClassFault.TheVariants.{Malformed, Version, NotYet, NoMemory}
 use Rattle.class_model.specs.declared.pool.Const.{Const}
 use Rattle.class_model.specs.declared.pool.Const.TheVariants.{Utf8, Class}
 use Rattle.class_model.specs.declared.class_file.ClassFile.{ClassFile}
@@ -17,17 +17,21 @@ pub record Begins {X : Type 0} (Allowed : X → Type 0) (spelling : X → List �
   pub spelled : bytes ≡ spelling value ++ rest
 
 -- A part is read exactly where the bytes begin with it: what was read stands there, and `NotYet` comes
--- only where no allowed value stands there. Want of memory may come at any time.
+-- only where no allowed value stands there. Want of memory may come at any time, and no other fault comes.
 abbrev pub Reads : {X : Type 0} (Allowed : X → Type 0) (spelling : X → List ℕ) → List ℕ → Result (X × Bor (List ℕ)) ClassFault → Type 0
 Reads Allowed spelling bytes (Ok x) = Begins Allowed spelling bytes x.0 x.1.now
 Reads {X} Allowed spelling bytes (Err NotYet) = (value : X) (rest : List ℕ) → ¬ Begins Allowed spelling bytes value rest
 Reads Allowed spelling bytes (Err NoMemory) = Unit {0}
+Reads Allowed spelling bytes (Err (Malformed at rule)) = ⊥
+Reads Allowed spelling bytes (Err (Version major minor)) = ⊥
 
 -- the same of bytes that are always the same
 abbrev pub ReadsFront : List ℕ → List ℕ → Result (Bor (List ℕ)) ClassFault → Type 0
 ReadsFront front bytes (Ok rest) = bytes ≡ front ++ rest.now
 ReadsFront front bytes (Err NotYet) = (rest : List ℕ) → ¬ bytes ≡ front ++ rest
 ReadsFront front bytes (Err NoMemory) = ⊥
+ReadsFront front bytes (Err (Malformed at rule)) = ⊥
+ReadsFront front bytes (Err (Version major minor)) = ⊥
 
 -- a number of an item of two bytes
 abbrev pub IsU2 : ℕ → Type 0
