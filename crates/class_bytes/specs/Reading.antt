@@ -1,9 +1,9 @@
 -- What it means that a part of a class file is read at the front of bytes.
-use Rattle.std.specs.Prelude.{◌≡◌, ℕ, ◌<◌, ◌≤◌, ◌^◌, List, ◌∷◌, ◌++◌, map, length, Result, Ok, Err, Some, None}
+use Rattle.std.specs.Prelude.{◌≡◌, ℕ, ◌<◌, ◌≤◌, ◌^◌, List, [], ◌∷◌, ◌++◌, map, length, Result, Ok, Err, Some, None}
 use Rattle.std.specs.Borrow.{Bor}
 use Rattle.std.specs.List.{flat_map, AllByRecursion}
 use Rattle.class_model.specs.declared.fault.ClassFault.{ClassFault}
-use Rattle.class_model.specs.declared.fault.ClassFault.TheVariants.{NotYet, NoMemory}
+use Rattle.class_model.specs.declared.fault.ClassFault.TheVariants.{Malformed, Version, NotYet, NoMemory}
 use Rattle.class_model.specs.declared.pool.Const.{Const}
 use Rattle.class_model.specs.declared.pool.Const.TheVariants.{Utf8, Class}
 use Rattle.class_model.specs.declared.class_file.ClassFile.{ClassFile}
@@ -17,17 +17,21 @@ pub record Begins {X : Type 0} (Allowed : X → Type 0) (spelling : X → List �
   pub spelled : bytes ≡ spelling value ++ rest
 
 -- A part is read exactly where the bytes begin with it: what was read stands there, and `NotYet` comes
--- only where no allowed value stands there. Want of memory may come at any time.
+-- only where no allowed value stands there. Want of memory may come at any time, and no other fault comes.
 abbrev pub Reads : {X : Type 0} (Allowed : X → Type 0) (spelling : X → List ℕ) → List ℕ → Result (X × Bor (List ℕ)) ClassFault → Type 0
 Reads Allowed spelling bytes (Ok x) = Begins Allowed spelling bytes x.0 x.1.now
 Reads {X} Allowed spelling bytes (Err NotYet) = (value : X) (rest : List ℕ) → ¬ Begins Allowed spelling bytes value rest
 Reads Allowed spelling bytes (Err NoMemory) = Unit {0}
+Reads Allowed spelling bytes (Err (Malformed at rule)) = ⊥
+Reads Allowed spelling bytes (Err (Version major minor)) = ⊥
 
 -- the same of bytes that are always the same
 abbrev pub ReadsFront : List ℕ → List ℕ → Result (Bor (List ℕ)) ClassFault → Type 0
 ReadsFront front bytes (Ok rest) = bytes ≡ front ++ rest.now
 ReadsFront front bytes (Err NotYet) = (rest : List ℕ) → ¬ bytes ≡ front ++ rest
 ReadsFront front bytes (Err NoMemory) = ⊥
+ReadsFront front bytes (Err (Malformed at rule)) = ⊥
+ReadsFront front bytes (Err (Version major minor)) = ⊥
 
 -- a number of an item of two bytes
 abbrev pub IsU2 : ℕ → Type 0
@@ -37,10 +41,11 @@ IsU2 number = number < 2 ^ 16
 abbrev pub text_bytes : List ℕ → List ℕ
 text_bytes text = u2 (length text) ++ text
 
--- what a constant can hold, whatever the rest of the pool
+-- what a constant that is read can hold, whatever the rest of the pool
 abbrev pub FitsConstant : Const → Type 0
 FitsConstant (Utf8 text) = IsText text
 FitsConstant (Class name_index) = IsU2 name_index
+FitsConstant other = ⊥
 
 -- a pool of constants that fit, with none at index 0
 pub record FitsPool (pool : Constants) : Type 0 where
@@ -58,7 +63,11 @@ pub record FitsCount (count : ℕ) (pool : Constants) : Type 0 where
 abbrev pub entries_bytes : Constants → List ℕ
 entries_bytes pool = flat_map entry_bytes pool
 
--- a class file whose items are each in their range
+-- the counts of a class file with no interfaces, fields, methods or attributes
+abbrev pub no_members : List ℕ
+no_members = 0 ∷ 0 ∷ 0 ∷ 0 ∷ 0 ∷ 0 ∷ 0 ∷ 0 ∷ []
+
+-- a class file with none of them, whose items are each in their range
 pub record FitsClass (class : ClassFile) : Type 0 where
   pub minor : IsU2 class.minor
   pub major : IsU2 class.major
@@ -66,6 +75,10 @@ pub record FitsClass (class : ClassFile) : Type 0 where
   pub flags : IsU2 class.flags
   pub this_class : IsU2 class.this_class
   pub super_class : IsU2 class.super_class
+  pub interfaces : class.interfaces ≡ []
+  pub fields : class.fields ≡ []
+  pub methods : class.methods ≡ []
+  pub attrs : class.attrs ≡ []
 
 -- a Class constant at this index names a class name
 abbrev pub IsPlainAt : Constants → ℕ → Type 0

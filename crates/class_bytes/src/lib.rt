@@ -1,10 +1,12 @@
 //! Class files read from bytes and written to bytes (JVM Specification SE 8, chapter 4).
 #![tactic(auto)]
 
+mod attr_writing;
 mod items;
 mod laws;
 mod plain;
 mod pool;
+mod pool_writing;
 mod reading;
 mod writing;
 

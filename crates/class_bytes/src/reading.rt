@@ -9,7 +9,7 @@ ghost use Rattle.class_bytes.specs.Reading.{Reads, FitsClass};
 use crate::items::{MAGIC, NO_MEMBERS, after, u2_of};
 use crate::plain::is_plain;
 use crate::pool::pool_of;
-use class_model::{ClassFault, ClassFile};
+use class_model::{ClassFault, ClassFile, ListOf};
 use std::alloc::Global;
 
 /// The plain class file that the bytes spell, all of the bytes.
@@ -46,6 +46,10 @@ fn class_of(alloc: Global, bytes: &[u8]) -> Result<(ClassFile, &[u8]), ClassFaul
         flags,
         this_class,
         super_class,
+        interfaces: ListOf::new(alloc),
+        fields: ListOf::new(alloc),
+        methods: ListOf::new(alloc),
+        attrs: ListOf::new(alloc),
     };
     Ok((class, rest))
 }

@@ -1,14 +1,20 @@
 //! Writing a class file.
-ghost use Rattle.std.specs.Prelude.{◌≡◌, ◌++◌, IfOk, OnOk};
-ghost use Rattle.class_model.specs.Pool.{constant_at};
-ghost use Rattle.class_model.specs.Spelling.{u2, constant_bytes, entry_bytes, pool_bytes, class_bytes};
+ghost use Rattle.std.specs.Prelude.{◌≡◌, ◌≤◌, ◌++◌, length, IfOk, OnOk};
+ghost use Rattle.std.specs.List.{flat_map};
+ghost use Rattle.class_model.specs.Spelling.{u2, u2s, field_bytes, method_bytes, class_bytes};
+ghost use Rattle.class_bytes.specs.Counts.{FitsField, FitsFields, FitsMethod, FitsMethods, FitsCounts};
 
-use crate::items::{CLASS_TAG, MAGIC, NO_MEMBERS, UTF8_TAG};
-use class_model::{ByteList, ClassFile, Const, ListOf, NoMemory, Pool};
+use crate::attr_writing::push_attrs;
+use crate::items::{MAGIC, push_u2};
+use crate::pool_writing::push_pool;
+use class_model::{
+    ByteList, ClassFile, Field, FieldList, IndexList, ListOf, Method, MethodList, NoMemory,
+};
 use std::alloc::Global;
 
-/// The bytes of a class file.
+/// The bytes of a class file, each list of which fits its count.
 pub fn write_class(alloc: Global, class: &ClassFile) -> Result<ByteList, NoMemory>
+    requires { FitsCounts class.now }
     ensures { IfOk result (λ bytes. bytes ≡ class_bytes class.now) }
 {
     let mut out = Vec::new(alloc);
@@ -19,54 +25,70 @@ pub fn write_class(alloc: Global, class: &ClassFile) -> Result<ByteList, NoMemor
     push_u2(&mut out, class.flags)?;
     push_u2(&mut out, class.this_class)?;
     push_u2(&mut out, class.super_class)?;
-    out.extend_from_slice(&NO_MEMBERS)?;
+    push_interfaces(&mut out, &class.interfaces)?;
+    push_fields(alloc, &mut out, &class.fields)?;
+    push_methods(alloc, &mut out, &class.methods)?;
+    push_attrs(alloc, &mut out, &class.attrs)?;
     Ok(ListOf::from_vec(out))
 }
 
-// Appends the count of a pool and its constants. Index 0 has no constant.
-fn push_pool(out: &mut Vec<u8>, pool: &Pool) -> Result<(), NoMemory>
-    ensures { OnOk result (out.new.items ≡ out.old.items ++ pool_bytes pool.now) }
+// Appends the number of interfaces, and their indices.
+fn push_interfaces(out: &mut Vec<u8>, interfaces: &IndexList) -> Result<(), NoMemory>
+    requires { length interfaces.now ≤ 65535 }
+    ensures { OnOk result (out.new.items ≡ out.old.items ++ (u2 (length interfaces.now) ++ u2s interfaces.now)) }
 {
-    push_u2(out, pool.count())?;
-    for index in 0..pool.count() {
-        push_entry(out, pool, index)?;
+    let interfaces = interfaces.as_slice();
+    push_u2(out, interfaces.len() as u16)?;
+    for interface in interfaces {
+        push_u2(out, *interface)?;
     }
     Ok(())
 }
 
-// Appends the constant at an index, if one is there.
-fn push_entry(out: &mut Vec<u8>, pool: &Pool, index: u16) -> Result<(), NoMemory>
-    ensures { OnOk result (out.new.items ≡ out.old.items ++ entry_bytes (constant_at pool.now index)) }
+// Appends the number of fields, and the fields.
+fn push_fields(alloc: Global, out: &mut Vec<u8>, fields: &FieldList) -> Result<(), NoMemory>
+    requires { FitsFields fields.now }
+    ensures { OnOk result (out.new.items ≡ out.old.items ++ (u2 (length fields.now) ++ flat_map field_bytes fields.now)) }
 {
-    match pool.get(index) {
-        Some(constant) => push_constant(out, constant),
-        None => Ok(()),
-    }
-}
-
-// Appends a constant: its tag and its fields.
-fn push_constant(out: &mut Vec<u8>, constant: &Const) -> Result<(), NoMemory>
-    ensures { OnOk result (out.new.items ≡ out.old.items ++ constant_bytes constant.now) }
-{
-    match constant {
-        Const::Utf8(text) => {
-            let text = text.bytes();
-            out.push(UTF8_TAG)?;
-            push_u2(out, text.len() as u16)?;
-            out.extend_from_slice(text)?;
-        }
-        Const::Class(name_index) => {
-            out.push(CLASS_TAG)?;
-            push_u2(out, *name_index)?;
-        }
+    let fields = fields.as_slice();
+    push_u2(out, fields.len() as u16)?;
+    for field in fields {
+        push_field(alloc, out, field)?;
     }
     Ok(())
 }
 
-// Appends an item of two bytes.
-fn push_u2(out: &mut Vec<u8>, number: u16) -> Result<(), NoMemory>
-    ensures { OnOk result (out.new.items ≡ out.old.items ++ u2 number) }
+// Appends a field (JVM Specification SE 8, 4.5).
+fn push_field(alloc: Global, out: &mut Vec<u8>, field: &Field) -> Result<(), NoMemory>
+    requires { FitsField field.now }
+    ensures { OnOk result (out.new.items ≡ out.old.items ++ field_bytes field.now) }
 {
-    out.extend_from_slice(&number.to_be_bytes())?;
+    push_u2(out, field.flags)?;
+    push_u2(out, field.name)?;
+    push_u2(out, field.desc)?;
+    push_attrs(alloc, out, &field.attrs)
+}
+
+// Appends the number of methods, and the methods.
+fn push_methods(alloc: Global, out: &mut Vec<u8>, methods: &MethodList) -> Result<(), NoMemory>
+    requires { FitsMethods methods.now }
+    ensures { OnOk result (out.new.items ≡ out.old.items ++ (u2 (length methods.now) ++ flat_map method_bytes methods.now)) }
+{
+    let methods = methods.as_slice();
+    push_u2(out, methods.len() as u16)?;
+    for method in methods {
+        push_method(alloc, out, method)?;
+    }
     Ok(())
+}
+
+// Appends a method (JVM Specification SE 8, 4.6).
+fn push_method(alloc: Global, out: &mut Vec<u8>, method: &Method) -> Result<(), NoMemory>
+    requires { FitsMethod method.now }
+    ensures { OnOk result (out.new.items ≡ out.old.items ++ method_bytes method.now) }
+{
+    push_u2(out, method.flags)?;
+    push_u2(out, method.name)?;
+    push_u2(out, method.desc)?;
+    push_attrs(alloc, out, &method.attrs)
 }

@@ -5,3 +5,4 @@ pub mod ClassNames
 pub mod DescriptorGrammar
 pub mod Parameters
 pub mod Variants
+pub mod PoolPush

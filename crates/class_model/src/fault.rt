@@ -2,9 +2,8 @@
 ghost use Rattle.std.specs.Prelude.{◌≡◌};
 ghost use Rattle.class_model.specs.declared.fault.ClassFault.TheVariants.{NoMemory as no_memory};
 
-use thiserror::Error;
-
 use crate::memory::NoMemory;
+use thiserror::Error;
 
 /// The rules of the class file grammar (JVM Specification SE 8, 4.1 to 4.9).
 #[derive(Clone, Copy, PartialEq, Eq, Debug)]

@@ -16,8 +16,8 @@ mod pool;
 mod text;
 
 pub use class_file::{
-    Attr, AttrList, ClassFile, CodePart, Field, FieldList, Handler, HandlerList, IndexList, InnerAttr,
-    InnerAttrList, Method, MethodList,
+    Attr, AttrList, ClassFile, CodePart, Field, FieldList, Handler, HandlerList, IndexList,
+    InnerAttr, InnerAttrList, Method, MethodList,
 };
 pub use descriptor::{
     Descriptor, FieldType, FieldTypeList, Kind, NameFault, is_array_type, is_field_type,

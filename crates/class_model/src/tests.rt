@@ -83,6 +83,73 @@ fn pools(rt: HostRuntime) -> Result<(), Fail> {
 }
 
 #[test]
+fn pools_with_wide_constants(rt: HostRuntime) -> Result<(), Fail> {
+    let mut pool = Pool::new(rt.alloc());
+    pool.push(Const::Long(-1))?;
+    assert_eq!(rt; pool.count(), 3);
+    assert!(rt; matches!(pool.get(1), Some(Const::Long(-1))));
+    assert!(rt; pool.get(2).is_none());
+    pool.push(Const::Double(2))?;
+    pool.push(Const::Integer(7))?;
+    assert_eq!(rt; pool.count(), 6);
+    assert!(rt; matches!(pool.get(3), Some(Const::Double(2))));
+    assert!(rt; pool.get(4).is_none());
+    assert!(rt; matches!(pool.get(5), Some(Const::Integer(7))));
+    assert!(rt; pool.get(6).is_none());
+    Ok(())
+}
+
+#[test]
+fn copies_of_constants(rt: HostRuntime) -> Result<(), Fail> {
+    let text = Text::of_bytes(rt.alloc(), b"A")?;
+    let table = [
+        (Const::Utf8(text), 1),
+        (Const::Integer(-2), 1),
+        (Const::Float(0x7FC0_0000), 1),
+        (Const::Long(-3), 2),
+        (Const::Double(0x7FF8_0000_0000_0000), 2),
+        (Const::Class(1), 1),
+        (Const::String(2), 1),
+        (Const::Fieldref(3, 4), 1),
+        (Const::Methodref(5, 6), 1),
+        (Const::InterfaceMethodref(7, 8), 1),
+        (Const::NameAndType(9, 10), 1),
+        (Const::MethodHandle(6, 11), 1),
+        (Const::MethodType(12), 1),
+        (Const::InvokeDynamic(13, 14), 1),
+    ];
+    for (constant, units) in &table {
+        let copy = constant.copy()?;
+        let was = format!(in rt.alloc(); "{constant:?}")?;
+        assert_eq!(rt; format!(in rt.alloc(); "{copy:?}")?, was);
+        assert_eq!(rt; copy.units(), *units, "at {was}");
+    }
+    Ok(())
+}
+
+#[test]
+fn copies_of_types(rt: HostRuntime) -> Result<(), Fail> {
+    let name = Text::of_bytes(rt.alloc(), b"A")?;
+    let table = [
+        VType::Top,
+        VType::Int,
+        VType::Float,
+        VType::Long,
+        VType::Double,
+        VType::Null,
+        VType::UninitThis,
+        VType::Object(name),
+        VType::Uninit(5),
+    ];
+    for kind in &table {
+        let copy = kind.copy()?;
+        let was = format!(in rt.alloc(); "{kind:?}")?;
+        assert_eq!(rt; format!(in rt.alloc(); "{copy:?}")?, was);
+    }
+    Ok(())
+}
+
+#[test]
 fn lists(rt: HostRuntime) -> Result<(), Fail> {
     let mut list: ListOf<u16> = ListOf::new(rt.alloc());
     assert!(rt; list.is_empty());

@@ -1,7 +1,7 @@
 use Rattle.std.proofs.Common.{◌≡◌, ◌++◌, length, take}
 use Rattle.std.specs.List.{flat_map}
 use Rattle.class_model.specs.Spelling.{u2, entry_bytes}
-use Rattle.class_bytes.proofs.writing.push_pool.Given as goal
+use Rattle.class_bytes.proofs.pool_writing.push_pool.Given as goal
 
 abbrev pub invariant-loop-index : goal.invariant-loop-index
 invariant-loop-index l =

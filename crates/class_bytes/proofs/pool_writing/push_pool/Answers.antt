@@ -1,7 +1,7 @@
 use Rattle.std.proofs.Common.{length, rules}
 use Rattle.class_model.specs.Spelling.{u2}
 use Rattle.class_bytes.proofs.Entries.{entries_more}
-use Rattle.class_bytes.proofs.writing.push_pool.Goals as goal
+use Rattle.class_bytes.proofs.pool_writing.push_pool.Goals as goal
 
 pub loop-index-preserved : goal.loop-index-preserved
 loop-index-preserved c =

@@ -1,0 +1,97 @@
+//! Writing attributes.
+ghost use Rattle.std.specs.Prelude.{◌≡◌, ◌≤◌, ◌++◌, length, OnOk};
+ghost use Rattle.std.specs.List.{flat_map};
+ghost use Rattle.class_model.specs.Spelling.{u2, raw_bytes, inner_bytes, handler_bytes, code_part_bytes, attr_bytes, attrs_bytes};
+ghost use Rattle.class_bytes.specs.Counts.{FitsContent, FitsInner, FitsInners, FitsPart, FitsAttr, FitsAttrs};
+
+use crate::items::{push_u2, push_u4};
+use class_model::{Attr, AttrList, CodePart, Handler, HandlerList, InnerAttrList, NoMemory};
+use std::alloc::Global;
+
+/// Appends the number of attributes, and the attributes.
+pub(crate) fn push_attrs(alloc: Global, out: &mut Vec<u8>, attrs: &AttrList) -> Result<(), NoMemory>
+    requires { FitsAttrs attrs.now }
+    ensures { OnOk result (out.new.items ≡ out.old.items ++ attrs_bytes attrs.now) }
+{
+    let attrs = attrs.as_slice();
+    push_u2(out, attrs.len() as u16)?;
+    for attr in attrs {
+        push_attr(alloc, out, attr)?;
+    }
+    Ok(())
+}
+
+// Appends an attribute. The content of a Code attribute is written apart, for its length.
+fn push_attr(alloc: Global, out: &mut Vec<u8>, attr: &Attr) -> Result<(), NoMemory>
+    requires { FitsAttr attr.now }
+    ensures { OnOk result (out.new.items ≡ out.old.items ++ attr_bytes attr.now) }
+{
+    match attr {
+        Attr::Raw { name, bytes } => push_raw(out, *name, bytes.as_slice()),
+        Attr::Code { name, part } => {
+            let mut content = Vec::new(alloc);
+            push_code_part(&mut content, part)?;
+            push_raw(out, *name, &content)
+        }
+    }
+}
+
+// Appends an attribute of this content: its name, length and content (JVM Specification SE 8, 4.7).
+fn push_raw(out: &mut Vec<u8>, name: u16, content: &[u8]) -> Result<(), NoMemory>
+    requires { FitsContent content.now }
+    ensures { OnOk result (out.new.items ≡ out.old.items ++ raw_bytes name content.now) }
+{
+    push_u2(out, name)?;
+    push_u4(out, content.len() as u32)?;
+    out.extend_from_slice(content)?;
+    Ok(())
+}
+
+// Appends the content of a Code attribute (4.7.3).
+fn push_code_part(out: &mut Vec<u8>, part: &CodePart) -> Result<(), NoMemory>
+    requires { FitsPart part.now }
+    ensures { OnOk result (out.new.items ≡ out.old.items ++ code_part_bytes part.now) }
+{
+    push_u2(out, part.max_stack)?;
+    push_u2(out, part.max_locals)?;
+    push_u4(out, part.code.len() as u32)?;
+    out.extend_from_slice(part.code.as_slice())?;
+    push_handlers(out, &part.handlers)?;
+    push_inner_attrs(out, &part.attrs)
+}
+
+// Appends the number of handlers, and the handlers.
+fn push_handlers(out: &mut Vec<u8>, handlers: &HandlerList) -> Result<(), NoMemory>
+    requires { length handlers.now ≤ 65535 }
+    ensures { OnOk result (out.new.items ≡ out.old.items ++ (u2 (length handlers.now) ++ flat_map handler_bytes handlers.now)) }
+{
+    let handlers = handlers.as_slice();
+    push_u2(out, handlers.len() as u16)?;
+    for handler in handlers {
+        push_handler(out, handler)?;
+    }
+    Ok(())
+}
+
+// Appends an entry of an exception table.
+fn push_handler(out: &mut Vec<u8>, handler: &Handler) -> Result<(), NoMemory>
+    ensures { OnOk result (out.new.items ≡ out.old.items ++ handler_bytes handler.now) }
+{
+    push_u2(out, handler.start)?;
+    push_u2(out, handler.end)?;
+    push_u2(out, handler.at)?;
+    push_u2(out, handler.catch_type)
+}
+
+// Appends the number of attributes of a Code attribute, and the attributes.
+fn push_inner_attrs(out: &mut Vec<u8>, attrs: &InnerAttrList) -> Result<(), NoMemory>
+    requires { FitsInners attrs.now }
+    ensures { OnOk result (out.new.items ≡ out.old.items ++ (u2 (length attrs.now) ++ flat_map inner_bytes attrs.now)) }
+{
+    let attrs = attrs.as_slice();
+    push_u2(out, attrs.len() as u16)?;
+    for attr in attrs {
+        push_raw(out, attr.name, attr.bytes.as_slice())?;
+    }
+    Ok(())
+}
