@@ -59,7 +59,7 @@ class_checks c =
     let fields = flags + 8 + 2 * length c.interfaces in
     let methods = fields + 2 + length (flat_map field_bytes c.fields) in
     let attrs = methods + 2 + length (flat_map method_bytes c.methods) in
-    let home = record { pool = pool; major = c.major; flags = c.flags; name = pools.class_at pool c.this_class } in
+    let home : Home = record { pool = pool; major = c.major; flags = c.flags; name = pools.class_at pool c.this_class } in
     pools.entries_checks c.major pool 10 pool
     ++ (check flags rules.Flags (IsTrue (fits_class c.flags)) ∷ [])
     ++ class_name_checks pool (flags + 2) c.this_class

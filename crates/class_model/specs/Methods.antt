@@ -4,6 +4,7 @@ use Rattle.class_model.specs.Checks.{Check, check, Fault, fault, asked_of, asked
 use Rattle.class_model.specs.Code.{code_part, jump_checks, operand_checks, handlers_checks, inners_checks, entry_frame}
 use Rattle.class_model.specs.Cutting.{Rest, Cut, u2_at, counted_at}
 use Rattle.class_model.specs.Descriptors.{SpellsDescriptor, parameter_units, parameters_of}
+use Rattle.class_model.specs.Frames.{Setting}
 use Rattle.class_model.specs.Instructions.{decoded}
 use Rattle.class_model.specs.Members.{Signature, has, STATIC, NATIVE, INTERFACE, ABSTRACT, one_visibility, is_text, is_named, has_named, stands_before, attrs_checks, attr_name_check}
 use Rattle.class_model.specs.Names.{init, clinit, IsMethodName}
@@ -95,7 +96,7 @@ instructions_checks home method at part instrs =
     let start = at + 14 in
     let table = start + length part.code + 2 in
     let inners = table + 8 * length part.handlers + 2 in
-    let setting = record { pool = home.pool; max_locals = part.max_locals; max_stack = part.max_stack; code = instrs } in
+    let setting : Setting = record { pool = home.pool; max_locals = part.max_locals; max_stack = part.max_stack; code = instrs } in
     jump_checks start instrs instrs
     ++ operand_checks start home.pool home.major part.max_locals instrs
     ++ handlers_checks home.pool instrs (length part.code) table part.handlers
