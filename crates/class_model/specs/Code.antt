@@ -5,8 +5,8 @@ use Rattle.std.specs.List.{flat_map, list_any, list_all, AllByRecursion}
 use Rattle.class_model.specs.Checks.{Check, check, Fault, fault, asked_of, asked_if, ◌>>=◌}
 use Rattle.class_model.specs.Cutting.{Rest, Cut, bytes_at, u2_at, u4_at, counted_at}
 use Rattle.class_model.specs.Descriptors.{SpellsDescriptor, SpellsFieldType, field_type_text, IsArrayType, IsElementType, parameter_units, kind_of}
-use Rattle.class_model.specs.Frames.{Setting, table_at, is_start, filled}
-use Rattle.class_model.specs.Instructions.{decoded, targets}
+use Rattle.class_model.specs.Frames.{Setting, table_at, filled}
+use Rattle.class_model.specs.Instructions.{decoded, targets, is_start}
 use Rattle.class_model.specs.Members.{Signature, has, STATIC, is_text, attr_name_check, is_named}
 use Rattle.class_model.specs.Names.{init}
 use Rattle.class_model.specs.Pool.{Constants, constant_at}
@@ -99,7 +99,7 @@ abbrev pub IsInterfaceConstant : Option Const → Type 0
 IsInterfaceConstant (Some (consts.InterfaceMethodref class member)) = Unit {0}
 IsInterfaceConstant other = ⊥
 
--- the descriptor behind a member constant
+-- the name and descriptor of an interface's method
 abbrev member_index : Option Const → Option ℕ
 member_index (Some (consts.InterfaceMethodref class member)) = Some member
 member_index other = None

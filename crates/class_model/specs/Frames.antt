@@ -3,8 +3,8 @@
 use Rattle.std.specs.Prelude.{◌≡◌, ◌==◌, ◌&&◌, ◌||◌, ◌+◌, ◌-◌, ◌*◌, ◌<◌, ◌≤◌, nat_lt, nat_le, not, ℕ, zero, suc, Bool, true, false, List, [], ◌∷◌, ◌++◌, length, take, drop, replicate, reverse, sum_by, map, Option, Some, None, Result, Ok, Err, if◌then◌else◌}
 use Rattle.std.specs.List.{flat_map, list_any}
 use Rattle.class_model.specs.Checks.{Fault, fault, ◌>>=◌}
-use Rattle.class_model.specs.Cutting.{Rest, Cut}
-use Rattle.class_model.specs.Instructions.{u1_in, u2_in}
+use Rattle.class_model.specs.Cutting.{Rest, Cut, behind}
+use Rattle.class_model.specs.Instructions.{u1_in, u2_in, is_start}
 use Rattle.class_model.specs.Pool.{Constants}
 use Rattle.class_model.specs.PoolChecks.{class_at}
 use Rattle.class_model.specs.declared.fault.FileRule.TheVariants as rules
@@ -50,10 +50,6 @@ filled max_locals entries = units_of_entries entries ++ replicate (max_locals - 
 
 -- ---- verification types (4.7.4)
 
--- an instruction starts at an offset
-abbrev pub is_start : List Placed → ℕ → Bool
-is_start code at = list_any (λ p. p.at == at) code
-
 abbrev is_new : Instr → Bool
 is_new (New class) = true
 is_new other = false
@@ -69,9 +65,6 @@ object_of frame rest None = Err (fault frame rules.FrameType)
 -- an entry of a frame at a place: bytes that are missing are Attribute at 0, the table's own place
 abbrev pub missing : Fault
 missing = fault 0 rules.Attribute
-
-abbrev behind : ℕ → Rest → Rest
-behind count rest = record { at = rest.at + count; bytes = drop count rest.bytes }
 
 abbrev pub entry_at : Setting → ℕ → Rest → Cut VType
 entry_at s frame rest =

@@ -1,5 +1,6 @@
 -- The instructions and the bytes that spell them (JVM Specification SE 8, 6.5): one table, a row a form.
-use Rattle.std.specs.Prelude.{◌≡◌, ◌==◌, ◌&&◌, ◌+◌, ◌-◌, ◌*◌, ◌/◌, ◌%◌, ◌^◌, nat_lt, nat_le, not, ℕ, zero, suc, ℤ, pos, negsuc, int_lt, int_le, Bool, true, false, List, [], ◌∷◌, ◌++◌, length, drop, take, map, Option, Some, None, Result, Ok, Err, if◌then◌else◌}
+use Rattle.std.specs.Prelude.{◌≡◌, ◌==◌, ◌&&◌, ◌+◌, ◌-◌, ◌*◌, ◌/◌, ◌%◌, ◌^◌, ◌<◌, ◌≤◌, nat_lt, nat_le, not, ℕ, zero, suc, ℤ, pos, negsuc, int_lt, int_le, Bool, true, false, IsTrue, List, [], ◌∷◌, ◌++◌, length, drop, take, map, Option, Some, None, Result, Ok, Err, if◌then◌else◌}
+use Rattle.std.specs.List.{list_any, AllByRecursion}
 use Rattle.std.specs.Int.{w8, w16, w32, from_be_bytes, cast_signed, cast_unsigned}
 use Rattle.class_model.specs.Checks.{Fault, fault, ◌>>=◌}
 use Rattle.class_model.specs.declared.descriptor.Kind.{Kind}
@@ -288,6 +289,10 @@ instrs_at (suc left) at (byte ∷ bytes) = do
 abbrev pub decoded : List ℕ → Result (List Placed) Fault
 decoded code = instrs_at (length code) 0 code
 
+-- an instruction starts at an offset
+abbrev pub is_start : List Placed → ℕ → Bool
+is_start code at = list_any (λ p. p.at == at) code
+
 -- the targets of an instruction: of a switch the default first
 abbrev pub targets : Instr → List ℕ
 targets (If opcode to) = to ∷ []
@@ -298,3 +303,11 @@ targets (Goto to) = to ∷ []
 targets (Table low other to) = other ∷ to
 targets (Lookup other pairs) = other ∷ map (λ p. p.to) pairs
 targets instr = []
+
+-- A code as its instructions: from 1 to 65,535 bytes, entries that cover it without a gap, and targets that are
+-- offsets of entries.
+pub record CodeOf (code : List ℕ) (instrs : List Placed) : Type 0 where
+  pub some : 0 < length code
+  pub few : length code ≤ 65535
+  pub covers : decoded code ≡ Ok instrs
+  pub starts : AllByRecursion (λ p. AllByRecursion (λ to. IsTrue (is_start instrs to)) (targets p.instr)) instrs

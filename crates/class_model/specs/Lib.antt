@@ -13,4 +13,5 @@ pub mod Members
 pub mod Code
 pub mod Methods
 pub mod ClassOf
+pub mod Header
 pub mod PlainClassFile

@@ -8,7 +8,7 @@ use Rattle.class_model.specs.Descriptors.{SpellsFieldType, SpellsDescriptor, par
 use Rattle.class_model.specs.Instructions.{u2_in}
 use Rattle.class_model.specs.Names.{init, clinit, IsClassName, IsMethodName, IsFieldName}
 use Rattle.class_model.specs.Pool.{Constants, constant_at}
-use Rattle.class_model.specs.PoolChecks.{utf8_at, class_at, IsClassAt, IsFieldDescriptor, IsMethodDescriptor, InitIsVoid}
+use Rattle.class_model.specs.PoolChecks.{utf8_at, class_at, IsFieldDescriptor, IsMethodDescriptor, InitIsVoid}
 use Rattle.class_model.specs.Spelling.{attr_bytes}
 use Rattle.class_model.specs.declared.class_file.Attr.{Attr}
 use Rattle.class_model.specs.declared.class_file.Attr.TheVariants.{Raw, Code}
@@ -107,7 +107,7 @@ attr_name_check pool at attr = check at rules.Index (IsSome (utf8_at pool (attr_
 -- the index names a class by a class name; at a place
 abbrev pub class_name_checks : Constants → ℕ → ℕ → List Check
 class_name_checks pool at index =
-    check at rules.Index (IsClassAt pool index) ∷ check at rules.Name (IfSome (class_at pool index) IsClassName) ∷ []
+    check at rules.Index (IsSome (class_at pool index)) ∷ check at rules.Name (IfSome (class_at pool index) IsClassName) ∷ []
 
 -- a superclass, or none
 abbrev pub super_checks : Constants → ℕ → ℕ → List Check

@@ -9,8 +9,7 @@ use Rattle.class_model.specs.Instructions.{decoded}
 use Rattle.class_model.specs.Members.{Signature, has, STATIC, NATIVE, INTERFACE, ABSTRACT, one_visibility, is_text, is_named, has_named, stands_before, attrs_checks, attr_name_check}
 use Rattle.class_model.specs.Names.{init, clinit, IsMethodName}
 use Rattle.class_model.specs.Pool.{Constants, constant_at}
-use Rattle.class_model.specs.PoolChecks.{utf8_at, IsMethodDescriptor, InitIsVoid}
-use Rattle.class_model.specs.Spelling.{attr_bytes, u2}
+use Rattle.class_model.specs.PoolChecks.{utf8_at, InitIsVoid}
 use Rattle.class_model.specs.declared.class_file.Attr.{Attr}
 use Rattle.class_model.specs.declared.class_file.Attr.TheVariants.{Raw, Code}
 use Rattle.class_model.specs.declared.class_file.CodePart.{CodePart}

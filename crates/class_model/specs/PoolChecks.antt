@@ -2,13 +2,15 @@
 -- asked all that can be said of it, also through its name and descriptor; where an index further down names
 -- nothing of its kind, that is the lower entry's own fault. A fault stands at the constant's tag.
 use Rattle.std.specs.Prelude.{◌≡◌, ◌≢◌, ◌⊎◌, ℕ, ◌+◌, ◌≤◌, List, [], ◌∷◌, ◌++◌, length, Option, Some, None, IfSome, IsSome, option_and_then}
+use Rattle.std.specs.List.{AllByRecursion}
 use Rattle.class_model.specs.Checks.{Check, check}
-use Rattle.class_model.specs.Descriptors.{IsReferenceName, SpellsFieldType, SpellsDescriptor}
+use Rattle.class_model.specs.Descriptors.{IsReferenceName, field_type_text, descriptor_text, parameter_units}
 use Rattle.class_model.specs.ModifiedUtf8.{IsModifiedUtf8}
 use Rattle.class_model.specs.Names.{init, clinit, IsUnqualifiedName, IsMethodName, IsFieldName}
 use Rattle.class_model.specs.Pool.{Constants, constant_at}
 use Rattle.class_model.specs.Spelling.{constant_bytes}
 use Rattle.class_model.specs.declared.descriptor.FieldType.{FieldType}
+use Rattle.class_model.specs.declared.descriptor.FieldType.TheVariants.{Named}
 use Rattle.class_model.specs.declared.descriptor.Descriptor.{Descriptor}
 use Rattle.class_model.specs.declared.fault.FileRule.TheVariants as rules
 use Rattle.class_model.specs.declared.pool.Const.{Const}
@@ -53,16 +55,30 @@ descriptor_at pool index = option_and_then (λ n. utf8_at pool n.1) (option_and_
 
 -- ---- sorts of descriptors
 
-abbrev pub IsFieldDescriptor : List ℕ → Type 0
-IsFieldDescriptor text = (type : FieldType) × SpellsFieldType text type
+-- A descriptor is asked of the bytes; whether they are a text is asked of the Utf8 constant itself.
+abbrev pub IsTypeName : FieldType → Type 0
+IsTypeName (Named name) = IsReferenceName name
+IsTypeName other = Unit {0}
+
+pub record IsFieldDescriptor (text : List ℕ) : Type 0 where
+  pub type : FieldType
+  pub named : IsTypeName type
+  pub spelled : text ≡ field_type_text type
+
+-- the bytes of a method descriptor
+pub record BytesSpell (text : List ℕ) (descriptor : Descriptor) : Type 0 where
+  pub params : AllByRecursion IsTypeName descriptor.params
+  pub units : parameter_units descriptor.params ≤ 255
+  pub result : IfSome descriptor.result IsTypeName
+  pub spelled : text ≡ descriptor_text descriptor
 
 abbrev pub IsMethodDescriptor : List ℕ → Type 0
-IsMethodDescriptor text = (descriptor : Descriptor) × SpellsDescriptor text descriptor
+IsMethodDescriptor text = (descriptor : Descriptor) × BytesSpell text descriptor
 
 -- a method descriptor without a result
 pub record ReturnsVoid (text : List ℕ) : Type 0 where
   pub descriptor : Descriptor
-  pub spelled : SpellsDescriptor text descriptor
+  pub spelled : BytesSpell text descriptor
   pub no_result : descriptor.result ≡ None
 
 -- An instance initialiser has no result. It is asked of method descriptors alone.
