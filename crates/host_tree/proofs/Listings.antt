@@ -1,5 +1,5 @@
 -- The first keys of a map, in order, are a listing of the names that it has.
-use Rattle.std.proofs.Common.{◌≡◌, ℕ, ◌+◌, ◌≤◌, ◌<◌, ◌⊎◌, inl, inr, Bool, true, false, cond, List, [], ◌∷◌, ◌++◌, length, map, Option, Some, String, BTreeMap, string_bytes, is_some, nat_cmp, sym, refl, ap, ◌∙◌, append-nil, arith}
+use Rattle.std.proofs.Common.{◌≡◌, ℕ, ◌+◌, ◌≤◌, ◌<◌, inl, inr, Bool, true, false, cond, List, [], ◌∷◌, ◌++◌, length, map, String, BTreeMap, string_bytes, sym, refl, ap, ◌∙◌, arith}
 use Rattle.std.specs.BTreeMap.{get_by_text, keys, IsOrdered, is_at}
 use Rattle.std.specs.Map.{lookup, keys_of}
 use Rattle.std.specs.List.{AllByRecursion}
@@ -8,11 +8,11 @@ use Rattle.std.specs.Ordering.{is_eq}
 use Rattle.std.specs.declared.cmp.Ordering.TheVariants.{Less}
 use Rattle.std.specs.String.{string_cmp}
 use Rattle.std.specs.Str.{bytes_eq}
-use Rattle.std.specs.Cmp.Lexicographic.{slice_cmp, bytes_decides}
+use Rattle.std.specs.Cmp.Lexicographic.{bytes_decides}
 use Rattle.std.proofs.lemmas.List.Sums.{sum_by-cons, sum_by-append}
 use Rattle.std.proofs.lemmas.Map.Keys.{sorted_head, sorted_tail}
 use Rattle.std.proofs.lemmas.Map.Text.{is_eq-slice_cmp, text_cmp}
-use Rattle.host_tree.specs.Host.{Bytes, Folder, times, held, IsListing, HasEachOnce, LacksSome}
+use Rattle.host_tree.specs.Host.{Bytes, Folder, times, held, IsListing}
 
 -- how often a name stands in a list with one more name at its head
 times-cons : (name x : Bytes) (xs : List Bytes) → times name (x ∷ xs) ≡ cond (bytes_eq name x) 1 0 + times name xs

@@ -1,5 +1,5 @@
 -- What a tree of files in memory holds.
-use Rattle.std.specs.Prelude.{ℕ, List, Option, Some, None, String}
+use Rattle.std.specs.Prelude.{Option, Some, None, String}
 use Rattle.std.specs.BTreeMap.{BTreeMap, get_by_text}
 use Rattle.host_tree.specs.Host.{Bytes, Folder, Files}
 use Rattle.host_tree.specs.declared.tree.FileTree.{FileTree}

@@ -12,7 +12,8 @@ use std::{fs, io};
 /// How many entries a walk may meet.
 const MOST_ENTRIES: u64 = 1_000_000;
 
-/// A walk over a folder and those below it.
+/// A walk over a folder and those below it: how many names are wanted, the folders that are still to
+/// be entered, the names found, and how many entries were met.
 #[derive(Drop)]
 struct Walk {
     alloc: Global,
@@ -23,7 +24,7 @@ struct Walk {
 }
 
 /// The names of the regular files below a folder, relative to it, `most` of them where they are
-/// more. A folder that is not there has none. Symbolic links are not followed.
+/// more. A folder that is not there has none. Symbolic links below it are not followed.
 pub fn list_files<R: Files + AllocGlobal + Clone + Drop>(
     rt: &R,
     alloc: Global,
@@ -33,7 +34,8 @@ pub fn list_files<R: Files + AllocGlobal + Clone + Drop>(
     ensures { IfOk result (λ names. length names ≤ most) }
 {
     let mut walk = Walk::from_root(alloc, most)?;
-    for _ in 0..=MOST_ENTRIES {
+    // A turn for the root, one for each folder that is met, and one that finds no folder left.
+    for _ in 0..MOST_ENTRIES + 2 {
         match walk.next_folder() {
             Some(folder) => walk.enter(rt, root, folder.as_str())?,
             None => return Ok(FileNameList::from_vec(walk.names)),

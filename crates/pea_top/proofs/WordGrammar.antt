@@ -1,5 +1,5 @@
 -- Words are cut into parts in one way.
-use Rattle.std.proofs.Common.{◌≡◌, ◌≢◌, ℕ, List, [], ◌∷◌, ◌++◌, refl, sym, ap, ◌∙◌}
+use Rattle.std.proofs.Common.{◌≡◌, ◌≢◌, List, [], ◌∷◌, ◌++◌, refl, sym, ap, ◌∙◌}
 use Rattle.std.specs.Prelude.{codes}
 use Rattle.std.specs.List.{flat_map, AllByRecursion}
 use Rattle.pea_top.specs.Words.{Word, Command, Part, Positional, Separate, Joined, words_of, IsOperand, IsPart, positionals, libraries, Spells}

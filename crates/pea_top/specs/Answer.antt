@@ -1,9 +1,8 @@
 -- What words and files answer.
-use Rattle.std.specs.Prelude.{◌≡◌, ℕ, List, Some, IsTrue}
+use Rattle.std.specs.Prelude.{◌≡◌, List, Some, IsTrue}
 use Rattle.class_model.specs.PlainClassFile.{IsPlainFile}
 use Rattle.class_model.specs.declared.class_file.ClassFile.{ClassFile}
 use Rattle.host_tree.specs.Host.{Bytes, Folder, Files}
-use Rattle.host_tree.specs.declared.call.HostCall.{HostCall}
 use Rattle.host_tree.specs.declared.call.HostCall.TheVariants as calls
 use Rattle.pea_top.specs.Words.{Word, Command, Spells, IsUsage}
 use Rattle.pea_top.specs.Folders.{IsBefore, names_class_file}

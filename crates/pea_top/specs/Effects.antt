@@ -1,7 +1,6 @@
 -- What a call leaves of the files, and what it prints.
-use Rattle.std.specs.Prelude.{◌≡◌, ◌≢◌, ℕ, ◌⊎◌, List, ◌++◌, length, count_by, Some, None, IsSome}
+use Rattle.std.specs.Prelude.{◌≡◌, ◌≢◌, ◌⊎◌, List, ◌++◌, length, count_by, Some, None, IsSome}
 use Rattle.host_tree.specs.Host.{Bytes, Files, SameFiles, IsPrefixPrinted}
-use Rattle.host_tree.specs.declared.call.HostCall.{HostCall}
 use Rattle.host_tree.specs.declared.call.HostCall.TheVariants as calls
 use Rattle.pea_top.specs.Words.{Word, Command, Spells}
 use Rattle.pea_top.specs.Folders.{IsBefore, AreNames, names_class_file}

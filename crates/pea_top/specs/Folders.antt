@@ -1,5 +1,5 @@
 -- The files of a folder as a list in byte order of their names.
-use Rattle.std.specs.Prelude.{◌≡◌, ℕ, ◌-◌, Bool, List, map, drop, length, codes, bytes_eq, Some, IsSorted}
+use Rattle.std.specs.Prelude.{◌≡◌, ◌-◌, Bool, List, map, drop, length, codes, bytes_eq, Some, IsSorted}
 use Rattle.std.specs.List.{AllByRecursion}
 use Rattle.std.specs.Ordering.{nat_cmp}
 use Rattle.std.specs.Cmp.Lexicographic.{slice_cmp}

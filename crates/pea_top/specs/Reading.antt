@@ -1,5 +1,5 @@
 -- What reading a folder gives.
-use Rattle.std.specs.Prelude.{ℕ, List, Vec, Result, Ok, Err}
+use Rattle.std.specs.Prelude.{List, Vec, Result, Ok, Err}
 use Rattle.std.specs.declared.alloc.Global.{Global}
 use Rattle.host_tree.specs.Host.{Folder, Bytes}
 use Rattle.pea_top.specs.Folders.{AreFiles}

@@ -1,5 +1,5 @@
 -- What writing files one after the other leaves of a host's files.
-use Rattle.std.specs.Prelude.{◌≡◌, ◌≢◌, List, [], ◌∷◌, ◌++◌, bytes_eq, Option, Some, None, if◌then◌else◌}
+use Rattle.std.specs.Prelude.{◌≡◌, ◌≢◌, List, [], ◌∷◌, ◌++◌, bytes_eq, Option, Some, if◌then◌else◌}
 use Rattle.host_tree.specs.Host.{Bytes, Files}
 use Rattle.pea_top.specs.declared.folder.NamedFile.{NamedFile}
 

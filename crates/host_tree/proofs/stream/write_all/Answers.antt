@@ -1,4 +1,4 @@
-use Rattle.std.proofs.Common.{◌+◌, arith, length-drop, length-take}
+use Rattle.std.proofs.Common.{◌+◌, arith, length-drop}
 use Rattle.host_tree.proofs.Streams.{Appends-more, rest_whole}
 use Rattle.host_tree.proofs.stream.write_all.Goals as goal
 
