@@ -1,5 +1,5 @@
 -- What a host in memory holds.
-use Rattle.std.specs.Prelude.{ℕ, Bool, ◌==◌}
+use Rattle.std.specs.Prelude.{◌≡◌, ℕ, Bool, ◌==◌, List}
 use Rattle.std.specs.List.{list_any}
 use Rattle.host_tree.specs.declared.call.HostCall.{HostCall}
 use Rattle.host_tree.specs.declared.memory.MemoryHost.{MemoryHost}
@@ -22,3 +22,18 @@ faults_of host = count_of host.faults
 -- whether the next call is one to refuse
 abbrev pub is_refused : MemoryHost → Bool
 is_refused host = list_any (λ number. number == host.next_call) host.fail
+
+-- the number of the next call
+abbrev pub next_call_of : MemoryHost → ℕ
+next_call_of host = host.next_call
+
+-- the numbers of the calls to refuse
+abbrev pub refused_calls : MemoryHost → List ℕ
+refused_calls host = host.fail
+
+-- all but the files is as before
+pub record SameButFiles (old new : MemoryHost) : Type 0 where
+  pub printed : printed_by new ≡ printed_by old
+  pub faults : (of : HostCall) → faults_of new of ≡ faults_of old of
+  pub next_call : next_call_of new ≡ next_call_of old
+  pub refused : refused_calls new ≡ refused_calls old

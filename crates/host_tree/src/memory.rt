@@ -4,7 +4,7 @@ ghost use Rattle.std.specs.Option.{option_copied};
 ghost use Rattle.host_tree.specs.declared.call.HostCall.{HostCall};
 ghost use Rattle.host_tree.specs.Host.{SameFiles, SameElsewhere};
 ghost use Rattle.host_tree.specs.Counts.{last_count};
-ghost use Rattle.host_tree.specs.Memory.{stored, printed_by, faults_of, is_refused};
+ghost use Rattle.host_tree.specs.Memory.{stored, printed_by, faults_of, is_refused, next_call_of, refused_calls, SameButFiles};
 
 use crate::call::{HostCall, HostFail};
 use crate::faults::Faults;
@@ -36,7 +36,7 @@ impl MemoryHost {
         ensures files { IfOk result (λ host. (root name : List ℕ) → stored host root name ≡ None) }
         ensures printed { IfOk result (λ host. printed_by host ≡ []) }
         ensures counts { IfOk result (λ host. (of : HostCall) → faults_of host of ≡ 0) }
-        ensures calls { IfOk result (λ host. (host.next_call ≡ 0) × (host.fail ≡ fail)) }
+        ensures calls { IfOk result (λ host. (next_call_of host ≡ 0) × (refused_calls host ≡ fail)) }
     {
         Ok(MemoryHost {
             tree: FileTree::new(alloc),
@@ -58,7 +58,7 @@ impl MemoryHost {
         ensures ok { OnOk result (stored self.new root.now name.now ≡ Some bytes.now) }
         ensures elsewhere { SameElsewhere root.now name.now (stored self.old) (stored self.new) }
         ensures err { OnErr result (SameFiles (stored self.old) (stored self.new)) }
-        ensures rest { self.new ≡ record self.old { tree = self.new.tree } }
+        ensures rest { SameButFiles self.old self.new }
     {
         self.tree.put(alloc, root, name, bytes)
     }

@@ -28,8 +28,7 @@ pub struct RealHost<R> {
 impl<R: Files + Print + AllocGlobal + Clone + Drop> RealHost<R> {
     /// The system, with no faults.
     pub fn new(rt: R) -> Self
-        ensures rt { result.rt ≡ rt }
-        ensures counts { (of : HostCall) → count_of result.faults of ≡ 0 }
+        ensures { (of : HostCall) → ⟦<RealHost<R> as Host>⟧.faults result of ≡ 0 }
     {
         RealHost {
             rt,
