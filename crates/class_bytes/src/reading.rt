@@ -4,6 +4,7 @@ ghost use Rattle.std.specs.Result.{IsErrOf};
 ghost use Rattle.class_model.specs.PlainClassFile.{IsPlainFile};
 ghost use Rattle.class_model.specs.Spelling.{class_bytes};
 ghost use Rattle.class_model.specs.declared.class_file.ClassFile.{ClassFile};
+ghost use Rattle.class_bytes.specs.Counts.{FitsCounts};
 ghost use Rattle.class_bytes.specs.Reading.{Reads, FitsClass};
 
 use crate::items::{MAGIC, NO_MEMBERS, after, u2_of};
@@ -18,6 +19,7 @@ use std::alloc::Global;
 /// `NotYet` only where the bytes spell no plain class file, and `NoMemory` where memory runs out.
 pub fn read_class(alloc: Global, bytes: &[u8]) -> Result<ClassFile, ClassFault>
     ensures read { IfOk result (IsPlainFile bytes.now) }
+    ensures fits { IfOk result FitsCounts }
     ensures not_yet { IsErrOf result ClassFault.NotYet → (class : ClassFile) → ¬ IsPlainFile bytes.now class }
 {
     let (class, rest) = class_of(alloc, bytes)?;
