@@ -1,7 +1,7 @@
 -- A part that is not read ends the reading of what it is part of.
 use Rattle.std.proofs.Common.{ℕ, List, Err}
 use Rattle.class_model.specs.declared.fault.ClassFault.{ClassFault}
-use Rattle.class_model.specs.declared.fault.ClassFault.TheVariants.{NotYet, NoMemory}
+use Rattle.class_model.specs.declared.fault.ClassFault.TheVariants.{Malformed, Version, NotYet, NoMemory}
 use Rattle.class_bytes.specs.Reading.{Begins, Reads}
 
 -- no allowed value stands there
@@ -12,3 +12,5 @@ pub fails : {X Y : Type 0} (A : X → Type 0) (s : X → List ℕ) (B : Y → Ty
     → Reads A s part (Err fault) → (Nowhere A s part → Nowhere B t whole) → Reads B t whole (Err fault)
 fails A s B t part whole NotYet was so = so was
 fails A s B t part whole NoMemory was so = tt
+fails A s B t part whole (Malformed at rule) was so = was
+fails A s B t part whole (Version major minor) was so = was

@@ -9,6 +9,7 @@ use Rattle.class_model.specs.declared.pool.Const.TheVariants.{Utf8, Class}
 use Rattle.class_model.specs.Pool.{Constants}
 use Rattle.class_model.specs.Spelling.{u2, constant_bytes, entry_bytes, pool_bytes}
 use Rattle.class_bytes.specs.Reading.{IsU2, FitsConstant, FitsPool, FitsCount, entries_bytes}
+use Rattle.class_bytes.proofs.Forms.{Form, utf8_form, class_form, other_form, form}
 
 -- no spelling is the front of another, so bytes begin with one at most, and what follows it is known
 abbrev pub IsFront : {X : Type 0} (Allowed : X → Type 0) (spelling : X → List ℕ) → Type 0
@@ -32,17 +33,23 @@ u2_front x y r t fits_x fits_y e =
     let both = split_same (u2 x) (u2 y) r t refl e in
     (sym (from_be_bytes-to_be_bytes_2 x fits_x) ∙ ap (from_be_bytes w16) both.0 ∙ from_be_bytes-to_be_bytes_2 y fits_y, both.1)
 
-pub constant_front : IsFront FitsConstant constant_bytes
-constant_front (Utf8 a) (Utf8 b) r t fits_a fits_b e =
+constant_front_by : {x y : Const} → Form x → Form y → (r t : List ℕ) → FitsConstant x → FitsConstant y → constant_bytes x ++ r ≡ constant_bytes y ++ t → (x ≡ y) × (r ≡ t)
+constant_front_by (utf8_form a) (utf8_form b) r t fits_a fits_b e =
     let counted : u2 (length a) ++ (a ++ r) ≡ u2 (length b) ++ (b ++ t) = cc in
     let len = u2_front (length a) (length b) (a ++ r) (b ++ t) (omega (arith, fits_a.len)) (omega (arith, fits_b.len)) counted in
     let text = split_same a b r t len.0 len.1 in
     (ap Utf8 text.0, text.1)
-constant_front (Utf8 a) (Class n) r t fits_a fits_n e = absurd cc
-constant_front (Class m) (Utf8 b) r t fits_m fits_b e = absurd cc
-constant_front (Class m) (Class n) r t fits_m fits_n e =
+constant_front_by (utf8_form a) (class_form n) r t fits_a fits_n e = absurd cc
+constant_front_by (class_form m) (utf8_form b) r t fits_m fits_b e = absurd cc
+constant_front_by (class_form m) (class_form n) r t fits_m fits_n e =
     let number = u2_front m n r t fits_m fits_n cc in
     (ap Class number.0, number.1)
+constant_front_by (other_form not_read not_plain) form_y r t fits_x fits_y e = absurd (not_read fits_x)
+constant_front_by (utf8_form a) (other_form not_read not_plain) r t fits_a fits_y e = absurd (not_read fits_y)
+constant_front_by (class_form m) (other_form not_read not_plain) r t fits_m fits_y e = absurd (not_read fits_y)
+
+pub constant_front : IsFront FitsConstant constant_bytes
+constant_front x y = constant_front_by (form x) (form y)
 
 -- of two lists of parts, the shorter is the front of the longer
 pub list_front : {X : Type 0} (Allowed : X → Type 0) (spelling : X → List ℕ) → IsFront Allowed spelling → (xs ys : List X) (r t : List ℕ)

@@ -5,7 +5,7 @@ use Rattle.std.proofs.lemmas.List.{append-nil, length-map}
 use Rattle.std.proofs.lemmas.Option.{none-some, slice_get_past}
 use Rattle.std.proofs.lemmas.Bool.{cases_lt}
 use Rattle.class_model.specs.declared.fault.ClassFault.{ClassFault}
-use Rattle.class_model.specs.declared.fault.ClassFault.TheVariants.{NotYet, NoMemory}
+use Rattle.class_model.specs.declared.fault.ClassFault.TheVariants.{Malformed, Version, NotYet, NoMemory}
 use Rattle.class_model.specs.declared.pool.Const.{Const}
 use Rattle.class_model.specs.declared.pool.Const.TheVariants.{Utf8, Class}
 use Rattle.class_model.specs.Pool.{Constants, constant_at, NamesClassName}
@@ -13,18 +13,22 @@ use Rattle.class_model.specs.PlainClassFile.{IsPlainConstant, IsPlainPool, IsPla
 use Rattle.class_model.specs.Spelling.{class_bytes}
 use Rattle.class_model.specs.declared.class_file.ClassFile.{ClassFile}
 use Rattle.class_bytes.specs.Reading.{Begins, Reads, FitsConstant, FitsPool, FitsClass, IsU2, IsPlainAt}
+use Rattle.class_bytes.proofs.Forms.{Form, utf8_form, class_form, other_form, form}
 use Rattle.class_bytes.proofs.Classes.{class_front}
+
+plain_by : (pool : Constants) {constant : Const} → Form constant → FitsConstant constant → ((n : ℕ) → Some constant ≡ Some (Class n) → NamesClassName pool n) → IsPlainConstant pool constant
+plain_by pool (utf8_form text) fits named = fits
+plain_by pool (class_form n) fits named = named n refl
+plain_by pool (other_form not_read not_plain) fits named = absurd (not_read fits)
 
 each_plain : (pool : Constants) (constants : List Const) → AllByRecursion FitsConstant constants
     → ((k n : ℕ) → k < length constants → constant_at (map Some constants) k ≡ Some (Class n) → NamesClassName pool n) → AllByRecursion (IsPlainConstant pool) constants
 each_plain pool [] fits named = tt
-each_plain pool (Utf8 text ∷ cs) fits named = (fits.0, each_plain pool cs fits.1 (λ k n lt. named (suc k) n (omega arith)))
-each_plain pool (Class m ∷ cs) fits named = (named 0 m (omega arith) refl, each_plain pool cs fits.1 (λ k n lt. named (suc k) n (omega arith)))
+each_plain pool (c ∷ cs) fits named = (plain_by pool (form c) fits.0 (λ n. named 0 n (omega arith)), each_plain pool cs fits.1 (λ k n lt. named (suc k) n (omega arith)))
 
 plain_named : (pool : Constants) (constants : List Const) → AllByRecursion (IsPlainConstant pool) constants → (k n : ℕ) → constant_at (map Some constants) k ≡ Some (Class n) → NamesClassName pool n
 plain_named pool [] plain k n e = absurd cc
-plain_named pool (Utf8 text ∷ cs) plain zero n e = absurd cc
-plain_named pool (Class m ∷ cs) plain zero n e = let same : m ≡ n = cc in rw (← same) plain.0
+plain_named pool (c ∷ cs) plain zero n e = let same : c ≡ Class n = cc in subst (IsPlainConstant pool) same plain.0
 plain_named pool (c ∷ cs) plain (suc k) n e = plain_named pool cs plain.1 k n e
 
 pub all_plain : (pool : Constants) → FitsPool pool → ((k : ℕ) → k < length pool → IsPlainAt pool k) → IsPlainPool pool
@@ -51,10 +55,14 @@ named_below pool index constant count named =
       | inr le ↦ let past : constant_at pool index ≡ None = rw (slice_get_past pool index le) refl in absurd (none-some constant (sym past ∙ named))
     ]
 
+fits_by : (pool : Constants) {constant : Const} → Form constant → length pool ≤ 65535 → IsPlainConstant pool constant → FitsConstant constant
+fits_by pool (utf8_form text) count plain = plain
+fits_by pool (class_form n) count plain = named_below pool n (Utf8 plain.text) count plain.is_utf8
+fits_by pool (other_form not_read not_plain) count plain = absurd (not_plain pool plain)
+
 each_fits : (pool : Constants) (constants : List Const) → length pool ≤ 65535 → AllByRecursion (IsPlainConstant pool) constants → AllByRecursion FitsConstant constants
 each_fits pool [] count plain = tt
-each_fits pool (Utf8 text ∷ cs) count plain = (plain.0, each_fits pool cs count plain.1)
-each_fits pool (Class n ∷ cs) count plain = (named_below pool n (Utf8 plain.0.text) count plain.0.is_utf8, each_fits pool cs count plain.1)
+each_fits pool (c ∷ cs) count plain = (fits_by pool (form c) count plain.0, each_fits pool cs count plain.1)
 
 -- each item of a plain class file is in its range
 pub plain_fits : (class : ClassFile) → IsPlain class → FitsClass class
@@ -65,6 +73,10 @@ plain_fits class plain = record {
   flags = omega (arith, plain.flags);
   this_class = named_below class.pool class.this_class (Class plain.this_class.name_index) plain.pool.count plain.this_class.is_class;
   super_class = named_below class.pool class.super_class (Class plain.super_class.name_index) plain.pool.count plain.super_class.is_class;
+  interfaces = plain.interfaces;
+  fields = plain.fields;
+  methods = plain.methods;
+  attrs = plain.attrs;
 }
 
 -- bytes spell one plain class file at most
@@ -78,6 +90,8 @@ pub nothing_there : (bytes : List ℕ) (fault : ClassFault) → Reads FitsClass 
 nothing_there bytes NotYet none is class plain =
     none class [] (record { allowed = plain_fits class plain.plain; spelled = plain.spelled ∙ sym (append-nil (class_bytes class)) })
 nothing_there bytes NoMemory none is class plain = absurd cc
+nothing_there bytes (Malformed at rule) none is class plain = none
+nothing_there bytes (Version major minor) none is class plain = none
 
 -- the class file at the front is the only one that the bytes can spell
 pub another_there : (bytes rest : List ℕ) (there : ClassFile) → Begins FitsClass class_bytes bytes there rest → (IsPlain there → rest ≢ []) → (class : ClassFile) → ¬ IsPlainFile bytes class

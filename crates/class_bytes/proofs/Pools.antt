@@ -4,9 +4,10 @@ use Rattle.std.specs.List.{flat_map, AllByRecursion}
 use Rattle.std.proofs.lemmas.List.{append-nil, map-append, length-append, length-map}
 use Rattle.std.proofs.lemmas.List.Concat.{flat_map-append}
 use Rattle.class_model.specs.declared.pool.Const.{Const}
-use Rattle.class_model.specs.Pool.{Constants}
+use Rattle.class_model.specs.Pool.{Constants, entries_of}
 use Rattle.class_model.specs.Spelling.{constant_bytes}
 use Rattle.class_bytes.specs.Reading.{Begins, FitsConstant, FitsCount, entries_bytes}
+use Rattle.class_bytes.proofs.Forms.{one_entry}
 use Rattle.class_bytes.proofs.Fronts.{constant_front, list_front, entries_are}
 
 -- the first constants of a pool were read, up to this index, and these bytes are left
@@ -25,10 +26,10 @@ AllByRecursion-push P [] x all here = (here, tt)
 AllByRecursion-push P (y ∷ ys) x all here = (all.0, AllByRecursion-push P ys x all.1 here)
 
 pub goes_on : (bytes : List ℕ) (index : ℕ) (pool : Constants) (rest : List ℕ) (constant : Const) (after : List ℕ) → SoFar bytes index pool rest
-    → Begins FitsConstant constant_bytes rest constant after → SoFar bytes (index + 1) (pool ++ Some constant ∷ []) after
+    → Begins FitsConstant constant_bytes rest constant after → SoFar bytes (index + 1) (pool ++ entries_of constant) after
 goes_on bytes index pool rest constant after before now = record {
   constants = before.constants ++ constant ∷ [];
-  all = rw (before.all, map-append) refl;
+  all = rw (one_entry constant now.allowed, before.all, map-append) refl;
   len = omega (arith, length-append before.constants (constant ∷ []), before.len);
   each = AllByRecursion-push FitsConstant before.constants constant before.each now.allowed;
   spelled = rw (before.spelled, now.spelled, flat_map-append) (simp (append_assoc, append-nil));

@@ -11,6 +11,13 @@ use Rattle.class_model.specs.ModifiedUtf8.{IsText}
 use Rattle.class_model.specs.Pool.{Constants, constant_at, NamesClassName}
 use Rattle.class_model.specs.Spelling.{u2, entry_bytes}
 
+-- the faults that come while plain class files alone are read
+abbrev pub IsPlainFault : ClassFault → Type 0
+IsPlainFault NotYet = Unit {0}
+IsPlainFault NoMemory = Unit {0}
+IsPlainFault (Malformed at rule) = ⊥
+IsPlainFault (Version major minor) = ⊥
+
 -- the bytes begin with the spelling of a value that is allowed, and these follow
 pub record Begins {X : Type 0} (Allowed : X → Type 0) (spelling : X → List ℕ) (bytes : List ℕ) (value : X) (rest : List ℕ) : Type 0 where
   pub allowed : Allowed value

@@ -16,3 +16,5 @@ pub use writing::write_class;
 
 #[cfg(test)]
 mod tests;
+#[cfg(test)]
+mod writing_tests;

@@ -1,10 +1,11 @@
 //! Reading a class file.
-ghost use Rattle.std.specs.Prelude.{IfOk};
+ghost use Rattle.std.specs.Prelude.{IfOk, IfErr};
 ghost use Rattle.std.specs.Result.{IsErrOf};
 ghost use Rattle.class_model.specs.PlainClassFile.{IsPlainFile};
 ghost use Rattle.class_model.specs.Spelling.{class_bytes};
 ghost use Rattle.class_model.specs.declared.class_file.ClassFile.{ClassFile};
-ghost use Rattle.class_bytes.specs.Reading.{Reads, FitsClass};
+ghost use Rattle.class_bytes.specs.Counts.{FitsCounts};
+ghost use Rattle.class_bytes.specs.Reading.{Reads, FitsClass, IsPlainFault};
 
 use crate::items::{MAGIC, NO_MEMBERS, after, u2_of};
 use crate::plain::is_plain;
@@ -18,6 +19,8 @@ use std::alloc::Global;
 /// `NotYet` only where the bytes spell no plain class file, and `NoMemory` where memory runs out.
 pub fn read_class(alloc: Global, bytes: &[u8]) -> Result<ClassFile, ClassFault>
     ensures read { IfOk result (IsPlainFile bytes.now) }
+    ensures fits { IfOk result FitsCounts }
+    ensures fault { IfErr result IsPlainFault }
     ensures not_yet { IsErrOf result ClassFault.NotYet → (class : ClassFile) → ¬ IsPlainFile bytes.now class }
 {
     let (class, rest) = class_of(alloc, bytes)?;

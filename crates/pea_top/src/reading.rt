@@ -5,6 +5,7 @@ ghost use Rattle.host_tree.specs.Host.{Folder, SameFiles};
 ghost use Rattle.host_tree.specs.Counts.{NeverFalls, Rose, CountsOnly};
 ghost use Rattle.class_model.specs.PlainClassFile.{IsPlainFile};
 ghost use Rattle.class_model.specs.declared.class_file.ClassFile.{ClassFile};
+ghost use Rattle.class_bytes.specs.Reading.{IsPlainFault};
 ghost use Rattle.pea_top.specs.Folders.{AreNames};
 ghost use Rattle.pea_top.specs.Reading.{IsReadOrWhy};
 ghost use Rattle.pea_top.specs.ReadingSteps.{IsCallStop, IsFileOrWhy};
@@ -152,6 +153,7 @@ fn file_of(alloc: Global, name: FileName, bytes: ByteList) -> Result<NamedFile, 
         Ok(bytes) => Ok(NamedFile { name, bytes }),
         Err(ClassFault::NotYet) => Err(ReadStop::NotYet(name)),
         Err(ClassFault::NoMemory) => Err(ReadStop::NoMemory),
+        Err(ClassFault::Malformed { .. } | ClassFault::Version { .. }) => unreachable!(),
     }
 }
 
@@ -159,6 +161,7 @@ fn file_of(alloc: Global, name: FileName, bytes: ByteList) -> Result<NamedFile, 
 fn written_again(alloc: Global, bytes: ByteList) -> Result<ByteList, ClassFault>
     ensures same { IfOk result (λ written. (written ≡ bytes) × ((class : ClassFile) × IsPlainFile bytes class)) }
     ensures not_yet { IsErrOf result ClassFault.NotYet → (class : ClassFile) → ¬ IsPlainFile bytes class }
+    ensures fault { IfErr result IsPlainFault }
 {
     let class = read_class(alloc, bytes.as_slice())?;
     drop(bytes);

@@ -1,0 +1,156 @@
+ghost use Rattle.std.specs.Prelude.{◌≡◌, [], ◌∷◌, IfOk};
+ghost use Rattle.class_bytes.specs.Counts.{FitsPart, FitsField, FitsMethod, FitsCounts};
+
+use super::*;
+use class_model::{
+    Attr, ByteList, ClassFile, CodePart, Const, Field, Handler, InnerAttr, ListOf, Method, Pool,
+    Text,
+};
+use std::alloc::Global;
+use std::test::Fail;
+
+// The bytes of the class file that `class` makes, part by part.
+const POOL: [u8; 83] = [
+    0, 19, 1, 0, 1, b'A', 3, 0xFF, 0xFF, 0xFF, 0xFE, 4, 0x3F, 0x80, 0, 0, 5, 0xFF, 0xFF, 0xFF,
+    0xFF, 0xFF, 0xFF, 0xFF, 0xFD, 6, 0x40, 0, 0, 0, 0, 0, 0, 0, 7, 0, 1, 8, 0, 1, 12, 0, 1, 0, 14,
+    9, 0, 8, 0, 10, 10, 0, 8, 0, 10, 11, 0, 8, 0, 10, 1, 0, 1, b'I', 15, 6, 0, 12, 16, 0, 14, 18,
+    1, 2, 0, 10, 1, 0, 4, b'C', b'o', b'd', b'e',
+];
+
+const FIELDS: [u8; 19] = [
+    0, 1, 0, 0x0A, 0, 1, 0, 14, 0, 1, 0, 14, 0, 0, 0, 3, 1, 2, 3,
+];
+
+const METHODS: [u8; 45] = [
+    0, 1, 0, 9, 0, 1, 0, 14, 0, 1, 0, 18, 0, 0, 0, 29, 0, 2, 0, 3, 0, 0, 0, 2, 0, 0xB1, 0, 1, 0, 0,
+    0, 1, 0, 1, 0, 8, 0, 1, 0, 14, 0, 0, 0, 1, 9,
+];
+
+// A list of one item.
+fn list_of<T: Drop>(alloc: Global, item: T) -> Result<ListOf<T>, Fail>
+    ensures { IfOk result (λ list. list ≡ item ∷ []) }
+{
+    let mut list = ListOf::new(alloc);
+    list.push(item)?;
+    Ok(list)
+}
+
+// A constant of each kind.
+fn pool(alloc: Global) -> Result<Pool, Fail> {
+    let table = [
+        Const::Utf8(Text::of_bytes(alloc, b"A")?),
+        Const::Integer(-2),
+        Const::Float(0x3F80_0000),
+        Const::Long(-3),
+        Const::Double(0x4000_0000_0000_0000),
+        Const::Class(1),
+        Const::String(1),
+        Const::NameAndType(1, 14),
+        Const::Fieldref(8, 10),
+        Const::Methodref(8, 10),
+        Const::InterfaceMethodref(8, 10),
+        Const::Utf8(Text::of_bytes(alloc, b"I")?),
+        Const::MethodHandle(6, 12),
+        Const::MethodType(14),
+        Const::InvokeDynamic(0x0102, 10),
+        Const::Utf8(Text::of_bytes(alloc, b"Code")?),
+    ];
+    let mut pool = Pool::new(alloc);
+    for constant in &table {
+        let constant = constant.copy()?;
+        if pool.count() < 100 && constant.units() <= 2 {
+            pool.push(constant)?;
+        }
+    }
+    Ok(pool)
+}
+
+fn field(alloc: Global) -> Result<Field, Fail>
+    ensures { IfOk result FitsField }
+{
+    let bytes = Vec::from_slice(alloc, &[1, 2, 3])?;
+    let attr = Attr::Raw {
+        name: 14,
+        bytes: ByteList::from_vec(bytes),
+    };
+    Ok(Field {
+        flags: 0x0A,
+        name: 1,
+        desc: 14,
+        attrs: list_of(alloc, attr)?,
+    })
+}
+
+fn code(alloc: Global) -> Result<CodePart, Fail>
+    ensures { IfOk result FitsPart }
+{
+    let handler = Handler {
+        start: 0,
+        end: 1,
+        at: 1,
+        catch_type: 8,
+    };
+    let bytes = Vec::from_slice(alloc, &[9])?;
+    let attr = InnerAttr {
+        name: 14,
+        bytes: ByteList::from_vec(bytes),
+    };
+    let bytes = Vec::from_slice(alloc, &[0x00, 0xB1])?;
+    Ok(CodePart {
+        max_stack: 2,
+        max_locals: 3,
+        code: ByteList::from_vec(bytes),
+        handlers: list_of(alloc, handler)?,
+        attrs: list_of(alloc, attr)?,
+    })
+}
+
+fn method(alloc: Global) -> Result<Method, Fail>
+    ensures { IfOk result FitsMethod }
+{
+    let attr = Attr::Code {
+        name: 18,
+        part: code(alloc)?,
+    };
+    Ok(Method {
+        flags: 9,
+        name: 1,
+        desc: 14,
+        attrs: list_of(alloc, attr)?,
+    })
+}
+
+fn class(alloc: Global) -> Result<ClassFile, Fail>
+    ensures { IfOk result FitsCounts }
+{
+    let attr = Attr::Raw {
+        name: 1,
+        bytes: ByteList::new(alloc),
+    };
+    Ok(ClassFile {
+        major: 52,
+        minor: 1,
+        pool: pool(alloc)?,
+        flags: 0x21,
+        this_class: 8,
+        super_class: 0,
+        interfaces: list_of(alloc, 8)?,
+        fields: list_of(alloc, field(alloc)?)?,
+        methods: list_of(alloc, method(alloc)?)?,
+        attrs: list_of(alloc, attr)?,
+    })
+}
+
+#[test]
+fn members_and_attributes(rt: HostRuntime) -> Result<(), Fail> {
+    let class = class(rt.alloc())?;
+    let written = write_class(rt.alloc(), &class)?;
+    let mut bytes = Vec::from_slice(rt.alloc(), &[0xCA, 0xFE, 0xBA, 0xBE, 0, 1, 0, 52])?;
+    bytes.extend_from_slice(&POOL)?;
+    bytes.extend_from_slice(&[0, 0x21, 0, 8, 0, 0, 0, 1, 0, 8])?;
+    bytes.extend_from_slice(&FIELDS)?;
+    bytes.extend_from_slice(&METHODS)?;
+    bytes.extend_from_slice(&[0, 1, 0, 1, 0, 0, 0, 0])?;
+    assert_eq!(rt; written.as_slice(), bytes.as_slice());
+    Ok(())
+}
