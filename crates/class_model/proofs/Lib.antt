@@ -6,3 +6,5 @@ pub mod DescriptorGrammar
 pub mod Parameters
 pub mod Variants
 pub mod PoolPush
+pub mod InstructionLaws
+pub mod ClassLaws

@@ -92,7 +92,7 @@ entered c = record c { methods = map (entered_method c.pool) c.methods }
 abbrev pub IsRead : Version → Type 0
 IsRead v = (v.major ≡ 50) ⊎ ((v.major ≡ 51) ⊎ ((v.major ≡ 52) × (v.minor ≡ 0)))
 
-abbrev start : List ℕ → Rest
+abbrev pub start : List ℕ → Rest
 start bytes = record { at = 0; bytes = bytes }
 
 -- The bytes are those of this class file.
@@ -113,7 +113,7 @@ pub record IsOtherVersion (bytes : List ℕ) (version : Version) : Type 0 where
   pub other : ¬ IsRead version
 
 -- what is asked of bytes behind a version that is read
-abbrev checks_behind : Version → Rest → List Check
+abbrev pub checks_behind : Version → Rest → List Check
 checks_behind version rest = asked_of (class_at version rest) class_checks
 
 -- The first fault of bytes: in the magic and version, or of a version that is read and then the first check that
