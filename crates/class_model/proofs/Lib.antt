@@ -8,3 +8,6 @@ pub mod Variants
 pub mod PoolPush
 pub mod InstructionLaws
 pub mod ClassLaws
+pub mod Cuts
+pub mod PoolCuts
+pub mod ClassCuts

@@ -73,13 +73,13 @@ class_checks c =
 -- ---- code is entered
 
 -- an attribute of a method that is named Code has its content cut into parts
-abbrev entered_attr : Constants → Attr → Attr
+abbrev pub entered_attr : Constants → Attr → Attr
 entered_attr pool attr = if is_named pool code attr then of_content attr (code_content attr) else attr where
   of_content : Attr → Option CodePart → Attr
   of_content (Raw name bytes) (Some part) = Code name part
   of_content attr other = attr
 
-abbrev entered_method : Constants → Method → Method
+abbrev pub entered_method : Constants → Method → Method
 entered_method pool method = record method { attrs = map (entered_attr pool) method.attrs }
 
 -- the class file with the Code of its methods cut into parts

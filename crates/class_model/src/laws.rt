@@ -2,9 +2,10 @@
 ghost use Rattle.std.specs.Prelude.{◌≡◌, ◌++◌, ℕ, List};
 ghost use Rattle.class_model.specs.Checks.{Fault};
 ghost use Rattle.class_model.specs.ClassOf.{ClassOf, FirstFault, IsOtherVersion};
-ghost use Rattle.class_model.specs.Cutting.{Version};
+ghost use Rattle.class_model.specs.Cutting.{IsBytes, Version};
 ghost use Rattle.class_model.specs.Descriptors.{SpellsFieldType, SpellsDescriptor};
 ghost use Rattle.class_model.specs.Instructions.{IsSpelling};
+ghost use Rattle.class_model.specs.Spelling.{class_bytes};
 ghost use Rattle.class_model.specs.declared.class_file.ClassFile.{ClassFile};
 ghost use Rattle.class_model.specs.declared.instr.Instr.{Instr};
 ghost use Rattle.class_model.specs.declared.descriptor.FieldType.{FieldType};
@@ -43,4 +44,9 @@ pub fn another_version_is_no_class_file()
 /// Bytes are at most one class file.
 pub fn bytes_are_one_class_file()
     ensures { (bytes : List ℕ) (one other : ClassFile) → ClassOf bytes one → ClassOf bytes other → one ≡ other }
+{}
+
+/// A class file is spelled by its bytes.
+pub fn a_class_file_is_spelled()
+    ensures { (bytes : List ℕ) (class : ClassFile) → IsBytes bytes → ClassOf bytes class → bytes ≡ class_bytes class }
 {}
