@@ -6,3 +6,8 @@ pub mod DescriptorGrammar
 pub mod Parameters
 pub mod Variants
 pub mod PoolPush
+pub mod InstructionLaws
+pub mod ClassLaws
+pub mod Cuts
+pub mod PoolCuts
+pub mod ClassCuts

@@ -73,13 +73,13 @@ class_checks c =
 -- ---- code is entered
 
 -- an attribute of a method that is named Code has its content cut into parts
-abbrev entered_attr : Constants → Attr → Attr
+abbrev pub entered_attr : Constants → Attr → Attr
 entered_attr pool attr = if is_named pool code attr then of_content attr (code_content attr) else attr where
   of_content : Attr → Option CodePart → Attr
   of_content (Raw name bytes) (Some part) = Code name part
   of_content attr other = attr
 
-abbrev entered_method : Constants → Method → Method
+abbrev pub entered_method : Constants → Method → Method
 entered_method pool method = record method { attrs = map (entered_attr pool) method.attrs }
 
 -- the class file with the Code of its methods cut into parts
@@ -92,7 +92,7 @@ entered c = record c { methods = map (entered_method c.pool) c.methods }
 abbrev pub IsRead : Version → Type 0
 IsRead v = (v.major ≡ 50) ⊎ ((v.major ≡ 51) ⊎ ((v.major ≡ 52) × (v.minor ≡ 0)))
 
-abbrev start : List ℕ → Rest
+abbrev pub start : List ℕ → Rest
 start bytes = record { at = 0; bytes = bytes }
 
 -- The bytes are those of this class file.
@@ -113,7 +113,7 @@ pub record IsOtherVersion (bytes : List ℕ) (version : Version) : Type 0 where
   pub other : ¬ IsRead version
 
 -- what is asked of bytes behind a version that is read
-abbrev checks_behind : Version → Rest → List Check
+abbrev pub checks_behind : Version → Rest → List Check
 checks_behind version rest = asked_of (class_at version rest) class_checks
 
 -- The first fault of bytes: in the magic and version, or of a version that is read and then the first check that

@@ -33,7 +33,7 @@ use Rattle.class_model.specs.declared.pool.Const.TheVariants as consts
 
 -- ---- the structure
 
-abbrev handler_at : Rest → Cut Handler
+abbrev pub handler_at : Rest → Cut Handler
 handler_at rest = do
   start ← u2_at rest
   end ← u2_at start.1
@@ -41,14 +41,14 @@ handler_at rest = do
   type ← u2_at at.1
   Ok (record { start = start.0; end = end.0; at = at.0; catch_type = type.0 }, type.1)
 
-abbrev inner_at : Rest → Cut InnerAttr
+abbrev pub inner_at : Rest → Cut InnerAttr
 inner_at rest = do
   name ← u2_at rest
   len ← u4_at name.1
   content ← bytes_at len.0 len.1
   Ok (record { name = name.0; bytes = content.0 }, content.1)
 
-abbrev part_at : Rest → Cut CodePart
+abbrev pub part_at : Rest → Cut CodePart
 part_at rest = do
   stack ← u2_at rest
   locals ← u2_at stack.1
@@ -59,7 +59,7 @@ part_at rest = do
   Ok (record { max_stack = stack.0; max_locals = locals.0; code = code.0; handlers = handlers.0; attrs = attrs.0 }, attrs.1)
 
 -- the content of a Code attribute cut into its parts, if they fill it
-abbrev whole : Cut CodePart → Option CodePart
+abbrev pub whole : Cut CodePart → Option CodePart
 whole (Ok part) = if length part.1.bytes == 0 then Some part.0 else None
 whole (Err f) = None
 

@@ -1,6 +1,13 @@
-//! Laws of texts: functions that do nothing, whose contracts say what always holds.
-ghost use Rattle.std.specs.Prelude.{◌≡◌, ℕ, List};
+//! Laws: functions that do nothing, whose contracts say what always holds.
+ghost use Rattle.std.specs.Prelude.{◌≡◌, ◌++◌, ℕ, List};
+ghost use Rattle.class_model.specs.Checks.{Fault};
+ghost use Rattle.class_model.specs.ClassOf.{ClassOf, FirstFault, IsOtherVersion};
+ghost use Rattle.class_model.specs.Cutting.{IsBytes, Version};
 ghost use Rattle.class_model.specs.Descriptors.{SpellsFieldType, SpellsDescriptor};
+ghost use Rattle.class_model.specs.Instructions.{IsSpelling};
+ghost use Rattle.class_model.specs.Spelling.{class_bytes};
+ghost use Rattle.class_model.specs.declared.class_file.ClassFile.{ClassFile};
+ghost use Rattle.class_model.specs.declared.instr.Instr.{Instr};
 ghost use Rattle.class_model.specs.declared.descriptor.FieldType.{FieldType};
 ghost use Rattle.class_model.specs.declared.descriptor.Descriptor.{Descriptor};
 
@@ -12,4 +19,34 @@ pub fn a_text_spells_one_field_type()
 /// A text spells at most one method descriptor.
 pub fn a_text_spells_one_descriptor()
     ensures { (text : List ℕ) (one other : Descriptor) → SpellsDescriptor text one → SpellsDescriptor text other → one ≡ other }
+{}
+
+/// Bytes at an offset of a code spell at most one instruction, and no bytes of one are the front of others.
+pub fn a_spelling_is_one_instruction()
+    ensures { (at : ℕ) (one other : Instr) (a b x y : List ℕ) → IsSpelling at one a → IsSpelling at other b → a ++ x ≡ b ++ y → (one ≡ other) × (a ≡ b) }
+{}
+
+/// Bytes have at most one first fault.
+pub fn one_first_fault()
+    ensures { (bytes : List ℕ) (one other : Fault) → FirstFault bytes one → FirstFault bytes other → one ≡ other }
+{}
+
+/// The bytes of a class file have no fault.
+pub fn a_class_file_has_no_fault()
+    ensures { (bytes : List ℕ) (class : ClassFile) (f : Fault) → ClassOf bytes class → ¬ FirstFault bytes f }
+{}
+
+/// Bytes of a version that is not read are no class file and have no fault.
+pub fn another_version_is_no_class_file()
+    ensures { (bytes : List ℕ) (version : Version) → IsOtherVersion bytes version → ((class : ClassFile) → ¬ ClassOf bytes class) × ((f : Fault) → ¬ FirstFault bytes f) }
+{}
+
+/// Bytes are at most one class file.
+pub fn bytes_are_one_class_file()
+    ensures { (bytes : List ℕ) (one other : ClassFile) → ClassOf bytes one → ClassOf bytes other → one ≡ other }
+{}
+
+/// A class file is spelled by its bytes.
+pub fn a_class_file_is_spelled()
+    ensures { (bytes : List ℕ) (class : ClassFile) → IsBytes bytes → ClassOf bytes class → bytes ≡ class_bytes class }
 {}
