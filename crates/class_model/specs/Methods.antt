@@ -122,7 +122,7 @@ abbrev pub method_attr_checks : Home → Method → List Attr → ℕ → Attr �
 method_attr_checks home method before at attr =
     attr_name_check home.pool at attr
     ∷ asked_if (is_named home.pool code attr)
-        (check at rules.Twice (IsFalse (has_named home.pool code before)) ∷ content_checks home method at (code_content attr))
+    (check at rules.Twice (IsFalse (has_named home.pool code before)) ∷ content_checks home method at (code_content attr))
 
 -- ---- methods
 
@@ -210,7 +210,7 @@ abbrev pub class_attr_checks : Constants → List Attr → ℕ → Attr → List
 class_attr_checks pool before at attr =
     attr_name_check pool at attr
     ∷ asked_if (is_named pool bootstrap_methods attr)
-        (check at rules.Twice (IsFalse (has_named pool bootstrap_methods before)) ∷ table_checks pool at (bootstraps (raw_content attr)))
+    (check at rules.Twice (IsFalse (has_named pool bootstrap_methods before)) ∷ table_checks pool at (bootstraps (raw_content attr)))
 
 -- how many bootstrap methods the attributes of a class have
 abbrev pub bootstrap_count : Constants → List Attr → ℕ
