@@ -21,19 +21,19 @@ use Rattle.class_model.specs.declared.pool.Const.TheVariants.{InvokeDynamic}
 
 -- ---- members, one after the other from a place on
 
-abbrev field_signature : Field → Signature
+abbrev pub field_signature : Field → Signature
 field_signature field = record { name = field.name; desc = field.desc }
 
-abbrev fields_checks : Constants → ℕ → List Signature → ℕ → List Field → List Check
+abbrev pub fields_checks : Constants → ℕ → List Signature → ℕ → List Field → List Check
 fields_checks pool flags before at [] = []
 fields_checks pool flags before at (field ∷ fields) =
     field_checks pool flags before at field
     ++ fields_checks pool flags (before ++ field_signature field ∷ []) (at + length (field_bytes field)) fields
 
-abbrev method_signature : Method → Signature
+abbrev pub method_signature : Method → Signature
 method_signature method = record { name = method.name; desc = method.desc }
 
-abbrev methods_checks : Home → List Signature → ℕ → List Method → List Check
+abbrev pub methods_checks : Home → List Signature → ℕ → List Method → List Check
 methods_checks home before at [] = []
 methods_checks home before at (method ∷ methods) =
     method_checks home before at method
@@ -41,7 +41,7 @@ methods_checks home before at (method ∷ methods) =
 
 -- ---- invokedynamic constants name bootstrap methods (4.4.10)
 
-abbrev dynamic_checks : ℕ → ℕ → Constants → List Check
+abbrev pub dynamic_checks : ℕ → ℕ → Constants → List Check
 dynamic_checks count at [] = []
 dynamic_checks count at (None ∷ entries) = dynamic_checks count at entries
 dynamic_checks count at (Some (InvokeDynamic bootstrap member) ∷ entries) =

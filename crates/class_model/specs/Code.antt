@@ -192,7 +192,7 @@ handlers_checks pool code len at (handler ∷ handlers) =
 abbrev pub stack_map_table : List ℕ
 stack_map_table = codes "StackMapTable"
 
-abbrev inner_is_named : Constants → List ℕ → InnerAttr → Bool
+abbrev pub inner_is_named : Constants → List ℕ → InnerAttr → Bool
 inner_is_named pool name attr = is_text name (utf8_at pool attr.name)
 
 -- a fault inside a table, at its place in the file: a missing byte is the table's own
@@ -209,7 +209,7 @@ inners_checks s entry had at [] = []
 inners_checks s entry had at (attr ∷ attrs) =
     check at rules.Index (IsSome (utf8_at s.pool attr.name))
     ∷ asked_if (inner_is_named s.pool stack_map_table attr)
-        (check at rules.Twice (IsFalse had) ∷ asked_of (in_table at (table_at s entry attr.bytes)) (λ frames. []))
+    (check at rules.Twice (IsFalse had) ∷ asked_of (in_table at (table_at s entry attr.bytes)) (λ frames. []))
     ++ inners_checks s entry (had || inner_is_named s.pool stack_map_table attr) (at + length (inner_bytes attr)) attrs
 
 -- ---- the entry frame (4.10.1.6)
