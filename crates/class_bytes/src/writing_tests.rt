@@ -9,21 +9,24 @@ use class_model::{
 use std::alloc::Global;
 use std::test::Fail;
 
-// The bytes of the class file that `class` makes, part by part.
-const POOL: [u8; 83] = [
+// The bytes of the class file that `class` makes.
+const BYTES: [u8; 173] = [
+    // the versions
+    0xCA, 0xFE, 0xBA, 0xBE, 0, 1, 0, 52,
+    // the pool
     0, 19, 1, 0, 1, b'A', 3, 0xFF, 0xFF, 0xFF, 0xFE, 4, 0x3F, 0x80, 0, 0, 5, 0xFF, 0xFF, 0xFF,
     0xFF, 0xFF, 0xFF, 0xFF, 0xFD, 6, 0x40, 0, 0, 0, 0, 0, 0, 0, 7, 0, 1, 8, 0, 1, 12, 0, 1, 0, 14,
     9, 0, 8, 0, 10, 10, 0, 8, 0, 10, 11, 0, 8, 0, 10, 1, 0, 1, b'I', 15, 6, 0, 12, 16, 0, 14, 18,
     1, 2, 0, 10, 1, 0, 4, b'C', b'o', b'd', b'e',
-];
-
-const FIELDS: [u8; 19] = [
+    // the flags, the class, its superclass and its interface
+    0, 0x21, 0, 8, 0, 0, 0, 1, 0, 8,
+    // the field
     0, 1, 0, 0x0A, 0, 1, 0, 14, 0, 1, 0, 14, 0, 0, 0, 3, 1, 2, 3,
-];
-
-const METHODS: [u8; 45] = [
+    // the method
     0, 1, 0, 9, 0, 1, 0, 14, 0, 1, 0, 18, 0, 0, 0, 29, 0, 2, 0, 3, 0, 0, 0, 2, 0, 0xB1, 0, 1, 0, 0,
     0, 1, 0, 1, 0, 8, 0, 1, 0, 14, 0, 0, 0, 1, 9,
+    // the attribute
+    0, 1, 0, 1, 0, 0, 0, 0,
 ];
 
 // A list of one item.
@@ -145,12 +148,6 @@ fn class(alloc: Global) -> Result<ClassFile, Fail>
 fn members_and_attributes(rt: HostRuntime) -> Result<(), Fail> {
     let class = class(rt.alloc())?;
     let written = write_class(rt.alloc(), &class)?;
-    let mut bytes = Vec::from_slice(rt.alloc(), &[0xCA, 0xFE, 0xBA, 0xBE, 0, 1, 0, 52])?;
-    bytes.extend_from_slice(&POOL)?;
-    bytes.extend_from_slice(&[0, 0x21, 0, 8, 0, 0, 0, 1, 0, 8])?;
-    bytes.extend_from_slice(&FIELDS)?;
-    bytes.extend_from_slice(&METHODS)?;
-    bytes.extend_from_slice(&[0, 1, 0, 1, 0, 0, 0, 0])?;
-    assert_eq!(rt; written.as_slice(), bytes.as_slice());
+    assert_eq!(rt; written.as_slice(), BYTES.as_slice());
     Ok(())
 }

@@ -1,10 +1,9 @@
 -- What is cut from the front of bytes is spelled by the bytes that it took.
-use Rattle.std.proofs.Common.{◌≡◌, ℕ, zero, suc, ◌+◌, ◌^◌, ◌<◌, ◌≤◌, Bool, true, false, cond, eqb, ltb, List, [], ◌∷◌, ◌++◌, length, get_or, take, drop, Result, Ok, Err, refl, sym, ap, subst, ◌∙◌, append_assoc, arith}
+use Rattle.std.proofs.Common.{◌≡◌, ℕ, zero, suc, ◌+◌, ◌^◌, ◌<◌, ◌≤◌, Bool, true, false, cond, ltb, List, [], ◌∷◌, ◌++◌, length, get_or, take, drop, Result, Ok, Err, refl, sym, ap, subst, ◌∙◌, append_assoc, arith}
 use Rattle.std.specs.Int.{Width, w16, w32, w64, byte_len, from_be_bytes, to_be_bytes}
 use Rattle.std.specs.List.{flat_map}
 use Rattle.std.proofs.lemmas.Bool.{ltb-false}
 use Rattle.std.proofs.lemmas.List.{take-append-drop, length-append, length-take}
-use Rattle.std.proofs.lemmas.List.Concat.{flat_map-cons}
 use Rattle.std.proofs.lemmas.Nat.{be_bytes_2, be_bytes_4, be_bytes_8}
 use Rattle.class_model.specs.Checks.{Fault, fault, ◌>>=◌}
 use Rattle.class_model.specs.Cutting.{IsBytes, Rest, Cut, behind, bytes_at, number_at, u1_at, u2_at, u4_at, u2_pair_at, many_at, counted_at}
@@ -54,6 +53,7 @@ Takes-then a x b y c p q = record {
 pub record IsSpelledBy {X : Type 0} (part : Rest → Cut X) (spell : X → List ℕ) (Holds : X → Type 0) : Type 0 where
   pub takes : (rest : Rest) (x : X × Rest) → IsBytes rest.bytes → part rest ≡ Ok x → Takes rest (spell x.0) x.1 × Holds x.0
 
+-- no property
 abbrev pub Always : {X : Type 0} → X → Type 0
 Always x = Unit {0}
 
@@ -87,6 +87,7 @@ made {Y = Y} spell Holds from x y takes holds e = subst (λ (z : Y × Rest). Tak
 
 -- ---- numbers
 
+-- a test that did not fail
 pub guard_false : {A : Type 0} (b : Bool) (d : Fault) (x y : A) → cond b (Err d) (Ok x) ≡ Ok y → (b ≡ false) × (x ≡ y)
 guard_false true d x y e = absurd cc
 guard_false false d x y e = (refl, cc)
@@ -99,13 +100,16 @@ abbrev IsBytesOf : ℕ → List ℕ → Type 0
 IsBytesOf count bytes = (length bytes ≡ count) × IsBytes bytes
 
 pub bytes_spelled : (count : ℕ) → IsSpelledBy (bytes_at count) (λ bytes. bytes) (IsBytesOf count)
-bytes_spelled count = record { takes = λ rest x fits e.
-    let g = guard_false (ltb (length rest.bytes) count) (fault rest.at rules.Short) (take count rest.bytes, behind count rest) x e in
-    let long : count ≤ length rest.bytes = ltb-false _ _ g.0 in
-    let len : length (take count rest.bytes) ≡ count = omega (arith, length-take count rest.bytes) in
-    subst (λ (z : List ℕ × Rest). Takes rest z.0 z.1 × IsBytesOf count z.0) g.1
-        (record { parts = sym (take-append-drop count rest.bytes); place = omega (arith, len); fits = IsBytes-drop count rest.bytes fits }, (len, IsBytes-take count rest.bytes fits)) }
+bytes_spelled count = record {
+  takes = λ rest x fits e.
+      let g = guard_false (ltb (length rest.bytes) count) (fault rest.at rules.Short) (take count rest.bytes, behind count rest) x e in
+      let long : count ≤ length rest.bytes = ltb-false _ _ g.0 in
+      let len : length (take count rest.bytes) ≡ count = omega (arith, length-take count rest.bytes) in
+      let takes : Takes rest (take count rest.bytes) (behind count rest) = record { parts = sym (take-append-drop count rest.bytes); place = omega (arith, len); fits = IsBytes-drop count rest.bytes fits } in
+      subst (λ (z : List ℕ × Rest). Takes rest z.0 z.1 × IsBytesOf count z.0) g.1 (takes, (len, IsBytes-take count rest.bytes fits));
+}
 
+-- A number of a width is below a limit, and its bytes are those that it was made of.
 record IsWide (w : Width) (limit : ℕ) : Type 0 where
   pub back : (bytes : List ℕ) → length bytes ≡ byte_len w → IsBytes bytes → to_be_bytes w (from_be_bytes w bytes) ≡ bytes
   pub below : (bytes : List ℕ) → IsBytes bytes → from_be_bytes w bytes < limit
@@ -129,10 +133,12 @@ wide64 = record {
 }
 
 number_spelled : (w : Width) (limit : ℕ) → IsWide w limit → IsSpelledBy (number_at w) (to_be_bytes w) (λ n. n < limit)
-number_spelled w limit wide = record { takes = λ rest x fits e.
-    let s = step (bytes_spelled (byte_len w)) (takes_none rest fits) _ x e in
-    let front : to_be_bytes w (from_be_bytes w s.got.0) ≡ s.got.0 = wide.back s.got.0 s.holds.0 s.holds.1 in
-    made (to_be_bytes w) (λ n. n < limit) rest (from_be_bytes w s.got.0, s.got.1) x (rw front s.takes) (wide.below s.got.0 s.holds.1) s.goes_on }
+number_spelled w limit wide = record {
+  takes = λ rest x fits e.
+      let s = step (bytes_spelled (byte_len w)) (takes_none rest fits) _ x e in
+      let front : to_be_bytes w (from_be_bytes w s.got.0) ≡ s.got.0 = wide.back s.got.0 s.holds.0 s.holds.1 in
+      made (to_be_bytes w) (λ n. n < limit) rest (from_be_bytes w s.got.0, s.got.1) x (rw front s.takes) (wide.below s.got.0 s.holds.1) s.goes_on;
+}
 
 pub u2_spelled : IsSpelledBy u2_at u2 (λ n. n < 2 ^ 16)
 u2_spelled = number_spelled w16 (2 ^ 16) wide16
@@ -149,28 +155,37 @@ one_byte (b ∷ []) len = ap (λ (n : ℕ). n ∷ []) (omega arith)
 one_byte (b ∷ c ∷ bytes) len = absurd (omega (arith, len))
 
 pub u1_spelled : IsSpelledBy u1_at (λ n. n ∷ []) Always
-u1_spelled = record { takes = λ rest x fits e.
-    let s = step (bytes_spelled 1) (takes_none rest fits) _ x e in
-    made (λ n. n ∷ []) Always rest (from_be_bytes w16 (0 ∷ s.got.0), s.got.1) x (rw (one_byte s.got.0 s.holds.0) s.takes) tt s.goes_on }
+u1_spelled = record {
+  takes = λ rest x fits e.
+      let s = step (bytes_spelled 1) (takes_none rest fits) _ x e in
+      made (λ n. n ∷ []) Always rest (from_be_bytes w16 (0 ∷ s.got.0), s.got.1) x (rw (one_byte s.got.0 s.holds.0) s.takes) tt s.goes_on;
+}
 
 pub u2_pair_spelled : IsSpelledBy u2_pair_at (λ p. u2 p.0 ++ u2 p.1) Always
-u2_pair_spelled = record { takes = λ rest x fits e.
-    let a = step u2_spelled (takes_none rest fits) _ x e in
-    let b = step u2_spelled a.takes _ x a.goes_on in
-    made (λ p. u2 p.0 ++ u2 p.1) Always rest ((a.got.0, b.got.0), b.got.1) x b.takes tt b.goes_on }
+u2_pair_spelled = record {
+  takes = λ rest x fits e.
+      let a = step u2_spelled (takes_none rest fits) _ x e in
+      let b = step u2_spelled a.takes _ x a.goes_on in
+      made (λ p. u2 p.0 ++ u2 p.1) Always rest ((a.got.0, b.got.0), b.got.1) x b.takes tt b.goes_on;
+}
 
 -- ---- lists of parts
 
 pub many_spelled : {X : Type 0} {part : Rest → Cut X} {spell : X → List ℕ} {Holds : X → Type 0} → IsSpelledBy part spell Holds → (count : ℕ) → IsSpelledBy (many_at part count) (flat_map spell) (λ xs. length xs ≡ count)
 unfolding many_at
 many_spelled {spell = spell} spelled zero = record { takes = λ rest x fits e. made (flat_map spell) (λ xs. length xs ≡ 0) rest ([], rest) x (takes_none rest fits) refl e }
-many_spelled {spell = spell} spelled (suc count) = record { takes = λ rest x fits e.
-    let a = step spelled (takes_none rest fits) _ x e in
-    let b = step (many_spelled spelled count) a.takes _ x a.goes_on in
-    made (flat_map spell) (λ xs. length xs ≡ suc count) rest (a.got.0 ∷ b.got.0, b.got.1) x b.takes (ap suc b.holds) b.goes_on }
+many_spelled {spell = spell} spelled (suc count) = record {
+  takes = λ rest x fits e.
+      let a = step spelled (takes_none rest fits) _ x e in
+      let b = step (many_spelled spelled count) a.takes _ x a.goes_on in
+      made (flat_map spell) (λ xs. length xs ≡ suc count) rest (a.got.0 ∷ b.got.0, b.got.1) x b.takes (ap suc b.holds) b.goes_on;
+}
 
 pub counted_spelled : {X : Type 0} {part : Rest → Cut X} {spell : X → List ℕ} {Holds : X → Type 0} → IsSpelledBy part spell Holds → IsSpelledBy (counted_at part) (λ xs. u2 (length xs) ++ flat_map spell xs) Always
-counted_spelled {spell = spell} spelled = record { takes = λ rest x fits e.
-    let n = step u2_spelled (takes_none rest fits) _ x e in
-    let m = (many_spelled spelled n.got.0).takes n.got.1 x n.takes.fits n.goes_on in
-    (subst (λ (k : ℕ). Takes rest (u2 k ++ flat_map spell x.0) x.1) (sym m.1) (Takes-then rest (u2 n.got.0) n.got.1 (flat_map spell x.0) x.1 n.takes m.0), tt) }
+counted_spelled {spell = spell} spelled = record {
+  takes = λ rest x fits e.
+      let n = step u2_spelled (takes_none rest fits) _ x e in
+      let m = (many_spelled spelled n.got.0).takes n.got.1 x n.takes.fits n.goes_on in
+      let both = Takes-then rest (u2 n.got.0) n.got.1 (flat_map spell x.0) x.1 n.takes m.0 in
+      (subst (λ (k : ℕ). Takes rest (u2 k ++ flat_map spell x.0) x.1) (sym m.1) both, tt);
+}

@@ -11,7 +11,7 @@ use Rattle.class_model.specs.DescriptorParts.{base_type_of, ClassNameAt, Element
 use Rattle.class_model.specs.declared.descriptor.FieldType.{FieldType}
 use Rattle.class_model.specs.declared.descriptor.FieldType.TheVariants.{Byte, Char, Short, Bool as Boolean, Int, Long, Float, Double, Named}
 use Rattle.class_model.proofs.TextParts.{name_is_text}
-use Rattle.class_model.proofs.ClassNames.{Rest, rest_of_name, join-front}
+use Rattle.class_model.proofs.ClassNames.{rest_of_name, join-front}
 
 -- A class name has no semicolon.
 abbrev pub LacksSemicolon : List ℕ → Type 0

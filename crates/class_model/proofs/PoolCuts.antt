@@ -1,5 +1,5 @@
 -- A constant pool that is cut from bytes is spelled by them.
-use Rattle.std.proofs.Common.{◌≡◌, ◌≢◌, ◌==◌, ◌&&◌, ◌⊎◌, inl, inr, ℕ, zero, suc, ◌+◌, ◌^◌, ◌<◌, ◌≤◌, Bool, true, false, not, ◌||◌, cond, eqb, leb, List, [], ◌∷◌, ◌++◌, length, drop, Option, Some, None, Result, Ok, Err, refl, sym, ap, subst, ◌∙◌, append_assoc, arith, length-append}
+use Rattle.std.proofs.Common.{◌≡◌, ◌≢◌, ◌==◌, ◌&&◌, ◌⊎◌, inl, inr, ℕ, zero, suc, ◌+◌, ◌<◌, ◌≤◌, Bool, true, false, not, ◌||◌, cond, eqb, leb, List, [], ◌∷◌, ◌++◌, length, drop, None, Ok, refl, sym, ap, subst, ◌∙◌, arith, length-append}
 use Rattle.std.specs.Int.{w32, w64, to_be_bytes, cast_signed}
 use Rattle.std.specs.List.{flat_map}
 use Rattle.std.proofs.lemmas.Bool.{cases_eq, and_parts}
@@ -7,8 +7,8 @@ use Rattle.std.proofs.lemmas.Bool.Decides.{nat_tests}
 use Rattle.std.proofs.lemmas.Grind.{flat_map-append}
 use Rattle.std.proofs.lemmas.Int.{of_z-to_z}
 use Rattle.std.proofs.lemmas.List.{append-nil}
-use Rattle.class_model.specs.Checks.{Fault, fault, ◌>>=◌}
-use Rattle.class_model.specs.Cutting.{IsBytes, Rest, Cut, bytes_at, number_at, u1_at, u2_at, u4_at, u2_pair_at, is_tag, fields_at, entries_at, pool_at}
+use Rattle.class_model.specs.Checks.{fault, ◌>>=◌}
+use Rattle.class_model.specs.Cutting.{IsBytes, Rest, Cut, is_tag, fields_at, entries_at, pool_at}
 use Rattle.class_model.specs.Pool.{Constants, entries_of}
 use Rattle.class_model.specs.Spelling.{u2, u4, constant_bytes, entry_bytes, pool_bytes}
 use Rattle.class_model.specs.declared.fault.FileRule.TheVariants as rules
@@ -36,18 +36,21 @@ IsCut tag = IsSpelledBy (fields_at tag) fields (IsOf tag)
 
 -- a constant of one part
 one_part : {X : Type 0} {part : Rest → Cut X} {spell : X → List ℕ} {Holds : X → Type 0} → IsSpelledBy part spell Holds → (tag : ℕ) (make : X → Const) → ((x : X) → Holds x → fields (make x) ≡ spell x) → ((x : X) → IsOf tag (make x)) → IsSpelledBy (λ rest. part rest >>= λ n. Ok (make n.0, n.1)) fields (IsOf tag)
-one_part spelled tag make same is = record { takes = λ rest x fits e.
-    let s = step spelled (takes_none rest fits) _ x e in
-    made fields (IsOf tag) rest (make s.got.0, s.got.1) x (rw (same s.got.0 s.holds) s.takes) (is s.got.0) s.goes_on }
+one_part spelled tag make same is = record {
+  takes = λ rest x fits e.
+      let s = step spelled (takes_none rest fits) _ x e in
+      made fields (IsOf tag) rest (make s.got.0, s.got.1) x (rw (same s.got.0 s.holds) s.takes) (is s.got.0) s.goes_on;
+}
 
 utf8_cut : IsCut 1
 unfolding fields_at
-utf8_cut = record { takes = λ rest x fits e.
-    let len = step u2_spelled (takes_none rest fits) _ x e in
-    let text = step (bytes_spelled len.got.0) len.takes _ x len.goes_on in
-    made fields (IsOf 1) rest (Utf8 text.got.0, text.got.1) x
-        (subst (λ (k : ℕ). Takes rest (u2 k ++ text.got.0) text.got.1) (sym text.holds.0) text.takes)
-        (record { bytes = refl; entries = refl }) text.goes_on }
+utf8_cut = record {
+  takes = λ rest x fits e.
+      let len = step u2_spelled (takes_none rest fits) _ x e in
+      let text = step (bytes_spelled len.got.0) len.takes _ x len.goes_on in
+      let counted = subst (λ (k : ℕ). Takes rest (u2 k ++ text.got.0) text.got.1) (sym text.holds.0) text.takes in
+      made fields (IsOf 1) rest (Utf8 text.got.0, text.got.1) x counted (record { bytes = refl; entries = refl }) text.goes_on;
+}
 
 integer_cut : IsCut 3
 unfolding fields_at
@@ -91,10 +94,12 @@ name_and_type_cut = one_part u2_pair_spelled 12 (λ n. NameAndType n.0 n.1) (λ 
 
 method_handle_cut : IsCut 15
 unfolding fields_at
-method_handle_cut = record { takes = λ rest x fits e.
-    let kind = step u1_spelled (takes_none rest fits) _ x e in
-    let reference = step u2_spelled kind.takes _ x kind.goes_on in
-    made fields (IsOf 15) rest (MethodHandle kind.got.0 reference.got.0, reference.got.1) x reference.takes (record { bytes = refl; entries = refl }) reference.goes_on }
+method_handle_cut = record {
+  takes = λ rest x fits e.
+      let kind = step u1_spelled (takes_none rest fits) _ x e in
+      let reference = step u2_spelled kind.takes _ x kind.goes_on in
+      made fields (IsOf 15) rest (MethodHandle kind.got.0 reference.got.0, reference.got.1) x reference.takes (record { bytes = refl; entries = refl }) reference.goes_on;
+}
 
 method_type_cut : IsCut 16
 unfolding fields_at
@@ -108,6 +113,7 @@ invoke_dynamic_cut = one_part u2_pair_spelled 18 (λ n. InvokeDynamic n.0 n.1) (
 or_tag : (P : ℕ → Type 0) (tag k : ℕ) → P k → (tag ≢ k → P tag) → P tag
 or_tag P tag k here others = elim (cases_eq tag k) [ inl e ↦ subst P (sym e) here | inr other ↦ others other ]
 
+-- a constant of a known tag
 constant_cut : (major tag : ℕ) → is_tag major tag ≡ true → IsCut tag
 constant_cut major tag known =
     or_tag IsCut tag 1 utf8_cut (λ n1.
@@ -127,26 +133,16 @@ constant_cut major tag known =
 
 -- ---- the entries
 
+-- the entries of a constant have its bytes
 entry_spelled : (c : Const) → flat_map entry_bytes (entries_of c) ≡ constant_bytes c
 entry_spelled (Long number) = append-nil (constant_bytes (Long number))
-entry_spelled (Double bits) = append-nil (constant_bytes (Double bits))
-entry_spelled (Utf8 text) = append-nil (constant_bytes (Utf8 text))
-entry_spelled (Integer number) = append-nil (constant_bytes (Integer number))
-entry_spelled (Float bits) = append-nil (constant_bytes (Float bits))
-entry_spelled (Class name) = append-nil (constant_bytes (Class name))
-entry_spelled (String text) = append-nil (constant_bytes (String text))
-entry_spelled (Fieldref class member) = append-nil (constant_bytes (Fieldref class member))
-entry_spelled (Methodref class member) = append-nil (constant_bytes (Methodref class member))
-entry_spelled (InterfaceMethodref class member) = append-nil (constant_bytes (InterfaceMethodref class member))
-entry_spelled (NameAndType name descriptor) = append-nil (constant_bytes (NameAndType name descriptor))
-entry_spelled (MethodHandle kind reference) = append-nil (constant_bytes (MethodHandle kind reference))
-entry_spelled (MethodType descriptor) = append-nil (constant_bytes (MethodType descriptor))
-entry_spelled (InvokeDynamic bootstrap member) = append-nil (constant_bytes (InvokeDynamic bootstrap member))
+entry_spelled c = append-nil (constant_bytes c)
 
 -- the tag is known, and that of a long or double does not stand at the last index
 abbrev may_stand : ℕ → ℕ → ℕ → ℕ → Bool
 may_stand major tag index count = is_tag major tag && not (((tag == 5) || (tag == 6)) && (index + 1 == count))
 
+-- such a constant ends with the count
 stands_within : (tag index count : ℕ) → index < count → not (((tag == 5) || (tag == 6)) && (index + 1 == count)) ≡ true → index + units tag ≤ count
 stands_within tag index count lt e = grind (arith, nat_tests)
 
@@ -161,6 +157,7 @@ either_way false x y z e = inr (refl, e)
 no_entries : (index count : ℕ) (rest : Rest) (x : Constants × Rest) → IsBytes rest.bytes → index ≡ count → done ([], rest) ≡ done x → Takes rest (flat_map entry_bytes x.0) x.1 × Counted index count x.0
 no_entries index count rest x fits at_end e = made (flat_map entry_bytes) (Counted index count) rest ([], rest) x (takes_none rest fits) (omega arith) e
 
+-- the entries are spelled, and end with the count
 entries_take : (left major index count : ℕ) (rest : Rest) (x : Constants × Rest) → index ≤ count → count ≤ left + index → IsBytes rest.bytes → entries_at left major index count rest ≡ Ok x → Takes rest (flat_map entry_bytes x.0) x.1 × Counted index count x.0
 unfolding entries_at
 entries_take zero major index count rest x le enough fits e = no_entries index count rest x fits (omega arith) e
@@ -188,14 +185,17 @@ entries_take (suc left) major index count rest x le enough fits e =
 -- ---- the pool
 
 pub pool_spelled : (major : ℕ) → IsSpelledBy (pool_at major) pool_bytes Always
-pool_spelled major = record { takes = λ rest x fits e.
-    let count = step u2_spelled (takes_none rest fits) _ x e in
-    let some = bind_ok _ _ x count.goes_on in
-    let g = guard_false (eqb count.got.0 0) (fault rest.at rules.Tag) count.got.1 some.0 some.1 in
-    let positive : 1 ≤ count.got.0 = grind (arith, nat_tests, g.0) in
-    let entries = bind_ok _ _ x some.2 in
-    let behind : Takes rest (u2 count.got.0) some.0 = subst (λ (r : Rest). Takes rest (u2 count.got.0) r) g.1 count.takes in
-    let found = entries_take count.got.0 major 1 count.got.0 some.0 entries.0 positive (omega arith) behind.fits entries.1 in
-    let both = Takes-then rest (u2 count.got.0) some.0 (flat_map entry_bytes entries.0.0) entries.0.1 behind found.0 in
-    let len : count.got.0 ≡ length (None ∷ entries.0.0) = omega (arith, found.1) in
-    made pool_bytes Always rest (None ∷ entries.0.0, entries.0.1) x (subst (λ (k : ℕ). Takes rest (u2 k ++ flat_map entry_bytes entries.0.0) entries.0.1) len both) tt entries.2 }
+pool_spelled major = record {
+  takes = λ rest x fits e.
+      let count = step u2_spelled (takes_none rest fits) _ x e in
+      let some = bind_ok _ _ x count.goes_on in
+      let g = guard_false (eqb count.got.0 0) (fault rest.at rules.Tag) count.got.1 some.0 some.1 in
+      let positive : 1 ≤ count.got.0 = grind (arith, nat_tests, g.0) in
+      let entries = bind_ok _ _ x some.2 in
+      let behind : Takes rest (u2 count.got.0) some.0 = subst (λ (r : Rest). Takes rest (u2 count.got.0) r) g.1 count.takes in
+      let found = entries_take count.got.0 major 1 count.got.0 some.0 entries.0 positive (omega arith) behind.fits entries.1 in
+      let both = Takes-then rest (u2 count.got.0) some.0 (flat_map entry_bytes entries.0.0) entries.0.1 behind found.0 in
+      let len : count.got.0 ≡ length (None ∷ entries.0.0) = omega (arith, found.1) in
+      let counted = subst (λ (k : ℕ). Takes rest (u2 k ++ flat_map entry_bytes entries.0.0) entries.0.1) len both in
+      made pool_bytes Always rest (None ∷ entries.0.0, entries.0.1) x counted tt entries.2;
+}

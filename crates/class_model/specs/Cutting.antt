@@ -173,8 +173,7 @@ class_at version rest = do
   fields ← counted_at field_at interfaces.1
   methods ← counted_at method_at fields.1
   attrs ← counted_at attr_at methods.1
-  whole ← if length attrs.1.bytes == 0 then Ok attrs.0 else Err (fault attrs.1.at rules.Extra)
-  Ok (record {
+  if length attrs.1.bytes == 0 then Ok (record {
     major = version.major;
     minor = version.minor;
     pool = pool.0;
@@ -184,5 +183,5 @@ class_at version rest = do
     interfaces = interfaces.0;
     fields = fields.0;
     methods = methods.0;
-    attrs = whole;
-  })
+    attrs = attrs.0;
+  }) else Err (fault attrs.1.at rules.Extra)

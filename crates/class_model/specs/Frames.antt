@@ -134,11 +134,11 @@ frame_at s locals rest =
     else (if nat_le kind 246 then Err (fault rest.at rules.FrameKind)
     else (if kind == 247 then (number_at inside >>= λ delta. entry_at s rest.at delta.1 >>= λ item. Ok (stated delta.0 locals (item.0 ∷ []), item.1))
     else (if nat_le kind 250 then
-        (if nat_lt (length locals) (251 - kind) then Err (fault rest.at rules.FrameKind)
-        else (number_at inside >>= λ delta. Ok (stated delta.0 (chopped (251 - kind) locals) [], delta.1)))
+    (if nat_lt (length locals) (251 - kind) then Err (fault rest.at rules.FrameKind)
+    else (number_at inside >>= λ delta. Ok (stated delta.0 (chopped (251 - kind) locals) [], delta.1)))
     else (if kind == 251 then (number_at inside >>= λ delta. Ok (stated delta.0 locals [], delta.1))
     else (if nat_le kind 254 then
-        (number_at inside >>= λ delta. entries_at s rest.at (kind - 251) delta.1 >>= λ more. Ok (stated delta.0 (locals ++ more.0) [], more.1))
+    (number_at inside >>= λ delta. entries_at s rest.at (kind - 251) delta.1 >>= λ more. Ok (stated delta.0 (locals ++ more.0) [], more.1))
     else full_at s rest.at inside)))))))
 
 -- its units fit, and its offset is the start of an instruction

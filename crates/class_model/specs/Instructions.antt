@@ -217,8 +217,8 @@ table_at at bytes =
     if nat_lt (length bytes) (start + 12) then Err (fault at rules.Operand)
     else (if int_lt high low then Err (fault at rules.Operand)
     else (let count = span low high in
-          if nat_lt (length bytes) (start + 12 + 4 * count) then Err (fault at rules.Operand)
-          else Ok (Table low (target_of at (s4_in bytes start)) (targets_in at bytes (start + 12) count), start + 12 + 4 * count)))
+    if nat_lt (length bytes) (start + 12 + 4 * count) then Err (fault at rules.Operand)
+    else Ok (Table low (target_of at (s4_in bytes start)) (targets_in at bytes (start + 12) count), start + 12 + 4 * count)))
 
 -- lookupswitch (6.5.lookupswitch): pad, default, a count that is not negative, and keys that increase
 abbrev pub lookup_at : ℕ → List ℕ → Read
@@ -229,7 +229,7 @@ lookup_at at bytes =
     else (if nat_le (2 ^ 31) count then Err (fault at rules.Operand)
     else (if nat_lt (length bytes) (start + 8 + 8 * count) then Err (fault at rules.Operand)
     else (let pairs = pairs_in at bytes (start + 8) count in
-          if keys_increase pairs then Ok (Lookup (target_of at (s4_in bytes start)) pairs, start + 8 + 8 * count) else Err (fault at rules.Operand))))
+    if keys_increase pairs then Ok (Lookup (target_of at (s4_in bytes start)) pairs, start + 8 + 8 * count) else Err (fault at rules.Operand))))
 
 -- wide (6.5.wide), whose opcode is the second byte
 abbrev pub wide_operands : ℕ → List ℕ → Option Operands → Read

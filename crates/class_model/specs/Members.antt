@@ -26,18 +26,25 @@ has flags mask = not (bit_and flags mask == 0)
 
 abbrev pub PUBLIC : ℕ
 PUBLIC = 0x0001
+
 abbrev pub PRIVATE : ℕ
 PRIVATE = 0x0002
+
 abbrev pub PROTECTED : ℕ
 PROTECTED = 0x0004
+
 abbrev pub STATIC : ℕ
 STATIC = 0x0008
+
 abbrev pub FINAL : ℕ
 FINAL = 0x0010
+
 abbrev pub NATIVE : ℕ
 NATIVE = 0x0100
+
 abbrev pub INTERFACE : ℕ
 INTERFACE = 0x0200
+
 abbrev pub ABSTRACT : ℕ
 ABSTRACT = 0x0400
 
@@ -145,8 +152,8 @@ abbrev pub field_attr_checks : Constants → Field → List Attr → ℕ → Att
 field_attr_checks pool field before at attr =
     attr_name_check pool at attr
     ∷ asked_if (has field.flags STATIC && is_named pool constant_value attr)
-        (check at rules.Twice (IsFalse (has_named pool constant_value before))
-         ∷ check at rules.Constant (IsConstantValue pool (utf8_at pool field.desc) (content_of attr)) ∷ [])
+    (check at rules.Twice (IsFalse (has_named pool constant_value before))
+    ∷ check at rules.Constant (IsConstantValue pool (utf8_at pool field.desc) (content_of attr)) ∷ [])
 
 abbrev field_signature : Field → Signature
 field_signature field = record { name = field.name; desc = field.desc }

@@ -1,4 +1,4 @@
-use Rattle.std.proofs.Common.{arith, inl, inr}
+use Rattle.std.proofs.Common.{inl, inr}
 use Rattle.class_model.proofs.DescriptorGrammar.{bad_count, some_array, no_array}
 use Rattle.class_model.proofs.descriptor.after_array.Goals as goal
 

@@ -1,5 +1,4 @@
-use Rattle.std.proofs.Common.{◌≡◌, ℕ, List, ◌++◌, replicate, length}
-use Rattle.class_model.proofs.DescriptorGrammar.{one_element}
+use Rattle.std.proofs.Common.{◌≡◌, ℕ, ◌++◌, replicate, length}
 use Rattle.class_model.proofs.descriptor.after_brackets.Given as goal
 
 abbrev pub invariant-loop-after : goal.invariant-loop-after

@@ -1,4 +1,3 @@
-use Rattle.std.proofs.Common.{refl}
 use Rattle.class_model.proofs.DescriptorGrammar.{name_before, no_semicolon}
 use Rattle.class_model.proofs.Variants.{if_none}
 use Rattle.class_model.proofs.descriptor.class_name_at.Goals as goal

@@ -1,6 +1,6 @@
-use Rattle.std.proofs.Common.{◌+◌, Bool, subst, sym, refl}
+use Rattle.std.proofs.Common.{◌+◌, Bool, subst, sym}
 use Rattle.class_model.specs.Names.{IsClassName}
-use Rattle.class_model.proofs.ClassNames.{FromIndex, Rest, name_of_rest, rest_of_name, after_slash, after_byte, at_end}
+use Rattle.class_model.proofs.ClassNames.{FromIndex, name_of_rest, rest_of_name, after_slash, after_byte, at_end}
 use Rattle.class_model.proofs.names.is_class_name.Goals as goal
 use Rattle.class_model.proofs.names.is_class_name.Goals.{in-47-2, in_default}
 
