@@ -1,9 +1,9 @@
 -- Bytes are a class file, or of a version that is not read, or have a first fault.
-use Rattle.std.proofs.Common.{◌≡◌, ◌⊎◌, inl, inr, ℕ, ◌+◌, ◌*◌, ◌<◌, List, [], ◌∷◌, ◌++◌, length, Option, Some, None, Result, Ok, Err, refl, subst, sym}
+use Rattle.std.proofs.Common.{◌≡◌, ◌⊎◌, inl, inr, ℕ, ◌+◌, ◌*◌, List, [], ◌∷◌, ◌++◌, length, Some, None, Result, Ok, Err, refl, subst, sym}
 use Rattle.std.specs.List.{flat_map}
 use Rattle.std.proofs.lemmas.Bool.{cases_eq}
-use Rattle.class_model.specs.Checks.{Check, Fault, AllHold, IsFirstFault, asked_of}
-use Rattle.class_model.specs.ClassOf.{fields_checks, field_signature, methods_checks, method_signature, dynamic_checks, class_checks, entered, IsRead, start, ClassOf, IsOtherVersion, checks_behind, FirstFault}
+use Rattle.class_model.specs.Checks.{Fault, IsFirstFault, asked_of}
+use Rattle.class_model.specs.ClassOf.{fields_checks, field_signature, methods_checks, method_signature, dynamic_checks, class_checks, entered, IsRead, start, ClassOf, IsOtherVersion, FirstFault}
 use Rattle.class_model.specs.ClassOf.FirstFault.{in_head, behind}
 use Rattle.class_model.specs.Cutting.{Rest, Cut, Version, version_at, class_at}
 use Rattle.class_model.specs.Members.{Signature, field_checks}
@@ -14,7 +14,6 @@ use Rattle.class_model.specs.Spelling.{constant_bytes, entry_bytes, field_bytes,
 use Rattle.class_model.specs.declared.class_file.ClassFile.{ClassFile}
 use Rattle.class_model.specs.declared.class_file.Field.{Field}
 use Rattle.class_model.specs.declared.class_file.Method.{Method}
-use Rattle.class_model.specs.declared.pool.Const.{Const}
 use Rattle.class_model.specs.declared.pool.Const.TheVariants.{InvokeDynamic}
 use Rattle.class_model.proofs.Decisions.{Decision, both, either, less, is_true, AllDecided, decided-append, settled}
 use Rattle.class_model.proofs.DecidedMembers.{class_named_at, super, interfaces, attributes, one_field, one_method, class_attribute}

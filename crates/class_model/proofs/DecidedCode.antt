@@ -1,7 +1,6 @@
 -- The checks of a Code attribute are decided.
-use Rattle.std.proofs.Common.{◌≡◌, ◌⊎◌, inl, inr, ℕ, ◌+◌, ◌*◌, ◌≤◌, ◌==◌, ◌||◌, Bool, List, [], ◌∷◌, ◌++◌, length, Option, Some, None}
+use Rattle.std.proofs.Common.{inr, ℕ, ◌+◌, ◌==◌, ◌||◌, Bool, List, [], ◌∷◌, length, Option, Some, None}
 use Rattle.std.proofs.lemmas.Bool.{cases_eq}
-use Rattle.class_model.specs.Checks.{Check, asked_if}
 use Rattle.class_model.specs.Code.{IsRange, jump_checks, operand_checks, handlers_checks, stack_map_table, inner_is_named, inners_checks}
 use Rattle.class_model.specs.Frames.{Setting}
 use Rattle.class_model.specs.Instructions.{is_start}

@@ -1,17 +1,17 @@
 -- Method descriptors are decided.
-use Rattle.std.proofs.Common.{◌≡◌, ◌≢◌, ◌⊎◌, inl, inr, ℕ, suc, zero, ◌+◌, ◌<◌, ◌≤◌, List, [], ◌∷◌, ◌++◌, length, Option, Some, None, IfSome, refl, sym, ap, subst, ◌∙◌, arith, append_assoc, length-append}
+use Rattle.std.proofs.Common.{◌≡◌, ◌≢◌, ◌⊎◌, inl, inr, ℕ, suc, zero, ◌+◌, ◌≤◌, List, [], ◌∷◌, ◌++◌, length, Option, Some, None, IfSome, refl, sym, ap, subst, ◌∙◌, arith, append_assoc, length-append}
 use Rattle.std.specs.List.{flat_map, AllByRecursion}
 use Rattle.std.proofs.lemmas.Bool.{cases_eq}
 use Rattle.std.proofs.lemmas.List.{append-nil}
-use Rattle.class_model.specs.Descriptors.{field_type_text, IsFieldType, parameter_units, result_text, descriptor_text, IsDescriptor, SpellsDescriptor}
+use Rattle.class_model.specs.Descriptors.{field_type_text, IsFieldType, parameter_units, result_text, IsDescriptor, SpellsDescriptor}
 use Rattle.class_model.specs.Methods.{this_units, IsDescriptorOf}
 use Rattle.class_model.specs.Names.{init}
 use Rattle.class_model.specs.PoolChecks.{IsTypeName, IsFieldDescriptor, BytesSpell, IsMethodDescriptor, ReturnsVoid, InitIsVoid}
 use Rattle.class_model.specs.declared.descriptor.FieldType.{FieldType}
-use Rattle.class_model.specs.declared.descriptor.FieldType.TheVariants.{Byte, Char, Short, Bool as Boolean, Int, Long, Float, Double, Named}
+use Rattle.class_model.specs.declared.descriptor.FieldType.TheVariants.{Named}
 use Rattle.class_model.specs.declared.descriptor.Descriptor.{Descriptor}
 use Rattle.class_model.proofs.Decisions.{Decision, mapped, both, three, either, implied, at_most, equal_bytes, each, if_some}
-use Rattle.class_model.proofs.DecidedTypes.{TypeAt, one_type, no_type, type_shorter, TypeFront, type_front, field_descriptor, field_type}
+use Rattle.class_model.proofs.DecidedTypes.{TypeAt, one_type, no_type, type_shorter, type_front, field_descriptor, field_type}
 use Rattle.class_model.proofs.Parameters.{one_descriptor}
 
 -- ---- what is said of the only one
@@ -130,7 +130,7 @@ one_outcome bytes (Some type) (Some other) a b = ap Some (one_type bytes type ot
 params_of : (bytes after : List ℕ) (d : Descriptor) → bytes ≡ 40 ∷ after → BytesSpell bytes d → Params after d.params (result_text d.result)
 params_of bytes after d e b = record { each_type = b.params; spelled = let g = sym e ∙ b.spelled in cc }
 
-pub one_spelled : (bytes : List ℕ) (one other : Descriptor) → BytesSpell bytes one → BytesSpell bytes other → one ≡ other
+one_spelled : (bytes : List ℕ) (one other : Descriptor) → BytesSpell bytes one → BytesSpell bytes other → one ≡ other
 one_spelled bytes one other a b =
     let after = flat_map field_type_text one.params ++ 41 ∷ result_text one.result in
     let params = one_params one.params other.params after _ _ (params_of bytes after one a.spelled a) (params_of bytes after other a.spelled b) in
@@ -164,7 +164,7 @@ no_result : (result : Option FieldType) → Decision (result ≡ None)
 no_result None = inl refl
 no_result (Some type) = inr (λ e. absurd cc)
 
-pub returns_void : (bytes : List ℕ) → Decision (ReturnsVoid bytes)
+returns_void : (bytes : List ℕ) → Decision (ReturnsVoid bytes)
 returns_void bytes = mapped
     (λ h. record { descriptor = h.0; spelled = h.1; no_result = h.2 })
     (λ r. (r.descriptor, r.spelled, r.no_result))

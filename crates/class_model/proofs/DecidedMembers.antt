@@ -1,10 +1,10 @@
 -- The checks of the head of a class file, of its members and of their attributes are decided.
-use Rattle.std.proofs.Common.{◌≡◌, ◌⊎◌, inl, inr, ℕ, ◌+◌, ◌*◌, ◌≤◌, ◌==◌, ◌&&◌, not, Bool, List, [], ◌∷◌, ◌++◌, length, Option, Some, None}
+use Rattle.std.proofs.Common.{inl, inr, ℕ, ◌+◌, ◌*◌, ◌==◌, ◌&&◌, not, List, [], ◌∷◌, ◌++◌, length, Option, Some, None}
 use Rattle.std.specs.Prelude.{codes}
 use Rattle.std.proofs.lemmas.Bool.{cases_eq}
-use Rattle.class_model.specs.Checks.{Check, asked_if}
+use Rattle.class_model.specs.Checks.{Check}
 use Rattle.class_model.specs.Instructions.{u2_in}
-use Rattle.class_model.specs.Members.{Signature, has, STATIC, is_named, has_named, attrs_checks, attr_name, class_name_checks, super_checks, interfaces_checks, constant_value, IsConstantOf, IsConstantValue, field_attr_checks, field_checks}
+use Rattle.class_model.specs.Members.{Signature, has, STATIC, is_named, attrs_checks, attr_name, class_name_checks, super_checks, interfaces_checks, constant_value, IsConstantOf, IsConstantValue, field_attr_checks, field_checks}
 use Rattle.class_model.specs.Methods.{Home, code, code_content, method_attr_checks, method_checks, Bootstrap, IsHandle, IsArgument, arguments_checks, bootstraps_checks, table_checks, bootstrap_methods, raw_content, bootstraps, class_attr_checks}
 use Rattle.class_model.specs.Pool.{Constants, constant_at}
 use Rattle.class_model.specs.PoolChecks.{utf8_at, class_at}

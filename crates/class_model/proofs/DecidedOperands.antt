@@ -1,7 +1,7 @@
 -- What an instruction's operands ask of the pool and the locals is decided.
-use Rattle.std.proofs.Common.{◌≡◌, ◌⊎◌, inl, inr, ℕ, ◌+◌, ◌≤◌, List, length, Option, Some, None}
+use Rattle.std.proofs.Common.{◌≡◌, inl, inr, ℕ, ◌+◌, List, length, Option, Some}
 use Rattle.std.proofs.lemmas.Bool.{cases_eq}
-use Rattle.class_model.specs.Code.{IsLoadable, IsLoadable2, IsFieldConstant, IsDynamicConstant, IsMethodConstant, IsInterfaceConstant, CountsArguments, IsCalled, HasDimensions, FitsArray, FitsLocal, OperandFits}
+use Rattle.class_model.specs.Code.{IsLoadable, IsLoadable2, IsFieldConstant, IsDynamicConstant, IsMethodConstant, IsInterfaceConstant, CountsArguments, IsCalled, FitsArray, FitsLocal, OperandFits}
 use Rattle.class_model.specs.Descriptors.{SpellsDescriptor, parameter_units}
 use Rattle.class_model.specs.Pool.{Constants, constant_at}
 use Rattle.class_model.specs.PoolChecks.{class_at}

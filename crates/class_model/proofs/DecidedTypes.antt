@@ -1,6 +1,5 @@
 -- Field types are decided: what stands at the front of bytes, and the whole of them.
-use Rattle.std.proofs.Common.{◌≡◌, ◌≢◌, ◌⊎◌, inl, inr, ℕ, suc, zero, ◌+◌, ◌<◌, ◌≤◌, Bool, true, false, List, [], ◌∷◌, ◌++◌, length, replicate, Option, Some, None, is_some, refl, sym, ap, subst, ◌∙◌, arith, append_assoc, length-append}
-use Rattle.std.specs.List.{flat_map, AllByRecursion}
+use Rattle.std.proofs.Common.{◌≡◌, ◌⊎◌, inl, inr, ℕ, suc, ◌<◌, ◌≤◌, false, List, [], ◌∷◌, ◌++◌, length, replicate, Option, Some, None, is_some, refl, sym, ap, subst, ◌∙◌, arith, length-append}
 use Rattle.std.proofs.lemmas.Bool.{cases_eq}
 use Rattle.std.proofs.lemmas.List.{append-nil}
 use Rattle.class_model.specs.Code.{HasDimensions}
@@ -9,10 +8,10 @@ use Rattle.class_model.specs.Descriptors.{field_type_text, IsElementType, IsArra
 use Rattle.class_model.specs.DescriptorParts.{base_type_of, ClassNameAt, ElementAt, BracketsAt, ArrayAt}
 use Rattle.class_model.specs.PoolChecks.{IsTypeName, IsFieldDescriptor}
 use Rattle.class_model.specs.declared.descriptor.FieldType.{FieldType}
-use Rattle.class_model.specs.declared.descriptor.FieldType.TheVariants.{Byte, Char, Short, Bool as Boolean, Int, Long, Float, Double, Named}
-use Rattle.class_model.proofs.Decisions.{Decision, mapped, both, three, either, at_most}
+use Rattle.class_model.specs.declared.descriptor.FieldType.TheVariants.{Named}
+use Rattle.class_model.proofs.Decisions.{Decision, mapped, both, either, at_most}
 use Rattle.class_model.proofs.DecidedNames.{class_name, text}
-use Rattle.class_model.proofs.DescriptorGrammar.{LacksSemicolon, one_split, name_lacks, array_text, ElementForm, element_form, one_element, LacksBracket, one_count, element_lacks, one_array, FieldForm, named_form, one_form, element_of_class, element_of_base, no_element, no_class, array_of_element, element_of_array, at_whole, whole_array, begins_type, begins}
+use Rattle.class_model.proofs.DescriptorGrammar.{LacksSemicolon, one_split, name_lacks, array_text, element_form, one_element, one_count, element_lacks, one_array, FieldForm, named_form, one_form, element_of_class, element_of_base, no_element, no_class, array_of_element, element_of_array, at_whole, whole_array, begins_type, begins}
 
 -- ---- a class name up to a semicolon
 

@@ -380,7 +380,7 @@ shorter bytes rest type at =
     omega (arith, ap length h, length-append head.more rest)
 
 -- a text that is a field type
-pub element_at_whole : (bytes : List ℕ) (type : FieldType) → IsElementType type → bytes ≡ field_type_text type → ElementAt bytes []
+element_at_whole : (bytes : List ℕ) (type : FieldType) → IsElementType type → bytes ≡ field_type_text type → ElementAt bytes []
 element_at_whole bytes type is_element e = record { element = type; is_element = is_element; spelled = e ∙ sym (append-nil (field_type_text type)) }
 
 type_of_element : (bytes : List ℕ) (type : FieldType) → IsText bytes → IsElementType type → bytes ≡ field_type_text type → IsFieldType type
