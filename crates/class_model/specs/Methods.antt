@@ -1,5 +1,5 @@
 -- What methods and the attributes of the class are asked (JVM Specification SE 8, 4.6, 4.7.3, 4.7.23), in file order.
-use Rattle.std.specs.Prelude.{◌≡◌, ◌⊎◌, ◌==◌, ◌&&◌, ◌||◌, not, ◌+◌, ◌*◌, ◌<◌, ◌≤◌, nat_lt, ℕ, Bool, true, false, List, [], ◌∷◌, ◌++◌, length, codes, Option, Some, None, Result, Ok, Err, IfSome, IsSome, IsTrue, IsFalse, if◌then◌else◌}
+use Rattle.std.specs.Prelude.{◌==◌, ◌&&◌, ◌||◌, not, ◌+◌, ◌*◌, ◌≤◌, nat_lt, ℕ, Bool, false, List, [], ◌∷◌, ◌++◌, length, codes, Option, Some, None, Result, Ok, Err, IfSome, IsSome, IsTrue, IsFalse, if◌then◌else◌}
 use Rattle.class_model.specs.Checks.{Check, check, Fault, fault, asked_of, asked_if, ◌>>=◌}
 use Rattle.class_model.specs.Code.{code_part, jump_checks, operand_checks, handlers_checks, inners_checks, entry_frame}
 use Rattle.class_model.specs.Cutting.{Rest, Cut, u2_at, counted_at}
