@@ -35,7 +35,7 @@ pub record InPart (byte : ℕ) (bytes : List ℕ) : Type 0 where
   pub rest : Rest false bytes
 
 -- the first byte ends the part
-record AtSlash (starts_part : Bool) (byte : ℕ) (bytes : List ℕ) : Type 0 where
+pub record AtSlash (starts_part : Bool) (byte : ℕ) (bytes : List ℕ) : Type 0 where
   pub is_slash : byte ≡ 47
   pub inside : starts_part ≡ true → ⊥
   pub rest : Rest true bytes
@@ -50,7 +50,7 @@ first_of_parts starts_part byte bytes (first ∷ front) parts some named unquali
     inl (record { is_named = subst IsNameByte same named.0; rest = record { front = front; parts = parts; some = λ e. absurd cc; named = named.1; unqualified = unqualified; joined = cc } })
 
 -- each first byte is one or the other
-first_byte : (starts_part : Bool) (byte : ℕ) (bytes : List ℕ) → Rest starts_part (byte ∷ bytes) → InPart byte bytes ⊎ AtSlash starts_part byte bytes
+pub first_byte : (starts_part : Bool) (byte : ℕ) (bytes : List ℕ) → Rest starts_part (byte ∷ bytes) → InPart byte bytes ⊎ AtSlash starts_part byte bytes
 first_byte starts_part byte bytes rest = first_of_parts starts_part byte bytes rest.front rest.parts rest.some rest.named rest.unqualified rest.joined
 
 -- after a slash

@@ -14,7 +14,7 @@ use Rattle.class_model.proofs.TextParts.{name_is_text}
 use Rattle.class_model.proofs.ClassNames.{rest_of_name, join-front}
 
 -- A class name has no semicolon.
-abbrev LacksSemicolon : List ℕ → Type 0
+abbrev pub LacksSemicolon : List ℕ → Type 0
 LacksSemicolon bytes = AllByRecursion (λ byte. byte ≢ 59) bytes
 
 lacks-append : (xs ys : List ℕ) → LacksSemicolon xs → LacksSemicolon ys → LacksSemicolon (xs ++ ys)
@@ -30,7 +30,7 @@ parts_lack [] h = tt
 parts_lack (part ∷ []) h = part_lacks part h.0.bytes
 parts_lack (part ∷ next ∷ parts) h = lacks-append part _ (part_lacks part h.0.bytes) (λ e. absurd (omega arith), parts_lack (next ∷ parts) h.1)
 
-name_lacks : (name : List ℕ) → IsClassName name → LacksSemicolon name
+pub name_lacks : (name : List ℕ) → IsClassName name → LacksSemicolon name
 name_lacks name is_name = subst (λ (t : List ℕ). LacksSemicolon t) (sym is_name.joined) (parts_lack is_name.parts is_name.unqualified)
 
 -- one first semicolon
@@ -102,13 +102,13 @@ pub record IsClass (name : List ℕ) (type : FieldType) : Type 0 where
   pub same : type ≡ Named name
   pub text : field_type_text type ≡ 76 ∷ (name ++ 59 ∷ [])
 
-abbrev ElementForm : FieldType → Type 0
+abbrev pub ElementForm : FieldType → Type 0
 ElementForm type = ((byte : ℕ) × IsBase byte type) ⊎ ((name : List ℕ) × IsClass name type)
 
 base : (byte : ℕ) (type : FieldType) → field_type_text type ≡ byte ∷ [] → base_type_of byte ≡ Some type → ElementForm type
 base byte type text of_byte = inl (byte, record { text = text; of_byte = of_byte })
 
-element_form : (type : FieldType) → IsElementType type → ElementForm type
+pub element_form : (type : FieldType) → IsElementType type → ElementForm type
 element_form Byte h = base 66 Byte refl refl
 element_form Char h = base 67 Char refl refl
 element_form Double h = base 68 Double refl refl
@@ -148,16 +148,16 @@ more_brackets zero rest after e = e
 more_brackets (suc count) rest after e = ap (λ (t : List ℕ). 91 ∷ t) (more_brackets count rest after e)
 
 -- one number of brackets before another byte or the end
-abbrev LacksBracket : List ℕ → Type 0
+abbrev pub LacksBracket : List ℕ → Type 0
 LacksBracket bytes = (after : List ℕ) → bytes ≢ 91 ∷ after
 
-one_count : (n m : ℕ) (a b : List ℕ) → LacksBracket a → LacksBracket b → replicate n 91 ++ a ≡ replicate m 91 ++ b → (n ≡ m) × (a ≡ b)
+pub one_count : (n m : ℕ) (a b : List ℕ) → LacksBracket a → LacksBracket b → replicate n 91 ++ a ≡ replicate m 91 ++ b → (n ≡ m) × (a ≡ b)
 one_count zero zero a b ha hb e = (refl, e)
 one_count zero (suc m) a b ha hb e = absurd (ha (replicate m 91 ++ b) e)
 one_count (suc n) zero a b ha hb e = absurd (hb (replicate n 91 ++ a) (sym e))
 one_count (suc n) (suc m) a b ha hb e = let tails = one_count n m a b ha hb (cc) in (ap suc tails.0, tails.1)
 
-element_lacks : (element : FieldType) (rest : List ℕ) → IsElementType element → LacksBracket (field_type_text element ++ rest)
+pub element_lacks : (element : FieldType) (rest : List ℕ) → IsElementType element → LacksBracket (field_type_text element ++ rest)
 element_lacks element rest is_element after e =
     elim (element_form element is_element) [
       | inl a ↦ let h : a.0 ∷ rest ≡ 91 ∷ after = rw a.1.text at e in
@@ -181,10 +181,10 @@ one_array bytes one other rest last a b =
     (cc (x.spelled, y.spelled, parts.0, element.0), element.1)
 
 -- one field type
-abbrev FieldForm : FieldType → Type 0
+abbrev pub FieldForm : FieldType → Type 0
 FieldForm type = IsElementType type ⊎ ((text : List ℕ) × IsArrayType text × (type ≡ Named text) × (field_type_text type ≡ text))
 
-named_form : (name : List ℕ) → IsReferenceName name → FieldForm (Named name)
+pub named_form : (name : List ℕ) → IsReferenceName name → FieldForm (Named name)
 named_form name (inl class) = inl class
 named_form name (inr array) = inr (name, array, refl, array_text name array)
 
@@ -202,22 +202,16 @@ field_form (Named name) h = named_form name h.1
 not_both : (element : FieldType) (text rest last : List ℕ) → IsElementType element → IsArrayType text → field_type_text element ++ rest ≡ text ++ last → ⊥
 not_both element text rest last is_element array e = let head = array_head text array in element_lacks element rest is_element (head.0 ++ last) (e ∙ ap (λ (t : List ℕ). t ++ last) head.1)
 
-one_field_type : (one other : FieldType) (rest last : List ℕ) → IsFieldType one → IsFieldType other → field_type_text one ++ rest ≡ field_type_text other ++ last → (one ≡ other) × (rest ≡ last)
-one_field_type one other rest last ho hl e =
-    elim (field_form one ho) [
-      | inl a ↦ elim (field_form other hl) [
-        | inl b ↦ one_element one other rest last a b e
-        | inr b ↦ absurd (not_both one b.0 rest last a b.1 (rw b.3 at e))
-      ]
-      | inr a ↦ elim (field_form other hl) [
-        | inl b ↦ absurd (not_both other a.0 last rest b a.1 (sym (rw a.3 at e)))
-        | inr b ↦ let found = one_array (a.0 ++ rest) a.0 b.0 rest last (record { is_array = a.1; spelled = refl }) (record { is_array = b.1; spelled = rw (a.3, b.3) at e }) in
-            (a.2 ∙ ap Named found.0 ∙ sym b.2, found.1)
-      ]
-    ]
+pub one_form : (one other : FieldType) (rest last : List ℕ) → FieldForm one → FieldForm other → field_type_text one ++ rest ≡ field_type_text other ++ last → (one ≡ other) × (rest ≡ last)
+one_form one other rest last (inl a) (inl b) e = one_element one other rest last a b e
+one_form one other rest last (inl a) (inr b) e = absurd (not_both one b.0 rest last a b.1 (rw b.3 at e))
+one_form one other rest last (inr a) (inl b) e = absurd (not_both other a.0 last rest b a.1 (sym (rw a.3 at e)))
+one_form one other rest last (inr a) (inr b) e =
+    let found = one_array (a.0 ++ rest) a.0 b.0 rest last (record { is_array = a.1; spelled = refl }) (record { is_array = b.1; spelled = rw (a.3, b.3) at e }) in
+    (a.2 ∙ ap Named found.0 ∙ sym b.2, found.1)
 
 pub one_at : (bytes : List ℕ) (one other : FieldType) (rest last : List ℕ) → FieldTypeAt bytes one rest → FieldTypeAt bytes other last → (one ≡ other) × (rest ≡ last)
-one_at bytes one other rest last a b = one_field_type one other rest last a.is_type b.is_type (sym a.spelled ∙ b.spelled)
+one_at bytes one other rest last a b = one_form one other rest last (field_form one a.is_type) (field_form other b.is_type) (sym a.spelled ∙ b.spelled)
 
 -- what stands at the front
 pub base_text : (byte : ℕ) (type : FieldType) → base_type_of byte ≡ Some type → IsElementType type × (field_type_text type ≡ byte ∷ [])
@@ -259,7 +253,7 @@ no_class bytes after e none rest at = let class = class_of_element bytes after r
 count_is : (bytes rest : List ℕ) (at : BracketsAt bytes rest) → length bytes ≡ at.count + length rest
 count_is bytes rest at = omega (arith, ap length at.spelled, length-append (replicate at.count 91) rest, length-replicate {A = ℕ} at.count 91)
 
-array_of_element : (bytes element rest : List ℕ) (at : BracketsAt bytes element) → 1 ≤ at.count → at.count ≤ 255 → ElementAt element rest → (text : List ℕ) × ArrayAt bytes text rest
+pub array_of_element : (bytes element rest : List ℕ) (at : BracketsAt bytes element) → 1 ≤ at.count → at.count ≤ 255 → ElementAt element rest → (text : List ℕ) × ArrayAt bytes text rest
 array_of_element bytes element rest at some few found = (
   replicate at.count 91 ++ field_type_text found.element,
   record {
@@ -268,7 +262,7 @@ array_of_element bytes element rest at some few found = (
   },
 )
 
-element_of_array : (bytes element text rest : List ℕ) (at : BracketsAt bytes element) → ArrayAt bytes text rest → (1 ≤ at.count) × (at.count ≤ 255) × ElementAt element rest
+pub element_of_array : (bytes element text rest : List ℕ) (at : BracketsAt bytes element) → ArrayAt bytes text rest → (1 ≤ at.count) × (at.count ≤ 255) × ElementAt element rest
 element_of_array bytes element text rest at array =
     let a = array.is_array in
     let parts = one_count a.dimensions at.count _ element (element_lacks a.element rest a.is_element) at.no_more (sym (array_parts text bytes rest a array.spelled) ∙ at.spelled) in
@@ -292,7 +286,7 @@ no_array bytes element at (Some rest) none = tt
 pub at_whole : (bytes : List ℕ) → IsArrayType bytes → ArrayAt bytes bytes []
 at_whole bytes array = record { is_array = array; spelled = sym (append-nil bytes) }
 
-whole_array : (bytes text rest : List ℕ) → rest ≡ [] → ArrayAt bytes text rest → IsArrayType bytes
+pub whole_array : (bytes text rest : List ℕ) → rest ≡ [] → ArrayAt bytes text rest → IsArrayType bytes
 whole_array bytes text rest none at = subst IsArrayType (sym (at.spelled ∙ ap (λ (t : List ℕ). text ++ t) none ∙ append-nil text)) at.is_array
 
 pub decides_array : (bytes text rest : List ℕ) (empty : Bool) → ArrayAt bytes text rest → empty ≡ (length rest == 0) → IsTrue empty ↔ IsArrayType bytes
@@ -355,7 +349,7 @@ only_whole bytes rest found empty at is some type spells =
     absurd (cc (some, is, eq-eqb (length rest) 0 (ap length none)))
 
 -- the first byte of a field type
-abbrev begins_type : ℕ → Bool
+abbrev pub begins_type : ℕ → Bool
 begins_type byte = is_some (base_type_of byte) || byte == 76 || byte == 91
 
 pub record Begins (type : FieldType) : Type 0 where
@@ -364,26 +358,24 @@ pub record Begins (type : FieldType) : Type 0 where
   pub text : field_type_text type ≡ first ∷ more
   pub begins : begins_type first ≡ true
 
-pub begins : (type : FieldType) → IsFieldType type → Begins type
-begins type is_type =
-    elim (field_form type is_type) [
-      | inl element ↦ elim (element_form type element) [
-        | inl a ↦ record { first = a.0; more = []; text = a.1.text; begins = rw a.1.of_byte refl }
-        | inr a ↦ record { first = 76; more = a.0 ++ 59 ∷ []; text = a.1.text; begins = refl }
-      ]
-      | inr a ↦ let head = array_head a.0 a.1 in record { first = 91; more = head.0; text = a.3 ∙ head.1; begins = refl }
+pub begins : (type : FieldType) → FieldForm type → Begins type
+begins type (inl element) =
+    elim (element_form type element) [
+      | inl a ↦ record { first = a.0; more = []; text = a.1.text; begins = rw a.1.of_byte refl }
+      | inr a ↦ record { first = 76; more = a.0 ++ 59 ∷ []; text = a.1.text; begins = refl }
     ]
+begins type (inr a) = let head = array_head a.0 a.1 in record { first = 91; more = head.0; text = a.3 ∙ head.1; begins = refl }
 
 pub no_type_at : (byte : ℕ) (after bytes rest : List ℕ) (type : FieldType) → begins_type byte ≡ false → bytes ≡ byte ∷ after → ¬ FieldTypeAt bytes type rest
 no_type_at byte after bytes rest type not_first e at =
-    let head = begins type at.is_type in
+    let head = begins type (field_form type at.is_type) in
     let h : byte ∷ after ≡ head.first ∷ (head.more ++ rest) = sym e ∙ at.spelled ∙ ap (λ (t : List ℕ). t ++ rest) head.text in
     let same : byte ≡ head.first = cc in
     absurd (cc (not_first, head.begins))
 
 pub shorter : (bytes rest : List ℕ) (type : FieldType) → FieldTypeAt bytes type rest → length rest < length bytes
 shorter bytes rest type at =
-    let head = begins type at.is_type in
+    let head = begins type (field_form type at.is_type) in
     let h : bytes ≡ head.first ∷ (head.more ++ rest) = at.spelled ∙ ap (λ (t : List ℕ). t ++ rest) head.text in
     omega (arith, ap length h, length-append head.more rest)
 

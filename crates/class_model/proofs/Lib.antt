@@ -11,3 +11,12 @@ pub mod ClassLaws
 pub mod Cuts
 pub mod PoolCuts
 pub mod ClassCuts
+pub mod Decisions
+pub mod DecidedNames
+pub mod DecidedTypes
+pub mod DecidedDescriptors
+pub mod DecidedPool
+pub mod DecidedOperands
+pub mod DecidedCode
+pub mod DecidedMembers
+pub mod DecidedClass

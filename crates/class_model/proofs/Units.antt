@@ -23,7 +23,7 @@ pub record ThreeBytes (unit : ℕ) : Type 0 where
 one_byte : (unit : ℕ) → 0 < unit → unit < 0x80 → OneByte unit
 one_byte unit low high = record { low = low; high = high; bytes = grind (arith, nat_tests) }
 
-two_bytes : (unit : ℕ) → (unit ≡ 0) ⊎ (0x80 ≤ unit) → unit < 0x800 → TwoBytes unit
+pub two_bytes : (unit : ℕ) → (unit ≡ 0) ⊎ (0x80 ≤ unit) → unit < 0x800 → TwoBytes unit
 two_bytes unit low high = record { low = low; high = high; bytes = grind (arith, nat_tests) }
 
 three_bytes : (unit : ℕ) → 0x800 ≤ unit → ThreeBytes unit

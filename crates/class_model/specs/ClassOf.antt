@@ -1,14 +1,14 @@
 -- What a class file is (JVM Specification SE 8, 4.1 to 4.9): its bytes are cut into items, its version is in the
 -- list, and every check holds. One list of checks says both that all hold and which is the first that fails.
-use Rattle.std.specs.Prelude.{◌≡◌, ◌⊎◌, ◌==◌, ◌+◌, ◌*◌, ◌<◌, ◌≤◌, ℕ, Bool, List, [], ◌∷◌, ◌++◌, length, map, Option, Some, None, Result, Ok, Err, IsTrue, if◌then◌else◌}
+use Rattle.std.specs.Prelude.{◌≡◌, ◌⊎◌, ◌+◌, ◌*◌, ◌<◌, ℕ, List, [], ◌∷◌, ◌++◌, length, map, Option, Some, None, Ok, Err, IsTrue, if◌then◌else◌}
 use Rattle.std.specs.List.{flat_map}
-use Rattle.class_model.specs.Checks.{Check, check, Fault, fault, AllHold, IsFirstFault, asked_of, ◌>>=◌}
+use Rattle.class_model.specs.Checks.{Check, check, Fault, AllHold, IsFirstFault, asked_of}
 use Rattle.class_model.specs.Cutting.{Rest, Version, version_at, class_at}
 use Rattle.class_model.specs.Members.{Signature, fits_class, class_name_checks, super_checks, interfaces_checks, field_checks, attrs_checks, is_named}
 use Rattle.class_model.specs.Methods.{Home, method_checks, class_attr_checks, bootstrap_count, code, code_content}
 use Rattle.class_model.specs.Pool.{Constants}
 use Rattle.class_model.specs.PoolChecks as pools
-use Rattle.class_model.specs.Spelling.{class_bytes, constant_bytes, entry_bytes, field_bytes, method_bytes}
+use Rattle.class_model.specs.Spelling.{constant_bytes, entry_bytes, field_bytes, method_bytes}
 use Rattle.class_model.specs.declared.class_file.Attr.{Attr}
 use Rattle.class_model.specs.declared.class_file.Attr.TheVariants.{Raw, Code}
 use Rattle.class_model.specs.declared.class_file.ClassFile.{ClassFile}
@@ -16,24 +16,23 @@ use Rattle.class_model.specs.declared.class_file.CodePart.{CodePart}
 use Rattle.class_model.specs.declared.class_file.Field.{Field}
 use Rattle.class_model.specs.declared.class_file.Method.{Method}
 use Rattle.class_model.specs.declared.fault.FileRule.TheVariants as rules
-use Rattle.class_model.specs.declared.pool.Const.{Const}
 use Rattle.class_model.specs.declared.pool.Const.TheVariants.{InvokeDynamic}
 
 -- ---- members, one after the other from a place on
 
-abbrev field_signature : Field → Signature
+abbrev pub field_signature : Field → Signature
 field_signature field = record { name = field.name; desc = field.desc }
 
-abbrev fields_checks : Constants → ℕ → List Signature → ℕ → List Field → List Check
+abbrev pub fields_checks : Constants → ℕ → List Signature → ℕ → List Field → List Check
 fields_checks pool flags before at [] = []
 fields_checks pool flags before at (field ∷ fields) =
     field_checks pool flags before at field
     ++ fields_checks pool flags (before ++ field_signature field ∷ []) (at + length (field_bytes field)) fields
 
-abbrev method_signature : Method → Signature
+abbrev pub method_signature : Method → Signature
 method_signature method = record { name = method.name; desc = method.desc }
 
-abbrev methods_checks : Home → List Signature → ℕ → List Method → List Check
+abbrev pub methods_checks : Home → List Signature → ℕ → List Method → List Check
 methods_checks home before at [] = []
 methods_checks home before at (method ∷ methods) =
     method_checks home before at method
@@ -41,7 +40,7 @@ methods_checks home before at (method ∷ methods) =
 
 -- ---- invokedynamic constants name bootstrap methods (4.4.10)
 
-abbrev dynamic_checks : ℕ → ℕ → Constants → List Check
+abbrev pub dynamic_checks : ℕ → ℕ → Constants → List Check
 dynamic_checks count at [] = []
 dynamic_checks count at (None ∷ entries) = dynamic_checks count at entries
 dynamic_checks count at (Some (InvokeDynamic bootstrap member) ∷ entries) =

@@ -1,13 +1,13 @@
 -- What a Code attribute is asked (JVM Specification SE 8, 4.7.3, 4.9.1), in order: that its structure fits its
 -- length; the length of the code; the locals; the instructions; the exception table; its attributes.
-use Rattle.std.specs.Prelude.{◌≡◌, ◌⊎◌, ◌==◌, ◌&&◌, ◌||◌, not, ◌+◌, ◌-◌, ◌*◌, ◌<◌, ◌≤◌, nat_lt, nat_le, ℕ, Bool, true, false, List, [], ◌∷◌, ◌++◌, length, map, replicate, codes, Option, Some, None, Result, Ok, Err, IfSome, IsSome, IsSomeAnd, IsTrue, IsFalse, if◌then◌else◌}
-use Rattle.std.specs.List.{flat_map, list_any, list_all, AllByRecursion}
+use Rattle.std.specs.Prelude.{◌≡◌, ◌⊎◌, ◌==◌, ◌||◌, ◌+◌, ◌<◌, ◌≤◌, ℕ, Bool, List, [], ◌∷◌, ◌++◌, length, map, replicate, codes, Option, Some, None, Result, Ok, Err, IfSome, IsSome, IsTrue, IsFalse, if◌then◌else◌}
+use Rattle.std.specs.List.{list_all}
 use Rattle.class_model.specs.Checks.{Check, check, Fault, fault, asked_of, asked_if, ◌>>=◌}
 use Rattle.class_model.specs.Cutting.{Rest, Cut, bytes_at, u2_at, u4_at, counted_at}
-use Rattle.class_model.specs.Descriptors.{SpellsDescriptor, SpellsFieldType, field_type_text, IsArrayType, IsElementType, parameter_units, kind_of}
+use Rattle.class_model.specs.Descriptors.{SpellsDescriptor, field_type_text, IsArrayType, IsElementType, parameter_units, kind_of}
 use Rattle.class_model.specs.Frames.{Setting, table_at, filled}
-use Rattle.class_model.specs.Instructions.{decoded, targets, is_start}
-use Rattle.class_model.specs.Members.{Signature, has, STATIC, is_text, attr_name_check, is_named}
+use Rattle.class_model.specs.Instructions.{targets, is_start}
+use Rattle.class_model.specs.Members.{has, STATIC, is_text}
 use Rattle.class_model.specs.Names.{init}
 use Rattle.class_model.specs.Pool.{Constants, constant_at}
 use Rattle.class_model.specs.PoolChecks.{utf8_at, class_at, descriptor_at, IsClassAt}
@@ -15,7 +15,6 @@ use Rattle.class_model.specs.Spelling.{inner_bytes}
 use Rattle.class_model.specs.declared.class_file.CodePart.{CodePart}
 use Rattle.class_model.specs.declared.class_file.Handler.{Handler}
 use Rattle.class_model.specs.declared.class_file.InnerAttr.{InnerAttr}
-use Rattle.class_model.specs.declared.class_file.Attr.TheVariants.{Raw}
 use Rattle.class_model.specs.declared.descriptor.Descriptor.{Descriptor}
 use Rattle.class_model.specs.declared.descriptor.FieldType.{FieldType}
 use Rattle.class_model.specs.declared.descriptor.FieldType.TheVariants.{Named}
@@ -192,7 +191,7 @@ handlers_checks pool code len at (handler ∷ handlers) =
 abbrev pub stack_map_table : List ℕ
 stack_map_table = codes "StackMapTable"
 
-abbrev inner_is_named : Constants → List ℕ → InnerAttr → Bool
+abbrev pub inner_is_named : Constants → List ℕ → InnerAttr → Bool
 inner_is_named pool name attr = is_text name (utf8_at pool attr.name)
 
 -- a fault inside a table, at its place in the file: a missing byte is the table's own

@@ -1,5 +1,5 @@
 -- What stands at the front of bytes that spell a descriptor, and the bytes after it.
-use Rattle.std.specs.Prelude.{◌≡◌, ◌≢◌, ◌==◌, ℕ, ◌+◌, ◌≤◌, List, ◌∷◌, ◌++◌, replicate, Option, Some, None, IfSome, if◌then◌else◌}
+use Rattle.std.specs.Prelude.{◌≡◌, ◌≢◌, ◌==◌, ℕ, ◌≤◌, List, ◌∷◌, ◌++◌, replicate, Option, Some, None, IfSome, if◌then◌else◌}
 use Rattle.std.specs.List.{flat_map, AllByRecursion}
 use Rattle.class_model.specs.Names.{IsClassName}
 use Rattle.class_model.specs.Descriptors.{field_type_text, IsElementType, IsArrayType, IsFieldType, parameter_units, result_text}

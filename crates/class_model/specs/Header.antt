@@ -1,7 +1,7 @@
 -- The header of a library's class file: what is kept of it, with lighter checks (JVM Specification SE 8, 4.1 to 4.6).
 -- Attributes are skipped by their length. Of the pool its texts alone are asked, and of the rest the names,
 -- descriptors and indices of the head and of the members.
-use Rattle.std.specs.Prelude.{◌≡◌, ◌⊎◌, ◌==◌, ◌+◌, ◌*◌, ◌≤◌, ℕ, List, [], ◌∷◌, ◌++◌, length, map, Option, Some, None, Result, Ok, IfSome, IsSome}
+use Rattle.std.specs.Prelude.{◌≡◌, ◌⊎◌, ◌+◌, ◌*◌, ◌≤◌, ℕ, List, [], ◌∷◌, ◌++◌, length, map, Option, Some, None, Ok, IfSome, IsSome}
 use Rattle.std.specs.List.{flat_map}
 use Rattle.class_model.specs.Checks.{Check, check, AllHold, asked_of}
 use Rattle.class_model.specs.Cutting.{Rest, Version, version_at, class_at}
@@ -19,7 +19,6 @@ use Rattle.class_model.specs.declared.class_file.Method.{Method}
 use Rattle.class_model.specs.declared.fault.FileRule.TheVariants as rules
 use Rattle.class_model.specs.declared.header.Header.{Header}
 use Rattle.class_model.specs.declared.header.Member.{Member}
-use Rattle.class_model.specs.declared.pool.Const.{Const}
 use Rattle.class_model.specs.declared.pool.Const.TheVariants.{Utf8}
 
 -- the texts of a pool, from the place of its first entry on

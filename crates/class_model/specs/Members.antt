@@ -1,20 +1,17 @@
 -- What the head of a class file and its members are asked, in file order (JVM Specification SE 8, 4.1, 4.5 to
 -- 4.7). In one member the checks stand at the item of their place: at the flags Flags, Twice, NoCode, HasCode;
 -- then the name, the descriptor and the attributes.
-use Rattle.std.specs.Prelude.{◌≡◌, ◌≢◌, ◌⊎◌, ◌==◌, ◌&&◌, ◌||◌, not, ◌+◌, ◌*◌, ◌<◌, ◌≤◌, nat_lt, ℕ, zero, suc, Bool, true, false, List, [], ◌∷◌, ◌++◌, length, take, bit_and, bytes_eq, codes, Option, Some, None, IfSome, IsSome, IsTrue, IsFalse, if◌then◌else◌}
+use Rattle.std.specs.Prelude.{◌≡◌, ◌==◌, ◌&&◌, ◌||◌, not, ◌+◌, ℕ, Bool, false, List, [], ◌∷◌, ◌++◌, length, bit_and, bytes_eq, codes, Option, Some, IfSome, IsSome, IsTrue, IsFalse}
 use Rattle.std.specs.List.{list_any}
 use Rattle.class_model.specs.Checks.{Check, check, asked_if}
-use Rattle.class_model.specs.Descriptors.{SpellsFieldType, SpellsDescriptor, parameter_units}
 use Rattle.class_model.specs.Instructions.{u2_in}
-use Rattle.class_model.specs.Names.{init, clinit, IsClassName, IsMethodName, IsFieldName}
+use Rattle.class_model.specs.Names.{IsClassName, IsFieldName}
 use Rattle.class_model.specs.Pool.{Constants, constant_at}
-use Rattle.class_model.specs.PoolChecks.{utf8_at, class_at, IsFieldDescriptor, IsMethodDescriptor, InitIsVoid}
+use Rattle.class_model.specs.PoolChecks.{utf8_at, class_at, IsFieldDescriptor}
 use Rattle.class_model.specs.Spelling.{attr_bytes}
 use Rattle.class_model.specs.declared.class_file.Attr.{Attr}
 use Rattle.class_model.specs.declared.class_file.Attr.TheVariants.{Raw, Code}
 use Rattle.class_model.specs.declared.class_file.Field.{Field}
-use Rattle.class_model.specs.declared.class_file.Method.{Method}
-use Rattle.class_model.specs.declared.descriptor.Descriptor.{Descriptor}
 use Rattle.class_model.specs.declared.fault.FileRule.TheVariants as rules
 use Rattle.class_model.specs.declared.pool.Const.{Const}
 use Rattle.class_model.specs.declared.pool.Const.TheVariants as consts

@@ -1,5 +1,5 @@
 -- What methods and the attributes of the class are asked (JVM Specification SE 8, 4.6, 4.7.3, 4.7.23), in file order.
-use Rattle.std.specs.Prelude.{◌≡◌, ◌⊎◌, ◌==◌, ◌&&◌, ◌||◌, not, ◌+◌, ◌*◌, ◌<◌, ◌≤◌, nat_lt, ℕ, Bool, true, false, List, [], ◌∷◌, ◌++◌, length, codes, Option, Some, None, Result, Ok, Err, IfSome, IsSome, IsTrue, IsFalse, if◌then◌else◌}
+use Rattle.std.specs.Prelude.{◌==◌, ◌&&◌, ◌||◌, not, ◌+◌, ◌*◌, ◌≤◌, nat_lt, ℕ, Bool, false, List, [], ◌∷◌, ◌++◌, length, codes, Option, Some, None, Result, Ok, Err, IfSome, IsSome, IsTrue, IsFalse, if◌then◌else◌}
 use Rattle.class_model.specs.Checks.{Check, check, Fault, fault, asked_of, asked_if, ◌>>=◌}
 use Rattle.class_model.specs.Code.{code_part, jump_checks, operand_checks, handlers_checks, inners_checks, entry_frame}
 use Rattle.class_model.specs.Cutting.{Rest, Cut, u2_at, counted_at}
@@ -60,7 +60,7 @@ fits_method home method =
 -- ---- descriptors
 
 -- The parameters take at most 255 units, this counted where the method is not static.
-abbrev this_units : ℕ → ℕ
+abbrev pub this_units : ℕ → ℕ
 this_units flags = if has flags STATIC then 0 else 1
 
 pub record IsDescriptorOf (flags : ℕ) (text : List ℕ) : Type 0 where
@@ -167,12 +167,12 @@ whole (Err f) = None
 abbrev pub bootstraps : List ℕ → Option (List Bootstrap)
 bootstraps content = whole (counted_at bootstrap_at (record { at = 0; bytes = content }))
 
-abbrev IsHandle : Option Const → Type 0
+abbrev pub IsHandle : Option Const → Type 0
 IsHandle (Some (consts.MethodHandle kind reference)) = Unit {0}
 IsHandle other = ⊥
 
 -- a constant that may be an argument of a bootstrap method
-abbrev IsArgument : Option Const → Type 0
+abbrev pub IsArgument : Option Const → Type 0
 IsArgument (Some (consts.String text)) = Unit {0}
 IsArgument (Some (consts.Class name)) = Unit {0}
 IsArgument (Some (consts.Integer number)) = Unit {0}
@@ -183,18 +183,18 @@ IsArgument (Some (consts.MethodHandle kind reference)) = Unit {0}
 IsArgument (Some (consts.MethodType descriptor)) = Unit {0}
 IsArgument other = ⊥
 
-abbrev arguments_checks : Constants → ℕ → List ℕ → List Check
+abbrev pub arguments_checks : Constants → ℕ → List ℕ → List Check
 arguments_checks pool at [] = []
 arguments_checks pool at (index ∷ indices) = check at rules.Index (IsArgument (constant_at pool index)) ∷ arguments_checks pool (at + 2) indices
 
-abbrev bootstraps_checks : Constants → ℕ → List Bootstrap → List Check
+abbrev pub bootstraps_checks : Constants → ℕ → List Bootstrap → List Check
 bootstraps_checks pool at [] = []
 bootstraps_checks pool at (b ∷ others) =
     check at rules.Index (IsHandle (constant_at pool b.handle))
     ∷ arguments_checks pool (at + 4) b.arguments
     ++ bootstraps_checks pool (at + 4 + 2 * length b.arguments) others
 
-abbrev table_checks : Constants → ℕ → Option (List Bootstrap) → List Check
+abbrev pub table_checks : Constants → ℕ → Option (List Bootstrap) → List Check
 table_checks pool at None = check at rules.Attribute ⊥ ∷ []
 table_checks pool at (Some methods) = bootstraps_checks pool (at + 8) methods
 

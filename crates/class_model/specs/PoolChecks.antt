@@ -112,15 +112,15 @@ methodref_checks at pool class member =
     ∷ []
 
 -- what a method handle of a kind refers to (4.4.8)
-abbrev IsField : Option Const → Type 0
+abbrev pub IsField : Option Const → Type 0
 IsField (Some (Fieldref class member)) = Unit {0}
 IsField other = ⊥
 
-abbrev IsMethod : Option Const → Type 0
+abbrev pub IsMethod : Option Const → Type 0
 IsMethod (Some (Methodref class member)) = Unit {0}
 IsMethod other = ⊥
 
-abbrev IsInterfaceMethod : Option Const → Type 0
+abbrev pub IsInterfaceMethod : Option Const → Type 0
 IsInterfaceMethod (Some (InterfaceMethodref class member)) = Unit {0}
 IsInterfaceMethod other = ⊥
 

@@ -1,5 +1,5 @@
 //! Laws: functions that do nothing, whose contracts say what always holds.
-ghost use Rattle.std.specs.Prelude.{◌≡◌, ◌++◌, ℕ, List};
+ghost use Rattle.std.specs.Prelude.{◌≡◌, ◌⊎◌, ◌++◌, ℕ, List};
 ghost use Rattle.class_model.specs.Checks.{Fault};
 ghost use Rattle.class_model.specs.ClassOf.{ClassOf, FirstFault, IsOtherVersion};
 ghost use Rattle.class_model.specs.Cutting.{IsBytes, Version};
@@ -49,4 +49,9 @@ pub fn bytes_are_one_class_file()
 /// A class file is spelled by its bytes.
 pub fn a_class_file_is_spelled()
     ensures { (bytes : List ℕ) (class : ClassFile) → IsBytes bytes → ClassOf bytes class → bytes ≡ class_bytes class }
+{}
+
+/// Bytes are a class file, or of a version that is not read, or have a first fault.
+pub fn each_file_is_told()
+    ensures { (bytes : List ℕ) → ((class : ClassFile) × ClassOf bytes class) ⊎ (((version : Version) × IsOtherVersion bytes version) ⊎ ((f : Fault) × FirstFault bytes f)) }
 {}

@@ -30,7 +30,7 @@ pub use instr::{Imm, Instr, Pair, PairList, Placed, PlacedList, TargetList};
 pub use laws::{
     a_class_file_has_no_fault, a_class_file_is_spelled, a_spelling_is_one_instruction,
     a_text_spells_one_descriptor, a_text_spells_one_field_type, another_version_is_no_class_file,
-    bytes_are_one_class_file, one_first_fault,
+    bytes_are_one_class_file, each_file_is_told, one_first_fault,
 };
 pub use list::{ByteList, ListOf};
 pub use memory::NoMemory;
