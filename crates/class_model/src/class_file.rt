@@ -74,6 +74,13 @@ pub struct Method {
 /// A list of methods.
 pub type MethodList = ListOf<Method>;
 
+/// A method of a folder of classes: the number of its class in the folder, and its own in the class.
+#[derive(Clone, Copy, Debug, PartialEq, Eq)]
+pub struct MethodAt {
+    pub class: usize,
+    pub method: usize,
+}
+
 /// A class file (JVM Specification SE 8, 4.1). Members and classes are named by indices of its pool.
 #[derive(Debug, Drop)]
 pub struct ClassFile {

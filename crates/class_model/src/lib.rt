@@ -17,7 +17,7 @@ mod text;
 
 pub use class_file::{
     Attr, AttrList, ClassFile, CodePart, Field, FieldList, Handler, HandlerList, IndexList,
-    InnerAttr, InnerAttrList, Method, MethodList,
+    InnerAttr, InnerAttrList, Method, MethodAt, MethodList,
 };
 pub use descriptor::{
     Descriptor, FieldType, FieldTypeList, Kind, NameFault, is_array_type, is_field_type,
