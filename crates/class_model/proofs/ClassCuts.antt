@@ -191,3 +191,9 @@ spelled bytes class fits c =
     let head = version_spelled.takes (start bytes) (c.version, c.rest) fits c.head in
     let cut = cut_is_spelled bytes c.version c.rest c.cut head.0 c.is_cut in
     cut ∙ sym (entered_kept c.cut (subst IsBytes cut fits)) ∙ ap class_bytes (sym c.is)
+
+-- a class file that was cut, and where its version ends
+pub cut_spelled : (bytes : List ℕ) (version : Version) (rest : Rest) (class : ClassFile) → IsBytes bytes → version_at (start bytes) ≡ Ok (version, rest) → class_at version rest ≡ Ok class → (bytes ≡ class_bytes class) × (rest.at ≡ 8)
+cut_spelled bytes version rest class fits head cut =
+    let took = version_spelled.takes (start bytes) (version, rest) fits head in
+    (cut_is_spelled bytes version rest class took.0 cut, took.0.place)

@@ -4,6 +4,7 @@ use Rattle.std.specs.List.{flat_map, AllByRecursion}
 use Rattle.std.proofs.lemmas.Bool.{cases_eq}
 use Rattle.std.proofs.lemmas.List.{append-nil}
 use Rattle.class_model.specs.Descriptors.{field_type_text, IsFieldType, parameter_units, result_text, IsDescriptor, SpellsDescriptor}
+use Rattle.class_model.specs.DescriptorParts.{TypeAt, TypesAt}
 use Rattle.class_model.specs.Methods.{this_units, IsDescriptorOf}
 use Rattle.class_model.specs.Names.{init}
 use Rattle.class_model.specs.PoolChecks.{IsTypeName, IsFieldDescriptor, BytesSpell, IsMethodDescriptor, ReturnsVoid, InitIsVoid}
@@ -11,7 +12,7 @@ use Rattle.class_model.specs.declared.descriptor.FieldType.{FieldType}
 use Rattle.class_model.specs.declared.descriptor.FieldType.TheVariants.{Named}
 use Rattle.class_model.specs.declared.descriptor.Descriptor.{Descriptor}
 use Rattle.class_model.proofs.Decisions.{Decision, mapped, both, three, either, implied, at_most, equal_bytes, each, if_some}
-use Rattle.class_model.proofs.DecidedTypes.{TypeAt, one_type, no_type, type_shorter, type_front, field_descriptor, field_type}
+use Rattle.class_model.proofs.DecidedTypes.{one_type, no_type, type_shorter, type_front, field_descriptor, field_type}
 use Rattle.class_model.proofs.Parameters.{one_descriptor}
 
 -- ---- what is said of the only one
@@ -34,46 +35,41 @@ module _ {A : Type 0} (P : A → Type 0) (same : (a b : A) → P a → P b → a
 
 -- ---- parameters
 
--- field types and a closing parenthesis
-record Params (bytes : List ℕ) (types : List FieldType) (rest : List ℕ) : Type 0 where
-  pub each_type : AllByRecursion IsTypeName types
-  pub spelled : bytes ≡ flat_map field_type_text types ++ 41 ∷ rest
-
 -- a first parameter, and those behind it
-first_at : (bytes : List ℕ) (type : FieldType) (types : List FieldType) (rest : List ℕ) → Params bytes (type ∷ types) rest → TypeAt bytes type (flat_map field_type_text types ++ 41 ∷ rest)
-first_at bytes type types rest p = record { is_type = p.each_type.0; spelled = p.spelled ∙ append_assoc (field_type_text type) (flat_map field_type_text types) (41 ∷ rest) }
+pub first_at : (bytes : List ℕ) (type : FieldType) (types : List FieldType) (rest : List ℕ) → TypesAt bytes (type ∷ types) rest → TypeAt bytes type (flat_map field_type_text types ++ 41 ∷ rest)
+first_at bytes type types rest p = record { is_type = p.each.0; spelled = p.spelled ∙ append_assoc (field_type_text type) (flat_map field_type_text types) (41 ∷ rest) }
 
-others_at : (bytes : List ℕ) (type : FieldType) (types : List FieldType) (rest after : List ℕ) (first : FieldType) → Params bytes (type ∷ types) rest → TypeAt bytes first after → (type ≡ first) × Params after types rest
+pub others_at : (bytes : List ℕ) (type : FieldType) (types : List FieldType) (rest after : List ℕ) (first : FieldType) → TypesAt bytes (type ∷ types) rest → TypeAt bytes first after → (type ≡ first) × TypesAt after types rest
 others_at bytes type types rest after first p at =
     let same = one_type bytes type first _ after (first_at bytes type types rest p) at in
-    (same.0, record { each_type = p.each_type.1; spelled = sym same.1 })
+    (same.0, record { each = p.each.1; spelled = sym same.1 })
 
-put_first : (bytes after : List ℕ) (type : FieldType) (types : List FieldType) (rest : List ℕ) → TypeAt bytes type after → Params after types rest → Params bytes (type ∷ types) rest
+pub put_first : (bytes after : List ℕ) (type : FieldType) (types : List FieldType) (rest : List ℕ) → TypeAt bytes type after → TypesAt after types rest → TypesAt bytes (type ∷ types) rest
 put_first bytes after type types rest at p = record {
-  each_type = (at.is_type, p.each_type);
+  each = (at.is_type, p.each);
   spelled = at.spelled ∙ ap (λ (t : List ℕ). field_type_text type ++ t) p.spelled ∙ sym (append_assoc (field_type_text type) (flat_map field_type_text types) (41 ∷ rest));
 }
 
-one_params : (types others : List FieldType) (bytes rest last : List ℕ) → Params bytes types rest → Params bytes others last → (types ≡ others) × (rest ≡ last)
+pub one_params : (types others : List FieldType) (bytes rest last : List ℕ) → TypesAt bytes types rest → TypesAt bytes others last → (types ≡ others) × (rest ≡ last)
 one_params [] [] bytes rest last p q = (refl, let e = sym p.spelled ∙ q.spelled in cc)
 one_params [] (type ∷ others) bytes rest last p q = absurd (no_type 41 rest bytes _ type refl p.spelled (first_at bytes type others last q))
 one_params (type ∷ types) [] bytes rest last p q = absurd (no_type 41 last bytes _ type refl q.spelled (first_at bytes type types rest p))
 one_params (type ∷ types) (other ∷ others) bytes rest last p q =
     let first = others_at bytes type types rest _ other p (first_at bytes other others last q) in
-    let tails = one_params types others (flat_map field_type_text others ++ 41 ∷ last) rest last first.1 (record { each_type = q.each_type.1; spelled = refl }) in
+    let tails = one_params types others (flat_map field_type_text others ++ 41 ∷ last) rest last first.1 (record { each = q.each.1; spelled = refl }) in
     (cc (first.0, tails.0), tails.1)
 
 abbrev ParamsFront : List ℕ → Type 0
-ParamsFront bytes = ((types : List FieldType) × (rest : List ℕ) × Params bytes types rest) ⊎ ((types : List FieldType) (rest : List ℕ) → ¬ Params bytes types rest)
+ParamsFront bytes = ((types : List FieldType) × (rest : List ℕ) × TypesAt bytes types rest) ⊎ ((types : List FieldType) (rest : List ℕ) → ¬ TypesAt bytes types rest)
 
-no_params_at_end : (types : List FieldType) (rest : List ℕ) → ¬ Params [] types rest
+no_params_at_end : (types : List FieldType) (rest : List ℕ) → ¬ TypesAt [] types rest
 no_params_at_end types rest p = omega (arith, ap length p.spelled, length-append (flat_map field_type_text types) (41 ∷ rest))
 
-no_first : (first : ℕ) (bytes : List ℕ) → first ≢ 41 → ((type : FieldType) (rest : List ℕ) → ¬ TypeAt (first ∷ bytes) type rest) → (types : List FieldType) (rest : List ℕ) → ¬ Params (first ∷ bytes) types rest
+pub no_first : (first : ℕ) (bytes : List ℕ) → first ≢ 41 → ((type : FieldType) (rest : List ℕ) → ¬ TypeAt (first ∷ bytes) type rest) → (types : List FieldType) (rest : List ℕ) → ¬ TypesAt (first ∷ bytes) types rest
 no_first first bytes other never [] rest p = other (let e = p.spelled in cc)
 no_first first bytes other never (type ∷ types) rest p = never type _ (first_at (first ∷ bytes) type types rest p)
 
-behind_first : (first : ℕ) (bytes after : List ℕ) (type : FieldType) → first ≢ 41 → TypeAt (first ∷ bytes) type after → ((types : List FieldType) (rest : List ℕ) → ¬ Params after types rest) → (types : List FieldType) (rest : List ℕ) → ¬ Params (first ∷ bytes) types rest
+behind_first : (first : ℕ) (bytes after : List ℕ) (type : FieldType) → first ≢ 41 → TypeAt (first ∷ bytes) type after → ((types : List FieldType) (rest : List ℕ) → ¬ TypesAt after types rest) → (types : List FieldType) (rest : List ℕ) → ¬ TypesAt (first ∷ bytes) types rest
 behind_first first bytes after type other at never [] rest p = other (let e = p.spelled in cc)
 behind_first first bytes after type other at never (one ∷ types) rest p = never types rest (others_at (first ∷ bytes) one types rest after type p at).1
 
@@ -85,7 +81,7 @@ params_within : (left : ℕ) (bytes : List ℕ) → length bytes ≤ left → Pa
 params_within left [] fits = inr no_params_at_end
 params_within zero (first ∷ bytes) fits = absurd (omega (arith, fits))
 params_within (suc left) (first ∷ bytes) fits = elim (cases_eq first 41) [
-  | inl same ↦ inl ([], bytes, record { each_type = tt; spelled = cc })
+  | inl same ↦ inl ([], bytes, record { each = tt; spelled = cc })
   | inr other ↦ elim (type_front (first ∷ bytes)) [
     | inl f ↦ more_params first bytes f.1 f.0 other f.2 (params_within left f.1 (omega (arith, fits, type_shorter (first ∷ bytes) f.1 f.0 f.2)))
     | inr never ↦ inr (no_first first bytes other never)
@@ -97,17 +93,17 @@ params_front bytes = params_within (length bytes) bytes (omega arith)
 
 -- ---- results
 
-record Outcome (bytes : List ℕ) (type : Option FieldType) : Type 0 where
+pub record Outcome (bytes : List ℕ) (type : Option FieldType) : Type 0 where
   pub named : IfSome type IsTypeName
   pub spelled : bytes ≡ result_text type
 
-no_void : (bytes : List ℕ) → bytes ≡ 86 ∷ [] → ¬ IsFieldDescriptor bytes
+pub no_void : (bytes : List ℕ) → bytes ≡ 86 ∷ [] → ¬ IsFieldDescriptor bytes
 no_void bytes e d = no_type 86 [] bytes [] d.type refl e (record { is_type = d.named; spelled = d.spelled ∙ sym (append-nil (field_type_text d.type)) })
 
-type_outcome : (bytes : List ℕ) (type : FieldType) → Outcome bytes (Some type) → IsFieldDescriptor bytes
+pub type_outcome : (bytes : List ℕ) (type : FieldType) → Outcome bytes (Some type) → IsFieldDescriptor bytes
 type_outcome bytes type o = record { type = type; named = o.named; spelled = o.spelled }
 
-outcome_form : (bytes : List ℕ) (type : Option FieldType) → Outcome bytes type → (bytes ≡ 86 ∷ []) ⊎ IsFieldDescriptor bytes
+pub outcome_form : (bytes : List ℕ) (type : Option FieldType) → Outcome bytes type → (bytes ≡ 86 ∷ []) ⊎ IsFieldDescriptor bytes
 outcome_form bytes None o = inl o.spelled
 outcome_form bytes (Some type) o = inr (type_outcome bytes type o)
 
@@ -117,7 +113,7 @@ outcome bytes = mapped
     (λ o. outcome_form bytes o.0 o.1)
     (either (equal_bytes bytes (86 ∷ [])) (field_descriptor bytes))
 
-one_outcome : (bytes : List ℕ) (one other : Option FieldType) → Outcome bytes one → Outcome bytes other → one ≡ other
+pub one_outcome : (bytes : List ℕ) (one other : Option FieldType) → Outcome bytes one → Outcome bytes other → one ≡ other
 one_outcome bytes None None a b = refl
 one_outcome bytes None (Some type) a b = absurd (no_void bytes a.spelled (type_outcome bytes type b))
 one_outcome bytes (Some type) None a b = absurd (no_void bytes b.spelled (type_outcome bytes type a))
@@ -127,10 +123,10 @@ one_outcome bytes (Some type) (Some other) a b = ap Some (one_type bytes type ot
 
 -- ---- method descriptors
 
-params_of : (bytes after : List ℕ) (d : Descriptor) → bytes ≡ 40 ∷ after → BytesSpell bytes d → Params after d.params (result_text d.result)
-params_of bytes after d e b = record { each_type = b.params; spelled = let g = sym e ∙ b.spelled in cc }
+pub params_of : (bytes after : List ℕ) (d : Descriptor) → bytes ≡ 40 ∷ after → BytesSpell bytes d → TypesAt after d.params (result_text d.result)
+params_of bytes after d e b = record { each = b.params; spelled = let g = sym e ∙ b.spelled in cc }
 
-one_spelled : (bytes : List ℕ) (one other : Descriptor) → BytesSpell bytes one → BytesSpell bytes other → one ≡ other
+pub one_spelled : (bytes : List ℕ) (one other : Descriptor) → BytesSpell bytes one → BytesSpell bytes other → one ≡ other
 one_spelled bytes one other a b =
     let after = flat_map field_type_text one.params ++ 41 ∷ result_text one.result in
     let params = one_params one.params other.params after _ _ (params_of bytes after one a.spelled a) (params_of bytes after other a.spelled b) in
@@ -138,11 +134,11 @@ one_spelled bytes one other a b =
     let same_params : one ≡ record { params = other.params; result = one.result } = ap (λ (p : List FieldType). let d : Descriptor = record { params = p; result = one.result } in d) params.0 in
     same_params ∙ ap (λ (r : Option FieldType). let d : Descriptor = record { params = other.params; result = r } in d) result
 
-module _ (after : List ℕ) (types : List FieldType) (rest : List ℕ) (p : Params after types rest) where
-  made : (parameter_units types ≤ 255) × ((type : Option FieldType) × Outcome rest type) → IsMethodDescriptor (40 ∷ after)
-  made h = (record { params = types; result = h.1.0 }, record { params = p.each_type; units = h.0; result = h.1.1.named; spelled = ap (λ (t : List ℕ). 40 ∷ t) (p.spelled ∙ ap (λ (t : List ℕ). flat_map field_type_text types ++ 41 ∷ t) h.1.1.spelled) })
+module _ (after : List ℕ) (types : List FieldType) (rest : List ℕ) (p : TypesAt after types rest) where
+  pub made : (parameter_units types ≤ 255) × ((type : Option FieldType) × Outcome rest type) → IsMethodDescriptor (40 ∷ after)
+  made h = (record { params = types; result = h.1.0 }, record { params = p.each; units = h.0; result = h.1.1.named; spelled = ap (λ (t : List ℕ). 40 ∷ t) (p.spelled ∙ ap (λ (t : List ℕ). flat_map field_type_text types ++ 41 ∷ t) h.1.1.spelled) })
 
-  taken_apart : IsMethodDescriptor (40 ∷ after) → (parameter_units types ≤ 255) × ((type : Option FieldType) × Outcome rest type)
+  pub taken_apart : IsMethodDescriptor (40 ∷ after) → (parameter_units types ≤ 255) × ((type : Option FieldType) × Outcome rest type)
   taken_apart d =
       let same = one_params d.0.params types after _ rest (params_of (40 ∷ after) after d.0 refl d.1) p in
       (subst (λ (t : List FieldType). parameter_units t ≤ 255) same.0 d.1.units, (d.0.result, record { named = d.1.result; spelled = sym same.1 }))

@@ -5,7 +5,7 @@ use Rattle.std.proofs.lemmas.List.{append-nil}
 use Rattle.class_model.specs.Code.{HasDimensions}
 use Rattle.class_model.specs.Names.{IsClassName}
 use Rattle.class_model.specs.Descriptors.{field_type_text, IsElementType, IsArrayType, IsReferenceName, IsFieldType}
-use Rattle.class_model.specs.DescriptorParts.{base_type_of, ClassNameAt, ElementAt, BracketsAt, ArrayAt}
+use Rattle.class_model.specs.DescriptorParts.{base_type_of, ClassNameAt, ElementAt, BracketsAt, ArrayAt, TypeAt}
 use Rattle.class_model.specs.PoolChecks.{IsTypeName, IsFieldDescriptor}
 use Rattle.class_model.specs.declared.descriptor.FieldType.{FieldType}
 use Rattle.class_model.specs.declared.descriptor.FieldType.TheVariants.{Named}
@@ -151,16 +151,11 @@ has_dimensions bytes least =
 
 -- ---- field types
 
--- a field type with a name that is a class or an array type, of a text or not
-pub record TypeAt (bytes : List ℕ) (type : FieldType) (rest : List ℕ) : Type 0 where
-  pub is_type : IsTypeName type
-  pub spelled : bytes ≡ field_type_text type ++ rest
-
-type_form : (type : FieldType) → IsTypeName type → FieldForm type
+pub type_form : (type : FieldType) → IsTypeName type → FieldForm type
 type_form (Named name) h = named_form name h
 type_form other h = inl tt
 
-type_of_element : (type : FieldType) → IsElementType type → IsTypeName type
+pub type_of_element : (type : FieldType) → IsElementType type → IsTypeName type
 type_of_element (Named name) h = inl h
 type_of_element other h = tt
 
@@ -183,7 +178,7 @@ type_shorter bytes rest type at =
 abbrev pub TypeFront : List ℕ → Type 0
 TypeFront bytes = ((type : FieldType) × (rest : List ℕ) × TypeAt bytes type rest) ⊎ ((type : FieldType) (rest : List ℕ) → ¬ TypeAt bytes type rest)
 
-no_type_front : (bytes : List ℕ) → ((rest : List ℕ) → ¬ ElementAt bytes rest) → ((text rest : List ℕ) → ¬ ArrayAt bytes text rest) → (type : FieldType) (rest : List ℕ) → ¬ TypeAt bytes type rest
+pub no_type_front : (bytes : List ℕ) → ((rest : List ℕ) → ¬ ElementAt bytes rest) → ((text rest : List ℕ) → ¬ ArrayAt bytes text rest) → (type : FieldType) (rest : List ℕ) → ¬ TypeAt bytes type rest
 no_type_front bytes no_element no_array type rest at = elim (type_form type at.is_type) [
   | inl a ↦ no_element rest (record { element = type; is_element = a; spelled = at.spelled })
   | inr a ↦ no_array a.0 rest (record { is_array = a.1; spelled = rw a.3 at at.spelled })
@@ -199,7 +194,7 @@ type_front bytes = elim (element_front bytes) [
   | inr never ↦ by_array bytes never (array_front bytes)
 ]
 
-descriptor_at_whole : (bytes : List ℕ) (d : IsFieldDescriptor bytes) → TypeAt bytes d.type []
+pub descriptor_at_whole : (bytes : List ℕ) (d : IsFieldDescriptor bytes) → TypeAt bytes d.type []
 descriptor_at_whole bytes d = record { is_type = d.named; spelled = d.spelled ∙ sym (append-nil (field_type_text d.type)) }
 
 type_left : (bytes rest : List ℕ) (type : FieldType) → TypeAt bytes type rest → Decision (IsFieldDescriptor bytes)

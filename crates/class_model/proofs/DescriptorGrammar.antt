@@ -188,7 +188,7 @@ pub named_form : (name : List ℕ) → IsReferenceName name → FieldForm (Named
 named_form name (inl class) = inl class
 named_form name (inr array) = inr (name, array, refl, array_text name array)
 
-field_form : (type : FieldType) → IsFieldType type → FieldForm type
+pub field_form : (type : FieldType) → IsFieldType type → FieldForm type
 field_form Byte h = inl tt
 field_form Char h = inl tt
 field_form Double h = inl tt

@@ -20,3 +20,7 @@ pub mod DecidedOperands
 pub mod DecidedCode
 pub mod DecidedMembers
 pub mod DecidedClass
+pub mod DescriptorShapes
+pub mod CutTypes
+pub mod TextDescriptors
+pub mod ArrayDimensions

@@ -199,3 +199,8 @@ pool_spelled major = record {
       let counted = subst (λ (k : ℕ). Takes rest (u2 k ++ flat_map entry_bytes entries.0.0) entries.0.1) len both in
       made pool_bytes Always rest (None ∷ entries.0.0, entries.0.1) x counted tt entries.2;
 }
+
+pub pool_taken : (major : ℕ) (rest after : Rest) (pool : Constants) → IsBytes rest.bytes → pool_at major rest ≡ Ok (pool, after) → (rest.bytes ≡ pool_bytes pool ++ after.bytes) × (after.at ≡ rest.at + length (pool_bytes pool))
+pool_taken major rest after pool fits e =
+    let took = (pool_spelled major).takes rest (pool, after) fits e in
+    (took.0.parts, took.0.place)

@@ -99,11 +99,11 @@ IsInterfaceConstant (Some (consts.InterfaceMethodref class member)) = Unit {0}
 IsInterfaceConstant other = ⊥
 
 -- the name and descriptor of an interface's method
-abbrev member_index : Option Const → Option ℕ
+abbrev pub member_index : Option Const → Option ℕ
 member_index (Some (consts.InterfaceMethodref class member)) = Some member
 member_index other = None
 
-abbrev units_behind : Constants → Option ℕ → Option (List ℕ)
+abbrev pub units_behind : Constants → Option ℕ → Option (List ℕ)
 units_behind pool None = None
 units_behind pool (Some member) = descriptor_at pool member
 

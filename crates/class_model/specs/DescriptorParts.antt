@@ -2,7 +2,8 @@
 use Rattle.std.specs.Prelude.{◌≡◌, ◌≢◌, ◌==◌, ℕ, ◌≤◌, List, ◌∷◌, ◌++◌, replicate, Option, Some, None, IfSome, if◌then◌else◌}
 use Rattle.std.specs.List.{flat_map, AllByRecursion}
 use Rattle.class_model.specs.Names.{IsClassName}
-use Rattle.class_model.specs.Descriptors.{field_type_text, IsElementType, IsArrayType, IsFieldType, parameter_units, result_text}
+use Rattle.class_model.specs.Descriptors.{field_type_text, IsElementType, IsArrayType, IsFieldType, kind_of, units_of, parameter_units, result_text}
+use Rattle.class_model.specs.PoolChecks.{IsTypeName}
 use Rattle.class_model.specs.declared.descriptor.FieldType.{FieldType}
 use Rattle.class_model.specs.declared.descriptor.FieldType.TheVariants.{Byte, Char, Short, Bool, Int, Long, Float, Double}
 
@@ -56,3 +57,28 @@ pub record ParametersAt (units : ℕ) (bytes : List ℕ) (types : List FieldType
 pub record SpellsResult (bytes : List ℕ) (type : Option FieldType) : Type 0 where
   pub is_type : IfSome type IsFieldType
   pub spelled : bytes ≡ result_text type
+
+-- ---- bytes that need not be a text
+
+-- a field type
+pub record TypeAt (bytes : List ℕ) (type : FieldType) (rest : List ℕ) : Type 0 where
+  pub is_type : IsTypeName type
+  pub spelled : bytes ≡ field_type_text type ++ rest
+
+-- a field type whose values take so many local units
+pub record TypeUnitsAt (bytes : List ℕ) (units : ℕ) (rest : List ℕ) : Type 0 where
+  pub type : FieldType
+  pub at : TypeAt bytes type rest
+  pub sum : units ≡ units_of (kind_of type)
+
+-- field types and a closing parenthesis
+pub record TypesAt (bytes : List ℕ) (types : List FieldType) (rest : List ℕ) : Type 0 where
+  pub each : AllByRecursion IsTypeName types
+  pub spelled : bytes ≡ flat_map field_type_text types ++ 41 ∷ rest
+
+-- field types, whose values take so many local units and at most 255, and a closing parenthesis
+pub record UnitsAt (bytes : List ℕ) (units : ℕ) (rest : List ℕ) : Type 0 where
+  pub types : List FieldType
+  pub at : TypesAt bytes types rest
+  pub sum : units ≡ parameter_units types
+  pub few : units ≤ 255

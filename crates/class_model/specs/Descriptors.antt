@@ -120,7 +120,7 @@ brackets bytes = length (take_while (λ b. b == 91) bytes)
 
 -- how many bytes the field type at the front takes, by its first byte behind the brackets: up to a semicolon
 -- behind L, and else one
-abbrev element_len : List ℕ → ℕ
+abbrev pub element_len : List ℕ → ℕ
 element_len [] = 0
 element_len (first ∷ rest) = if first == 76 then length (take_while (λ b. not (b == 59)) rest) + 2 else 1
 

@@ -50,7 +50,7 @@ filled max_locals entries = units_of_entries entries ++ replicate (max_locals - 
 
 -- ---- verification types (4.7.4)
 
-abbrev is_new : Instr → Bool
+abbrev pub is_new : Instr → Bool
 is_new (New class) = true
 is_new other = false
 
@@ -58,7 +58,7 @@ is_new other = false
 abbrev pub is_new_at : List Placed → ℕ → Bool
 is_new_at code at = list_any (λ p. (p.at == at) && is_new p.instr) code
 
-abbrev object_of : ℕ → Rest → Option (List ℕ) → Cut VType
+abbrev pub object_of : ℕ → Rest → Option (List ℕ) → Cut VType
 object_of frame rest (Some name) = Ok (Object name, rest)
 object_of frame rest None = Err (fault frame rules.FrameType)
 
@@ -102,11 +102,11 @@ pub record Stated : Type 0 where
   pub delta : ℕ
   pub entries : Entries
 
-abbrev stated : ℕ → List VType → List VType → Stated
+abbrev pub stated : ℕ → List VType → List VType → Stated
 stated delta locals stack = record { delta = delta; entries = record { locals = locals; stack = stack } }
 
 -- a number of two bytes inside the table
-abbrev number_at : Rest → Cut ℕ
+abbrev pub number_at : Rest → Cut ℕ
 number_at rest = if nat_lt (length rest.bytes) 2 then Err missing else Ok (u2_in rest.bytes 0, behind 2 rest)
 
 -- the locals without the last so many entries
@@ -114,7 +114,7 @@ abbrev pub chopped : ℕ → List VType → List VType
 chopped count locals = take (length locals - count) locals
 
 -- full_frame: locals and stack with their counts
-abbrev full_at : Setting → ℕ → Rest → Cut Stated
+abbrev pub full_at : Setting → ℕ → Rest → Cut Stated
 full_at s frame rest = do
   delta ← number_at rest
   locals ← number_at delta.1
@@ -142,7 +142,7 @@ frame_at s locals rest =
     else full_at s rest.at inside)))))))
 
 -- its units fit, and its offset is the start of an instruction
-abbrev fits_at : Setting → ℕ → ℕ → Stated → Result PlacedFrame Fault
+abbrev pub fits_at : Setting → ℕ → ℕ → Stated → Result PlacedFrame Fault
 fits_at s frame at f =
     if nat_lt s.max_locals (depth f.entries.locals) || nat_lt s.max_stack (depth f.entries.stack) then Err (fault frame rules.FrameSize)
     else (if is_start s.code at then Ok (record { at = at; frame = record { locals = filled s.max_locals f.entries.locals; stack = f.entries.stack } })
@@ -164,11 +164,11 @@ entries_of_units (t ∷ []) = t ∷ []
 entries_of_units (t ∷ u ∷ types) = if is_wide t then t ∷ entries_of_units types else t ∷ entries_of_units (u ∷ types)
 
 -- all frames of a table; the entry's locals are listed up to the last that is not Top
-abbrev is_top : VType → Bool
+abbrev pub is_top : VType → Bool
 is_top Top = true
 is_top other = false
 
-abbrev without_tops : List VType → List VType
+abbrev pub without_tops : List VType → List VType
 without_tops [] = []
 without_tops (t ∷ types) = if is_top t then without_tops types else t ∷ types
 

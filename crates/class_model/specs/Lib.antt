@@ -14,4 +14,5 @@ pub mod Code
 pub mod Methods
 pub mod ClassOf
 pub mod Header
+pub mod Answers
 pub mod PlainClassFile

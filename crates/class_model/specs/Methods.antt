@@ -153,7 +153,7 @@ pub record Bootstrap : Type 0 where
   pub handle : ℕ
   pub arguments : List ℕ
 
-abbrev bootstrap_at : Rest → Cut Bootstrap
+abbrev pub bootstrap_at : Rest → Cut Bootstrap
 bootstrap_at rest = do
   handle ← u2_at rest
   arguments ← counted_at u2_at handle.1

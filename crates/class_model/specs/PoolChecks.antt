@@ -18,15 +18,15 @@ use Rattle.class_model.specs.declared.pool.Const.TheVariants.{Utf8, Integer, Flo
 
 -- ---- what indices name
 
-abbrev text_of : Const → Option (List ℕ)
+abbrev pub text_of : Const → Option (List ℕ)
 text_of (Utf8 text) = Some text
 text_of other = None
 
-abbrev class_name_of : Const → Option ℕ
+abbrev pub class_name_of : Const → Option ℕ
 class_name_of (Class name) = Some name
 class_name_of other = None
 
-abbrev name_and_type_of : Const → Option (ℕ × ℕ)
+abbrev pub name_and_type_of : Const → Option (ℕ × ℕ)
 name_and_type_of (NameAndType name descriptor) = Some (name, descriptor)
 name_and_type_of other = None
 
@@ -41,6 +41,10 @@ IsClassAt pool index = IsSome (option_and_then class_name_of (constant_at pool i
 -- the name of the class of the Class constant at an index
 abbrev pub class_at : Constants → ℕ → Option (List ℕ)
 class_at pool index = option_and_then (utf8_at pool) (option_and_then class_name_of (constant_at pool index))
+
+-- the indices of the name and of the descriptor of the NameAndType constant at an index
+abbrev pub name_and_type_at : Constants → ℕ → Option (ℕ × ℕ)
+name_and_type_at pool index = option_and_then name_and_type_of (constant_at pool index)
 
 -- the index names a NameAndType constant
 abbrev pub IsNameAndTypeAt : Constants → ℕ → Type 0
@@ -95,6 +99,15 @@ FitsDescriptor descriptor name = IsUnqualifiedName name × IfSome descriptor (λ
 abbrev pub IsCalledName : Option (List ℕ) → List ℕ → Type 0
 IsCalledName descriptor name = IsMethodName name × (name ≢ clinit) × InitIsVoid name descriptor
 
+-- the name of a class or an array's descriptor (4.4.1)
+abbrev pub class_checks : ℕ → Constants → ℕ → List Check
+class_checks at pool name =
+    check at rules.Index (IsSome (utf8_at pool name)) ∷ check at rules.Name (IfSome (utf8_at pool name) IsReferenceName) ∷ []
+
+-- the text of a string (4.4.3)
+abbrev pub string_checks : ℕ → Constants → ℕ → List Check
+string_checks at pool text = check at rules.Index (IsSome (utf8_at pool text)) ∷ []
+
 -- a field reference (4.4.2)
 abbrev pub fieldref_checks : ℕ → Constants → ℕ → ℕ → List Check
 fieldref_checks at pool class member =
@@ -111,6 +124,27 @@ methodref_checks at pool class member =
     ∷ check at rules.Descriptor (IfSome (descriptor_at pool member) IsMethodDescriptor)
     ∷ []
 
+-- a name and its descriptor (4.4.6)
+abbrev pub name_and_type_checks : ℕ → Constants → ℕ → ℕ → List Check
+name_and_type_checks at pool name descriptor =
+    check at rules.Index (IsSome (utf8_at pool name) × IsSome (utf8_at pool descriptor))
+    ∷ check at rules.Name (IfSome (utf8_at pool name) (FitsDescriptor (utf8_at pool descriptor)))
+    ∷ check at rules.Descriptor (IfSome (utf8_at pool descriptor) (λ text. IsFieldDescriptor text ⊎ IsMethodDescriptor text))
+    ∷ []
+
+-- a method's descriptor (4.4.9)
+abbrev pub method_type_checks : ℕ → Constants → ℕ → List Check
+method_type_checks at pool descriptor =
+    check at rules.Index (IsSome (utf8_at pool descriptor)) ∷ check at rules.Descriptor (IfSome (utf8_at pool descriptor) IsMethodDescriptor) ∷ []
+
+-- the name and the descriptor of a dynamic call (4.4.10)
+abbrev pub dynamic_checks : ℕ → Constants → ℕ → List Check
+dynamic_checks at pool member =
+    check at rules.Index (IsNameAndTypeAt pool member)
+    ∷ check at rules.Name (IfSome (name_at pool member) (λ name. IsMethodName name × InitIsVoid name (descriptor_at pool member)))
+    ∷ check at rules.Descriptor (IfSome (descriptor_at pool member) IsMethodDescriptor)
+    ∷ []
+
 -- what a method handle of a kind refers to (4.4.8)
 abbrev pub IsField : Option Const → Type 0
 IsField (Some (Fieldref class member)) = Unit {0}
@@ -124,7 +158,7 @@ abbrev pub IsInterfaceMethod : Option Const → Type 0
 IsInterfaceMethod (Some (InterfaceMethodref class member)) = Unit {0}
 IsInterfaceMethod other = ⊥
 
-abbrev member_of : Const → Option ℕ
+abbrev pub member_of : Const → Option ℕ
 member_of (Fieldref class member) = Some member
 member_of (Methodref class member) = Some member
 member_of (InterfaceMethodref class member) = Some member
@@ -149,6 +183,10 @@ RefersWell major pool kind reference =
     ⊎ (((kind ≡ 8) × IsMethod constant × IfSome name (λ n. n ≡ init))
     ⊎ ((kind ≡ 9) × IsInterfaceMethod constant × IfSome name (λ n. n ≢ init)))))
 
+-- a method handle (4.4.8)
+abbrev pub handle_checks : ℕ → ℕ → Constants → ℕ → ℕ → List Check
+handle_checks major at pool kind reference = check at rules.Index (RefersWell major pool kind reference) ∷ []
+
 -- a constant at a place, in a class file of this major version
 abbrev pub constant_checks : ℕ → Constants → ℕ → Const → List Check
 constant_checks major pool at (Utf8 text) = check at rules.Text (IsModifiedUtf8 text) ∷ []
@@ -156,25 +194,15 @@ constant_checks major pool at (Integer number) = []
 constant_checks major pool at (Float bits) = []
 constant_checks major pool at (Long number) = []
 constant_checks major pool at (Double bits) = []
-constant_checks major pool at (Class name) =
-    check at rules.Index (IsSome (utf8_at pool name)) ∷ check at rules.Name (IfSome (utf8_at pool name) IsReferenceName) ∷ []
-constant_checks major pool at (String text) = check at rules.Index (IsSome (utf8_at pool text)) ∷ []
+constant_checks major pool at (Class name) = class_checks at pool name
+constant_checks major pool at (String text) = string_checks at pool text
 constant_checks major pool at (Fieldref class member) = fieldref_checks at pool class member
 constant_checks major pool at (Methodref class member) = methodref_checks at pool class member
 constant_checks major pool at (InterfaceMethodref class member) = methodref_checks at pool class member
-constant_checks major pool at (NameAndType name descriptor) =
-    check at rules.Index (IsSome (utf8_at pool name) × IsSome (utf8_at pool descriptor))
-    ∷ check at rules.Name (IfSome (utf8_at pool name) (FitsDescriptor (utf8_at pool descriptor)))
-    ∷ check at rules.Descriptor (IfSome (utf8_at pool descriptor) (λ text. IsFieldDescriptor text ⊎ IsMethodDescriptor text))
-    ∷ []
-constant_checks major pool at (MethodHandle kind reference) = check at rules.Index (RefersWell major pool kind reference) ∷ []
-constant_checks major pool at (MethodType descriptor) =
-    check at rules.Index (IsSome (utf8_at pool descriptor)) ∷ check at rules.Descriptor (IfSome (utf8_at pool descriptor) IsMethodDescriptor) ∷ []
-constant_checks major pool at (InvokeDynamic bootstrap member) =
-    check at rules.Index (IsNameAndTypeAt pool member)
-    ∷ check at rules.Name (IfSome (name_at pool member) (λ name. IsMethodName name × InitIsVoid name (descriptor_at pool member)))
-    ∷ check at rules.Descriptor (IfSome (descriptor_at pool member) IsMethodDescriptor)
-    ∷ []
+constant_checks major pool at (NameAndType name descriptor) = name_and_type_checks at pool name descriptor
+constant_checks major pool at (MethodHandle kind reference) = handle_checks major at pool kind reference
+constant_checks major pool at (MethodType descriptor) = method_type_checks at pool descriptor
+constant_checks major pool at (InvokeDynamic bootstrap member) = dynamic_checks at pool member
 
 -- entries one after the other, from a place on
 abbrev pub entries_checks : ℕ → Constants → ℕ → Constants → List Check

@@ -162,7 +162,7 @@ pub fn is_array_type(bytes: &[u8]) -> bool
 }
 
 // The most local units that parameters may take.
-const MAX_UNITS: u16 = 255;
+pub(crate) const MAX_UNITS: u16 = 255;
 
 // The most dimensions of an array type.
 const MAX_DIMENSIONS: usize = 255;
@@ -288,7 +288,7 @@ fn base_type(byte: u8) -> Option<FieldType>
 }
 
 // The bytes after the array type at the front.
-fn after_array(bytes: &[u8]) -> Option<&[u8]>
+pub(crate) fn after_array(bytes: &[u8]) -> Option<&[u8]>
     ensures some { IfSome result (λ rest. (text : List ℕ) × ArrayAt bytes.now text rest.now) }
     ensures none { IfNone result ((text rest : List ℕ) → ¬ ArrayAt bytes.now text rest) }
 {
@@ -301,7 +301,7 @@ fn after_array(bytes: &[u8]) -> Option<&[u8]>
 }
 
 // The bytes after all brackets at the front.
-fn after_brackets(bytes: &[u8]) -> &[u8]
+pub(crate) fn after_brackets(bytes: &[u8]) -> &[u8]
     ensures { BracketsAt bytes.now result.now }
 {
     let mut rest = bytes;
@@ -312,7 +312,7 @@ fn after_brackets(bytes: &[u8]) -> &[u8]
 }
 
 // The bytes after the first, if that is this byte.
-fn after_byte(bytes: &[u8], byte: u8) -> Option<&[u8]>
+pub(crate) fn after_byte(bytes: &[u8], byte: u8) -> Option<&[u8]>
     ensures some { IfSome result (λ rest. bytes.now ≡ byte ∷ rest.now) }
     ensures none { IfNone result ((rest : List ℕ) → bytes.now ≢ byte ∷ rest) }
 {
@@ -323,7 +323,7 @@ fn after_byte(bytes: &[u8], byte: u8) -> Option<&[u8]>
 }
 
 // The bytes after the field type at the front, if that is no array.
-fn after_element(bytes: &[u8]) -> Option<&[u8]>
+pub(crate) fn after_element(bytes: &[u8]) -> Option<&[u8]>
     ensures some { IfSome result (λ rest. ElementAt bytes.now rest.now) }
     ensures none { IfNone result ((rest : List ℕ) → ¬ ElementAt bytes.now rest) }
 {

@@ -146,3 +146,48 @@ fn field_types(rt: HostRuntime) -> Result<(), Fail> {
     }
     Ok(())
 }
+
+#[test]
+fn descriptors_over_bytes(rt: HostRuntime) -> Result<(), Fail> {
+    // a name of a reference type, a field descriptor
+    let table: [(&[u8], bool, bool); 9] = [
+        (b"P", true, false),
+        (b"a/P", true, false),
+        (b"LP;", false, true),
+        (b"[J", true, true),
+        (b"J", true, true),
+        (b"", false, false),
+        (b"[V", false, false),
+        (b"[", false, false),
+        // no text
+        (b"L\xFF;", false, true),
+    ];
+    for (bytes, reference, descriptor) in table {
+        assert_eq!(rt; is_reference_name(bytes), reference, "{bytes:?}");
+        assert_eq!(rt; is_field_descriptor(bytes), descriptor, "{bytes:?}");
+    }
+    Ok(())
+}
+
+#[test]
+fn shapes_of_methods(rt: HostRuntime) -> Result<(), Fail> {
+    let table: [(&[u8], Option<(u16, bool)>); 7] = [
+        (b"()V", Some((0, true))),
+        (b"(IJ[DLP;)I", Some((5, false))),
+        (b"(D)[V", None),
+        (b"()", None),
+        (b"I", None),
+        (b"(V)V", None),
+        (b"(L\xFF;)V", Some((1, true))),
+    ];
+    for (bytes, shape) in table {
+        let shape = shape.map(|(units, is_void)| MethodShape { units, is_void });
+        assert_eq!(rt; method_shape(bytes), shape, "{bytes:?}");
+    }
+    for (count, units) in [(255, Some(255)), (256, None)] {
+        let bytes = repeated(rt.alloc(), b"(", b'I', count, b")V")?;
+        let shape = method_shape(&bytes);
+        assert_eq!(rt; shape.map(|shape| shape.units), units, "{count}");
+    }
+    Ok(())
+}

@@ -1,12 +1,12 @@
 //! Frames of verification types (JVM Specification SE 8, 4.7.4 and 4.10.1.2).
-ghost use Rattle.std.specs.Prelude.{◌≡◌, IfOk};
+ghost use Rattle.std.specs.Prelude.{◌≡◌, ◌↔◌, IsTrue, IfOk};
 
 use crate::list::ListOf;
 use crate::memory::NoMemory;
 use crate::text::Text;
 
 /// A verification type.
-#[derive(Debug, Drop)]
+#[derive(PartialEq, Eq, Debug, Drop)]
 pub enum VType {
     Top,
     Int,
@@ -45,10 +45,19 @@ pub type VTypeList = ListOf<VType>;
 
 /// A frame: the types of the locals by unit, where a long or double is followed by `Top`, and of the
 /// stack's entries, the lowest first.
-#[derive(Debug, Drop)]
+#[derive(PartialEq, Eq, Debug, Drop)]
 pub struct Frame {
     pub locals: VTypeList,
     pub stack: VTypeList,
+}
+
+impl Frame {
+    /// Whether another frame has the same types: what `==` answers, said of the values.
+    pub fn is_same(&self, other: &Frame) -> bool
+        ensures { IsTrue result ↔ (self.now ≡ other.now) }
+    {
+        self == other
+    }
 }
 
 /// A frame that is stated for an offset of a code.

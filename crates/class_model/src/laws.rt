@@ -1,11 +1,14 @@
 //! Laws: functions that do nothing, whose contracts say what always holds.
-ghost use Rattle.std.specs.Prelude.{◌≡◌, ◌⊎◌, ◌++◌, ℕ, List};
+ghost use Rattle.std.specs.Prelude.{◌≡◌, ◌⊎◌, ◌+◌, ◌++◌, ℕ, List, length, Ok};
 ghost use Rattle.class_model.specs.Checks.{Fault};
-ghost use Rattle.class_model.specs.ClassOf.{ClassOf, FirstFault, IsOtherVersion};
-ghost use Rattle.class_model.specs.Cutting.{IsBytes, Version};
-ghost use Rattle.class_model.specs.Descriptors.{SpellsFieldType, SpellsDescriptor};
+ghost use Rattle.class_model.specs.ClassOf.{ClassOf, FirstFault, IsOtherVersion, start};
+ghost use Rattle.class_model.specs.Cutting.{IsBytes, Rest, Version, version_at, class_at, pool_at};
+ghost use Rattle.class_model.specs.Descriptors.{SpellsFieldType, SpellsDescriptor, parameters_of};
 ghost use Rattle.class_model.specs.Instructions.{IsSpelling};
-ghost use Rattle.class_model.specs.Spelling.{class_bytes};
+ghost use Rattle.class_model.specs.ModifiedUtf8.{IsText};
+ghost use Rattle.class_model.specs.Pool.{Constants};
+ghost use Rattle.class_model.specs.PoolChecks.{BytesSpell};
+ghost use Rattle.class_model.specs.Spelling.{class_bytes, pool_bytes};
 ghost use Rattle.class_model.specs.declared.class_file.ClassFile.{ClassFile};
 ghost use Rattle.class_model.specs.declared.instr.Instr.{Instr};
 ghost use Rattle.class_model.specs.declared.descriptor.FieldType.{FieldType};
@@ -19,6 +22,11 @@ pub fn a_text_spells_one_field_type()
 /// A text spells at most one method descriptor.
 pub fn a_text_spells_one_descriptor()
     ensures { (text : List ℕ) (one other : Descriptor) → SpellsDescriptor text one → SpellsDescriptor text other → one ≡ other }
+{}
+
+/// The parameters that are cut from the text of a method descriptor are those that it spells.
+pub fn parameters_are_spelled()
+    ensures { (text : List ℕ) (descriptor : Descriptor) → SpellsDescriptor text descriptor → parameters_of text ≡ descriptor.params }
 {}
 
 /// Bytes at an offset of a code spell at most one instruction, and no bytes of one are the front of others.
@@ -54,4 +62,21 @@ pub fn a_class_file_is_spelled()
 /// Bytes are a class file, or of a version that is not read, or have a first fault.
 pub fn each_file_is_told()
     ensures { (bytes : List ℕ) → ((class : ClassFile) × ClassOf bytes class) ⊎ (((version : Version) × IsOtherVersion bytes version) ⊎ ((f : Fault) × FirstFault bytes f)) }
+{}
+
+/// A constant pool that is cut from bytes is spelled by those that it took.
+pub fn a_cut_pool_is_spelled()
+    ensures { (major : ℕ) (rest after : Rest) (pool : Constants) → IsBytes rest.bytes → pool_at major rest ≡ Ok (pool, after)
+        → (rest.bytes ≡ pool_bytes pool ++ after.bytes) × (after.at ≡ rest.at + length (pool_bytes pool)) }
+{}
+
+/// A class file that was cut out of bytes is spelled by them, and its pool begins at the eighth.
+pub fn a_cut_class_is_spelled()
+    ensures { (bytes : List ℕ) (version : Version) (rest : Rest) (class : ClassFile) → IsBytes bytes → version_at (start bytes) ≡ Ok (version, rest) → class_at version rest ≡ Ok class
+        → (bytes ≡ class_bytes class) × (rest.at ≡ 8) }
+{}
+
+/// Bytes of a text that are a method descriptor spell it as a text: the names in it are texts.
+pub fn a_descriptor_of_a_text()
+    ensures { (text : List ℕ) (descriptor : Descriptor) → IsText text → BytesSpell text descriptor → SpellsDescriptor text descriptor }
 {}

@@ -4,12 +4,15 @@
 
 mod class_file;
 mod descriptor;
+mod descriptor_bytes;
 mod fault;
 mod frame;
 mod header;
 mod instr;
+mod items;
 mod laws;
 mod list;
+mod lookup;
 mod memory;
 mod names;
 mod pool;
@@ -23,20 +26,28 @@ pub use descriptor::{
     Descriptor, FieldType, FieldTypeList, Kind, NameFault, is_array_type, is_field_type,
     parse_descriptor, parse_field_type,
 };
+pub use descriptor_bytes::{
+    MethodShape, dimensions, is_field_descriptor, is_reference_name, method_shape,
+};
 pub use fault::{ClassFault, FileRule};
 pub use frame::{Frame, PlacedFrame, PlacedFrameList, VType, VTypeList};
 pub use header::{Header, Member, MemberList, TextList};
 pub use instr::{Imm, Instr, Pair, PairList, Placed, PlacedList, TargetList};
+pub use items::{Cursor, push_u2, push_u4};
 pub use laws::{
-    a_class_file_has_no_fault, a_class_file_is_spelled, a_spelling_is_one_instruction,
+    a_class_file_has_no_fault, a_class_file_is_spelled, a_cut_class_is_spelled,
+    a_cut_pool_is_spelled, a_descriptor_of_a_text, a_spelling_is_one_instruction,
     a_text_spells_one_descriptor, a_text_spells_one_field_type, another_version_is_no_class_file,
-    bytes_are_one_class_file, each_file_is_told, one_first_fault,
+    bytes_are_one_class_file, each_file_is_told, one_first_fault, parameters_are_spelled,
 };
 pub use list::{ByteList, ListOf};
 pub use memory::NoMemory;
-pub use names::{BadName, parse_class_name};
+pub use names::{
+    BadName, CLINIT, INIT, is_class_name, is_field_name, is_method_name, is_unqualified_name,
+    parse_class_name,
+};
 pub use pool::{Const, Pool};
-pub use text::{Text, TextFault};
+pub use text::{Text, TextFault, is_modified_utf8};
 
 #[cfg(test)]
 mod descriptor_tests;

@@ -1,5 +1,6 @@
 //! The list type of the public calls.
 ghost use Rattle.std.specs.Prelude.{◌≡◌, [], ◌∷◌, ◌++◌, ◌==◌, length, OnOk, OnErr, ℕ};
+ghost use Rattle.std.specs.Cmp.Lexicographic.{pointwise, lists_per, lists_equiv};
 ghost use Rattle.std.specs.Option.{option_copied};
 ghost use Rattle.std.specs.List.{slice_get};
 
@@ -22,6 +23,20 @@ impl<T> Model for ListOf<T> {
     ghost Value = { List T };
 
     ghost view = { λ list. list.items.items };
+}
+
+impl<T: PartialEq> PartialEq for ListOf<T> {
+    ghost eq = { pointwise T.eq };
+
+    ghost laws = { lists_per T.laws };
+
+    fn eq(&self, other: &Self) -> bool {
+        self.as_slice() == other.as_slice()
+    }
+}
+
+impl<T: Eq> Eq for ListOf<T> {
+    ghost laws = { lists_equiv T.Eq.laws };
 }
 
 impl<T> ListOf<T> {

@@ -67,6 +67,73 @@ fn class_names(rt: HostRuntime) -> Result<(), Fail> {
 }
 
 #[test]
+fn member_names(rt: HostRuntime) -> Result<(), Fail> {
+    // of a field, of a method, unqualified
+    let table: [(&[u8], bool, bool, bool); 7] = [
+        (b"a", true, true, true),
+        (b"", false, false, false),
+        (b"a/b", false, false, false),
+        (b"a<", true, false, true),
+        (b"<a", false, false, true),
+        (b"<init>", false, true, true),
+        (b"<clinit>", false, true, true),
+    ];
+    for (name, field, method, unqualified) in table {
+        assert_eq!(rt; is_field_name(name), field, "at {name:?}");
+        assert_eq!(rt; is_method_name(name), method, "at {name:?}");
+        assert_eq!(rt; is_unqualified_name(name), unqualified, "at {name:?}");
+    }
+    Ok(())
+}
+
+#[test]
+fn numbers_are_read(rt: HostRuntime) -> Result<(), Fail> {
+    let bytes = [9, 1, 0x12, 0x34, 1, 2, 3, 4, 0, 0, 0, 0, 0, 0, 1, 0, 7, 8];
+    let mut cursor = Cursor::new(&bytes, 1);
+    assert_eq!(rt; cursor.u1()?, 1);
+    assert_eq!(rt; cursor.u2()?, 0x1234);
+    assert_eq!(rt; cursor.u4()?, 0x0102_0304);
+    assert_eq!(rt; cursor.eight_bytes()?, 0x100);
+    let short = Err(ClassFault::Malformed {
+        at: 16,
+        rule: FileRule::Short,
+    });
+    assert_eq!(rt; cursor.u4(), short);
+    assert_eq!(rt; cursor.bytes(3).is_err(), true);
+    assert_eq!(rt; cursor.rest(), [7, 8].as_slice());
+    assert_eq!(rt; cursor.bytes(2)?, [7, 8].as_slice());
+    assert_eq!(rt; cursor.at(), 18);
+    assert!(rt; cursor.is_empty());
+    assert!(rt; Cursor::new(&bytes, 19).is_empty());
+    Ok(())
+}
+
+#[test]
+fn numbers_are_written(rt: HostRuntime) -> Result<(), Fail> {
+    let mut out = Vec::new(rt.alloc());
+    push_u2(&mut out, 0x1234)?;
+    push_u4(&mut out, 0x0102_0304)?;
+    assert_eq!(rt; out.as_slice(), [0x12, 0x34, 1, 2, 3, 4].as_slice());
+    Ok(())
+}
+
+#[test]
+fn frames_are_compared(rt: HostRuntime) -> Result<(), Fail> {
+    let name = Text::of_bytes(rt.alloc(), b"A")?;
+    let frame = Frame {
+        locals: ListOf::from_vec(vec![in rt.alloc(); VType::Int, VType::Uninit(5)]?),
+        stack: ListOf::from_vec(vec![in rt.alloc(); VType::Object(name.copy()?)]?),
+    };
+    let other = Frame {
+        locals: ListOf::from_vec(vec![in rt.alloc(); VType::Int, VType::Uninit(6)]?),
+        stack: ListOf::from_vec(vec![in rt.alloc(); VType::Object(name)]?),
+    };
+    assert!(rt; frame.is_same(&frame) && !frame.is_same(&other));
+    assert!(rt; frame.stack == other.stack && frame.locals != other.locals);
+    Ok(())
+}
+
+#[test]
 fn pools(rt: HostRuntime) -> Result<(), Fail> {
     let mut pool = Pool::new(rt.alloc());
     assert_eq!(rt; pool.count(), 1);

@@ -107,8 +107,8 @@ impl Text {
 
 const MAX_LEN: usize = 65_535;
 
-// Whether the bytes are modified UTF-8.
-fn is_modified_utf8(bytes: &[u8]) -> bool
+/// Whether bytes are modified UTF-8 (JVM Specification SE 8, 4.4.7). It takes no memory.
+pub fn is_modified_utf8(bytes: &[u8]) -> bool
     ensures { IsTrue result ↔ IsModifiedUtf8 bytes.now }
 {
     let mut rest = bytes;
