@@ -1,0 +1,7 @@
+pub mod Copies
+pub mod CutBack
+pub mod Cuts
+pub mod Entries
+pub mod PoolReads
+pub mod RawPush
+pub mod AnswerParts

@@ -1,0 +1,11 @@
+-- What a constant is asked of the bootstrap methods (JVM Specification SE 8, 4.4.10).
+use Rattle.std.specs.Prelude.{◌<◌, ℕ, List, [], ◌∷◌}
+use Rattle.class_model.specs.Checks.{Check, check}
+use Rattle.class_model.specs.declared.fault.FileRule.TheVariants as rules
+use Rattle.class_model.specs.declared.pool.Const.{Const}
+use Rattle.class_model.specs.declared.pool.Const.TheVariants.{InvokeDynamic}
+
+-- a dynamic call names one of so many; its place is that of the constant
+abbrev pub bootstrap_checks : ℕ → ℕ → Const → List Check
+bootstrap_checks count at (InvokeDynamic bootstrap member) = check at rules.Index (bootstrap < count) ∷ []
+bootstrap_checks count at other = []

@@ -1,0 +1,46 @@
+//! Dynamic calls name bootstrap methods (JVM Specification SE 8, 4.4.10).
+ghost use Rattle.std.specs.Prelude.{◌≡◌, ◌+◌, ◌<◌, ◌^◌, length};
+ghost use Rattle.std.specs.List.{flat_map};
+ghost use Rattle.class_model.specs.Answers.{Answers};
+ghost use Rattle.class_model.specs.ClassOf.{dynamic_checks};
+ghost use Rattle.class_model.specs.Spelling.{entry_bytes};
+ghost use Rattle.pool_bytes.specs.Dynamics.{bootstrap_checks};
+
+use crate::raw::{RawConst, RawForm, RawPool};
+use class_model::{ClassFault, Const, FileRule};
+
+impl RawPool<'_> {
+    /// Checks that each InvokeDynamic constant names one of so many bootstrap methods; the first constant
+    /// stands at this place. It takes no memory.
+    ///
+    /// # Errors
+    /// `Malformed` with `Index` at the tag of the first that does not.
+    pub fn check_dynamics(&self, count: usize, at: u64) -> Result<(), ClassFault>
+        requires { at + length (flat_map entry_bytes self.now) < 2 ^ 64 }
+        ensures { Answers (dynamic_checks count at self.now) result }
+    {
+        let mut place = at;
+        for index in 1..self.count() {
+            if let Some(constant) = self.get(index) {
+                check_bootstrap(constant, count, place)?;
+                place += constant.byte_len();
+            }
+        }
+        Ok(())
+    }
+}
+
+fn check_bootstrap(constant: &RawConst<'_>, count: usize, at: u64) -> Result<(), ClassFault>
+    ensures { Answers (bootstrap_checks count at constant.now) result }
+{
+    match constant.form() {
+        RawForm::Constant(Const::InvokeDynamic(bootstrap, _)) if usize::from(*bootstrap) >= count =>
+            {
+                Err(ClassFault::Malformed {
+                    at,
+                    rule: FileRule::Index,
+                })
+            }
+        _ => Ok(()),
+    }
+}

@@ -1,0 +1,19 @@
+//! The constant pool read from bytes and written to bytes (JVM Specification SE 8, 4.4).
+#![tactic(auto)]
+
+mod checking;
+mod cutting;
+mod dynamics;
+mod lookups;
+mod raw;
+mod reading;
+mod tags;
+mod writing;
+
+pub use cutting::cut_pool;
+pub use raw::RawPool;
+pub use reading::read_pool;
+pub use writing::{push_pool, write_pool};
+
+#[cfg(test)]
+mod tests;
