@@ -1,0 +1,10 @@
+//! Laws: functions that do nothing, whose contracts say what always holds.
+ghost use Rattle.std.specs.Prelude.{◌≡◌, ℕ, List};
+ghost use Rattle.class_model.specs.Cutting.{IsBytes};
+ghost use Rattle.class_model.specs.declared.instr.Instr.{Instr};
+ghost use Rattle.code_bytes.specs.Encoding.{IsChosen};
+
+/// The spelling that is written is one: bytes that are it are what writing gives again.
+pub fn one_chosen_spelling()
+    ensures { (at : ℕ) (instr : Instr) (one other : List ℕ) → IsBytes one → IsBytes other → IsChosen at instr one → IsChosen at instr other → one ≡ other }
+{}
