@@ -1,0 +1,16 @@
+pub mod EntryUnits
+pub mod Offsets
+pub mod Faults
+pub mod Fronts
+pub mod EntriesRead
+pub mod FrameForms
+pub mod FramesRead
+pub mod TypesRead
+pub mod KindsRead
+pub mod FrameUnits
+pub mod TablesRead
+pub mod EntriesOfUnits
+pub mod Chosen
+pub mod FramesWritten
+pub mod TablesWritten
+pub mod OneTable

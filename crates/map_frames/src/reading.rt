@@ -1,0 +1,84 @@
+//! Reading a StackMapTable.
+ghost use Rattle.std.specs.Prelude.{};
+ghost use Rattle.class_model.specs.Answers.{Gives};
+ghost use Rattle.class_model.specs.Frames.{Setting, table_at};
+ghost use Rattle.map_frames.specs.Reading.{Accepts};
+
+use crate::code_index::CodeIndex;
+use crate::context::Context;
+use crate::walk::Walk;
+use class_model::{ClassFault, Frame, ListOf, PlacedFrame, PlacedFrameList, PlacedList, Pool};
+use std::alloc::Global;
+
+/// The frames that the content of a StackMapTable states for a code, each with its offset. The entry frame
+/// stands before the first. `max_locals` and `max_stack` are in units.
+///
+/// # Errors
+/// `Malformed` at a place of `bytes` with the first fault: `FrameKind`, `FrameType`, `FrameSize` and
+/// `FramePlace` at the frame, and `Attribute` at 0 where the frames do not end with these bytes.
+pub fn read_frames(
+    alloc: Global,
+    pool: &Pool,
+    entry: &Frame,
+    max_locals: u16,
+    max_stack: u16,
+    code: &PlacedList,
+    bytes: &[u8],
+) -> Result<PlacedFrameList, ClassFault>
+    ensures { let s : Setting = record { pool = pool.now; max_locals = max_locals; max_stack = max_stack; code = code.now } in
+        Gives (table_at s entry.now bytes.now) result }
+{
+    let code = CodeIndex::new(code.as_slice());
+    let context = Context {
+        alloc,
+        pool,
+        max_locals,
+        max_stack,
+        code,
+    };
+    let mut walk = Walk::new(alloc, entry, bytes)?;
+    let mut frames = ListOf::new(alloc);
+    let count = walk.count()?;
+    for _ in 0..count {
+        let (at, stack) = walk.frame(&context)?;
+        let frame = Frame {
+            locals: walk.locals(alloc, max_locals)?,
+            stack: stack.into_list(),
+        };
+        frames.push(PlacedFrame { at, frame })?;
+    }
+    walk.end()?;
+    Ok(frames)
+}
+
+/// Whether the content of a StackMapTable can be read: as `read_frames`, but the frames are not kept.
+///
+/// # Errors
+/// As `read_frames`.
+pub fn check_frames(
+    alloc: Global,
+    pool: &Pool,
+    entry: &Frame,
+    max_locals: u16,
+    max_stack: u16,
+    code: &PlacedList,
+    bytes: &[u8],
+) -> Result<(), ClassFault>
+    ensures { let s : Setting = record { pool = pool.now; max_locals = max_locals; max_stack = max_stack; code = code.now } in
+        Accepts (table_at s entry.now bytes.now) result }
+{
+    let code = CodeIndex::new(code.as_slice());
+    let context = Context {
+        alloc,
+        pool,
+        max_locals,
+        max_stack,
+        code,
+    };
+    let mut walk = Walk::new(alloc, entry, bytes)?;
+    let count = walk.count()?;
+    for _ in 0..count {
+        walk.frame(&context)?;
+    }
+    walk.end()
+}

@@ -1,0 +1,287 @@
+use super::*;
+use class_model::{
+    ClassFault, Const, FileRule, Frame, Instr, ListOf, Placed, PlacedFrameList, PlacedList, Pool,
+    Text, VType, VTypeList,
+};
+use std::alloc::Global;
+use std::test::Fail;
+
+const MAX_LOCALS: u16 = 6;
+
+const MAX_STACK: u16 = 3;
+
+// A pool whose Class constant at 2 names A, and that at 4 names no text.
+fn pool(alloc: Global) -> Result<Pool, Fail> {
+    let mut pool = Pool::new(alloc);
+    pool.push(Const::Utf8(Text::of_bytes(alloc, b"A")?))?;
+    pool.push(Const::Class(1))?;
+    pool.push(Const::Integer(7))?;
+    pool.push(Const::Class(3))?;
+    Ok(pool)
+}
+
+// An instruction at each offset below 300 but 9, a `new` at 7.
+fn placed(at: u32) -> Placed {
+    let instr = if at == 7 { Instr::New(2) } else { Instr::Nop };
+    Placed { at, len: 1, instr }
+}
+
+fn code(alloc: Global) -> Result<PlacedList, Fail> {
+    let mut code = ListOf::new(alloc);
+    for at in 0..300 {
+        if at != 9 {
+            code.push(placed(at))?;
+        }
+    }
+    Ok(code)
+}
+
+// The same instructions in an order that no code has.
+fn shuffled_code(alloc: Global) -> Result<PlacedList, Fail> {
+    let mut code = ListOf::new(alloc);
+    for at in (10..300).rev() {
+        code.push(placed(at))?;
+    }
+    for at in 0..9 {
+        code.push(placed(at))?;
+    }
+    Ok(code)
+}
+
+// The types of letters: those of descriptors, `_` for Top, N for null and U for `uninitializedThis`.
+fn types(alloc: Global, letters: &str) -> Result<VTypeList, Fail> {
+    let mut types = ListOf::new(alloc);
+    for letter in letters.bytes() {
+        types.push(match letter {
+            b'I' => VType::Int,
+            b'F' => VType::Float,
+            b'J' => VType::Long,
+            b'D' => VType::Double,
+            b'N' => VType::Null,
+            b'U' => VType::UninitThis,
+            b'A' => VType::Object(Text::of_bytes(alloc, b"A")?),
+            b'n' => VType::Uninit(7),
+            _ => VType::Top,
+        })?;
+    }
+    Ok(types)
+}
+
+fn push_types(text: &mut String, types: &[VType]) -> Result<(), Fail> {
+    for vtype in types {
+        text.push(match vtype {
+            VType::Top => '_',
+            VType::Int => 'I',
+            VType::Float => 'F',
+            VType::Long => 'J',
+            VType::Double => 'D',
+            VType::Null => 'N',
+            VType::UninitThis => 'U',
+            VType::Object(name) if name.bytes() == b"A".as_slice() => 'A',
+            VType::Uninit(7) => 'n',
+            _ => '?',
+        })?;
+    }
+    Ok(())
+}
+
+// Each frame as its offset, its locals and its stack.
+fn text_of(alloc: Global, frames: &PlacedFrameList) -> Result<String, Fail> {
+    let mut text = String::new(alloc);
+    for placed in frames.as_slice() {
+        text.push_str(&format!(in alloc; "{} ", placed.at)?)?;
+        push_types(&mut text, placed.frame.locals.as_slice())?;
+        text.push('/')?;
+        push_types(&mut text, placed.frame.stack.as_slice())?;
+        text.push(';')?;
+    }
+    Ok(text)
+}
+
+fn entry(alloc: Global, locals: &str) -> Result<Frame, Fail> {
+    Ok(Frame {
+        locals: types(alloc, locals)?,
+        stack: ListOf::new(alloc),
+    })
+}
+
+#[test]
+fn accepted_tables(rt: HostRuntime) -> Result<(), Fail> {
+    let table: [(&str, &[u8], &str); 26] = [
+        ("I", &[0, 0], ""),
+        // same
+        ("I", &[0, 1, 0], "0 I_____/;"),
+        ("I_____", &[0, 1, 10], "10 I_____/;"),
+        ("I", &[0, 1, 63], "63 I_____/;"),
+        // same with one item
+        ("I", &[0, 1, 64, 1], "0 I_____/I;"),
+        ("I", &[0, 1, 127, 7, 0, 2], "63 I_____/A;"),
+        ("I", &[0, 1, 64, 4], "0 I_____/J;"),
+        // same with one item, extended
+        ("I", &[0, 1, 247, 0, 64, 8, 0, 7], "64 I_____/n;"),
+        ("I", &[0, 1, 247, 1, 0, 6], "256 I_____/U;"),
+        // chop, by entry
+        ("IJ_F", &[0, 1, 248, 0, 1], "1 ______/;"),
+        ("IJ_F", &[0, 1, 249, 0, 1], "1 I_____/;"),
+        ("IJ_", &[0, 1, 250, 0, 1], "1 I_____/;"),
+        // same, extended
+        ("I", &[0, 1, 251, 1, 0], "256 I_____/;"),
+        // append
+        ("I", &[0, 1, 252, 0, 1, 4], "1 IJ____/;"),
+        ("I", &[0, 1, 253, 0, 1, 3, 5], "1 ID_N__/;"),
+        ("I", &[0, 1, 254, 0, 1, 3, 3, 2], "1 ID_D_F/;"),
+        // full
+        ("I", &[0, 1, 255, 0, 1, 0, 0, 0, 0], "1 ______/;"),
+        (
+            "I",
+            &[0, 1, 255, 0, 1, 0, 2, 4, 5, 0, 2, 3, 6],
+            "1 J_N___/DU;",
+        ),
+        // a later offset is one more than its delta
+        ("I", &[0, 2, 10, 0], "10 I_____/;11 I_____/;"),
+        (
+            "I",
+            &[0, 3, 252, 0, 1, 4, 250, 0, 0, 10],
+            "1 IJ____/;2 I_____/;13 I_____/;",
+        ),
+        // an entry frame with Top behind
+        ("I_F___", &[0, 1, 252, 0, 1, 2], "1 I_FF__/;"),
+        ("IJ____", &[0, 1, 252, 0, 1, 2], "1 IJ_F__/;"),
+        ("______", &[0, 1, 252, 0, 1, 2], "1 F_____/;"),
+        // a long whose second unit is not listed
+        ("J", &[0, 1, 252, 0, 1, 2], "1 J_F___/;"),
+        // Top that is stated
+        (
+            "I",
+            &[0, 2, 252, 0, 1, 0, 252, 0, 0, 1],
+            "1 I_____/;2 I_I___/;",
+        ),
+        ("I", &[0, 1, 64, 0], "0 I_____/_;"),
+    ];
+    let pool = pool(rt.alloc())?;
+    for code in [code(rt.alloc())?, shuffled_code(rt.alloc())?] {
+        for (locals, bytes, wanted) in table {
+            let entry = entry(rt.alloc(), locals)?;
+            let frames = read_frames(
+                rt.alloc(),
+                &pool,
+                &entry,
+                MAX_LOCALS,
+                MAX_STACK,
+                &code,
+                bytes,
+            )?;
+            assert_eq!(rt; text_of(rt.alloc(), &frames)?.as_str(), wanted);
+            check_frames(
+                rt.alloc(),
+                &pool,
+                &entry,
+                MAX_LOCALS,
+                MAX_STACK,
+                &code,
+                bytes,
+            )?;
+        }
+    }
+    Ok(())
+}
+
+#[test]
+fn refused_tables(rt: HostRuntime) -> Result<(), Fail> {
+    let table: [(&[u8], u64, FileRule); 46] = [
+        (&[0, 1, 128], 2, FileRule::FrameKind),
+        (&[0, 1, 246], 2, FileRule::FrameKind),
+        (&[0, 2, 10, 128], 3, FileRule::FrameKind),
+        // more is chopped than there is, whatever follows
+        (&[0, 1, 249, 0, 1], 2, FileRule::FrameKind),
+        (&[0, 1, 248], 2, FileRule::FrameKind),
+        // an unknown tag
+        (&[0, 1, 64, 9], 2, FileRule::FrameType),
+        (&[0, 1, 64, 255], 2, FileRule::FrameType),
+        (&[0, 2, 10, 252, 0, 0, 9], 3, FileRule::FrameType),
+        // no Class constant, and one without a text
+        (&[0, 1, 64, 7, 0, 0], 2, FileRule::FrameType),
+        (&[0, 1, 64, 7, 0, 1], 2, FileRule::FrameType),
+        (&[0, 1, 64, 7, 0, 4], 2, FileRule::FrameType),
+        (&[0, 1, 64, 7, 0, 5], 2, FileRule::FrameType),
+        // no new, and no instruction
+        (&[0, 1, 64, 8, 0, 6], 2, FileRule::FrameType),
+        (&[0, 1, 64, 8, 0, 9], 2, FileRule::FrameType),
+        // one unit more of locals and of stack
+        (&[0, 1, 254, 0, 1, 3, 3, 3], 2, FileRule::FrameSize),
+        (
+            &[0, 1, 255, 0, 1, 0, 0, 0, 3, 3, 1, 1],
+            2,
+            FileRule::FrameSize,
+        ),
+        // no instruction
+        (&[0, 1, 9], 2, FileRule::FramePlace),
+        (&[0, 1, 251, 1, 44], 2, FileRule::FramePlace),
+        (&[0, 1, 251, 255, 255], 2, FileRule::FramePlace),
+        (&[0, 2, 8, 0], 3, FileRule::FramePlace),
+        // which comes first
+        (
+            &[0, 1, 255, 0, 9, 0, 0, 0, 3, 3, 3, 9],
+            2,
+            FileRule::FrameType,
+        ),
+        (&[0, 1, 254, 0, 9, 3, 3, 3], 2, FileRule::FrameSize),
+        // an item that is missing
+        (&[], 0, FileRule::Attribute),
+        (&[0], 0, FileRule::Attribute),
+        (&[0, 1], 0, FileRule::Attribute),
+        (&[0, 2, 10], 0, FileRule::Attribute),
+        (&[0, 1, 64], 0, FileRule::Attribute),
+        (&[0, 1, 64, 7], 0, FileRule::Attribute),
+        (&[0, 1, 64, 7, 0], 0, FileRule::Attribute),
+        (&[0, 1, 64, 8, 0], 0, FileRule::Attribute),
+        (&[0, 1, 247], 0, FileRule::Attribute),
+        (&[0, 1, 247, 0], 0, FileRule::Attribute),
+        (&[0, 1, 247, 0, 1], 0, FileRule::Attribute),
+        (&[0, 1, 250, 0], 0, FileRule::Attribute),
+        (&[0, 1, 251, 0], 0, FileRule::Attribute),
+        (&[0, 1, 252, 0], 0, FileRule::Attribute),
+        (&[0, 1, 252, 0, 1], 0, FileRule::Attribute),
+        (&[0, 1, 254, 0, 1, 1, 1], 0, FileRule::Attribute),
+        (&[0, 1, 255, 0], 0, FileRule::Attribute),
+        (&[0, 1, 255, 0, 1, 0], 0, FileRule::Attribute),
+        (&[0, 1, 255, 0, 1, 0, 1], 0, FileRule::Attribute),
+        (&[0, 1, 255, 0, 1, 0, 0, 0], 0, FileRule::Attribute),
+        (&[0, 1, 255, 0, 1, 0, 0, 0, 1], 0, FileRule::Attribute),
+        // bytes behind the last frame
+        (&[0, 0, 0], 0, FileRule::Attribute),
+        (&[0, 1, 10, 0], 0, FileRule::Attribute),
+        (&[0, 1, 64, 1, 1], 0, FileRule::Attribute),
+    ];
+    let pool = pool(rt.alloc())?;
+    let entry = entry(rt.alloc(), "I")?;
+    for code in [code(rt.alloc())?, shuffled_code(rt.alloc())?] {
+        for (bytes, at, rule) in table {
+            let fault = ClassFault::Malformed { at, rule };
+            let read = read_frames(
+                rt.alloc(),
+                &pool,
+                &entry,
+                MAX_LOCALS,
+                MAX_STACK,
+                &code,
+                bytes,
+            );
+            assert!(rt;
+                matches!(read, Err(found) if found == fault),
+                "at {bytes:?}"
+            );
+            let checked = check_frames(
+                rt.alloc(),
+                &pool,
+                &entry,
+                MAX_LOCALS,
+                MAX_STACK,
+                &code,
+                bytes,
+            );
+            assert_eq!(rt; checked, Err(fault), "at {bytes:?}");
+        }
+    }
+    Ok(())
+}

@@ -1,0 +1,79 @@
+//! Writing a StackMapTable.
+ghost use Rattle.std.specs.Prelude.{◌≡◌, ◌≤◌, ◌++◌, List, ℕ, Ok, IfOk, OnOk};
+ghost use Rattle.class_model.specs.Frames.{Setting, table_at, entries_of_units};
+ghost use Rattle.map_frames.specs.Listing.{listed_of};
+ghost use Rattle.map_frames.specs.Writing.{FitsTable, IsTable, HasFrames, AreFrames, listed_at};
+
+use crate::class_indices::ClassIndices;
+use crate::frame_writing::{ListedFrame, push_frame};
+use crate::local_units::without_last_tops;
+use class_model::{
+    ByteList, Frame, ListOf, NoMemory, PlacedFrame, PlacedFrameList, Text, VType, push_u2,
+};
+use std::alloc::Global;
+
+/// A class and the index of its Class constant.
+#[derive(Debug, Drop)]
+pub struct NamedIndex {
+    pub class: Text,
+    pub index: u16,
+}
+
+/// The indices of classes in a pool.
+pub type IndexOfText = ListOf<NamedIndex>;
+
+/// The content of a StackMapTable that states these frames behind an entry frame, each in the first kind
+/// that fits. `class_index` names every class of the frames, the places increase, and each number and list
+/// fits two bytes.
+pub fn frame_bytes(
+    alloc: Global,
+    entry: &Frame,
+    frames: &PlacedFrameList,
+    class_index: &IndexOfText,
+) -> Result<ByteList, NoMemory>
+    requires { FitsTable class_index.now frames.now }
+    ensures chosen { IfOk result (IsTable class_index.now entry.now frames.now) }
+    ensures read { IfOk result (λ bytes. (s : Setting) → HasFrames s class_index.now frames.now → table_at s entry.now bytes ≡ Ok frames.now) }
+{
+    let classes = ClassIndices::new(alloc, class_index.as_slice())?;
+    let frames = frames.as_slice();
+    let before = without_last_tops(entry.locals.as_slice());
+    let mut out = Vec::new(alloc);
+    push_u2(&mut out, frames.len() as u16)?;
+    push_frames(&mut out, &classes, before, frames)?;
+    Ok(ListOf::from_vec(out))
+}
+
+// Appends frames, the first of them behind one with these locals.
+fn push_frames(
+    out: &mut Vec<u8>,
+    classes: &ClassIndices,
+    locals: &[VType],
+    frames: &[PlacedFrame],
+) -> Result<(), NoMemory>
+    requires { FitsTable classes.now frames.now }
+    ensures { OnOk result ((bytes : List ℕ) × (out.new.items ≡ out.old.items ++ bytes) × AreFrames classes.now 0 (entries_of_units locals.now) frames.now bytes) }
+{
+    let mut before = locals;
+    let mut from = 0;
+    for placed in frames {
+        let frame = listed_at(from, placed);
+        push_frame(out, classes, before, &frame)?;
+        before = frame.locals;
+        from = placed.at + 1;
+    }
+    Ok(())
+}
+
+// The frame as it is written, its delta counted from a place.
+fn listed_at(from: u32, placed: &PlacedFrame) -> ListedFrame<'_>
+    requires after { from ≤ placed.now.at }
+    requires near { placed.now.at ≤ 65535 }
+    ensures { listed_of result ≡ listed_at from placed.now }
+{
+    ListedFrame {
+        delta: (placed.at - from) as u16,
+        locals: without_last_tops(placed.frame.locals.as_slice()),
+        stack: placed.frame.stack.as_slice(),
+    }
+}

@@ -1,0 +1,247 @@
+ghost use Rattle.std.specs.Prelude.{◌≡◌, IsTrue};
+ghost use Rattle.std.specs.List.{AllByRecursion};
+ghost use Rattle.std.specs.Option.{is_some};
+ghost use Rattle.map_frames.specs.Writing.{index_of, is_by_unit, FitsType, FitsFrame, PlacesIncrease, FitsTable};
+
+use super::*;
+use class_model::{ByteList, Frame, ListOf, PlacedFrame, PlacedFrameList, Text, VType, VTypeList};
+use std::alloc::Global;
+use std::test::Fail;
+
+// ---- whether a table can be written
+
+fn is_indexed(classes: &[NamedIndex], name: &Text) -> bool
+    ensures { result ≡ is_some (index_of classes.now name.now) }
+{
+    match classes {
+        [] => false,
+        [first, others @ ..] => first.class == *name || is_indexed(others, name),
+    }
+}
+
+fn fits_type(classes: &[NamedIndex], kind: &VType) -> bool
+    ensures { IsTrue result → FitsType classes.now kind.now }
+{
+    match kind {
+        VType::Object(name) => is_indexed(classes, name),
+        VType::Uninit(at) => *at <= 65_535,
+        _ => true,
+    }
+}
+
+fn fits_types(classes: &[NamedIndex], types: &[VType]) -> bool
+    ensures { IsTrue result → AllByRecursion (FitsType classes.now) types.now }
+{
+    match types {
+        [] => true,
+        [first, others @ ..] => fits_type(classes, first) && fits_types(classes, others),
+    }
+}
+
+fn is_by_unit(units: &[VType]) -> bool
+    ensures { result ≡ is_by_unit units.now }
+{
+    match units {
+        [] => true,
+        [VType::Long | VType::Double, VType::Top, others @ ..] => is_by_unit(others),
+        [VType::Long | VType::Double, ..] => false,
+        [_, others @ ..] => is_by_unit(others),
+    }
+}
+
+fn fits_frame(classes: &[NamedIndex], frame: &Frame) -> bool
+    ensures { IsTrue result → FitsFrame classes.now frame.now }
+{
+    let locals = frame.locals.as_slice();
+    let stack = frame.stack.as_slice();
+    let is_short = locals.len() <= 65_535 && stack.len() <= 65_535;
+    is_short && is_by_unit(locals) && fits_types(classes, locals) && fits_types(classes, stack)
+}
+
+fn fits_frames(classes: &[NamedIndex], from: u32, frames: &[PlacedFrame]) -> bool
+    ensures places { IsTrue result → PlacesIncrease from frames.now }
+    ensures each { IsTrue result → AllByRecursion (λ placed. FitsFrame classes.now placed.frame) frames.now }
+{
+    match frames {
+        [] => true,
+        [first, others @ ..] => {
+            from <= first.at
+                && first.at <= 65_535
+                && fits_frame(classes, &first.frame)
+                && fits_frames(classes, first.at + 1, others)
+        }
+    }
+}
+
+fn fits_table(classes: &[NamedIndex], frames: &[PlacedFrame]) -> bool
+    ensures { IsTrue result → FitsTable classes.now frames.now }
+{
+    frames.len() <= 65_535 && fits_frames(classes, 0, frames)
+}
+
+// ---- tables in letters
+
+// A type by a letter: T for Top, I, F, J, D, N for null, U for an uninitialised this, A and B for classes,
+// and n for a new at 0x0304.
+fn type_of(alloc: Global, letter: u8) -> Result<VType, Fail> {
+    Ok(match letter {
+        b'I' => VType::Int,
+        b'F' => VType::Float,
+        b'J' => VType::Long,
+        b'D' => VType::Double,
+        b'N' => VType::Null,
+        b'U' => VType::UninitThis,
+        b'A' | b'B' => VType::Object(Text::of_bytes(alloc, &[letter])?),
+        b'n' => VType::Uninit(0x0304),
+        _ => VType::Top,
+    })
+}
+
+fn types_of(alloc: Global, letters: &[u8]) -> Result<VTypeList, Fail> {
+    let mut types = ListOf::new(alloc);
+    for letter in letters {
+        types.push(type_of(alloc, *letter)?)?;
+    }
+    Ok(types)
+}
+
+// A place, the units of the locals, and the stack.
+type Row<'a> = (u32, &'a [u8], &'a [u8]);
+
+fn frames_of(alloc: Global, rows: &[Row]) -> Result<PlacedFrameList, Fail> {
+    let mut frames = ListOf::new(alloc);
+    for (at, locals, stack) in rows {
+        let frame = Frame {
+            locals: types_of(alloc, locals)?,
+            stack: types_of(alloc, stack)?,
+        };
+        frames.push(PlacedFrame { at: *at, frame })?;
+    }
+    Ok(frames)
+}
+
+// A has the index 5, and again 9, and B has 0x0102.
+fn class_index(alloc: Global) -> Result<IndexOfText, Fail> {
+    let mut classes = ListOf::new(alloc);
+    for (name, index) in [(b'A', 5), (b'B', 0x0102), (b'A', 9)] {
+        let class = Text::of_bytes(alloc, &[name])?;
+        classes.push(NamedIndex { class, index })?;
+    }
+    Ok(classes)
+}
+
+// The bytes of a table, if it can be written.
+fn bytes_of(alloc: Global, entry: &[u8], rows: &[Row]) -> Result<Option<ByteList>, Fail> {
+    let entry = Frame {
+        locals: types_of(alloc, entry)?,
+        stack: ListOf::new(alloc),
+    };
+    let frames = frames_of(alloc, rows)?;
+    let classes = class_index(alloc)?;
+    if !fits_table(classes.as_slice(), frames.as_slice()) {
+        return Ok(None);
+    }
+    Ok(Some(frame_bytes(alloc, &entry, &frames, &classes)?))
+}
+
+// An entry frame's locals, the frames, and the bytes.
+type Case<'a> = (&'a [u8], &'a [Row<'a>], &'a [u8]);
+
+// Tables of one frame.
+const SINGLE: [Case<'static>; 24] = [
+    (b"I", &[(0, b"I", b"")], &[0, 1, 0]),
+    (b"I", &[(63, b"IT", b"")], &[0, 1, 63]),
+    (b"I", &[(64, b"I", b"")], &[0, 1, 251, 0, 64]),
+    (b"", &[(65_535, b"", b"")], &[0, 1, 251, 255, 255]),
+    // one item
+    (b"I", &[(63, b"I", b"F")], &[0, 1, 127, 2]),
+    (b"I", &[(64, b"I", b"J")], &[0, 1, 247, 0, 64, 4]),
+    (b"", &[(1, b"", b"B")], &[0, 1, 65, 7, 1, 2]),
+    (b"", &[(1, b"", b"n")], &[0, 1, 65, 8, 3, 4]),
+    // fewer locals
+    (b"IFN", &[(0, b"IFT", b"")], &[0, 1, 250, 0, 0]),
+    (b"IFN", &[(1, b"I", b"")], &[0, 1, 249, 0, 1]),
+    (b"IFN", &[(2, b"TTT", b"")], &[0, 1, 248, 0, 2]),
+    (b"IFNI", &[(3, b"", b"")], &[0, 1, 255, 0, 3, 0, 0, 0, 0]),
+    (b"ITF", &[(4, b"ITT", b"")], &[0, 1, 249, 0, 4]),
+    (b"JTDTI", &[(5, b"JT", b"")], &[0, 1, 249, 0, 5]),
+    // more locals
+    (b"I", &[(0, b"IF", b"")], &[0, 1, 252, 0, 0, 2]),
+    (b"I", &[(1, b"IJTDT", b"")], &[0, 1, 253, 0, 1, 4, 3]),
+    (b"I", &[(2, b"ITF", b"")], &[0, 1, 253, 0, 2, 0, 2]),
+    (
+        b"I",
+        &[(3, b"INUA", b"")],
+        &[0, 1, 254, 0, 3, 5, 6, 7, 0, 5],
+    ),
+    (
+        b"I",
+        &[(4, b"IFFFF", b"")],
+        &[0, 1, 255, 0, 4, 0, 5, 1, 2, 2, 2, 2, 0, 0],
+    ),
+    // other locals, or more on the stack
+    (b"I", &[(5, b"F", b"")], &[0, 1, 255, 0, 5, 0, 1, 2, 0, 0]),
+    (
+        b"IF",
+        &[(6, b"IN", b"")],
+        &[0, 1, 255, 0, 6, 0, 2, 1, 5, 0, 0],
+    ),
+    (
+        b"I",
+        &[(7, b"IF", b"N")],
+        &[0, 1, 255, 0, 7, 0, 2, 1, 2, 0, 1, 5],
+    ),
+    (
+        b"I",
+        &[(8, b"I", b"DJ")],
+        &[0, 1, 255, 0, 8, 0, 1, 1, 0, 2, 3, 4],
+    ),
+    (
+        b"",
+        &[(9, b"JTDT", b"AI")],
+        &[0, 1, 255, 0, 9, 0, 2, 4, 3, 0, 2, 7, 0, 5, 1],
+    ),
+];
+
+// Each later frame is behind the one before, and its delta is one less than the offsets are apart.
+const SEVERAL: [Case<'static>; 4] = [
+    (b"U", &[], &[0, 0]),
+    (
+        b"",
+        &[(0, b"", b""), (1, b"", b""), (66, b"", b"")],
+        &[0, 3, 0, 0, 251, 0, 64],
+    ),
+    (
+        b"",
+        &[(5, b"I", b""), (69, b"I", b"I")],
+        &[0, 2, 252, 0, 5, 1, 127, 1],
+    ),
+    (
+        b"I",
+        &[(0, b"IJT", b""), (9, b"ITT", b"")],
+        &[0, 2, 252, 0, 0, 4, 250, 0, 8],
+    ),
+];
+
+// The number of the first table with other bytes.
+fn first_wrong(alloc: Global, cases: &[Case]) -> Result<Option<usize>, Fail> {
+    for (number, (entry, frames, bytes)) in cases.iter().enumerate() {
+        match bytes_of(alloc, entry, frames)? {
+            Some(written) if written.as_slice() == *bytes => {}
+            _ => return Ok(Some(number)),
+        }
+    }
+    Ok(None)
+}
+
+#[test]
+fn each_frame_in_the_first_kind_that_fits(rt: HostRuntime) -> Result<(), Fail> {
+    assert_eq!(rt; first_wrong(rt.alloc(), &SINGLE)?, None);
+    Ok(())
+}
+
+#[test]
+fn frames_behind_one_another(rt: HostRuntime) -> Result<(), Fail> {
+    assert_eq!(rt; first_wrong(rt.alloc(), &SEVERAL)?, None);
+    Ok(())
+}
