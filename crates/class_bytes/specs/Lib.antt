@@ -1,2 +1,11 @@
 pub mod Reading
 pub mod Counts
+pub mod Cut
+pub mod Parts
+pub mod Signatures
+pub mod Shapes
+pub mod MethodParts
+pub mod Bootstraps
+pub mod CodeParts
+pub mod Entry
+pub mod Whole

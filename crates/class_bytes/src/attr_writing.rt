@@ -4,8 +4,9 @@ ghost use Rattle.std.specs.List.{flat_map};
 ghost use Rattle.class_model.specs.Spelling.{u2, raw_bytes, inner_bytes, handler_bytes, code_part_bytes, attr_bytes, attrs_bytes};
 ghost use Rattle.class_bytes.specs.Counts.{FitsContent, FitsInner, FitsInners, FitsPart, FitsAttr, FitsAttrs};
 
-use crate::items::{push_u2, push_u4};
-use class_model::{Attr, AttrList, CodePart, Handler, HandlerList, InnerAttrList, NoMemory};
+use class_model::{
+    Attr, AttrList, CodePart, Handler, HandlerList, InnerAttrList, NoMemory, push_u2, push_u4,
+};
 use std::alloc::Global;
 
 /// Appends the number of attributes, and the attributes.

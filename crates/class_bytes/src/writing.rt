@@ -5,11 +5,12 @@ ghost use Rattle.class_model.specs.Spelling.{u2, u2s, field_bytes, method_bytes,
 ghost use Rattle.class_bytes.specs.Counts.{FitsField, FitsFields, FitsMethod, FitsMethods, FitsCounts};
 
 use crate::attr_writing::push_attrs;
-use crate::items::{MAGIC, push_u2};
-use crate::pool_writing::push_pool;
+use crate::cut::MAGIC;
 use class_model::{
     ByteList, ClassFile, Field, FieldList, IndexList, ListOf, Method, MethodList, NoMemory,
+    push_u2, push_u4,
 };
+use pool_bytes::push_pool;
 use std::alloc::Global;
 
 /// The bytes of a class file, each list of which fits its count.
@@ -18,7 +19,7 @@ pub fn write_class(alloc: Global, class: &ClassFile) -> Result<ByteList, NoMemor
     ensures { IfOk result (λ bytes. bytes ≡ class_bytes class.now) }
 {
     let mut out = Vec::new(alloc);
-    out.extend_from_slice(&MAGIC)?;
+    push_u4(&mut out, MAGIC)?;
     push_u2(&mut out, class.minor)?;
     push_u2(&mut out, class.major)?;
     push_pool(&mut out, &class.pool)?;

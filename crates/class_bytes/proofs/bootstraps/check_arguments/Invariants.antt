@@ -1,0 +1,9 @@
+use Rattle.std.proofs.Common.{◌≡◌, ◌+◌, ◌*◌, drop}
+use Rattle.class_model.specs.Methods.{arguments_checks}
+use Rattle.class_bytes.proofs.Asking.{Remain}
+use Rattle.class_bytes.proofs.bootstraps.check_arguments.Given as goal
+
+abbrev pub invariant-loop-index : goal.invariant-loop-index
+invariant-loop-index l =
+    (l.place ≡ l.at + 2 * l.index-index)
+    × Remain (arguments_checks l.pool l.at l.indices) (arguments_checks l.pool l.place (drop l.index-index l.indices))

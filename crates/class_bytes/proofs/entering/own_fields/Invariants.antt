@@ -1,0 +1,6 @@
+use Rattle.std.proofs.Common.{◌≡◌, map, take}
+use Rattle.class_bytes.specs.Cut.{fields_of}
+use Rattle.class_bytes.proofs.entering.own_fields.Given as goal
+
+abbrev pub invariant-loop-field : goal.invariant-loop-field
+invariant-loop-field l = l.all ≡ fields_of (take l.field-index l.fields)

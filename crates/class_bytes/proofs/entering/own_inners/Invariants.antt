@@ -1,0 +1,6 @@
+use Rattle.std.proofs.Common.{◌≡◌, map, take}
+use Rattle.class_bytes.specs.Cut.{inners_of}
+use Rattle.class_bytes.proofs.entering.own_inners.Given as goal
+
+abbrev pub invariant-loop-attr : goal.invariant-loop-attr
+invariant-loop-attr l = l.all ≡ inners_of (take l.attr-index l.attrs)

@@ -1,0 +1,8 @@
+use Rattle.std.proofs.Common.{drop}
+use Rattle.class_model.specs.Code.{operand_checks}
+use Rattle.class_bytes.proofs.Asking.{Remain}
+use Rattle.class_bytes.proofs.operands.check_operands.Given as goal
+
+abbrev pub invariant-loop-placed : goal.invariant-loop-placed
+invariant-loop-placed l =
+    Remain (operand_checks l.start l.pool l.major l.max_locals l.code) (operand_checks l.start l.pool l.major l.max_locals (drop l.placed-index l.code))

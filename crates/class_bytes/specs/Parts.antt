@@ -1,0 +1,83 @@
+-- The parts of a class file behind its pool, and of what it is asked, each from its place on.
+use Rattle.std.specs.Prelude.{◌≡◌, ◌==◌, ◌+◌, ◌*◌, ℕ, List, [], ◌∷◌, ◌++◌, length, Result, Ok, Err, IsTrue, if◌then◌else◌}
+use Rattle.std.specs.List.{flat_map}
+use Rattle.class_model.specs.Checks.{Check, check, Fault, fault, ◌>>=◌}
+use Rattle.class_model.specs.Cutting.{Rest, Version, u2_at, counted_at, field_at, method_at, attr_at}
+use Rattle.class_model.specs.Descriptors.{SpellsDescriptor, parameter_units}
+use Rattle.class_model.specs.ClassOf.{fields_checks, methods_checks}
+use Rattle.class_model.specs.Members.{fits_class, class_name_checks, super_checks, interfaces_checks, attrs_checks}
+use Rattle.class_model.specs.Methods.{Home, class_attr_checks}
+use Rattle.class_model.specs.Pool.{Constants}
+use Rattle.class_model.specs.PoolChecks.{class_at}
+use Rattle.class_model.specs.Spelling.{entry_bytes, field_bytes, method_bytes, attr_bytes}
+use Rattle.class_model.specs.declared.class_file.Attr.{Attr}
+use Rattle.class_model.specs.declared.class_file.ClassFile.{ClassFile}
+use Rattle.class_model.specs.declared.class_file.Field.{Field}
+use Rattle.class_model.specs.declared.class_file.Method.{Method}
+use Rattle.class_model.specs.declared.descriptor.Descriptor.{Descriptor}
+use Rattle.class_model.specs.declared.fault.FileRule.TheVariants as rules
+
+-- the class file from behind its pool to its last byte
+abbrev pub body_at : Version → Constants → Rest → Result ClassFile Fault
+body_at version pool rest = do
+  flags ← u2_at rest
+  this ← u2_at flags.1
+  super ← u2_at this.1
+  interfaces ← counted_at u2_at super.1
+  fields ← counted_at field_at interfaces.1
+  methods ← counted_at method_at fields.1
+  attrs ← counted_at attr_at methods.1
+  if length attrs.1.bytes == 0 then Ok (record {
+    major = version.major;
+    minor = version.minor;
+    pool = pool;
+    flags = flags.0;
+    this_class = this.0;
+    super_class = super.0;
+    interfaces = interfaces.0;
+    fields = fields.0;
+    methods = methods.0;
+    attrs = attrs.0;
+  }) else Err (fault attrs.1.at rules.Extra)
+
+-- the flags, the class, its superclass and its interfaces; the place is that of the flags
+abbrev pub head_checks : Constants → ℕ → ClassFile → List Check
+head_checks pool at c =
+    (check at rules.Flags (IsTrue (fits_class c.flags)) ∷ [])
+    ++ class_name_checks pool (at + 2) c.this_class
+    ++ super_checks pool (at + 4) c.super_class
+    ++ interfaces_checks pool (at + 8) c.interfaces
+
+-- how many bytes they take with the count of the interfaces, and how many fields, methods and attributes take
+-- without theirs
+abbrev pub head_len : ClassFile → ℕ
+head_len c = 8 + 2 * length c.interfaces
+
+abbrev pub fields_len : List Field → ℕ
+fields_len fields = length (flat_map field_bytes fields)
+
+abbrev pub methods_len : List Method → ℕ
+methods_len methods = length (flat_map method_bytes methods)
+
+abbrev pub attrs_len : List Attr → ℕ
+attrs_len attrs = length (flat_map attr_bytes attrs)
+
+-- what stands behind the pool: the head, the fields, the methods and the attributes, each list behind its count
+abbrev pub behind_len : ClassFile → ℕ
+behind_len c = head_len c + (2 + fields_len c.fields) + (2 + methods_len c.methods) + (2 + attrs_len c.attrs)
+
+-- what that is asked, with the flags at this place
+abbrev pub behind_checks : ℕ → ClassFile → List Check
+behind_checks at c =
+    let fields = at + 8 + 2 * length c.interfaces in
+    let methods = fields + 2 + fields_len c.fields in
+    let attrs = methods + 2 + methods_len c.methods in
+    let home : Home = record { pool = c.pool; major = c.major; flags = c.flags; name = class_at c.pool c.this_class } in
+    head_checks c.pool at c
+    ++ (fields_checks c.pool c.flags [] (fields + 2) c.fields
+    ++ (methods_checks home [] (methods + 2) c.methods
+    ++ attrs_checks (class_attr_checks c.pool) [] (attrs + 2) c.attrs))
+
+-- a count is that of a method descriptor's parameters by units, and one more
+abbrev pub CountsUnits : List ℕ → ℕ → Type 0
+CountsUnits text count = (d : Descriptor) → SpellsDescriptor text d → count ≡ parameter_units d.params + 1
