@@ -17,3 +17,4 @@ test:
 
 bench: bin/pea
 	bash bench/copy.sh
+	bash bench/codes.sh
