@@ -4,14 +4,13 @@ use Rattle.std.specs.Borrow.{Bor}
 use Rattle.class_model.specs.Checks.{Check, Fault, fault, AllHold, IsFirstFault}
 use Rattle.class_model.specs.Cutting.{Rest, Cut}
 use Rattle.class_model.specs.declared.fault.ClassFault.{ClassFault}
-use Rattle.class_model.specs.declared.fault.ClassFault.TheVariants.{Malformed, Version, NotYet, NoMemory}
+use Rattle.class_model.specs.declared.fault.ClassFault.TheVariants.{Malformed, Version, NoMemory}
 
 -- the value that a definition gives, or its fault
 abbrev pub Gives : {X : Type 0} → Result X Fault → Result X ClassFault → Type 0
 Gives given (Ok x) = given ≡ Ok x
 Gives given (Err (Malformed at rule)) = given ≡ Err (fault at rule)
 Gives given (Err NoMemory) = Unit {0}
-Gives given (Err NotYet) = ⊥
 Gives given (Err (Version major minor)) = ⊥
 
 -- an item, and what is left behind it
@@ -19,7 +18,6 @@ abbrev pub Takes : {X : Type 0} → Cut X → Rest → Result X ClassFault → T
 Takes cut after (Ok x) = cut ≡ Ok (x, after)
 Takes cut after (Err (Malformed at rule)) = cut ≡ Err (fault at rule)
 Takes cut after (Err NoMemory) = Unit {0}
-Takes cut after (Err NotYet) = ⊥
 Takes cut after (Err (Version major minor)) = ⊥
 
 -- some bytes behind a reference, and what is left behind them
@@ -27,7 +25,6 @@ abbrev pub TakesBytes : Cut (List ℕ) → Rest → Result (Bor (List ℕ)) Clas
 TakesBytes cut after (Ok bytes) = cut ≡ Ok (bytes.now, after)
 TakesBytes cut after (Err (Malformed at rule)) = cut ≡ Err (fault at rule)
 TakesBytes cut after (Err NoMemory) = Unit {0}
-TakesBytes cut after (Err NotYet) = ⊥
 TakesBytes cut after (Err (Version major minor)) = ⊥
 
 -- every check holds and the value is this, or the first fault
@@ -35,7 +32,6 @@ abbrev pub Tells : {X : Type 0} → List Check → (X → Type 0) → Result X C
 Tells checks Is (Ok x) = AllHold checks × Is x
 Tells checks Is (Err (Malformed at rule)) = IsFirstFault checks (fault at rule)
 Tells checks Is (Err NoMemory) = Unit {0}
-Tells checks Is (Err NotYet) = ⊥
 Tells checks Is (Err (Version major minor)) = ⊥
 
 -- every check holds, or this is the first fault

@@ -15,4 +15,3 @@ pub mod Methods
 pub mod ClassOf
 pub mod Header
 pub mod Answers
-pub mod PlainClassFile

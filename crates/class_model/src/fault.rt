@@ -68,9 +68,6 @@ pub enum ClassFault {
     /// Their version is outside the list.
     #[error("version {major}.{minor}")]
     Version { major: u16, minor: u16 },
-    /// They are no plain class file. More kinds of class file will be read.
-    #[error("not a plain class file")]
-    NotYet,
     #[error("out of memory")]
     NoMemory,
 }

@@ -5,7 +5,7 @@ use Rattle.class_model.specs.Answers.{Gives}
 use Rattle.class_model.specs.Checks.{Fault, fault, ◌>>=◌}
 use Rattle.class_model.specs.Instructions.{instr_at, instrs_at, decoded}
 use Rattle.class_model.specs.declared.fault.ClassFault.{ClassFault}
-use Rattle.class_model.specs.declared.fault.ClassFault.TheVariants.{Malformed, Version, NotYet, NoMemory}
+use Rattle.class_model.specs.declared.fault.ClassFault.TheVariants.{Malformed, Version, NoMemory}
 use Rattle.class_model.specs.declared.instr.Instr.{Instr}
 use Rattle.class_model.specs.declared.instr.Placed.{Placed}
 
@@ -83,5 +83,4 @@ reads_all code done at (byte ∷ bytes) reads none = absurd (omega (arith, none)
 pub reads_given : (code : List ℕ) (done : List Placed) (at : ℕ) (bytes : List ℕ) (fault : ClassFault) → Reads code done at bytes → 0 < length bytes → Gives (instr_at at bytes) (Err fault) → Gives (decoded code) (Err fault)
 reads_given code done at bytes (Malformed place rule) reads some given = reads_fail code done at bytes (fault place rule) reads some given
 reads_given code done at bytes NoMemory reads some given = tt
-reads_given code done at bytes NotYet reads some given = given
 reads_given code done at bytes (Version major minor) reads some given = given

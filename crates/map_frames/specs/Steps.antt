@@ -7,7 +7,7 @@ use Rattle.class_model.specs.Frames.{Setting, Stated, entry_at, entries_at, fram
 use Rattle.class_model.specs.Instructions.{u1_in, u2_in, is_start}
 use Rattle.class_model.specs.PoolChecks.{class_at}
 use Rattle.class_model.specs.declared.fault.ClassFault.{ClassFault}
-use Rattle.class_model.specs.declared.fault.ClassFault.TheVariants.{Malformed, Version, NotYet, NoMemory}
+use Rattle.class_model.specs.declared.fault.ClassFault.TheVariants.{Malformed, Version, NoMemory}
 use Rattle.class_model.specs.declared.fault.FileRule.TheVariants as rules
 use Rattle.class_model.specs.declared.frame.Frame.{Frame}
 use Rattle.class_model.specs.declared.frame.PlacedFrame.{PlacedFrame}
@@ -99,7 +99,6 @@ fits_at s frame at f =
 abbrev pub Refuses : {X : Type 0} → Result X Fault → ClassFault → Type 0
 Refuses given (Malformed at rule) = given ≡ Err (fault at rule)
 Refuses given NoMemory = Unit {0}
-Refuses given NotYet = ⊥
 Refuses given (Version major minor) = ⊥
 
 -- the entries that are read are appended to those before
