@@ -10,7 +10,7 @@ use Rattle.class_model.specs.Pool.{Constants, constant_at}
 use Rattle.class_model.specs.PoolChecks.{constant_checks, entries_checks}
 use Rattle.class_model.specs.Spelling.{constant_bytes, entry_bytes}
 use Rattle.class_model.specs.declared.fault.ClassFault.{ClassFault}
-use Rattle.class_model.specs.declared.fault.ClassFault.TheVariants.{Malformed, Version, NotYet, NoMemory}
+use Rattle.class_model.specs.declared.fault.ClassFault.TheVariants.{Malformed, Version, NoMemory}
 use Rattle.class_model.specs.declared.pool.Const.{Const}
 use Rattle.class_model.specs.declared.pool.Const.TheVariants.{Utf8, Integer, Float, Long, Double, Class, String, Fieldref, Methodref, InterfaceMethodref, NameAndType, MethodHandle, MethodType, InvokeDynamic}
 use Rattle.pool_bytes.specs.Dynamics.{bootstrap_checks}
@@ -47,14 +47,12 @@ others_answer : (front others : List Check) (answer : Answer) → AllHold front 
 others_answer front others (Ok x) all rest = (all-append front others all rest.0, tt)
 others_answer front others (Err (Malformed at rule)) all rest = fault-after front others _ all rest
 others_answer front others (Err NoMemory) all rest = tt
-others_answer front others (Err NotYet) all rest = rest
 others_answer front others (Err (Version major minor)) all rest = rest
 
 -- where one of the first fails, they answer
 first_answer : (front others : List Check) (fault : ClassFault) → Answers {X = Unit {0}} front (Err fault) → Answers {X = Unit {0}} (front ++ others) (Err fault)
 first_answer front others (Malformed at rule) answer = fault-before front others _ answer
 first_answer front others NoMemory answer = tt
-first_answer front others NotYet answer = answer
 first_answer front others (Version major minor) answer = answer
 
 -- a ? passes on the fault

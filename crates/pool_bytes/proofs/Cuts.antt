@@ -7,7 +7,7 @@ use Rattle.class_model.specs.Checks.{Fault, fault, ◌>>=◌}
 use Rattle.class_model.specs.Cutting.{Rest, Cut, u1_at, u2_at, fields_at, entries_at, pool_at}
 use Rattle.class_model.specs.Pool.{Constants, entries_of}
 use Rattle.class_model.specs.declared.fault.ClassFault.{ClassFault}
-use Rattle.class_model.specs.declared.fault.ClassFault.TheVariants.{Malformed, Version, NotYet, NoMemory}
+use Rattle.class_model.specs.declared.fault.ClassFault.TheVariants.{Malformed, Version, NoMemory}
 use Rattle.class_model.specs.declared.fault.FileRule.TheVariants as rules
 use Rattle.class_model.specs.declared.pool.Const.{Const}
 use Rattle.pool_bytes.specs.Entries.{may_stand, entry_at}
@@ -98,7 +98,6 @@ pub stops : (major count : ℕ) (start : Rest) (pool : Constants) (rest after : 
     → Takes (entry_at major index count rest) after (Err e) → Takes (pool_at major start) after (Err e)
 stops major count start pool rest after index (Malformed at rule) here lt before taken = fails major count start pool rest lt before (fault at rule) (rw here at taken)
 stops major count start pool rest after index NoMemory here lt before taken = tt
-stops major count start pool rest after index NotYet here lt before taken = taken
 stops major count start pool rest after index (Version n m) here lt before taken = taken
 
 no_more : (left major count : ℕ) (pool : Constants) (rest : Rest) → count ≤ length pool → (entries_at left major (length pool) count rest >>= behind_them pool) ≡ Ok (pool, rest)

@@ -5,3 +5,4 @@ pub mod Entries
 pub mod PoolReads
 pub mod RawPush
 pub mod AnswerParts
+pub mod TextParts

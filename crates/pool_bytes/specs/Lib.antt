@@ -4,4 +4,5 @@ pub mod Raw
 pub mod ReadBack
 pub mod Reading
 pub mod Texts
+pub mod TextChecks
 pub mod Dynamics

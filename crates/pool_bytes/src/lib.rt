@@ -8,6 +8,7 @@ mod lookups;
 mod raw;
 mod reading;
 mod tags;
+mod texts;
 mod writing;
 
 pub use cutting::cut_pool;

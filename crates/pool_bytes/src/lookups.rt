@@ -1,5 +1,5 @@
 //! What the constants of a pool that is not checked yet hold, and what its indices name.
-ghost use Rattle.std.specs.Prelude.{◌≡◌, ◌↔◌, IsTrue, length, option_and_then};
+ghost use Rattle.std.specs.Prelude.{◌≡◌, ◌≤◌, ◌↔◌, IfSome, IsTrue, length, option_and_then};
 ghost use Rattle.std.specs.Option.{option_copied};
 ghost use Rattle.class_model.specs.Pool.{constant_at};
 ghost use Rattle.class_model.specs.PoolChecks.{utf8_at, text_of, class_name_of, name_and_type_of, IsClassAt, IsNameAndTypeAt, name_at, descriptor_at};
@@ -9,9 +9,10 @@ use crate::raw::{RawConst, RawForm, RawPool};
 use class_model::Const;
 
 impl RawConst<'_> {
-    /// The bytes of a Utf8 constant's text.
-    fn text(&self) -> Option<&[u8]>
-        ensures { option_copied result ≡ text_of self.now }
+    /// The bytes of a Utf8 constant's text: at most 65,535.
+    pub(crate) fn text(&self) -> Option<&[u8]>
+        ensures text { option_copied result ≡ text_of self.now }
+        ensures len { IfSome result (λ text. length text.now ≤ 65535) }
     {
         match self.form() {
             RawForm::Text(text) => Some(text),
@@ -21,7 +22,7 @@ impl RawConst<'_> {
     }
 
     /// The name of a class.
-    fn class_name(&self) -> Option<u16>
+    pub(crate) fn class_name(&self) -> Option<u16>
         ensures { result ≡ class_name_of self.now }
     {
         match self.form() {

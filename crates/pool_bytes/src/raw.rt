@@ -44,7 +44,8 @@ impl<'a> RawConst<'a> {
 
     /// What it is: a text that is not checked yet, or another constant.
     pub(crate) fn form(&self) -> &RawForm<'a>
-        ensures { constant_of result.now ≡ self.now }
+        ensures constant { constant_of result.now ≡ self.now }
+        ensures counted { IsCounted result.now }
     {
         &self.form
     }
