@@ -1,9 +1,9 @@
 -- Checks asked one part after the other.
-use Rattle.std.proofs.Common.{◌≡◌, ◌⊎◌, List, [], ◌∷◌, ◌++◌, Result, Ok, Err, inl, inr}
+use Rattle.std.proofs.Common.{List, [], ◌∷◌, ◌++◌, Result, Ok, Err, inl, inr}
 use Rattle.class_model.specs.Answers.{Tells}
 use Rattle.class_model.specs.Checks.{Check, Fault, fault, AllHold, IsFirstFault}
 use Rattle.class_model.specs.declared.fault.ClassFault.{ClassFault}
-use Rattle.class_model.specs.declared.fault.ClassFault.TheVariants.{Malformed, Version, NotYet, NoMemory}
+use Rattle.class_model.specs.declared.fault.ClassFault.TheVariants.{Malformed, Version, NoMemory}
 
 pub both_hold : (a b : List Check) → AllHold a → AllHold b → AllHold (a ++ b)
 both_hold [] b h k = k
@@ -23,14 +23,12 @@ pub goes_on : {X : Type 0} (a b : List Check) (Is : X → Type 0) (result : Resu
 goes_on a b Is (Ok x) h told = (both_hold a b h told.0, told.1)
 goes_on a b Is (Err (Malformed at rule)) h told = first_behind a b (fault at rule) h told
 goes_on a b Is (Err NoMemory) h told = tt
-goes_on a b Is (Err NotYet) h told = told
 goes_on a b Is (Err (Version major minor)) h told = told
 
 -- the first part is refused
 pub stops : {X Y : Type 0} (a b : List Check) (Is : X → Type 0) (Other : Y → Type 0) (e : ClassFault) → Tells a Is (Err e) → Tells (a ++ b) Other (Err e)
 stops a b Is Other (Malformed at rule) told = first_before a b (fault at rule) told
 stops a b Is Other NoMemory told = tt
-stops a b Is Other NotYet told = told
 stops a b Is Other (Version major minor) told = told
 
 -- ---- checks that are left
@@ -40,9 +38,6 @@ pub record Remain (whole left : List Check) : Type 0 where
   pub hold : AllHold left → AllHold whole
   pub fail : (f : Fault) → IsFirstFault left f → IsFirstFault whole f
 
-pub all_remain : (whole : List Check) → Remain whole whole
-all_remain whole = record { hold = λ h. h; fail = λ f first. first }
-
 -- the first of them hold too
 pub remain : {whole : List Check} (a b : List Check) → Remain whole (a ++ b) → AllHold a → Remain whole b
 remain a b left h = record { hold = λ k. left.hold (both_hold a b h k); fail = λ f first. left.fail f (first_behind a b f h first) }
@@ -51,5 +46,4 @@ remain a b left h = record { hold = λ k. left.hold (both_hold a b h k); fail = 
 pub refused : {X Y : Type 0} {whole : List Check} (a b : List Check) (Is : X → Type 0) (Other : Y → Type 0) (e : ClassFault) → Remain whole (a ++ b) → Tells a Is (Err e) → Tells whole Other (Err e)
 refused a b Is Other (Malformed at rule) left told = left.fail (fault at rule) (first_before a b (fault at rule) told)
 refused a b Is Other NoMemory left told = tt
-refused a b Is Other NotYet left told = told
 refused a b Is Other (Version major minor) left told = told

@@ -12,7 +12,7 @@ use Rattle.class_model.specs.declared.fault.ClassFault.{ClassFault}
 use Rattle.class_bytes.specs.Cut.{attr_of, attrs_of}
 use Rattle.class_bytes.specs.Parts.{attrs_len}
 use Rattle.class_bytes.specs.declared.cut.CutAttr.{CutAttr}
-use Rattle.class_bytes.proofs.Asking.{Remain, all_remain, remain, refused}
+use Rattle.class_bytes.proofs.Asking.{Remain, remain, refused}
 
 -- The attributes before this place hold, and whether one of them has the name; these are left.
 pub record Checked (pool : Constants) (name : List ℕ) (asks : List Attr → ℕ → Attr → List Check) (whole : List Check) (end : ℕ) (has_one : Bool) (place : ℕ) (left : List CutAttr) : Type 0 where
@@ -20,10 +20,6 @@ pub record Checked (pool : Constants) (name : List ℕ) (asks : List Attr → �
   pub named : has_one ≡ has_named pool name before
   pub remain : Remain whole (attrs_checks asks before place (attrs_of left))
   pub ends : place + attrs_len (attrs_of left) ≡ end
-
-pub at_start : (pool : Constants) (name : List ℕ) (asks : List Attr → ℕ → Attr → List Check) (at : ℕ) (attrs : List CutAttr)
-    → Checked pool name asks (attrs_checks asks [] at (attrs_of attrs)) (at + attrs_len (attrs_of attrs)) false at attrs
-at_start pool name asks at attrs = record { before = []; named = refl; remain = all_remain _; ends = refl }
 
 -- a test of what items are seen as
 pub any_seen : {A B : Type 0} (f : A → B) (test : B → Bool) (items : List A) → list_any (λ item. test (f item)) items ≡ list_any test (map f items)

@@ -1,31 +1,29 @@
 -- The attributes of a class checked one after the other, and how many bootstrap methods the first that has any has.
-use Rattle.std.proofs.Common.{◌≡◌, ◌⊎◌, ◌||◌, not, IsTrue, IsFalse, inl, inr, ◌++◌, ℕ, ◌+◌, ◌<◌, ◌^◌, Bool, true, false, List, [], ◌∷◌, length, get_or, drop, Option, Some, None, Result, Ok, Err, is_some, unwrap_or, if◌then◌else◌, refl, sym, ap, subst, ◌∙◌, arith, add-one, drop-cons}
+use Rattle.std.proofs.Common.{◌≡◌, ◌||◌, not, IsTrue, IsFalse, inl, inr, ℕ, ◌+◌, ◌<◌, Bool, true, false, List, [], ◌∷◌, length, get_or, drop, Option, Some, None, Result, Ok, Err, is_some, unwrap_or, refl, sym, ap, subst, ◌∙◌, add-one, drop-cons}
 use Rattle.std.specs.Option.{option_or, IsSome}
 use Rattle.std.specs.Prelude.{bytes_eq}
 use Rattle.std.proofs.lemmas.Slice.Eq.{bytes_eq-Decides}
 use Rattle.std.proofs.lemmas.Bool.Decides.{same_from_decides}
 use Rattle.class_model.specs.Answers.{Tells}
-use Rattle.class_model.specs.Checks.{Check, check, fault}
-use Rattle.class_model.specs.Members.{is_text, is_named, has_named, attrs_checks, attr_name_check}
+use Rattle.class_model.specs.Checks.{Check, check}
+use Rattle.class_model.specs.Members.{is_text, is_named, has_named, attr_name_check}
 use Rattle.class_model.specs.Methods.{bootstraps, bootstrap_methods, table_checks, class_attr_checks, bootstrap_count}
 use Rattle.class_model.specs.Pool.{Constants}
 use Rattle.class_model.specs.declared.class_file.Attr.{Attr}
 use Rattle.class_model.specs.declared.fault.ClassFault.{ClassFault}
-use Rattle.class_model.specs.declared.fault.ClassFault.TheVariants.{Malformed, Version, NotYet, NoMemory}
+use Rattle.class_model.specs.declared.fault.ClassFault.TheVariants.{Malformed, Version, NoMemory}
 use Rattle.class_model.specs.PoolChecks.{utf8_at}
 use Rattle.class_model.specs.declared.fault.FileRule.TheVariants as rules
 use Rattle.class_bytes.specs.Bootstraps.{own_count, CountsMethods}
 use Rattle.class_bytes.specs.Cut.{attr_of, attrs_of}
-use Rattle.class_bytes.specs.Parts.{attrs_len}
 use Rattle.class_bytes.specs.declared.cut.CutAttr.{CutAttr}
 use Rattle.class_bytes.proofs.Asking.{goes_on, stops}
-use Rattle.class_bytes.proofs.Attributes.{Checked, at_start, next_below, refuses, one_more}
+use Rattle.class_bytes.proofs.Attributes.{Checked, refuses, one_more}
 
 -- the refusal says nothing of a value
 pub refused_too : {X Y : Type 0} (checks : List Check) (Is : X → Type 0) (Other : Y → Type 0) (e : ClassFault) → Tells checks Is (Err e) → Tells checks Other (Err e)
 refused_too checks Is Other (Malformed at rule) told = told
 refused_too checks Is Other NoMemory told = told
-refused_too checks Is Other NotYet told = told
 refused_too checks Is Other (Version major minor) told = told
 
 -- the first attribute's count, or else that of the others
@@ -69,7 +67,6 @@ again true at (Malformed place rule) (inr later) = absurd later.1
 again false at (Malformed place rule) (inl here) = absurd (here.0 refl)
 again false at (Malformed place rule) (inr later) = absurd later.1
 again b at NoMemory told = tt
-again b at NotYet told = told
 again b at (Version major minor) told = told
 
 module _ (pool : Constants) (before : List Attr) (at : ℕ) (attr : CutAttr) (named : is_named pool bootstrap_methods (attr_of attr) ≡ true) (there : IsSome (utf8_at pool attr.name)) (is_again : Bool) (same : is_again ≡ has_named pool bootstrap_methods before) where
@@ -114,10 +111,6 @@ pub record AttrsChecked (pool : Constants) (whole : List Check) (end : ℕ) (att
   pub checked : Checked pool bootstrap_methods (class_attr_checks pool) whole end (is_some found) place left
   pub counted : bootstrap_count pool attrs ≡ unwrap_or found (bootstrap_count pool (attrs_of left))
 
-pub at_first : (pool : Constants) (at : ℕ) (attrs : List CutAttr)
-    → AttrsChecked pool (attrs_checks (class_attr_checks pool) [] at (attrs_of attrs)) (at + attrs_len (attrs_of attrs)) (attrs_of attrs) None at attrs
-at_first pool at attrs = record { checked = at_start pool bootstrap_methods (class_attr_checks pool) at attrs; counted = refl }
-
 or_is_some : (found own : Option ℕ) → (is_some found || is_some own) ≡ is_some (option_or found own)
 or_is_some None own = refl
 or_is_some (Some count) own = refl
@@ -146,9 +139,6 @@ module _ (pool : Constants) (whole : List Check) (end : ℕ) (found : Option ℕ
 
   abbrev TellsNext : Result (Option ℕ) ClassFault → Type 0
   TellsNext result = (before : List Attr) → is_some found ≡ has_named pool bootstrap_methods before → Tells (class_attr_checks pool before place (attr_of next)) (λ own. own ≡ own_count pool (attr_of next)) result
-
-  pub attr_below : end < 2 ^ 63 → place + 6 + length next.content.now < 2 ^ 63
-  attr_below below = next_below pool bootstrap_methods (class_attr_checks pool) whole end (is_some found) place attrs index none within so_far.checked below
 
   pub attr_refused : (Is : ℕ → Type 0) (e : ClassFault) → TellsNext (Err e) → Tells whole Is (Err e)
   attr_refused Is e told =

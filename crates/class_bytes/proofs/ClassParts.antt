@@ -10,7 +10,7 @@ use Rattle.class_model.specs.PoolChecks.{class_at, entries_checks}
 use Rattle.class_model.specs.Spelling.{entry_bytes}
 use Rattle.class_model.specs.declared.class_file.ClassFile.{ClassFile}
 use Rattle.class_model.specs.declared.fault.ClassFault.{ClassFault}
-use Rattle.class_model.specs.declared.fault.ClassFault.TheVariants.{Malformed, Version, NotYet, NoMemory}
+use Rattle.class_model.specs.declared.fault.ClassFault.TheVariants.{Malformed, Version, NoMemory}
 use Rattle.class_model.specs.declared.fault.FileRule.TheVariants as rules
 use Rattle.class_bytes.specs.Parts.{head_checks, fields_len, methods_len, behind_checks}
 use Rattle.class_bytes.proofs.Asking.{both_hold, goes_on, stops}
@@ -79,7 +79,6 @@ three_parts c =
 pub same_fault : {X Y : Type 0} (checks others : List Check) (Is : X → Type 0) (Other : Y → Type 0) (e : ClassFault) → checks ≡ others → Tells checks Is (Err e) → Tells others Other (Err e)
 same_fault checks others Is Other (Malformed at rule) same told = subst (λ (c : List Check). IsFirstFault c (fault at rule)) same told
 same_fault checks others Is Other NoMemory same told = tt
-same_fault checks others Is Other NotYet same told = told
 same_fault checks others Is Other (Version major minor) same told = told
 
 module _ (c : ClassFile) where

@@ -3,7 +3,6 @@ use Rattle.std.proofs.Common.{◌≡◌, ◌↔◌, nat_le, nat_eq, ℕ, ◌+◌
 use Rattle.std.proofs.lemmas.Bool.{eqb-true, leb-true, le-leb}
 use Rattle.std.specs.List.{AllByRecursion}
 use Rattle.class_model.specs.Descriptors.{SpellsDescriptor, IsFieldType, parameter_units}
-use Rattle.class_model.specs.ModifiedUtf8.{IsText}
 use Rattle.class_model.specs.PoolChecks.{BytesSpell, IsTypeName, IsMethodDescriptor}
 use Rattle.class_model.specs.declared.descriptor.Descriptor.{Descriptor}
 use Rattle.class_model.specs.declared.descriptor.FieldType.{FieldType}

@@ -11,7 +11,7 @@ use Rattle.class_model.specs.PoolChecks.{utf8_at, IsFieldDescriptor}
 use Rattle.class_model.specs.Spelling.{field_bytes}
 use Rattle.class_model.specs.declared.class_file.Field.{Field}
 use Rattle.class_model.specs.declared.fault.ClassFault.{ClassFault}
-use Rattle.class_model.specs.declared.fault.ClassFault.TheVariants.{Malformed, Version, NotYet, NoMemory}
+use Rattle.class_model.specs.declared.fault.ClassFault.TheVariants.{Malformed, Version, NoMemory}
 use Rattle.class_model.specs.declared.fault.FileRule.TheVariants as rules
 use Rattle.class_bytes.specs.Parts.{attrs_len}
 use Rattle.class_bytes.proofs.Asking.{goes_on}
@@ -21,7 +21,6 @@ pub tells_too : {X : Type 0} (checks : List Check) (Is Other : X → Type 0) →
 tells_too checks Is Other then (Ok x) told = (told.0, then x told.1)
 tells_too checks Is Other then (Err (Malformed at rule)) told = told
 tells_too checks Is Other then (Err NoMemory) told = told
-tells_too checks Is Other then (Err NotYet) told = told
 tells_too checks Is Other then (Err (Version major minor)) told = told
 
 abbrev pub field_front : Constants → ℕ → List Signature → ℕ → Field → List Check

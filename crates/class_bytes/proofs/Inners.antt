@@ -1,5 +1,5 @@
 -- The attributes of a code checked one after the other, of which one may be a StackMapTable.
-use Rattle.std.proofs.Common.{◌≡◌, ◌||◌, ℕ, ◌+◌, ◌<◌, Bool, false, List, ◌∷◌, length, get_or, drop, Ok, Err, refl, sym, ap, subst, ◌∙◌, arith, length-append, add-one, drop-cons}
+use Rattle.std.proofs.Common.{◌≡◌, ◌||◌, ℕ, ◌+◌, ◌<◌, Bool, List, ◌∷◌, length, get_or, drop, Ok, Err, sym, ap, subst, ◌∙◌, arith, length-append, add-one, drop-cons}
 use Rattle.std.specs.List.{flat_map}
 use Rattle.class_model.specs.Answers.{Tells}
 use Rattle.class_model.specs.Checks.{Check}
@@ -11,15 +11,12 @@ use Rattle.class_model.specs.declared.frame.Frame.{Frame}
 use Rattle.class_bytes.specs.CodeParts.{inners_len, inner_checks}
 use Rattle.class_bytes.specs.Cut.{inner_of, inners_of}
 use Rattle.class_bytes.specs.declared.cut.CutAttr.{CutAttr}
-use Rattle.class_bytes.proofs.Asking.{Remain, all_remain, remain, refused}
+use Rattle.class_bytes.proofs.Asking.{Remain, remain, refused}
 
 -- The attributes before this place hold, and whether one of them is a StackMapTable; these are left.
 pub record InnersChecked (s : Setting) (entry : Frame) (whole : List Check) (end : ℕ) (has_table : Bool) (place : ℕ) (left : List CutAttr) : Type 0 where
   pub remain : Remain whole (inners_checks s entry has_table place (inners_of left))
   pub ends : place + inners_len (inners_of left) ≡ end
-
-pub inners_at_start : (s : Setting) (entry : Frame) (at : ℕ) (attrs : List CutAttr) → InnersChecked s entry (inners_checks s entry false at (inners_of attrs)) (at + inners_len (inners_of attrs)) false at attrs
-inners_at_start s entry at attrs = record { remain = all_remain _; ends = refl }
 
 inner_len : (attr : CutAttr) → length (inner_bytes (inner_of attr)) ≡ 6 + length attr.content.now
 inner_len attr = omega arith

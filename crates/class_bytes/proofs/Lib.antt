@@ -1,9 +1,5 @@
-pub mod Forms
-pub mod Fronts
-pub mod Pools
-pub mod Exits
-pub mod Classes
-pub mod PlainFiles
+pub mod Steps
+pub mod CutBytes
 pub mod Many
 pub mod Bodies
 pub mod Kept
@@ -26,3 +22,10 @@ pub mod PartLengths
 pub mod PartsTold
 pub mod TableFaults
 pub mod WholeFiles
+pub mod Fits
+pub mod Skipping
+pub mod HeaderMembers
+pub mod HeaderAnswers
+pub mod HeaderCuts
+pub mod HeaderSame
+pub mod HeaderFiles

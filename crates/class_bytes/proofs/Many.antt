@@ -1,11 +1,11 @@
 -- Parts cut one after the other, as many as a count says, each seen as the value that it stands for.
-use Rattle.std.proofs.Common.{◌≡◌, ℕ, zero, suc, List, [], ◌∷◌, ◌++◌, map, Result, Ok, Err, refl, sym, ap, subst, ◌∙◌, append_assoc}
+use Rattle.std.proofs.Common.{◌≡◌, ℕ, suc, List, [], ◌∷◌, ◌++◌, map, Ok, Err, refl, sym, ap, subst, ◌∙◌, append_assoc}
 use Rattle.std.proofs.lemmas.List.{append-nil, map-append}
 use Rattle.class_model.specs.Answers.{Takes}
 use Rattle.class_model.specs.Checks.{Fault, fault, ◌>>=◌}
 use Rattle.class_model.specs.Cutting.{Rest, Cut, many_at}
 use Rattle.class_model.specs.declared.fault.ClassFault.{ClassFault}
-use Rattle.class_model.specs.declared.fault.ClassFault.TheVariants.{Malformed, Version, NotYet, NoMemory}
+use Rattle.class_model.specs.declared.fault.ClassFault.TheVariants.{Malformed, Version, NoMemory}
 
 -- what more was cut, behind what was cut before
 abbrev pub behind : {X : Type 0} → List X → Cut (List X) → Cut (List X)
@@ -15,13 +15,6 @@ behind got (Err f) = Err f
 -- these parts were cut, so many are left, and they are at this rest
 pub record SoFar {X : Type 0} (part : Rest → Cut X) (whole : Cut (List X)) (left : ℕ) (got : List X) (rest : Rest) : Type 0 where
   pub is : whole ≡ behind got (many_at part left rest)
-
-nothing_behind : {X : Type 0} (cut : Cut (List X)) → cut ≡ behind [] cut
-nothing_behind (Ok x) = refl
-nothing_behind (Err f) = refl
-
-pub at_start : {X : Type 0} (part : Rest → Cut X) (count : ℕ) (rest : Rest) → SoFar part (many_at part count rest) count [] rest
-at_start part count rest = record { is = nothing_behind (many_at part count rest) }
 
 more : {X : Type 0} (got : List X) (x : X) (cut : Cut (List X)) → behind got (cut >>= λ others. Ok (x ∷ others.0, others.1)) ≡ behind (got ++ x ∷ []) cut
 more got x (Ok others) = ap (λ all. Ok (all, others.1)) (sym (append_assoc got (x ∷ []) others.0))
@@ -50,7 +43,6 @@ pub stops : {X : Type 0} {part : Rest → Cut X} {whole : Cut (List X)} {left : 
 stops {part = part} {whole = whole} next {got = got} {rest = rest} so_far e (Malformed at rule) after cut =
     fails next got rest (subst (λ n. SoFar part whole n got rest) e so_far) (fault at rule) cut
 stops next so_far e NoMemory after cut = tt
-stops next so_far e NotYet after cut = cut
 stops next so_far e (Version major minor) after cut = cut
 
 done : {X : Type 0} {part : Rest → Cut X} {whole : Cut (List X)} (got : List X) (rest : Rest) → SoFar part whole 0 got rest → whole ≡ Ok (got, rest)

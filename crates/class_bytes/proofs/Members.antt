@@ -14,7 +14,7 @@ use Rattle.class_bytes.specs.Parts.{fields_len, methods_len}
 use Rattle.class_bytes.specs.Signatures.{Knows}
 use Rattle.class_bytes.specs.declared.cut.CutMember.{CutMember}
 use Rattle.class_bytes.specs.declared.signatures.Signatures.{Signatures}
-use Rattle.class_bytes.proofs.Asking.{Remain, all_remain, remain, refused}
+use Rattle.class_bytes.proofs.Asking.{Remain, remain, refused}
 
 abbrev pub signature_of : CutMember → Signature
 signature_of member = record { name = member.name; desc = member.desc }
@@ -54,10 +54,6 @@ pub record MembersChecked (pool : Constants) (kind : Kind) (whole : List Check) 
   pub knows : Knows pool before kept
   pub remain : Remain whole (kind.all before place left)
   pub ends : place + kind.len_all left ≡ end
-
-pub at_first : (pool : Constants) (kind : Kind) (at : ℕ) (members : List CutMember) (kept : Signatures) → Knows pool [] kept
-    → MembersChecked pool kind (kind.all [] at members) (at + kind.len_all members) kept at members
-at_first pool kind at members kept knows = record { before = []; knows = knows; remain = all_remain _; ends = refl }
 
 -- the next of them
 module _ (pool : Constants) (kind : Kind) (whole : List Check) (end : ℕ) (kept : Signatures) (place : ℕ) (members : List CutMember) (index : ℕ) (member : CutMember) (within : index < length members) (is : member ≡ get_or members index member) (so_far : MembersChecked pool kind whole end kept place (drop index members)) where

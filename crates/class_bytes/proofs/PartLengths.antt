@@ -1,39 +1,25 @@
 -- The parts of a Code attribute are as long as its content.
-use Rattle.std.proofs.Common.{◌≡◌, ℕ, zero, suc, ◌+◌, ◌*◌, ◌≤◌, Bool, true, false, cond, ltb, eqb, List, [], ◌∷◌, length, take, drop, Some, None, Result, Ok, Err, refl, subst, arith, length-append, length-drop}
+use Rattle.std.proofs.Common.{◌≡◌, ℕ, zero, suc, ◌+◌, ◌*◌, ◌≤◌, true, ltb, eqb, List, [], ◌∷◌, ◌++◌, length, take, drop, Some, Ok, Err, refl, subst, arith, length-append, length-drop}
 use Rattle.std.specs.Int.{Width, w16, w32, byte_len, from_be_bytes}
 use Rattle.std.specs.List.{flat_map}
 use Rattle.std.proofs.lemmas.Bool.{ltb-false, eqb-true}
 use Rattle.std.proofs.lemmas.List.{length-take}
-use Rattle.class_model.specs.Checks.{Fault, fault, ◌>>=◌}
+use Rattle.class_model.specs.Checks.{fault}
 use Rattle.class_model.specs.Code.{handler_at, inner_at, part_at, whole, code_part}
 use Rattle.class_model.specs.Cutting.{Rest, Cut, behind, bytes_at, number_at, u2_at, u4_at, many_at, counted_at}
-use Rattle.class_model.specs.Spelling.{handler_bytes, inner_bytes}
+use Rattle.class_model.specs.Spelling.{u2, u4, handler_bytes, inner_bytes, code_part_bytes}
 use Rattle.class_model.specs.declared.class_file.CodePart.{CodePart}
 use Rattle.class_model.specs.declared.class_file.Handler.{Handler}
 use Rattle.class_model.specs.declared.class_file.InnerAttr.{InnerAttr}
 use Rattle.class_model.specs.declared.fault.FileRule.TheVariants as rules
 use Rattle.class_bytes.specs.CodeParts.{parts_len}
+use Rattle.class_bytes.proofs.Steps.{bind_ok, same_done, guard_false, guard_some}
 
 -- What a part cuts off has a size.
 record Spends {X : Type 0} (part : Rest → Cut X) (size : X → ℕ) : Type 0 where
   pub spent : (rest : Rest) (x : X × Rest) → part rest ≡ Ok x → size x.0 + length x.1.bytes ≡ length rest.bytes
 
--- the value of a step that did not fail
-bind_ok : {A B : Type 0} (r : Result A Fault) (f : A → Result B Fault) (y : B) → (r >>= f) ≡ Ok y → (x : A) × (r ≡ Ok x) × (f x ≡ Ok y)
-bind_ok (Ok x) f y e = (x, refl, e)
-bind_ok (Err d) f y e = absurd cc
-
-abbrev done : {Y : Type 0} → Y → Result Y Fault
-done y = Ok y
-
-same_done : {Y : Type 0} (x y : Y) → done x ≡ done y → x ≡ y
-same_done x y e = cc
-
 -- ---- items
-
-guard_false : {A : Type 0} (test : Bool) (f : Fault) (x y : A) → cond test (Err f) (Ok x) ≡ Ok y → (test ≡ false) × (x ≡ y)
-guard_false true f x y e = absurd cc
-guard_false false f x y e = (refl, cc)
 
 bytes_spend : (count : ℕ) → Spends (bytes_at count) (λ bytes. count)
 bytes_spend count = record {
@@ -147,12 +133,8 @@ part_spends = record {
       subst (λ (z : CodePart × Rest). 8 + parts_len z.0 + length z.1.bytes ≡ length rest.bytes) (same_done (made, attrs.0.1) x attrs.2) all;
 }
 
-some_of : (test : Bool) (one other : CodePart) → cond test (Some one) None ≡ Some other → (test ≡ true) × (one ≡ other)
-some_of true one other e = (refl, cc)
-some_of false one other e = absurd cc
-
-whole_some : (r : Cut CodePart) (part : CodePart) → whole r ≡ Some part → (x : CodePart × Rest) × (r ≡ Ok x) × (eqb (length x.1.bytes) 0 ≡ true) × (x.0 ≡ part)
-whole_some (Ok x) part e = let g = some_of (eqb (length x.1.bytes) 0) x.0 part e in (x, refl, g.0, g.1)
+pub whole_some : (r : Cut CodePart) (part : CodePart) → whole r ≡ Some part → (x : CodePart × Rest) × (r ≡ Ok x) × (eqb (length x.1.bytes) 0 ≡ true) × (x.0 ≡ part)
+whole_some (Ok x) part e = let g = guard_some (eqb (length x.1.bytes) 0) x.0 part e in (x, refl, g.0, g.1)
 whole_some (Err f) part e = absurd cc
 
 pub part_fills : (content : List ℕ) (part : CodePart) → code_part content ≡ Some part → 8 + parts_len part ≡ length content
@@ -161,3 +143,11 @@ part_fills content part e =
     let w = whole_some (part_at start) part e in
     let spent = part_spends.spent start w.0 w.1 in
     subst (λ (p : CodePart). 8 + parts_len p ≡ length content) w.3 (omega (arith, spent, eqb-true _ _ w.2))
+
+sums : (a b c d e f g h : List ℕ) → length (a ++ b ++ (c ++ d) ++ (e ++ f) ++ (g ++ h)) ≡ length a + length b + (length c + length d) + (length e + length f) + (length g + length h)
+sums a b c d e f g h = simp length-append
+
+pub part_len : (part : CodePart) → length (code_part_bytes part) ≡ 8 + parts_len part
+part_len part =
+    let all = sums (u2 part.max_stack) (u2 part.max_locals) (u4 (length part.code)) part.code (u2 (length part.handlers)) (flat_map handler_bytes part.handlers) (u2 (length part.attrs)) (flat_map inner_bytes part.attrs) in
+    omega (arith, all, handlers_len part.handlers)

@@ -12,7 +12,7 @@ use Rattle.class_model.specs.PoolChecks.{utf8_at}
 use Rattle.class_model.specs.declared.class_file.CodePart.{CodePart}
 use Rattle.class_model.specs.declared.class_file.Handler.{Handler}
 use Rattle.class_model.specs.declared.fault.ClassFault.{ClassFault}
-use Rattle.class_model.specs.declared.fault.ClassFault.TheVariants.{Malformed, Version, NotYet, NoMemory}
+use Rattle.class_model.specs.declared.fault.ClassFault.TheVariants.{Malformed, Version, NoMemory}
 use Rattle.class_model.specs.declared.fault.FileRule.TheVariants as rules
 use Rattle.class_model.specs.declared.instr.Placed.{Placed}
 use Rattle.class_bytes.specs.CodeParts.{at_place, decoded_checks, setting_of, entry_of, parts_checks}
@@ -128,7 +128,6 @@ module _ (home : Home) (method : CutMember) (cut : CutPart) (at : ℕ) where
   instrs_refused (Malformed place rule) holds told =
       told_behind (Err (Malformed place rule)) holds (first_of_all begin (decoded part.code) asks (fault place rule) (begins (fault place rule)) told)
   instrs_refused NoMemory holds told = tt
-  instrs_refused NotYet holds told = told
   instrs_refused (Version major minor) holds told = told
 
   pub parts_told : (instrs : List Placed) (result : Result (Unit {0}) ClassFault) → FrontHolds → AllHold (decoded_checks begin part.code) → decoded part.code ≡ Ok instrs → TellsDone (behind instrs) result → TellsDone whole result

@@ -74,11 +74,6 @@ true_by_not : (b : Bool) → false ≡ not b → b ≡ true
 true_by_not true e = refl
 true_by_not false e = absurd cc
 
--- a name of which nothing is asked
-pub other_name : (name : List ℕ) (text : Option (List ℕ)) → (name ≡ init → ⊥) → InitIsVoid name text
-other_name name None other = tt
-other_name name (Some text) other = λ e. absurd (other e)
-
 -- the name of an instance initialiser
 pub init_name : (name : List ℕ) (text : Option (List ℕ)) (shape : MethodShape) → name ≡ init → IsShape text (Some shape) → IsTrue shape.is_void ↔ InitIsVoid name text
 init_name name None shape e is = absurd cc

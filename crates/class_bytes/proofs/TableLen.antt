@@ -1,12 +1,13 @@
 -- A table of bootstrap methods that could be cut is as long as its content.
-use Rattle.std.proofs.Common.{◌≡◌, ◌==◌, ℕ, zero, suc, ◌+◌, ◌*◌, ◌≤◌, Bool, true, false, cond, ltb, eqb, List, [], ◌∷◌, length, take, drop, Option, Some, None, Result, Ok, Err, if◌then◌else◌, refl, sym, ap, subst, ◌∙◌, arith, length-drop}
+use Rattle.std.proofs.Common.{◌≡◌, ℕ, zero, suc, ◌+◌, ◌*◌, ◌≤◌, ltb, eqb, List, [], ◌∷◌, length, take, Some, Ok, Err, refl, ap, subst, arith, length-drop}
 use Rattle.std.specs.Int.{w16, from_be_bytes}
 use Rattle.std.proofs.lemmas.Bool.{eqb-true, ltb-false}
-use Rattle.class_model.specs.Checks.{Fault, fault, ◌>>=◌}
+use Rattle.class_model.specs.Checks.{fault, ◌>>=◌}
 use Rattle.class_model.specs.Cutting.{Rest, Cut, behind, bytes_at, u2_at, many_at, counted_at}
 use Rattle.class_model.specs.Methods.{Bootstrap, bootstrap_at, bootstraps}
 use Rattle.class_model.specs.declared.fault.FileRule.TheVariants as rules
 use Rattle.class_bytes.specs.Bootstraps.{bootstraps_len}
+use Rattle.class_bytes.proofs.Steps.{bind_ok, done, same_done, guard_false, guard_some}
 
 -- So many bytes were taken from the front.
 record Took (rest : Rest) (len : ℕ) (after : Rest) : Type 0 where
@@ -15,21 +16,6 @@ record Took (rest : Rest) (len : ℕ) (after : Rest) : Type 0 where
 -- what a part cuts takes so many bytes
 record HasLen {X : Type 0} (part : Rest → Cut X) (len : X → ℕ) : Type 0 where
   pub takes : (rest : Rest) (x : X × Rest) → part rest ≡ Ok x → Took rest (len x.0) x.1
-
--- the value of a step that did not fail
-bind_ok : {A B : Type 0} (r : Result A Fault) (f : A → Result B Fault) (y : B) → (r >>= f) ≡ Ok y → (x : A) × (r ≡ Ok x) × (f x ≡ Ok y)
-bind_ok (Ok x) f y e = (x, refl, e)
-bind_ok (Err d) f y e = absurd cc
-
-guard_false : {A : Type 0} (b : Bool) (d : Fault) (x y : A) → cond b (Err d) (Ok x) ≡ Ok y → (b ≡ false) × (x ≡ y)
-guard_false true d x y e = absurd cc
-guard_false false d x y e = (refl, cc)
-
-abbrev done : {Y : Type 0} → Y → Result Y Fault
-done y = Ok y
-
-same_done : {Y : Type 0} (x y : Y) → done x ≡ done y → x ≡ y
-same_done x y e = cc
 
 made : {Y : Type 0} (len : Y → ℕ) (rest : Rest) (x y : Y × Rest) → Took rest (len x.0) x.1 → done x ≡ done y → Took rest (len y.0) y.1
 made {Y = Y} len rest x y took e = subst (λ (z : Y × Rest). Took rest (len z.0) z.1) (same_done x y e) took
@@ -90,10 +76,6 @@ bootstrap_has_len = record {
       let b = (counted_long u2_at (λ index. 2) index_len handle.0.1 arguments.0 arguments.1).is in
       made bootstrap_len rest (record { handle = handle.0.0; arguments = arguments.0.0 }, arguments.0.1) x (record { is = omega (arith, a, b, indices_all arguments.0.0) }) arguments.2;
 }
-
-guard_some : {A : Type 0} (b : Bool) (x y : A) → cond b (Some x) None ≡ Some y → (b ≡ true) × (x ≡ y)
-guard_some true x y e = (refl, cc)
-guard_some false x y e = absurd cc
 
 abbrev table_of : List ℕ → Cut (List Bootstrap)
 table_of content = counted_at bootstrap_at (record { at = 0; bytes = content })

@@ -1,14 +1,13 @@
 -- Bootstrap methods: how many bytes they take, and their checks one after the other.
-use Rattle.std.proofs.Common.{◌≡◌, ◌==◌, ℕ, suc, ◌+◌, ◌*◌, ◌<◌, ◌^◌, nat_lt, true, false, List, [], ◌∷◌, ◌++◌, length, get_or, drop, map, Option, Some, None, Result, Ok, Err, if◌then◌else◌, refl, sym, ap, subst, ◌∙◌, arith, add-one, drop-cons, length-drop}
+use Rattle.std.proofs.Common.{◌≡◌, ℕ, suc, ◌+◌, ◌*◌, ◌<◌, List, ◌∷◌, ◌++◌, length, get_or, drop, Result, Ok, Err, sym, ap, subst, ◌∙◌, arith, add-one, drop-cons}
 use Rattle.class_model.specs.Answers.{Tells}
-use Rattle.class_model.specs.Checks.{Check, Fault, fault, ◌>>=◌}
-use Rattle.class_model.specs.Cutting.{Rest, Cut, u2_at, many_at, counted_at}
-use Rattle.class_model.specs.Methods.{Bootstrap, bootstrap_at, bootstraps, bootstraps_checks}
+use Rattle.class_model.specs.Checks.{Check}
+use Rattle.class_model.specs.Methods.{bootstraps_checks}
 use Rattle.class_model.specs.Pool.{Constants}
 use Rattle.class_model.specs.declared.fault.ClassFault.{ClassFault}
 use Rattle.class_bytes.specs.Bootstraps.{bootstrap_of, bootstraps_of, bootstraps_len, bootstrap_checks}
 use Rattle.class_bytes.specs.declared.bootstraps.CutBootstrap.{CutBootstrap}
-use Rattle.class_bytes.proofs.Asking.{Remain, all_remain, remain, refused}
+use Rattle.class_bytes.proofs.Asking.{Remain, remain, refused}
 
 -- ---- one method after the other
 
@@ -16,10 +15,6 @@ use Rattle.class_bytes.proofs.Asking.{Remain, all_remain, remain, refused}
 pub record MethodsChecked (pool : Constants) (whole : List Check) (end : ℕ) (place : ℕ) (left : List CutBootstrap) : Type 0 where
   pub remain : Remain whole (bootstraps_checks pool place (bootstraps_of left))
   pub ends : place + bootstraps_len (bootstraps_of left) ≡ end
-
-pub at_start : (pool : Constants) (at : ℕ) (methods : List CutBootstrap)
-    → MethodsChecked pool (bootstraps_checks pool at (bootstraps_of methods)) (at + bootstraps_len (bootstraps_of methods)) at methods
-at_start pool at methods = record { remain = all_remain _; ends = refl }
 
 -- the next of them
 module _ (pool : Constants) (whole : List Check) (end : ℕ) (place : ℕ) (methods : List CutBootstrap) (index : ℕ) (method : CutBootstrap) (within : index < length methods) (is : method ≡ get_or methods index method) (so_far : MethodsChecked pool whole end place (drop index methods)) where
@@ -34,9 +29,6 @@ module _ (pool : Constants) (whole : List Check) (end : ℕ) (place : ℕ) (meth
 
   ends : place + bootstraps_len (bootstraps_of (method ∷ others)) ≡ end
   ends = rw first_left at so_far.ends
-
-  pub method_below : end < 2 ^ 64 → place + len < 2 ^ 64
-  method_below below = let e = ends in omega arith
 
   abbrev its_checks : List Check
   its_checks = bootstrap_checks pool place (bootstrap_of method)

@@ -1,5 +1,5 @@
 -- The parts of a class file as the reader holds them, and the values that they stand for.
-use Rattle.std.specs.Prelude.{◌≡◌, ℕ, List, map, Option, Result, Ok, Err}
+use Rattle.std.specs.Prelude.{List, map, Result, Ok, Err}
 use Rattle.std.specs.Option.{option_copied}
 use Rattle.class_model.specs.Cutting as cutting
 use Rattle.class_model.specs.Methods as methods

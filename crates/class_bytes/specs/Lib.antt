@@ -1,4 +1,3 @@
-pub mod Reading
 pub mod Counts
 pub mod Cut
 pub mod Parts
@@ -8,4 +7,5 @@ pub mod MethodParts
 pub mod Bootstraps
 pub mod CodeParts
 pub mod Entry
-pub mod Whole
+pub mod Reading
+pub mod HeaderParts

@@ -9,7 +9,7 @@ use Rattle.class_model.specs.Members.{fits_class, class_name_checks, super_check
 use Rattle.class_model.specs.Methods.{Home, class_attr_checks}
 use Rattle.class_model.specs.Pool.{Constants}
 use Rattle.class_model.specs.PoolChecks.{class_at}
-use Rattle.class_model.specs.Spelling.{entry_bytes, field_bytes, method_bytes, attr_bytes}
+use Rattle.class_model.specs.Spelling.{field_bytes, method_bytes, attr_bytes}
 use Rattle.class_model.specs.declared.class_file.Attr.{Attr}
 use Rattle.class_model.specs.declared.class_file.ClassFile.{ClassFile}
 use Rattle.class_model.specs.declared.class_file.Field.{Field}

@@ -7,32 +7,31 @@ ghost use Rattle.class_bytes.specs.Counts.{FitsContent, FitsInner, FitsInners, F
 use class_model::{
     Attr, AttrList, CodePart, Handler, HandlerList, InnerAttrList, NoMemory, push_u2, push_u4,
 };
-use std::alloc::Global;
 
 /// Appends the number of attributes, and the attributes.
-pub(crate) fn push_attrs(alloc: Global, out: &mut Vec<u8>, attrs: &AttrList) -> Result<(), NoMemory>
+pub(crate) fn push_attrs(out: &mut Vec<u8>, attrs: &AttrList) -> Result<(), NoMemory>
     requires { FitsAttrs attrs.now }
     ensures { OnOk result (out.new.items ≡ out.old.items ++ attrs_bytes attrs.now) }
 {
     let attrs = attrs.as_slice();
     push_u2(out, attrs.len() as u16)?;
     for attr in attrs {
-        push_attr(alloc, out, attr)?;
+        push_attr(out, attr)?;
     }
     Ok(())
 }
 
-// Appends an attribute. The content of a Code attribute is written apart, for its length.
-fn push_attr(alloc: Global, out: &mut Vec<u8>, attr: &Attr) -> Result<(), NoMemory>
+// Appends an attribute.
+fn push_attr(out: &mut Vec<u8>, attr: &Attr) -> Result<(), NoMemory>
     requires { FitsAttr attr.now }
     ensures { OnOk result (out.new.items ≡ out.old.items ++ attr_bytes attr.now) }
 {
     match attr {
         Attr::Raw { name, bytes } => push_raw(out, *name, bytes.as_slice()),
         Attr::Code { name, part } => {
-            let mut content = Vec::new(alloc);
-            push_code_part(&mut content, part)?;
-            push_raw(out, *name, &content)
+            push_u2(out, *name)?;
+            push_u4(out, part_len(part))?;
+            push_code_part(out, part)
         }
     }
 }
@@ -46,6 +45,18 @@ fn push_raw(out: &mut Vec<u8>, name: u16, content: &[u8]) -> Result<(), NoMemory
     push_u4(out, content.len() as u32)?;
     out.extend_from_slice(content)?;
     Ok(())
+}
+
+// How many bytes the content of a Code attribute takes.
+fn part_len(part: &CodePart) -> u32
+    requires { FitsPart part.now }
+    ensures { result ≡ length (code_part_bytes part.now) }
+{
+    let mut len = 12 + part.code.len() + 8 * part.handlers.len();
+    for attr in part.attrs.as_slice() {
+        len += 6 + attr.bytes.len();
+    }
+    len as u32
 }
 
 // Appends the content of a Code attribute (4.7.3).

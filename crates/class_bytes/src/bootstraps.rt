@@ -152,10 +152,7 @@ fn cut_table(alloc: Global, content: &[u8]) -> Result<Option<ListOf<CutBootstrap
     match cut_bootstraps(alloc, &mut cursor) {
         Ok(methods) if cursor.is_empty() => Ok(Some(methods)),
         Err(ClassFault::NoMemory) => Err(NoMemory),
-        Ok(_)
-        | Err(ClassFault::Malformed { .. } | ClassFault::Version { .. } | ClassFault::NotYet) => Ok(
-            None,
-        ),
+        Ok(_) | Err(ClassFault::Malformed { .. } | ClassFault::Version { .. }) => Ok(None),
     }
 }
 

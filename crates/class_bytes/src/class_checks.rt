@@ -19,8 +19,8 @@ use class_model::{ClassFault, Pool};
 use pool_bytes::RawPool;
 use std::alloc::Global;
 
-// The place of the first constant: behind the magic, the version and the pool's count.
-const CONSTANTS_AT: u64 = 10;
+/// The place of the first constant: behind the magic, the version and the pool's count.
+pub(crate) const CONSTANTS_AT: u64 = 10;
 
 // How many bytes a count takes.
 const COUNT_LEN: u64 = 2;

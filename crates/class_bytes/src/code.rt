@@ -120,9 +120,7 @@ fn decode_at(alloc: Global, code: &[u8], start: u64) -> Result<PlacedList, Class
             at: start + at,
             rule,
         }),
-        Err(fault @ (ClassFault::Version { .. } | ClassFault::NotYet | ClassFault::NoMemory)) => {
-            Err(fault)
-        }
+        Err(fault @ (ClassFault::Version { .. } | ClassFault::NoMemory)) => { Err(fault) }
     }
 }
 

@@ -22,10 +22,7 @@ pub(crate) fn code_part<'a>(
     match cut_part(alloc, &mut cursor) {
         Ok(part) if cursor.is_empty() => Ok(Some(part)),
         Err(ClassFault::NoMemory) => Err(NoMemory),
-        Ok(_)
-        | Err(ClassFault::Malformed { .. } | ClassFault::Version { .. } | ClassFault::NotYet) => Ok(
-            None,
-        ),
+        Ok(_) | Err(ClassFault::Malformed { .. } | ClassFault::Version { .. }) => Ok(None),
     }
 }
 

@@ -58,8 +58,8 @@ pub(crate) fn cut_body<'a>(
     })
 }
 
-// Reads indices behind their count.
-fn cut_indices(alloc: Global, cursor: &mut Cursor<'_>) -> Result<IndexList, ClassFault>
+/// Reads indices behind their count.
+pub(crate) fn cut_indices(alloc: Global, cursor: &mut Cursor<'_>) -> Result<IndexList, ClassFault>
     ensures { Takes (counted_at u2_at cursor.old) cursor.new result }
 {
     let count = cursor.u2()?;
@@ -119,8 +119,8 @@ pub(crate) fn cut_attrs<'a>(
     Ok(attrs)
 }
 
-// Reads an attribute: its name, length and content.
-fn cut_attr<'a>(cursor: &mut Cursor<'a>) -> Result<CutAttr<'a>, ClassFault>
+/// Reads an attribute: its name, length and content.
+pub(crate) fn cut_attr<'a>(cursor: &mut Cursor<'a>) -> Result<CutAttr<'a>, ClassFault>
     ensures attr { Takes (attr_at cursor.old) cursor.new (result_seen attr_of result) }
     ensures inner { Takes (inner_at cursor.old) cursor.new (result_seen inner_of result) }
 {

@@ -37,7 +37,7 @@ pub(crate) fn enter(alloc: Global, pool: Pool, body: CutBody<'_>) -> Result<Clas
 fn own_fields(alloc: Global, fields: &[CutMember<'_>]) -> Result<FieldList, NoMemory>
     ensures { IfOk result (λ all. all ≡ fields_of fields.now) }
 {
-    let mut all = ListOf::new(alloc);
+    let mut all = ListOf::from_vec(Vec::with_capacity(alloc, fields.len())?);
     for field in fields {
         let attrs = own_attrs(alloc, field.attrs.as_slice())?;
         all.push(Field {
@@ -58,7 +58,7 @@ fn enter_methods(
 ) -> Result<MethodList, NoMemory>
     ensures { IfOk result (λ all. all ≡ map (entered_method pool.now) (methods_of methods.now)) }
 {
-    let mut all = ListOf::new(alloc);
+    let mut all = ListOf::from_vec(Vec::with_capacity(alloc, methods.len())?);
     for method in methods {
         all.push(enter_method(alloc, pool, method)?)?;
     }
@@ -82,7 +82,7 @@ fn enter_method(alloc: Global, pool: &Pool, method: &CutMember<'_>) -> Result<Me
 fn enter_attrs(alloc: Global, pool: &Pool, attrs: &[CutAttr<'_>]) -> Result<AttrList, NoMemory>
     ensures { IfOk result (λ all. all ≡ map (entered_attr pool.now) (attrs_of attrs.now)) }
 {
-    let mut all = ListOf::new(alloc);
+    let mut all = ListOf::from_vec(Vec::with_capacity(alloc, attrs.len())?);
     for attr in attrs {
         all.push(enter_attr(alloc, pool, attr)?)?;
     }
@@ -124,7 +124,7 @@ fn own_part(alloc: Global, part: CutPart<'_>) -> Result<CodePart, NoMemory>
 fn own_inners(alloc: Global, attrs: &[CutAttr<'_>]) -> Result<InnerAttrList, NoMemory>
     ensures { IfOk result (λ all. all ≡ inners_of attrs.now) }
 {
-    let mut all = ListOf::new(alloc);
+    let mut all = ListOf::from_vec(Vec::with_capacity(alloc, attrs.len())?);
     for attr in attrs {
         all.push(InnerAttr {
             name: attr.name,
@@ -138,7 +138,7 @@ fn own_inners(alloc: Global, attrs: &[CutAttr<'_>]) -> Result<InnerAttrList, NoM
 fn own_attrs(alloc: Global, attrs: &[CutAttr<'_>]) -> Result<AttrList, NoMemory>
     ensures { IfOk result (λ all. all ≡ attrs_of attrs.now) }
 {
-    let mut all = ListOf::new(alloc);
+    let mut all = ListOf::from_vec(Vec::with_capacity(alloc, attrs.len())?);
     for attr in attrs {
         all.push(own_attr(alloc, attr)?)?;
     }

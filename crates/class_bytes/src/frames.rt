@@ -84,9 +84,7 @@ fn check_table(
             at: place_of(at, inside),
             rule,
         }),
-        Err(fault @ (ClassFault::Version { .. } | ClassFault::NotYet | ClassFault::NoMemory)) => {
-            Err(fault)
-        }
+        Err(fault @ (ClassFault::Version { .. } | ClassFault::NoMemory)) => { Err(fault) }
     }
 }
 

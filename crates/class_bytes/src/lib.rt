@@ -16,24 +16,36 @@ mod flags;
 mod frames;
 mod handlers;
 mod head;
+mod header;
+mod header_checks;
+mod header_cutting;
 mod home;
-mod items;
-mod laws;
 mod method_code;
 mod methods;
 mod names;
 mod operands;
-mod plain;
-mod pool;
 mod reading;
 mod signatures;
-mod whole;
 mod writing;
 
-pub use laws::spelling_has_one_value;
+pub use header::read_header;
 pub use reading::read_class;
-pub use writing::write_class;
+pub use writing::{push_class, write_class};
 
+#[cfg(test)]
+mod accepted_tests;
+#[cfg(test)]
+mod code_tests;
+#[cfg(test)]
+mod fault_tests;
+#[cfg(test)]
+mod header_tests;
+#[cfg(test)]
+mod order_tests;
+#[cfg(test)]
+mod sample_tests;
+#[cfg(test)]
+mod size_tests;
 #[cfg(test)]
 mod tests;
 #[cfg(test)]

@@ -153,9 +153,9 @@ fn shape_at(pool: &Pool, index: u16) -> Option<MethodShape>
     method_shape(text.bytes())
 }
 
-// Whether bytes are the name of a method of a descriptor of this shape, if it is a method descriptor: an
-// instance initialiser has no result.
-fn is_name_with(name: &[u8], shape: Option<MethodShape>) -> bool
+/// Whether bytes are the name of a method of a descriptor of this shape, if it is a method descriptor: an
+/// instance initialiser has no result.
+pub(crate) fn is_name_with(name: &[u8], shape: Option<MethodShape>) -> bool
     ensures { (text : Option (List ℕ)) → IsShape text shape → IsTrue result ↔ (IsMethodName name.now × InitIsVoid name.now text) }
 {
     let is_void = match shape {
@@ -165,9 +165,9 @@ fn is_name_with(name: &[u8], shape: Option<MethodShape>) -> bool
     is_method_name(name) && (name != INIT || is_void)
 }
 
-// Whether there is a method descriptor, and its parameters take at most 255 local units, this counted where
-// the method is not static (4.3.3).
-fn fits_units(flags: u16, shape: Option<MethodShape>) -> bool
+/// Whether there is a method descriptor, and its parameters take at most 255 local units, this counted where
+/// the method is not static (4.3.3).
+pub(crate) fn fits_units(flags: u16, shape: Option<MethodShape>) -> bool
     ensures { (text : List ℕ) → IsShape (Some text) shape → IsTrue result ↔ IsDescriptorOf flags text }
 {
     let most = if has(flags, ACC_STATIC) { 255 } else { 254 };

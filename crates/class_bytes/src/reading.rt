@@ -1,58 +1,55 @@
 //! Reading a class file.
-ghost use Rattle.std.specs.Prelude.{IfOk, IfErr};
-ghost use Rattle.std.specs.Result.{IsErrOf};
-ghost use Rattle.class_model.specs.PlainClassFile.{IsPlainFile};
+ghost use Rattle.std.specs.Prelude.{◌≡◌, ◌↔◌, IfOk, IsTrue};
+ghost use Rattle.class_model.specs.ClassOf.{IsRead};
 ghost use Rattle.class_model.specs.Spelling.{class_bytes};
-ghost use Rattle.class_model.specs.declared.class_file.ClassFile.{ClassFile};
 ghost use Rattle.class_bytes.specs.Counts.{FitsCounts};
-ghost use Rattle.class_bytes.specs.Reading.{Reads, FitsClass, IsPlainFault};
+ghost use Rattle.class_bytes.specs.Cut.{version_of};
+ghost use Rattle.class_bytes.specs.Reading.{IsReadOf};
 
-use crate::items::{MAGIC, NO_MEMBERS, after, u2_of};
-use crate::plain::is_plain;
-use crate::pool::pool_of;
-use class_model::{ClassFault, ClassFile, ListOf};
+use crate::class_checks::check_class;
+use crate::cut::Version;
+use crate::cutting::{cut_body, cut_version};
+use crate::entering::enter;
+use class_model::{
+    ClassFault, ClassFile, Cursor, a_class_file_is_spelled, a_cut_class_is_spelled,
+    a_cut_pool_is_spelled,
+};
+use pool_bytes::cut_pool;
 use std::alloc::Global;
 
-/// The plain class file that the bytes spell, all of the bytes.
+/// The class file that the bytes are, all of the bytes (JVM Specification SE 8, 4.1 to 4.9). Versions 50.x,
+/// 51.x and 52.0 are read. Its spelling is these bytes.
 ///
 /// # Errors
-/// `NotYet` only where the bytes spell no plain class file, and `NoMemory` where memory runs out.
+/// `Version` where the magic and eight bytes are there and the version is another; else `Malformed` with the
+/// first fault and its place in bytes: the items of the file, the constant pool, the members and attributes
+/// in file order, the bootstrap methods of dynamic calls.
 pub fn read_class(alloc: Global, bytes: &[u8]) -> Result<ClassFile, ClassFault>
-    ensures read { IfOk result (IsPlainFile bytes.now) }
+    ensures told { IsReadOf bytes.now result }
     ensures fits { IfOk result FitsCounts }
-    ensures fault { IfErr result IsPlainFault }
-    ensures not_yet { IsErrOf result ClassFault.NotYet → (class : ClassFile) → ¬ IsPlainFile bytes.now class }
+    ensures spelled { IfOk result (λ class. bytes.now ≡ class_bytes class) }
 {
-    let (class, rest) = class_of(alloc, bytes)?;
-    if !rest.is_empty() || !is_plain(&class) {
-        return Err(ClassFault::NotYet);
+    let mut cursor = Cursor::new(bytes, 0);
+    let version = cut_version(&mut cursor)?;
+    if !is_read(version) {
+        return Err(ClassFault::Version {
+            major: version.major,
+            minor: version.minor,
+        });
     }
-    Ok(class)
+    let raw = cut_pool(alloc, version.major, &mut cursor)?;
+    let flags_at = cursor.at();
+    let body = cut_body(alloc, version, &mut cursor)?;
+    a_cut_pool_is_spelled();
+    a_cut_class_is_spelled();
+    let pool = check_class(alloc, &raw, &body, flags_at)?;
+    a_class_file_is_spelled();
+    Ok(enter(alloc, pool, body)?)
 }
 
-// The class file, item by item, and the bytes after it (JVM Specification SE 8, 4.1).
-fn class_of(alloc: Global, bytes: &[u8]) -> Result<(ClassFile, &[u8]), ClassFault>
-    ensures { Reads FitsClass class_bytes bytes.now result }
+// Whether class files of a version are read: 50, 51 and 52.0.
+fn is_read(version: Version) -> bool
+    ensures { IsTrue result ↔ IsRead (version_of version) }
 {
-    let rest = after(&MAGIC, bytes)?;
-    let (minor, rest) = u2_of(rest)?;
-    let (major, rest) = u2_of(rest)?;
-    let (pool, rest) = pool_of(alloc, rest)?;
-    let (flags, rest) = u2_of(rest)?;
-    let (this_class, rest) = u2_of(rest)?;
-    let (super_class, rest) = u2_of(rest)?;
-    let rest = after(&NO_MEMBERS, rest)?;
-    let class = ClassFile {
-        major,
-        minor,
-        pool,
-        flags,
-        this_class,
-        super_class,
-        interfaces: ListOf::new(alloc),
-        fields: ListOf::new(alloc),
-        methods: ListOf::new(alloc),
-        attrs: ListOf::new(alloc),
-    };
-    Ok((class, rest))
+    matches!(version.major, 50 | 51) || version.major == 52 && version.minor == 0
 }

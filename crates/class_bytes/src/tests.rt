@@ -1,5 +1,5 @@
 use super::*;
-use class_model::{ClassFault, Const};
+use class_model::{ClassFault, Const, FileRule};
 use std::alloc::Global;
 use std::test::Fail;
 
@@ -8,6 +8,11 @@ const CLASS_A: [u8; 53] = [
     0xCA, 0xFE, 0xBA, 0xBE, 0, 0, 0, 52, 0, 5, 7, 0, 2, 1, 0, 1, b'A', 7, 0, 4, 1, 0, 16, b'j',
     b'a', b'v', b'a', b'/', b'l', b'a', b'n', b'g', b'/', b'O', b'b', b'j', b'e', b'c', b't', 0,
     0x21, 0, 1, 0, 3, 0, 0, 0, 0, 0, 0, 0, 0,
+];
+
+// The places of its items.
+const ITEMS: [usize; 21] = [
+    0, 4, 6, 8, 10, 11, 13, 14, 16, 17, 18, 20, 21, 23, 39, 41, 43, 45, 47, 49, 51,
 ];
 
 // The class `A` with other bytes in place of those from an index on.
@@ -59,44 +64,85 @@ fn written_back(rt: HostRuntime) -> Result<(), Fail> {
     Ok(())
 }
 
+// A rule that the bytes break at a place.
+fn malformed(at: u64, rule: FileRule) -> ClassFault {
+    ClassFault::Malformed { at, rule }
+}
+
 #[test]
-fn not_yet(rt: HostRuntime) -> Result<(), Fail> {
-    let mut one_more = class_with(rt.alloc(), 0, &[])?;
-    one_more.push(0)?;
-    let table = [
-        Vec::new(rt.alloc()),
-        Vec::from_slice(rt.alloc(), &CLASS_A[..52])?,
-        one_more,
-        // the first byte
-        class_with(rt.alloc(), 0, &[0xCB])?,
-        // versions 52.1, 49 and 53
-        class_with(rt.alloc(), 5, &[1])?,
-        class_with(rt.alloc(), 7, &[49])?,
-        class_with(rt.alloc(), 7, &[53])?,
-        // no pool, and a pool of another count
-        class_with(rt.alloc(), 9, &[0])?,
-        class_with(rt.alloc(), 9, &[4])?,
-        // a constant with another tag
-        class_with(rt.alloc(), 10, &[8])?,
-        // a Class constant that names a Class constant, and one that names no constant
-        class_with(rt.alloc(), 12, &[3])?,
-        class_with(rt.alloc(), 12, &[5])?,
-        // the name of an array class
-        class_with(rt.alloc(), 23, b"[I")?,
-        // a byte that is no text
-        class_with(rt.alloc(), 16, &[0xFF])?,
-        // other flags
-        class_with(rt.alloc(), 40, &[0x20])?,
-        // this class and its superclass named by a Utf8 constant
-        class_with(rt.alloc(), 42, &[2])?,
-        class_with(rt.alloc(), 44, &[4])?,
-        // an interface, and an attribute
-        class_with(rt.alloc(), 46, &[1])?,
-        class_with(rt.alloc(), 52, &[1])?,
+fn cut_short(rt: HostRuntime) -> Result<(), Fail> {
+    for len in 0..CLASS_A.len() {
+        let item = ITEMS.iter().copied().rev().find(|at| *at <= len);
+        let wanted = item.map(|at| malformed(at as u64, FileRule::Short));
+        let fault = read_class(rt.alloc(), &CLASS_A[..len]).err();
+        assert_eq!(rt; fault, wanted, "of {len} bytes");
+    }
+    Ok(())
+}
+
+#[test]
+fn more_bytes(rt: HostRuntime) -> Result<(), Fail> {
+    let mut bytes = Vec::from_slice(rt.alloc(), &CLASS_A)?;
+    for byte in [0, 0xCA] {
+        bytes.push(byte)?;
+        let fault = read_class(rt.alloc(), &bytes).err();
+        assert_eq!(rt; fault, Some(malformed(53, FileRule::Extra)));
+    }
+    Ok(())
+}
+
+#[test]
+fn magic_and_version(rt: HostRuntime) -> Result<(), Fail> {
+    let version = |major, minor| ClassFault::Version { major, minor };
+    let table: [(usize, &[u8], ClassFault); 13] = [
+        (0, &[0xCB], malformed(0, FileRule::Magic)),
+        (1, &[0xFF], malformed(0, FileRule::Magic)),
+        (2, &[0xBB], malformed(0, FileRule::Magic)),
+        (3, &[0xBF], malformed(0, FileRule::Magic)),
+        (4, &[0, 0, 0, 53], version(53, 0)),
+        (4, &[0, 0, 0, 49], version(49, 0)),
+        (4, &[0, 1, 0, 52], version(52, 1)),
+        (4, &[1, 0, 0, 52], version(52, 256)),
+        (4, &[0, 0, 1, 52], version(308, 0)),
+        (4, &[0, 3, 0, 45], version(45, 3)),
+        // a version that is not read, before a fault of the pool
+        (4, &[0, 0, 0, 53, 0, 0], version(53, 0)),
+        // another magic before such a version
+        (0, &[0, 0, 0, 0, 0, 0, 0, 53], malformed(0, FileRule::Magic)),
+        (3, &[0, 0, 1, 0, 52], malformed(0, FileRule::Magic)),
     ];
-    for bytes in &table {
-        let result = read_class(rt.alloc(), bytes);
-        assert!(rt; matches!(result, Err(ClassFault::NotYet)), "at {bytes:?}");
+    for (at, bytes, wanted) in table {
+        let bytes = class_with(rt.alloc(), at, bytes)?;
+        let fault = read_class(rt.alloc(), &bytes).err();
+        assert_eq!(rt; fault, Some(wanted), "at {bytes:?}");
+    }
+    Ok(())
+}
+
+#[test]
+fn magic_and_version_cut_short(rt: HostRuntime) -> Result<(), Fail> {
+    let table: [(&[u8], ClassFault); 5] = [
+        (&[0, 0, 0], malformed(0, FileRule::Short)),
+        (&[0, 0, 0, 0], malformed(0, FileRule::Magic)),
+        (
+            &[0xCA, 0xFE, 0xBA, 0xBE, 0, 0, 0],
+            malformed(6, FileRule::Short),
+        ),
+        (
+            &[0xCA, 0xFE, 0xBA, 0xBE, 0, 0, 0, 53],
+            ClassFault::Version {
+                major: 53,
+                minor: 0,
+            },
+        ),
+        (
+            &[0xCA, 0xFE, 0xBA, 0xBE, 0, 0, 0, 52],
+            malformed(8, FileRule::Short),
+        ),
+    ];
+    for (bytes, wanted) in table {
+        let fault = read_class(rt.alloc(), bytes).err();
+        assert_eq!(rt; fault, Some(wanted), "at {bytes:?}");
     }
     Ok(())
 }

@@ -19,18 +19,26 @@ pub fn write_class(alloc: Global, class: &ClassFile) -> Result<ByteList, NoMemor
     ensures { IfOk result (λ bytes. bytes ≡ class_bytes class.now) }
 {
     let mut out = Vec::new(alloc);
-    push_u4(&mut out, MAGIC)?;
-    push_u2(&mut out, class.minor)?;
-    push_u2(&mut out, class.major)?;
-    push_pool(&mut out, &class.pool)?;
-    push_u2(&mut out, class.flags)?;
-    push_u2(&mut out, class.this_class)?;
-    push_u2(&mut out, class.super_class)?;
-    push_interfaces(&mut out, &class.interfaces)?;
-    push_fields(alloc, &mut out, &class.fields)?;
-    push_methods(alloc, &mut out, &class.methods)?;
-    push_attrs(alloc, &mut out, &class.attrs)?;
+    push_class(&mut out, class)?;
     Ok(ListOf::from_vec(out))
+}
+
+/// Appends the bytes of a class file, each list of which fits its count.
+pub fn push_class(out: &mut Vec<u8>, class: &ClassFile) -> Result<(), NoMemory>
+    requires { FitsCounts class.now }
+    ensures { OnOk result (out.new.items ≡ out.old.items ++ class_bytes class.now) }
+{
+    push_u4(out, MAGIC)?;
+    push_u2(out, class.minor)?;
+    push_u2(out, class.major)?;
+    push_pool(out, &class.pool)?;
+    push_u2(out, class.flags)?;
+    push_u2(out, class.this_class)?;
+    push_u2(out, class.super_class)?;
+    push_interfaces(out, &class.interfaces)?;
+    push_fields(out, &class.fields)?;
+    push_methods(out, &class.methods)?;
+    push_attrs(out, &class.attrs)
 }
 
 // Appends the number of interfaces, and their indices.
@@ -47,49 +55,49 @@ fn push_interfaces(out: &mut Vec<u8>, interfaces: &IndexList) -> Result<(), NoMe
 }
 
 // Appends the number of fields, and the fields.
-fn push_fields(alloc: Global, out: &mut Vec<u8>, fields: &FieldList) -> Result<(), NoMemory>
+fn push_fields(out: &mut Vec<u8>, fields: &FieldList) -> Result<(), NoMemory>
     requires { FitsFields fields.now }
     ensures { OnOk result (out.new.items ≡ out.old.items ++ (u2 (length fields.now) ++ flat_map field_bytes fields.now)) }
 {
     let fields = fields.as_slice();
     push_u2(out, fields.len() as u16)?;
     for field in fields {
-        push_field(alloc, out, field)?;
+        push_field(out, field)?;
     }
     Ok(())
 }
 
 // Appends a field (JVM Specification SE 8, 4.5).
-fn push_field(alloc: Global, out: &mut Vec<u8>, field: &Field) -> Result<(), NoMemory>
+fn push_field(out: &mut Vec<u8>, field: &Field) -> Result<(), NoMemory>
     requires { FitsField field.now }
     ensures { OnOk result (out.new.items ≡ out.old.items ++ field_bytes field.now) }
 {
     push_u2(out, field.flags)?;
     push_u2(out, field.name)?;
     push_u2(out, field.desc)?;
-    push_attrs(alloc, out, &field.attrs)
+    push_attrs(out, &field.attrs)
 }
 
 // Appends the number of methods, and the methods.
-fn push_methods(alloc: Global, out: &mut Vec<u8>, methods: &MethodList) -> Result<(), NoMemory>
+fn push_methods(out: &mut Vec<u8>, methods: &MethodList) -> Result<(), NoMemory>
     requires { FitsMethods methods.now }
     ensures { OnOk result (out.new.items ≡ out.old.items ++ (u2 (length methods.now) ++ flat_map method_bytes methods.now)) }
 {
     let methods = methods.as_slice();
     push_u2(out, methods.len() as u16)?;
     for method in methods {
-        push_method(alloc, out, method)?;
+        push_method(out, method)?;
     }
     Ok(())
 }
 
 // Appends a method (JVM Specification SE 8, 4.6).
-fn push_method(alloc: Global, out: &mut Vec<u8>, method: &Method) -> Result<(), NoMemory>
+fn push_method(out: &mut Vec<u8>, method: &Method) -> Result<(), NoMemory>
     requires { FitsMethod method.now }
     ensures { OnOk result (out.new.items ≡ out.old.items ++ method_bytes method.now) }
 {
     push_u2(out, method.flags)?;
     push_u2(out, method.name)?;
     push_u2(out, method.desc)?;
-    push_attrs(alloc, out, &method.attrs)
+    push_attrs(out, &method.attrs)
 }

@@ -1,4 +1,4 @@
-use Rattle.std.proofs.Common.{◌≡◌, ◌+◌, Some, length, sym, ap, ◌∙◌, arith, rules}
+use Rattle.std.proofs.Common.{◌≡◌, ◌+◌, Some, length, arith, rules}
 use Rattle.class_model.specs.Methods.{bootstraps}
 use Rattle.class_bytes.specs.Bootstraps.{bootstraps_of, bootstraps_len}
 use Rattle.class_bytes.proofs.TableLen.{table_long}

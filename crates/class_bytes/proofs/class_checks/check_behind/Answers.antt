@@ -1,10 +1,10 @@
-use Rattle.std.proofs.Common.{◌≡◌, ◌+◌, ◌∙◌, ℕ, List, [], Option, Ok, Err, ap, arith}
+use Rattle.std.proofs.Common.{◌≡◌, ◌+◌, ◌∙◌, ℕ, List, [], Option, ap, arith}
 use Rattle.std.proofs.lemmas.Result.{err_from_is_err_and}
 use Rattle.class_model.specs.ClassOf.{fields_checks, methods_checks}
 use Rattle.class_model.specs.Methods.{Home, bootstrap_count}
 use Rattle.class_bytes.specs.Cut.{class_of, fields_of, methods_of}
 use Rattle.class_bytes.specs.Parts.{head_len, fields_len, methods_len}
-use Rattle.class_bytes.proofs.ClassParts.{home, fields_at, methods_at, attrs_at, fields_part, methods_part, head_stops, fields_stop, methods_stop, attrs_told, same_fault}
+use Rattle.class_bytes.proofs.ClassParts.{home, fields_at, methods_at, fields_part, methods_part, head_stops, fields_stop, methods_stop, attrs_told, same_fault}
 use Rattle.class_bytes.proofs.class_checks.check_behind.Goals as goal
 
 pub returns-in_err-fields : goal.returns-in_err-fields

@@ -1,4 +1,4 @@
-use Rattle.std.proofs.Common.{◌≡◌, ◌+◌, ◌-◌, arith}
+use Rattle.std.proofs.Common.{◌+◌, ◌-◌, arith}
 use Rattle.std.proofs.lemmas.Result.{err_from_is_err_and}
 use Rattle.class_bytes.proofs.Many.{goes_on_plain, stops, is_done}
 use Rattle.class_bytes.proofs.code_cutting.cut_handlers.Goals as goal

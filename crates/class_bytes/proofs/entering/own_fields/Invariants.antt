@@ -1,4 +1,4 @@
-use Rattle.std.proofs.Common.{◌≡◌, map, take}
+use Rattle.std.proofs.Common.{◌≡◌, take}
 use Rattle.class_bytes.specs.Cut.{fields_of}
 use Rattle.class_bytes.proofs.entering.own_fields.Given as goal
 

@@ -1,4 +1,3 @@
-use Rattle.std.proofs.Common.{arith, IsTrue}
 use Rattle.class_bytes.proofs.Decides.{at_most}
 use Rattle.class_model.specs.Code.{HasDimensions}
 use Rattle.class_bytes.proofs.operands.has_dimensions.Goals as goal
