@@ -9,13 +9,14 @@ use Rattle.std.proofs.lemmas.List.{take_all, length-take, length-append, map_pus
 use Rattle.std.proofs.lemmas.List.Sorted.{sorted_far, ranks_by}
 use Rattle.std.proofs.lemmas.List.Sums.{sum_by-cons, sum_by-append}
 use Rattle.std.proofs.lemmas.Slice.Eq.{bytes_eq-Decides}
+use Rattle.class_model.specs.Checks.{fault}
 use Rattle.host_tree.specs.Host.{Bytes, Folder, IsReadOf, times}
-use Rattle.pea_top.specs.Folders.{IsBefore, AreNames}
-use Rattle.pea_top.specs.Answer.{IsRefused, IsFirstRefused}
+use Rattle.pea_top.specs.Folders.{IsBefore, AreNames, names_class_file, HasClassMethods, HasMethods, of_class, of_other}
+use Rattle.pea_top.specs.Answer.{Refusal, broken, other_version, AreRefused, IsRefused, IsFirstRefused}
 use Rattle.pea_top.specs.Reading.{AreGoodFiles, IsReadOrWhy}
 use Rattle.pea_top.specs.ReadingSteps.{IsGoodFile, IsFileOrWhy}
 use Rattle.pea_top.specs.declared.reading.ReadStop.{ReadStop}
-use Rattle.pea_top.specs.declared.reading.ReadStop.TheVariants.{Fault, NoMemory, NotYet}
+use Rattle.pea_top.specs.declared.reading.ReadStop.TheVariants.{Fault, NoMemory, Malformed, Version}
 use Rattle.pea_top.specs.declared.folder.NamedFile.{NamedFile}
 
 -- A read that gives fewer bytes than were asked gives all.
@@ -66,16 +67,37 @@ some_from_held : (file : Option Bytes) → 0 < cond (is_some file) 1 0 → IsSom
 some_from_held None some = absurd (omega arith)
 some_from_held (Some bytes) some = refl
 
-times-refused : {folder : Folder} {names : List Bytes} {name : Bytes} → AreNames folder names → IsRefused folder name → times name names ≡ 1
+times-refused : {folder : Folder} {names : List Bytes} {name : Bytes} {why : Refusal} → AreNames folder names → IsRefused folder name why → times name names ≡ 1
 times-refused {name = name} are refused = are.once name ∙ ap {B = ℕ} (λ file. cond (is_some file) 1 0) refused.there
 
-times-refused_good : (folder : Folder) (name : Bytes) → IsRefused folder name → (files : List NamedFile) → AllByRecursion (IsGoodFile folder) files → times name (map (λ file. file.name) files) ≡ 0
-times-refused_good folder name refused [] good = refl
-times-refused_good folder name refused (file ∷ files) good = by (bytes_eq name file.name) refl (times-refused_good folder name refused files good.1)
+times-refused_good : (folder : Folder) (name : Bytes) (why : Refusal) → IsRefused folder name why → (files : List NamedFile) → AllByRecursion (IsGoodFile folder) files → times name (map (λ file. file.name) files) ≡ 0
+times-refused_good folder name why refused [] good = refl
+times-refused_good folder name why refused (file ∷ files) good = by (bytes_eq name file.name) refl (times-refused_good folder name why refused files good.1)
   where
     by : (same : Bool) → bytes_eq name file.name ≡ same → times name (map (λ f. f.name) files) ≡ 0 → times name (file.name ∷ map (λ f. f.name) files) ≡ 0
-    by true e none = absurd (good.0.not_refused (subst (IsRefused folder) ((bytes_eq-Decides name file.name).0 e) refused))
+    by true e none = absurd (good.0.not_refused why (subst (λ (n : Bytes). IsRefused folder n why) ((bytes_eq-Decides name file.name).0 e) refused))
     by false e none = omega (arith, times-cons name file.name (map (λ f. f.name) files), ap {B = ℕ} (λ b. cond b 1 0) e, none)
+
+-- ---- one file
+
+module _ (folder : Folder) (name bytes : Bytes) (there : folder name ≡ Some bytes) where
+  -- a file that is no class file by its name
+  pub good_other : names_class_file name ≡ false → IsGoodFile folder (record { name = name; bytes = bytes; methods = 0 })
+  good_other other = record {
+    there = there;
+    methods = of_other (λ named. false≢true (sym other ∙ named));
+    not_refused = λ why refused. false≢true (sym other ∙ refused.named);
+  }
+
+  -- a class file that is read
+  pub good_class : (count : ℕ) → names_class_file name ≡ true → HasClassMethods bytes count → ((why : Refusal) → ¬ AreRefused bytes why) → IsGoodFile folder (record { name = name; bytes = bytes; methods = count })
+  good_class count named has none = record {
+    there = there;
+    methods = of_class bytes count named there has;
+    not_refused = λ why refused.
+        let same : refused.bytes ≡ bytes = cc (refused.there, there) in
+        none why (subst (λ (read : Bytes). AreRefused read why) same refused.refused);
+  }
 
 -- ---- a folder's files, read one after the other
 
@@ -91,6 +113,10 @@ good_push folder (x ∷ files) file good one = (good.0, good_push folder files f
 contents_from_good : (folder : Folder) (files : List NamedFile) → AllByRecursion (IsGoodFile folder) files → AllByRecursion (λ file. folder file.name ≡ Some file.bytes) files
 contents_from_good folder [] good = tt
 contents_from_good folder (file ∷ files) good = (good.0.there, contents_from_good folder files good.1)
+
+methods_from_good : (folder : Folder) (files : List NamedFile) → AllByRecursion (IsGoodFile folder) files → AllByRecursion (λ file. HasMethods folder file.name file.methods) files
+methods_from_good folder [] good = tt
+methods_from_good folder (file ∷ files) good = (good.0.methods, methods_from_good folder files good.1)
 
 -- what is found in an unchanged folder
 pub IsFileOrWhy-same : {folder again : Folder} → ((name : Bytes) → again name ≡ folder name) → (name : Bytes) (result : Result NamedFile ReadStop) → IsFileOrWhy again name result → IsFileOrWhy folder name result
@@ -116,15 +142,16 @@ all_read {folder} {names} {files} are read =
     let all : map (λ file. file.name) files ≡ names = sym (append-nil _) ∙ read.in_order in
     record {
       are = record { names = subst (AreNames folder) (sym all) are; contents = contents_from_good folder files read.good };
-      none_refused = λ name refused. absurd (omega (arith, times-refused are refused, times-refused_good folder name refused files read.good, ap (times name) all));
+      methods = methods_from_good folder files read.good;
+      none_refused = λ name why refused. absurd (omega (arith, times-refused are refused, times-refused_good folder name why refused files read.good, ap (times name) all));
     }
 
-first_from_refused : {folder : Folder} {names : List Bytes} {files : List NamedFile} {name : Bytes} {left : List Bytes} → AreNames folder names → HasRead folder names files (name ∷ left) → IsRefused folder name → IsFirstRefused folder name
+first_from_refused : {folder : Folder} {names : List Bytes} {files : List NamedFile} {name : Bytes} {left : List Bytes} {why : Refusal} → AreNames folder names → HasRead folder names files (name ∷ left) → IsRefused folder name why → IsFirstRefused folder name why
 first_from_refused {folder} {names} {files} {name} {left} are read refused = record {
   refused = refused;
-  none_before = λ other before other_refused.
+  none_before = λ other before other_why other_refused.
       let front = map (λ file. file.name) files in
-      let some : 0 < times other (name ∷ left) = omega (arith, times-refused are other_refused, ap (times other) read.in_order, times-append other front (name ∷ left), times-refused_good folder other other_refused files read.good) in
+      let some : 0 < times other (name ∷ left) = omega (arith, times-refused are other_refused, ap (times other) read.in_order, times-append other front (name ∷ left), times-refused_good folder other other_why other_refused files read.good) in
       none_less_after front name left other (subst (IsSorted (slice_cmp nat_cmp)) (sym read.in_order) are.in_order) some before;
 }
 
@@ -132,4 +159,5 @@ first_from_refused {folder} {names} {files} {name} {left} are read refused = rec
 pub why_from_file : {folder : Folder} {names : List Bytes} {files : List NamedFile} {name : Bytes} {left : List Bytes} → AreNames folder names → HasRead folder names files (name ∷ left) → (stop : ReadStop) → IsFileOrWhy folder name (Err stop) → IsReadOrWhy folder (Err stop)
 why_from_file are read (Fault call) why = tt
 why_from_file are read NoMemory why = tt
-why_from_file {folder} are read (NotYet refused) why = subst (IsFirstRefused folder) (sym why.0) (first_from_refused are read why.1)
+why_from_file {folder} are read (Malformed refused at rule) why = subst (λ (name : Bytes). IsFirstRefused folder name (broken (fault at rule))) (sym why.0) (first_from_refused are read why.1)
+why_from_file {folder} are read (Version refused major minor) why = subst (λ (name : Bytes). IsFirstRefused folder name (other_version (record { minor = minor; major = major }))) (sym why.0) (first_from_refused are read why.1)

@@ -7,3 +7,4 @@ pub mod FolderReads
 pub mod WordGrammar
 pub mod Completing
 pub mod WordsSeen
+pub mod OneAnswer

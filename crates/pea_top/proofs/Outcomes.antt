@@ -1,20 +1,23 @@
 -- What the parts of a call leave and print, as the words see it.
-use Rattle.std.proofs.Common.{◌≡◌, ◌⊎◌, ℕ, List, [], ◌++◌, map, length, take, sym, ap, ◌∙◌, subst, inl, inr, zero-le}
+use Rattle.std.proofs.Common.{◌≡◌, ◌⊎◌, ℕ, List, [], ◌∷◌, ◌++◌, map, length, take, sym, ap, ◌∙◌, subst, inl, inr, zero-le}
 use Rattle.std.proofs.lemmas.List.{length-map, take_all}
 use Rattle.std.proofs.lemmas.List.Folds.{fold-map}
+use Rattle.std.proofs.lemmas.List.Sums.{sum_by-cons}
+use Rattle.std.specs.List.{AllByRecursion}
 use Rattle.host_tree.specs.Counts.{Rose}
-use Rattle.host_tree.specs.Host.{Bytes, Files, SameFiles, IsPrefixPrinted}
+use Rattle.host_tree.specs.Host.{Bytes, Folder, Files, SameFiles, IsPrefixPrinted}
 use Rattle.host_tree.specs.declared.call.HostCall.TheVariants as calls
 use Rattle.pea_top.specs.Answer.{CanDo, IsAnswer}
-use Rattle.pea_top.specs.CommandEffects.{class_count, summary_of, LeavesWritten, PrintsWritten}
+use Rattle.pea_top.specs.CommandEffects.{class_count, method_count, summary_of, LeavesWritten, PrintsWritten}
 use Rattle.pea_top.specs.Effects.{Copies, PartlyCopies, LeavesFiles, IsSummary, IsLineOf, PrintsPart, PrintsRefusal, LeavesPrinted}
+use Rattle.pea_top.specs.Folders.{HasMethods, HaveMethods, no_files, one_more}
 use Rattle.pea_top.specs.Lines.{summary_line, refusal_line}
 use Rattle.pea_top.specs.Reading.{AreGoodFiles}
 use Rattle.pea_top.specs.Words.{Word, Command, Spells}
 use Rattle.pea_top.specs.Writing.{content_after, Puts, PutsSome}
 use Rattle.pea_top.specs.declared.folder.NamedFile.{NamedFile}
 use Rattle.pea_top.specs.declared.status.Status.{Status}
-use Rattle.pea_top.specs.declared.status.Status.TheVariants.{Done, Usage, HostFault, NoMemory, NotYet}
+use Rattle.pea_top.specs.declared.status.Status.TheVariants.{Done, Usage, Malformed, Version, HostFault, NoMemory}
 use Rattle.pea_top.proofs.Copying.{IsCopied-puts, IsPartlyCopied-puts}
 
 Puts-from_same : (root : Bytes) (files : List NamedFile) (old mid new : Files) → SameFiles old mid → Puts root files mid new → Puts root files old new
@@ -36,6 +39,13 @@ PutsSome-from_same root files old mid new same puts = record {
 IsPrefixPrinted-from_same : (line old mid new : Bytes) → mid ≡ old → IsPrefixPrinted line mid new → IsPrefixPrinted line old new
 IsPrefixPrinted-from_same line old mid new same prefix = record { count = prefix.count; appended = prefix.appended ∙ ap (λ before. before ++ take prefix.count line) same }
 
+-- the files have together what their own numbers of methods sum up to
+have_methods : (folder : Folder) (files : List NamedFile) → AllByRecursion (λ file. HasMethods folder file.name file.methods) files → HaveMethods folder (map (λ file. file.name) files) (method_count files)
+have_methods folder [] each = no_files
+have_methods folder (file ∷ files) each =
+    let all = one_more file.name (map (λ (other : NamedFile). other.name) files) file.methods (method_count files) each.0 (have_methods folder files each.1) in
+    subst (HaveMethods folder (map (λ (other : NamedFile). other.name) (file ∷ files))) (sym (sum_by-cons (λ (other : NamedFile). other.methods) file files)) all
+
 -- after the files of the input of a command were read
 module _ (words : List Word) (command : Command) (spelled : Spells command words) (files : List NamedFile) (old : Files) (good : AreGoodFiles (old command.input) files) where
   can_do : CanDo words old
@@ -49,7 +59,11 @@ module _ (words : List Word) (command : Command) (spelled : Spells command words
         spelled = spelled;
         names = names;
         of_input = good.are.names;
-        is = ap (λ n. summary_line n (class_count files)) (sym (length-map files (λ file. file.name))) ∙ ap (λ n. summary_line (length names) n) (sym (fold-map _ (λ (file : NamedFile). file.name) 0 files));
+        kept = method_count files;
+        counted = have_methods (old command.input) files good.methods;
+        is =
+            ap (λ n. summary_line n (class_count files) (method_count files)) (sym (length-map files (λ file. file.name)))
+            ∙ ap (λ n. summary_line (length names) n (method_count files)) (sym (fold-map _ (λ (file : NamedFile). file.name) 0 files));
       }
 
   part_of_summary : (before mid after : Bytes) → mid ≡ before → IsPrefixPrinted (summary_of files) mid after → PrintsPart words old Done before after
@@ -66,7 +80,8 @@ module _ (words : List Word) (command : Command) (spelled : Spells command words
     pub LeavesFiles-written : (status : Status) → LeavesWritten command.output files mid new status → LeavesFiles words old new status
     LeavesFiles-written Done puts = copies puts
     LeavesFiles-written Usage never = absurd never
-    LeavesFiles-written (NotYet name) never = absurd never
+    LeavesFiles-written (Malformed name at rule) never = absurd never
+    LeavesFiles-written (Version name major minor) never = absurd never
     LeavesFiles-written (HostFault calls.List) never = absurd never
     LeavesFiles-written (HostFault calls.Read) never = absurd never
     LeavesFiles-written (HostFault calls.Write) puts = partly_copies puts
@@ -79,7 +94,8 @@ module _ (words : List Word) (command : Command) (spelled : Spells command words
   pub LeavesPrinted-written : (PrintRose : Type 0) (before mid after : Bytes) → mid ≡ before → (status : Status) → PrintsWritten files mid after status → LeavesPrinted words old PrintRose before after status
   LeavesPrinted-written PrintRose before mid after same Done all = record { line = summary_of files; is_line = is_summary; printed = all ∙ ap (λ text. text ++ summary_of files) same }
   LeavesPrinted-written PrintRose before mid after same Usage never = absurd never
-  LeavesPrinted-written PrintRose before mid after same (NotYet name) never = absurd never
+  LeavesPrinted-written PrintRose before mid after same (Malformed name at rule) never = absurd never
+  LeavesPrinted-written PrintRose before mid after same (Version name major minor) never = absurd never
   LeavesPrinted-written PrintRose before mid after same (HostFault calls.List) never = absurd never
   LeavesPrinted-written PrintRose before mid after same (HostFault calls.Read) never = absurd never
   LeavesPrinted-written PrintRose before mid after same (HostFault calls.Write) none = none ∙ same

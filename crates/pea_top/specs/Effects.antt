@@ -1,13 +1,13 @@
 -- What a call leaves of the files, and what it prints.
-use Rattle.std.specs.Prelude.{◌≡◌, ◌≢◌, ◌⊎◌, List, ◌++◌, length, count_by, Some, None, IsSome}
+use Rattle.std.specs.Prelude.{◌≡◌, ◌≢◌, ℕ, ◌⊎◌, List, ◌++◌, length, count_by, Some, None, IsSome}
 use Rattle.host_tree.specs.Host.{Bytes, Files, SameFiles, IsPrefixPrinted}
 use Rattle.host_tree.specs.declared.call.HostCall.TheVariants as calls
 use Rattle.pea_top.specs.Words.{Word, Command, Spells}
-use Rattle.pea_top.specs.Folders.{IsBefore, AreNames, names_class_file}
+use Rattle.pea_top.specs.Folders.{IsBefore, AreNames, names_class_file, HaveMethods}
 use Rattle.pea_top.specs.Lines.{summary_line, refusal_line}
 use Rattle.pea_top.specs.Answer.{IsAnswer}
 use Rattle.pea_top.specs.declared.status.Status.{Status}
-use Rattle.pea_top.specs.declared.status.Status.TheVariants.{Done, Usage, HostFault, NoMemory, NotYet}
+use Rattle.pea_top.specs.declared.status.Status.TheVariants.{Done, Usage, Malformed, Version, HostFault, NoMemory}
 
 -- The output has its old files with the files of the input put in, and every other root is as before.
 pub record IsCopied (command : Command) (old new : Files) : Type 0 where
@@ -40,7 +40,8 @@ pub record PartlyCopies (words : List Word) (old new : Files) : Type 0 where
 abbrev pub LeavesFiles : List Word → Files → Files → Status → Type 0
 LeavesFiles words old new Done = Copies words old new
 LeavesFiles words old new Usage = SameFiles old new
-LeavesFiles words old new (NotYet name) = SameFiles old new
+LeavesFiles words old new (Malformed name at rule) = SameFiles old new
+LeavesFiles words old new (Version name major minor) = SameFiles old new
 LeavesFiles words old new (HostFault calls.List) = SameFiles old new
 LeavesFiles words old new (HostFault calls.Read) = SameFiles old new
 LeavesFiles words old new (HostFault calls.Write) = PartlyCopies words old new
@@ -53,13 +54,16 @@ pub record IsSummary (words : List Word) (files : Files) (line : Bytes) : Type 0
   pub spelled : Spells command words
   pub names : List Bytes
   pub of_input : AreNames (files command.input) names
-  pub is : line ≡ summary_line (length names) (count_by names_class_file names)
+  pub kept : ℕ
+  pub counted : HaveMethods (files command.input) names kept
+  pub is : line ≡ summary_line (length names) (count_by names_class_file names) kept
 
 -- the line that is printed with an answer
 abbrev pub IsLineOf : List Word → Files → Status → Bytes → Type 0
 IsLineOf words files Done line = IsSummary words files line
 IsLineOf words files Usage line = line ≡ refusal_line Usage
-IsLineOf words files (NotYet name) line = line ≡ refusal_line (NotYet name)
+IsLineOf words files (Malformed name at rule) line = line ≡ refusal_line (Malformed name at rule)
+IsLineOf words files (Version name major minor) line = line ≡ refusal_line (Version name major minor)
 IsLineOf words files (HostFault call) line = ⊥
 IsLineOf words files NoMemory line = ⊥
 
@@ -89,7 +93,8 @@ pub record PrintsSome (words : List Word) (files : Files) (old new : Bytes) : Ty
 abbrev pub LeavesPrinted : List Word → Files → Type 0 → Bytes → Bytes → Status → Type 0
 LeavesPrinted words files PrintRose old new Done = PrintsSummary words files old new
 LeavesPrinted words files PrintRose old new Usage = PrintsRefusal Usage PrintRose old new
-LeavesPrinted words files PrintRose old new (NotYet name) = PrintsRefusal (NotYet name) PrintRose old new
+LeavesPrinted words files PrintRose old new (Malformed name at rule) = PrintsRefusal (Malformed name at rule) PrintRose old new
+LeavesPrinted words files PrintRose old new (Version name major minor) = PrintsRefusal (Version name major minor) PrintRose old new
 LeavesPrinted words files PrintRose old new (HostFault calls.List) = new ≡ old
 LeavesPrinted words files PrintRose old new (HostFault calls.Read) = new ≡ old
 LeavesPrinted words files PrintRose old new (HostFault calls.Write) = new ≡ old

@@ -1,9 +1,11 @@
 -- The printed lines.
 use Rattle.std.specs.Prelude.{ℕ, ◌+◌, ◌/◌, ◌%◌, ◌&&◌, nat_le, nat_lt, ◌==◌, not, List, [], ◌∷◌, ◌++◌, codes, decimal, if◌then◌else◌}
 use Rattle.std.specs.List.{flat_map}
+use Rattle.class_model.specs.declared.fault.FileRule.{FileRule}
+use Rattle.class_model.specs.declared.fault.FileRule.TheVariants as rules
 use Rattle.host_tree.specs.Host.{Bytes}
 use Rattle.pea_top.specs.declared.status.Status.{Status}
-use Rattle.pea_top.specs.declared.status.Status.TheVariants.{Done, Usage, HostFault, NoMemory, NotYet}
+use Rattle.pea_top.specs.declared.status.Status.TheVariants.{Done, Usage, Malformed, Version, HostFault, NoMemory}
 
 -- a hexadecimal digit in lower case
 abbrev pub hex_digit : ℕ → ℕ
@@ -23,15 +25,43 @@ printed_text (first ∷ second ∷ rest) = flat_map printed_byte (first ∷ seco
 abbrev pub line : Bytes → Bytes
 line text = text ++ 10 ∷ []
 
--- what a command that was done prints: how many files were written, and how many of them are class
--- files. These have no methods, so none was rewritten or kept.
-unfoldable pub summary_line : ℕ → ℕ → Bytes
-summary_line files classes = line (codes "done files=" ++ decimal files ++ codes " classes=" ++ decimal classes ++ codes " rewritten=0 kept=0")
+-- what a command that was done prints: how many files were written, how many of them are class files, and how
+-- many methods these have, all of which are kept as they were
+unfoldable pub summary_line : ℕ → ℕ → ℕ → Bytes
+summary_line files classes kept = line (codes "done files=" ++ decimal files ++ codes " classes=" ++ decimal classes ++ codes " rewritten=0 kept=" ++ decimal kept)
+
+-- the name of a rule
+abbrev pub rule_name : FileRule → Bytes
+rule_name rules.Short = codes "Short"
+rule_name rules.Magic = codes "Magic"
+rule_name rules.Tag = codes "Tag"
+rule_name rules.Text = codes "Text"
+rule_name rules.Extra = codes "Extra"
+rule_name rules.Index = codes "Index"
+rule_name rules.Name = codes "Name"
+rule_name rules.Descriptor = codes "Descriptor"
+rule_name rules.Flags = codes "Flags"
+rule_name rules.Twice = codes "Twice"
+rule_name rules.NoCode = codes "NoCode"
+rule_name rules.HasCode = codes "HasCode"
+rule_name rules.Constant = codes "Constant"
+rule_name rules.Attribute = codes "Attribute"
+rule_name rules.CodeLength = codes "CodeLength"
+rule_name rules.Locals = codes "Locals"
+rule_name rules.Opcode = codes "Opcode"
+rule_name rules.Operand = codes "Operand"
+rule_name rules.Jump = codes "Jump"
+rule_name rules.Range = codes "Range"
+rule_name rules.FrameKind = codes "FrameKind"
+rule_name rules.FrameType = codes "FrameType"
+rule_name rules.FrameSize = codes "FrameSize"
+rule_name rules.FramePlace = codes "FramePlace"
 
 -- what is printed of a refusal; the other statuses print none
 unfoldable pub refusal_line : Status → Bytes
 refusal_line Usage = line (codes "refused 1 Usage")
-refusal_line (NotYet name) = line (codes "refused 10 NotYet " ++ printed_text name)
+refusal_line (Malformed name at rule) = line (codes "refused 2 Malformed " ++ printed_text name ++ codes " " ++ decimal at ++ codes " " ++ rule_name rule)
+refusal_line (Version name major minor) = line (codes "refused 3 Version " ++ printed_text name ++ codes " " ++ decimal major ++ codes " " ++ decimal minor)
 refusal_line Done = []
 refusal_line (HostFault call) = []
 refusal_line NoMemory = []

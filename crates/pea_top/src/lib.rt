@@ -10,7 +10,7 @@ mod top;
 mod words;
 mod writing;
 
-pub use laws::words_spell_one_command;
+pub use laws::{words_and_files_have_one_answer, words_spell_one_command};
 pub use status::Status;
 pub use top::pea;
 

@@ -1,37 +1,92 @@
 //! The printed lines.
 ghost use Rattle.std.specs.Prelude.{◌≡◌, ◌<◌, ◌++◌, IfOk, OnOk};
 ghost use Rattle.std.specs.List.{flat_map};
-ghost use Rattle.pea_top.specs.Lines.{hex_digit, printed_byte, printed_text, summary_line, refusal_line};
+ghost use Rattle.pea_top.specs.Lines.{hex_digit, printed_byte, printed_text, rule_name, summary_line, refusal_line};
 
 use crate::status::Status;
-use class_model::NoMemory;
+use class_model::{FileRule, NoMemory};
+use host_tree::FileName;
 use std::alloc::Global;
 
-/// The line that sums up a command that was done: how many files were written, and how many of them
-/// are class files.
-pub(crate) fn summary(alloc: Global, files: usize, classes: usize) -> Result<Vec<u8>, NoMemory>
-    ensures { IfOk result (λ line. line.items ≡ summary_line files classes) }
+/// The line that sums up a command that was done: how many files were written, how many of them are class
+/// files, and how many methods these have.
+pub(crate) fn summary(
+    alloc: Global,
+    files: usize,
+    classes: usize,
+    kept: u128,
+) -> Result<Vec<u8>, NoMemory>
+    ensures { IfOk result (λ line. line.items ≡ summary_line files classes kept) }
 {
-    let text = format!(in alloc; "done files={files} classes={classes} rewritten=0 kept=0\n")?;
+    let text = format!(in alloc; "done files={files} classes={classes} rewritten=0 kept={kept}\n")?;
     Ok(text.into_bytes())
 }
 
 /// The line of a refusal, which is empty for a status that prints none.
-#[tactic(auto, using(std::proofs::lemmas::List::append_assoc), unfolding(crate::specs::Lines::refusal_line))]
+#[tactic(auto, unfolding(crate::specs::Lines::refusal_line))]
 pub(crate) fn refusal(alloc: Global, status: &Status) -> Result<Vec<u8>, NoMemory>
     ensures { IfOk result (λ line. line.items ≡ refusal_line status.now) }
 {
-    let mut line = Vec::new(alloc);
     match status {
-        Status::Usage => line.extend_from_slice(b"refused 1 Usage\n")?,
-        Status::NotYet { name } => {
-            line.extend_from_slice(b"refused 10 NotYet ")?;
-            push_text(&mut line, name.as_str().as_bytes())?;
-            line.push(b'\n')?;
+        Status::Usage => Ok(Vec::from_slice(alloc, b"refused 1 Usage\n")?),
+        Status::Malformed { name, at, rule } => {
+            let rule = rule_name(*rule);
+            let fault = format!(in alloc; " {at} {rule}\n")?;
+            file_refusal(alloc, b"refused 2 Malformed ", name, fault.as_str())
         }
-        Status::Done | Status::HostFault(_) | Status::NoMemory => {}
+        Status::Version { name, major, minor } => {
+            let version = format!(in alloc; " {major} {minor}\n")?;
+            file_refusal(alloc, b"refused 3 Version ", name, version.as_str())
+        }
+        Status::Done | Status::HostFault(_) | Status::NoMemory => Ok(Vec::new(alloc)),
     }
+}
+
+/// The line of a refusal that names a file, from what stands before and behind the name.
+fn file_refusal(
+    alloc: Global,
+    front: &[u8],
+    name: &FileName,
+    back: &str,
+) -> Result<Vec<u8>, NoMemory>
+    ensures { IfOk result (λ line. line.items ≡ front.now ++ printed_text name.now ++ back.now) }
+{
+    let mut line = Vec::from_slice(alloc, front)?;
+    push_text(&mut line, name.as_str().as_bytes())?;
+    line.extend_from_slice(back.as_bytes())?;
     Ok(line)
+}
+
+/// The name of a rule.
+fn rule_name(rule: FileRule) -> &'static str
+    ensures { result.now ≡ rule_name rule }
+{
+    match rule {
+        FileRule::Short => "Short",
+        FileRule::Magic => "Magic",
+        FileRule::Tag => "Tag",
+        FileRule::Text => "Text",
+        FileRule::Extra => "Extra",
+        FileRule::Index => "Index",
+        FileRule::Name => "Name",
+        FileRule::Descriptor => "Descriptor",
+        FileRule::Flags => "Flags",
+        FileRule::Twice => "Twice",
+        FileRule::NoCode => "NoCode",
+        FileRule::HasCode => "HasCode",
+        FileRule::Constant => "Constant",
+        FileRule::Attribute => "Attribute",
+        FileRule::CodeLength => "CodeLength",
+        FileRule::Locals => "Locals",
+        FileRule::Opcode => "Opcode",
+        FileRule::Operand => "Operand",
+        FileRule::Jump => "Jump",
+        FileRule::Range => "Range",
+        FileRule::FrameKind => "FrameKind",
+        FileRule::FrameType => "FrameType",
+        FileRule::FrameSize => "FrameSize",
+        FileRule::FramePlace => "FramePlace",
+    }
 }
 
 /// Appends a text as it is printed.

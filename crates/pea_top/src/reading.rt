@@ -3,17 +3,17 @@ ghost use Rattle.std.specs.Prelude.{◌≡◌, ◌⊎◌, Some, IsTrue, IsSome, 
 ghost use Rattle.host_tree.specs.declared.call.HostCall.{HostCall};
 ghost use Rattle.host_tree.specs.Host.{Folder, SameFiles};
 ghost use Rattle.host_tree.specs.Counts.{NeverFalls, Rose, CountsOnly};
-ghost use Rattle.class_model.specs.PlainClassFile.{IsPlainFile};
-ghost use Rattle.class_model.specs.declared.class_file.ClassFile.{ClassFile};
-ghost use Rattle.class_bytes.specs.Reading.{IsPlainFault};
-ghost use Rattle.pea_top.specs.Folders.{AreNames};
+ghost use Rattle.pea_top.specs.Answer.{Refusal, AreRefused};
+ghost use Rattle.pea_top.specs.Folders.{AreNames, HasClassMethods};
 ghost use Rattle.pea_top.specs.Reading.{IsReadOrWhy};
-ghost use Rattle.pea_top.specs.ReadingSteps.{IsCallStop, IsFileOrWhy};
+ghost use Rattle.pea_top.specs.ReadingSteps.{IsCallStop, IsFileOrWhy, IsWhyNot};
 ghost use Rattle.pea_top.specs.declared.reading.ReadStop.TheVariants.{NoMemory as no_memory};
 
 use crate::folder::{NamedFile, is_class_file};
-use class_bytes::{read_class, write_class};
-use class_model::{ByteList, ClassFault};
+use class_bytes::{push_class, read_class};
+use class_model::{
+    ByteList, ClassFault, FileRule, a_class_file_has_no_fault, another_version_is_no_class_file,
+};
 use host_tree::{FileName, Host, HostCall, HostFail};
 use std::alloc::{AllocError, AllocFailed, Global};
 
@@ -23,8 +23,18 @@ pub(crate) enum ReadStop {
     /// A call of this kind failed.
     Fault(HostCall),
     NoMemory,
-    /// This file is refused.
-    NotYet(FileName),
+    /// This file breaks a rule, first at this place in bytes.
+    Malformed {
+        name: FileName,
+        at: u64,
+        rule: FileRule,
+    },
+    /// This file is of a version that is not read.
+    Version {
+        name: FileName,
+        major: u16,
+        minor: u16,
+    },
 }
 
 impl From<AllocError> for ReadStop {
@@ -147,23 +157,37 @@ fn file_of(alloc: Global, name: FileName, bytes: ByteList) -> Result<NamedFile, 
     ensures no_fault { (call : HostCall) → ¬ IsErrOf result (ReadStop.Fault call) }
 {
     if !is_class_file(&name) {
-        return Ok(NamedFile { name, bytes });
+        return Ok(NamedFile {
+            name,
+            bytes,
+            methods: 0,
+        });
     }
     match written_again(alloc, bytes) {
-        Ok(bytes) => Ok(NamedFile { name, bytes }),
-        Err(ClassFault::NotYet) => Err(ReadStop::NotYet(name)),
+        Ok((bytes, methods)) => Ok(NamedFile {
+            name,
+            bytes,
+            methods,
+        }),
+        Err(ClassFault::Malformed { at, rule }) => Err(ReadStop::Malformed { name, at, rule }),
+        Err(ClassFault::Version { major, minor }) => Err(ReadStop::Version { name, major, minor }),
         Err(ClassFault::NoMemory) => Err(ReadStop::NoMemory),
-        Err(ClassFault::Malformed { .. } | ClassFault::Version { .. }) => unreachable!(),
     }
 }
 
-/// The bytes of the class file that these bytes are read as.
-fn written_again(alloc: Global, bytes: ByteList) -> Result<ByteList, ClassFault>
-    ensures same { IfOk result (λ written. (written ≡ bytes) × ((class : ClassFile) × IsPlainFile bytes class)) }
-    ensures not_yet { IsErrOf result ClassFault.NotYet → (class : ClassFile) → ¬ IsPlainFile bytes class }
-    ensures fault { IfErr result IsPlainFault }
+/// The bytes of the class file that these bytes are read as, in their memory, and the number of its methods.
+fn written_again(alloc: Global, bytes: ByteList) -> Result<(ByteList, usize), ClassFault>
+    ensures same { IfOk result (λ written. written.0 ≡ bytes) }
+    ensures methods { IfOk result (λ written. HasClassMethods bytes written.1) }
+    ensures not_refused { IfOk result (λ _. (why : Refusal) → ¬ AreRefused bytes why) }
+    ensures fault { IfErr result (IsWhyNot bytes) }
 {
     let class = read_class(alloc, bytes.as_slice())?;
-    drop(bytes);
-    Ok(write_class(alloc, &class)?)
+    a_class_file_has_no_fault();
+    another_version_is_no_class_file();
+    let methods = class.methods.len();
+    let mut written = bytes.into_vec();
+    written.clear();
+    push_class(&mut written, &class)?;
+    Ok((ByteList::from_vec(written), methods))
 }

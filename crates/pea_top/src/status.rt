@@ -2,6 +2,7 @@
 ghost use Rattle.std.specs.Prelude.{◌≡◌};
 ghost use Rattle.pea_top.specs.Status.{code_of};
 
+use class_model::FileRule;
 use host_tree::{FileName, HostCall};
 
 /// How a call ended.
@@ -11,13 +12,24 @@ pub enum Status {
     Done,
     /// The words are not in the grammar.
     Usage,
+    /// This class file of the input breaks a rule, first at this place in bytes. It is the first class file in
+    /// byte order of names that is refused.
+    Malformed {
+        name: FileName,
+        at: u64,
+        rule: FileRule,
+    },
+    /// This class file of the input is of a version that is not read. It is the first class file in byte order
+    /// of names that is refused.
+    Version {
+        name: FileName,
+        major: u16,
+        minor: u16,
+    },
     /// A call of the host failed.
     HostFault(HostCall),
     /// Memory ran out.
     NoMemory,
-    /// This file of the input ends in `.class` and is no plain class file: the first such name in byte
-    /// order. More kinds of class file will be read.
-    NotYet { name: FileName },
 }
 
 impl Status {
@@ -28,9 +40,10 @@ impl Status {
         match self {
             Status::Done => 0,
             Status::Usage => 1,
+            Status::Malformed { .. } => 2,
+            Status::Version { .. } => 3,
             Status::HostFault(_) => 6,
             Status::NoMemory => 9,
-            Status::NotYet { .. } => 10,
         }
     }
 }

@@ -8,7 +8,7 @@ ghost use Rattle.pea_top.specs.CommandView.{command_view};
 ghost use Rattle.pea_top.specs.Lines.{refusal_line};
 ghost use Rattle.pea_top.specs.Answer.{HasCause};
 ghost use Rattle.pea_top.specs.Effects.{LeavesFiles, LeavesPrinted, PrintsRefusal};
-ghost use Rattle.pea_top.specs.CommandEffects.{class_count, LeavesWritten, PrintsWritten};
+ghost use Rattle.pea_top.specs.CommandEffects.{class_count, method_count, LeavesWritten, PrintsWritten};
 
 use crate::folder::{NamedFile, is_class_file};
 use crate::lines::{refusal, summary};
@@ -61,7 +61,12 @@ fn optimise<H: Host>(alloc: Global, command: Command<'_>, host: &mut H) -> Statu
         Ok(files) => write_out(alloc, host, command.output, files.as_slice()),
         Err(ReadStop::Fault(call)) => Status::HostFault(call),
         Err(ReadStop::NoMemory) => Status::NoMemory,
-        Err(ReadStop::NotYet(name)) => refuse(alloc, host, Status::NotYet { name }),
+        Err(ReadStop::Malformed { name, at, rule }) => {
+            refuse(alloc, host, Status::Malformed { name, at, rule })
+        }
+        Err(ReadStop::Version { name, major, minor }) => {
+            refuse(alloc, host, Status::Version { name, major, minor })
+        }
     }
 }
 
@@ -74,7 +79,7 @@ fn write_out<H: Host>(alloc: Global, host: &mut H, root: &str, files: &[NamedFil
     ensures files { IsTrue H.tells → LeavesWritten root.now files.now (H.file host.old) (H.file host.new) result }
     ensures printed { IsTrue H.tells → PrintsWritten files.now (H.printed host.old) (H.printed host.new) result }
 {
-    let Ok(line) = summary(alloc, files.len(), class_files(files)) else {
+    let Ok(line) = summary(alloc, files.len(), class_files(files), methods(files)) else {
         return Status::NoMemory;
     };
     match write_files(alloc, host, root, files) {
@@ -93,6 +98,17 @@ fn class_files(files: &[NamedFile]) -> usize
         .iter()
         .filter(|file| is_class_file(&file.name))
         .count()
+}
+
+/// How many methods the files have together.
+fn methods(files: &[NamedFile]) -> u128
+    ensures { result ≡ method_count files.now }
+{
+    let mut total = 0;
+    for file in files {
+        total += file.methods as u128;
+    }
+    total
 }
 
 /// Prints the last line of a command that was done.
