@@ -1,0 +1,112 @@
+-- What is known of each class of a hierarchy.
+use Rattle.std.proofs.Common.{◌≡◌, ◌≢◌, ◌+◌, ◌*◌, ℕ, zero, suc, List, [], ◌∷◌, ◌++◌, length, map, slice_get, Option, Some, None, IsSome, IfSome, IsTrue, refl, sym, ◌∙◌, subst}
+use Rattle.std.specs.List.{AllByRecursion, flat_map, join_with_byte}
+use Rattle.class_model.specs.Checks as checks
+use Rattle.class_model.specs.ClassOf.{ClassOf, fields_checks, methods_checks, dynamic_checks}
+use Rattle.class_model.specs.Header.{header_of}
+use Rattle.class_model.specs.Members.{fits_class, class_name_checks, super_checks, interfaces_checks, attrs_checks}
+use Rattle.class_model.specs.Methods.{Home, class_attr_checks, bootstrap_count}
+use Rattle.class_model.specs.Names.{IsClassName, IsUnqualifiedName}
+use Rattle.class_model.specs.PoolChecks.{entries_checks, class_at}
+use Rattle.class_model.specs.Spelling.{class_bytes, entry_bytes, field_bytes, method_bytes}
+use Rattle.class_model.specs.declared.class_file.ClassFile.{ClassFile}
+use Rattle.class_model.specs.declared.fault.FileRule.TheVariants as rules
+use Rattle.class_model.specs.declared.header.Header.{Header}
+use Rattle.class_tree.specs.Headers.{Name, Classes, Headers, headers_of, class_named, IsClassFile, IsLibraryClass}
+use Rattle.class_tree.specs.Problems.{AllHold}
+use Rattle.class_tree.specs.Steps.{hierarchy_checks}
+use Rattle.class_tree.specs.Subtype.{IsArray}
+use Rattle.class_tree.specs.Trees.{IsInOrder, IsTree}
+use Rattle.class_tree.proofs.ClassHolds.{front_holds, in_either_list}
+use Rattle.class_tree.proofs.Places.{number_of_class}
+
+-- ---- names of classes
+
+-- a class name is no array
+no_array : (name : Name) (parts : List (List ℕ)) → parts ≢ [] → AllByRecursion IsUnqualifiedName parts → name ≡ join_with_byte 47 parts → ¬ IsArray name
+no_array name [] some unqualified joined array = some refl
+no_array name ([] ∷ parts) some unqualified joined array = unqualified.0.some refl
+no_array name ((first ∷ front) ∷ []) some unqualified joined array = unqualified.0.bytes.0.no_bracket (let e = array.1 in cc)
+no_array name ((first ∷ front) ∷ (part ∷ parts)) some unqualified joined array = unqualified.0.bytes.0.no_bracket (let e = array.1 in cc)
+
+name_is_class_name : (class : ClassFile) (at : ℕ) → checks.AllHold (class_name_checks class.pool at class.this_class) → IsClassName (header_of class).name
+name_is_class_name class at hold = by (class_at class.pool class.this_class) refl hold.0 hold.1.0
+  where
+    by : (found : Option (List ℕ)) → class_at class.pool class.this_class ≡ found → IsSome found → IfSome found IsClassName → IsClassName (header_of class).name
+    by None is some named = absurd cc
+    by (Some text) is some named = rw is named
+
+-- ---- what the checks of a class file say of its name
+
+front : (a b : List checks.Check) → checks.AllHold (a ++ b) → checks.AllHold a
+front [] b h = tt
+front (c ∷ a) b h = (h.0, front a b h.1)
+
+back : (a b : List checks.Check) → checks.AllHold (a ++ b) → checks.AllHold b
+back [] b h = h
+back (c ∷ a) b h = back a b h.1
+
+third_of_nine : (a b c d e f g h i : List checks.Check) → checks.AllHold (a ++ b ++ c ++ d ++ e ++ f ++ g ++ h ++ i) → checks.AllHold c
+third_of_nine a b c d e f g h i all =
+    let abcdefgh = front (a ++ b ++ c ++ d ++ e ++ f ++ g ++ h) i all in
+    let abcdefg = front (a ++ b ++ c ++ d ++ e ++ f ++ g) h abcdefgh in
+    let abcdef = front (a ++ b ++ c ++ d ++ e ++ f) g abcdefg in
+    let abcde = front (a ++ b ++ c ++ d ++ e) f abcdef in
+    let abcd = front (a ++ b ++ c ++ d) e abcde in
+    back (a ++ b) c (front (a ++ b ++ c) d abcd)
+
+second_of_six : (a b c d e f : List checks.Check) → checks.AllHold (a ++ b ++ c ++ d ++ e ++ f) → checks.AllHold b
+second_of_six a b c d e f all =
+    let abcde = front (a ++ b ++ c ++ d ++ e) f all in
+    let abcd = front (a ++ b ++ c ++ d) e abcde in
+    back a b (front (a ++ b) c (front (a ++ b ++ c) d abcd))
+
+class_file_name : (bytes : List ℕ) (class : ClassFile) → ClassOf bytes class → IsClassName (header_of class).name
+class_file_name bytes class is =
+    let c = is.cut in
+    let pool = c.pool in
+    let flags = 10 + length (flat_map entry_bytes pool) in
+    let fields = flags + 8 + 2 * length c.interfaces in
+    let methods = fields + 2 + length (flat_map field_bytes c.fields) in
+    let attrs = methods + 2 + length (flat_map method_bytes c.methods) in
+    let home : Home = record { pool = pool; major = c.major; flags = c.flags; name = class_at pool c.this_class } in
+    let named = third_of_nine (entries_checks c.major pool 10 pool) (checks.check flags rules.Flags (IsTrue (fits_class c.flags)) ∷ []) (class_name_checks pool (flags + 2) c.this_class) (super_checks pool (flags + 4) c.super_class) (interfaces_checks pool (flags + 8) c.interfaces) (fields_checks pool c.flags [] (fields + 2) c.fields) (methods_checks home [] (methods + 2) c.methods) (attrs_checks (class_attr_checks pool) [] (attrs + 2) c.attrs) (dynamic_checks (bootstrap_count pool c.attrs) 10 pool) is.holds in
+    subst (λ (c : ClassFile). IsClassName (header_of c).name) (sym is.is) (name_is_class_name c (flags + 2) named)
+
+library_name : (header : Header) → IsLibraryClass header → IsClassName header.name
+library_name header is =
+    let c = is.read.cut in
+    let at = 10 + length (flat_map entry_bytes c.pool) + 2 in
+    let named = second_of_six _ (class_name_checks c.pool at c.this_class) _ _ _ _ is.read.holds in
+    subst (λ (h : Header). IsClassName h.name) (sym is.read.is) (name_is_class_name c at named)
+
+each_class_file : (list : List ClassFile) → AllByRecursion IsClassFile list → (number : ℕ) (header : Header) → slice_get (map header_of list) number ≡ Some header → IsClassName header.name
+each_class_file [] all number header there = absurd cc
+each_class_file (class ∷ list) all zero header there = subst (λ (h : Header). IsClassName h.name) {x = header_of class} {y = header} (cc) (class_file_name (class_bytes class) class all.0)
+each_class_file (class ∷ list) all (suc number) header there = each_class_file list all.1 number header there
+
+each_library_class : (list : List Header) → AllByRecursion IsLibraryClass list → (number : ℕ) (header : Header) → slice_get list number ≡ Some header → IsClassName header.name
+each_library_class [] all number header there = absurd cc
+each_library_class (first ∷ list) all zero header there = subst (λ (h : Header). IsClassName h.name) {x = first} {y = header} (cc) (library_name first all.0)
+each_library_class (first ∷ list) all (suc number) header there = each_library_class list all.1 number header there
+
+-- ---- hierarchies
+
+-- Classes in order that hold what is asked of a hierarchy; none has the name of an array.
+pub record IsHierarchy (headers : Headers) : Type 0 where
+  pub in_order : IsInOrder headers
+  pub hold : AllHold (hierarchy_checks headers)
+  pub named : (name : Name) (header : Header) → class_named headers name ≡ Some header → ¬ IsArray name
+
+pub tree_is_hierarchy : (classes : Classes) → IsTree classes → IsHierarchy (headers_of classes)
+tree_is_hierarchy classes tree = record {
+  in_order = tree.in_order;
+  hold = front_holds (hierarchy_checks (headers_of classes)) _ tree.holds;
+  named = named;
+}
+  where
+    named : (name : Name) (header : Header) → class_named (headers_of classes) name ≡ Some header → ¬ IsArray name
+    named name header is array =
+        let class = number_of_class (headers_of classes) name header is in
+        let own = in_either_list (λ header. IsClassName header.name) (map header_of classes.folder) classes.library (each_class_file classes.folder tree.folder) (each_library_class classes.library tree.library) class.0 header class.1.there in
+        no_array header.name own.parts own.some own.unqualified own.joined (array.0, class.1.same ∙ array.1)

@@ -1,0 +1,10 @@
+use Rattle.std.proofs.Common.{map, drop}
+use Rattle.class_tree.specs.Names.{base_names}
+use Rattle.class_tree.specs.Problems.{asked_each}
+use Rattle.class_tree.proofs.BaseChecks.{library_check}
+use Rattle.class_tree.proofs.LinkChecks.{Remain}
+use Rattle.class_tree.proofs.base.check_names.Given as goal
+
+abbrev pub invariant-loop-name : goal.invariant-loop-name
+invariant-loop-name l =
+    Remain (asked_each (library_check l.headers) base_names) (asked_each (library_check l.headers) (map (λ name. name.now) (drop l.name-index l.name-items)))

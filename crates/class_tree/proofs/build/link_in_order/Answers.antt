@@ -1,0 +1,49 @@
+use Rattle.std.proofs.Common.{◌∙◌, ap, sym, subst, rules}
+use Rattle.std.proofs.lemmas.Bool.{true≢false}
+use Rattle.std.proofs.lemmas.Result.{err_from_is_err_and}
+use Rattle.class_tree.specs.Graphs.{IsWithin}
+use Rattle.class_tree.specs.Nodes.{graph_of, AreInterfaceLists, AreMemberIndexes}
+use Rattle.class_tree.specs.Trees.{IsInOrder}
+use Rattle.class_tree.proofs.BuiltSteps.{same_headers, hierarchy_refused, base_refused, steps_hold, classes_are_placed}
+use Rattle.class_tree.proofs.GraphPaths.{graph_is_within}
+use Rattle.class_tree.proofs.build.link_in_order.Goals as goal
+use Rattle.class_tree.proofs.build.link_in_order.Goals.{then-not-is_empty+in_ok-check_base, else-not-is_empty}
+
+pub topological-requires : goal.topological-requires
+topological-requires c = subst IsWithin (sym (c.deref.ensures.value ∙ c.in_ok-graph.ensures)) (graph_is_within c.args.headers.now)
+
+pub returns-in_err-check_hierarchy : goal.returns-in_err-check_hierarchy
+returns-in_err-check_hierarchy c =
+    let p = err_from_is_err_and c.from_residual-in_err-check_hierarchy.result c.from_residual-in_err-check_hierarchy.ensures.1 in
+    rw (p.1, p.2) (hierarchy_refused c.args.folder.now c.args.headers.now _ c.requires.headers c.requires.in_order c.in_err-check_hierarchy.ensures)
+
+pub returns-in_err-check_base : goal.returns-in_err-check_base
+returns-in_err-check_base c =
+    let p = err_from_is_err_and c.from_residual-in_err-check_base.result c.from_residual-in_err-check_base.ensures.1 in
+    rw (p.1, p.2) (base_refused c.args.folder.now c.args.headers.now _ c.requires.headers c.requires.in_order c.in_ok-check_hierarchy.ensures (sym c.is_empty.ensures ∙ c.if-not-is_empty.true) c.in_err-check_base.ensures)
+
+pub interface_lists-requires-clause-all : goal.interface_lists-requires-clause-all
+interface_lists-requires-clause-all c =
+    classes_are_placed c.args.headers.now c.deref-3.result.now c.as_slice-order.result.now c.requires.in_order c.in_ok-check_hierarchy.ensures
+    (c.deref-3.ensures.value ∙ c.in_ok-graph.ensures)
+    (search rules)
+
+pub returns : goal.returns
+returns c =
+    let same = same_headers c.args.folder.now c.args.headers.now c.requires.headers in
+    record {
+      tree = record {
+        folder = c.requires.folder;
+        library = c.requires.library;
+        in_order = subst IsInOrder same c.requires.in_order;
+        holds = steps_hold c.args.folder.now c.args.headers.now c.requires.headers c.in_ok-check_hierarchy.ensures (elim c.if-not-is_empty.branch [
+          | then-not-is_empty+in_ok-check_base w ↦ λ some. w.in_ok-check_base.ensures
+          | else-not-is_empty w ↦ λ some. absurd (true≢false (sym w.if-not-is_empty.false ∙ c.is_empty.ensures ∙ some))
+        ]);
+      };
+      headers = c.requires.headers;
+      graph = c.in_ok-graph.ensures ∙ ap graph_of same;
+      interfaces = subst (λ headers. AreInterfaceLists headers c.in_ok-interfaces.interfaces.items) same c.in_ok-interfaces.ensures;
+      fields = subst (λ headers. AreMemberIndexes (λ header. header.fields) headers c.in_ok-fields.fields.items) same c.in_ok-fields.ensures;
+      methods = subst (λ headers. AreMemberIndexes (λ header. header.methods) headers c.in_ok-methods.methods.items) same c.in_ok-methods.ensures;
+    }

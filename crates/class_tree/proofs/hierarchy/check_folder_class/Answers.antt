@@ -1,0 +1,46 @@
+use Rattle.std.proofs.Common.{◌≡◌, ◌↔◌, true}
+use Rattle.std.specs.List.{AllByRecursion}
+use Rattle.std.proofs.lemmas.Result.{err_from_is_err_and}
+use Rattle.class_tree.specs.Headers.{IsThere}
+use Rattle.class_tree.specs.Steps.{supers, folder_checks}
+use Rattle.class_tree.proofs.LinkChecks.{all_remain, passes, fails, ends, not_so}
+use Rattle.class_tree.proofs.SuperNumbers.{there_decides, numbers_of_all}
+use Rattle.class_tree.proofs.hierarchy.check_folder_class.Goals as goal
+use Rattle.class_tree.proofs.hierarchy.check_folder_class.Goals.{After-are_there}
+
+are_there : (c : After-are_there) → (c.are_there.result ≡ true) ↔ AllByRecursion (IsThere c.args.headers.now) (supers c.args.header.now)
+are_there c = there_decides c.args.headers.now (supers c.args.header.now) c.args.above.now c.are_there.result c.requires.above c.are_there.ensures
+
+pub returns-in_err-ask : goal.returns-in_err-ask
+returns-in_err-ask c =
+    let p = err_from_is_err_and c.from_residual.result c.from_residual.ensures.1 in
+    let left = all_remain (folder_checks c.args.headers.now c.args.header.now) in
+    rw (p.1, p.2) (fails c.are_there.result _ left (are_there (goal.at.returns-in_err-ask c).After-are_there) c.in_err-ask.ensures)
+
+pub returns-in_err-ask-2 : goal.returns-in_err-ask-2
+returns-in_err-ask-2 c =
+    let p = err_from_is_err_and c.from_residual-in_err-ask-2.result c.from_residual-in_err-ask-2.ensures.1 in
+    let there = (are_there (goal.at.returns-in_err-ask-2 c).After-are_there).0 c.in_ok-ask.ensures.0 in
+    let left = passes (all_remain (folder_checks c.args.headers.now c.args.header.now)) there in
+    rw (p.1, p.2) (fails _ _ left (not_so c.requires.circle) c.in_err-ask-2.ensures)
+
+pub is_extensible-requires : goal.is_extensible-requires
+is_extensible-requires c =
+    numbers_of_all c.args.headers.now (supers c.args.header.now) c.args.above.now c.requires.above ((are_there (goal.at.is_extensible-requires c).After-are_there).0 c.in_ok-ask.ensures.0)
+
+pub returns-in_err-ask-3 : goal.returns-in_err-ask-3
+returns-in_err-ask-3 c =
+    let p = err_from_is_err_and c.from_residual-in_err-ask-3.result c.from_residual-in_err-ask-3.ensures.1 in
+    let there = (are_there (goal.at.returns-in_err-ask-3 c).After-are_there).0 c.in_ok-ask.ensures.0 in
+    let left = passes (passes (all_remain (folder_checks c.args.headers.now c.args.header.now)) there) ((not_so c.requires.circle).0 c.in_ok-ask-2.ensures.0) in
+    rw (p.1, p.2) (fails _ _ left c.is_extensible.ensures c.in_err-ask-3.ensures)
+
+pub fits_folder_kinds-requires : goal.fits_folder_kinds-requires
+fits_folder_kinds-requires c =
+    numbers_of_all c.args.headers.now (supers c.args.header.now) c.args.above.now c.requires.above ((are_there (goal.at.fits_folder_kinds-requires c).After-are_there).0 c.in_ok-ask.ensures.0)
+
+pub returns : goal.returns
+returns c =
+    let there = (are_there (goal.at.returns c).After-are_there).0 c.in_ok-ask.ensures.0 in
+    let left = passes (passes (all_remain (folder_checks c.args.headers.now c.args.header.now)) there) ((not_so c.requires.circle).0 c.in_ok-ask-2.ensures.0) in
+    ends _ _ (passes left (c.is_extensible.ensures.0 c.in_ok-ask-3.ensures.0)) c.fits_folder_kinds.ensures c.ask-4.ensures

@@ -1,0 +1,98 @@
+use Rattle.std.proofs.Common.{◌≡◌, ◌<◌, ◌∙◌, ℕ, List, [], ◌++◌, length, filter_map, get_or, slice_get, Option, Some, None, IsSome, unwrap_or, option_map, option_to_list, Bor, refl, sym, ap, subst, inl, inr, arith, rules}
+use Rattle.std.specs.List.{All}
+use Rattle.std.specs.Option.{option_copied}
+use Rattle.std.proofs.lemmas.Option.{slice_get_cases, none-some}
+use Rattle.class_model.specs.declared.header.Header.{Header}
+use Rattle.class_tree.specs.Headers.{Headers, all_headers}
+use Rattle.class_tree.specs.InterfaceNumbers.{with_numbers, with_lists, AreNumbersOf}
+use Rattle.class_tree.specs.Nodes.{number_of}
+use Rattle.class_tree.specs.Steps.{supers}
+use Rattle.class_tree.proofs.InterfaceLists.{class_numbers, one_made, all_made, graph_len, targets_are, some_target, targets_below, next_below, targets_listed, superclass_within, interfaces_within}
+use Rattle.class_tree.proofs.interfaces.number_lists.Goals as goal
+use Rattle.class_tree.proofs.interfaces.number_lists.Goals.{After-as_slice, After-split_supers-superclass, In_ok-list}
+
+-- a number below the length is that of a class
+some_read : {R : Type 0} (found : Option (Bor R)) (items : List R) (at : ℕ) → at < length items → option_copied found ≡ slice_get items at → IsSome found
+some_read None items at within is = elim (slice_get_cases items at).1 [
+  | inl found ↦ absurd (none-some found.0 (is ∙ found.2))
+  | inr past ↦ absurd (omega (arith, past.0))
+]
+some_read (Some found) items at within is = refl
+
+pub unwrap-header-requires : goal.unwrap-header-requires
+unwrap-header-requires c =
+    let below = next_below c.args.headers.now c.requires.hierarchy c.args.graph.now c.requires.graph c.args.order.now c.requires.topological c.loop-number.number-index c.loop-number-test.true in
+    some_read c.get.result (all_headers c.args.headers.now) (get_or c.args.order.now c.loop-number.number-index 0) below c.get.ensures
+
+pub offset_bounds-graph-number : goal.offset_bounds-graph-number
+offset_bounds-graph-number c =
+    let below = next_below c.args.headers.now c.requires.hierarchy c.args.graph.now c.requires.graph c.args.order.now c.requires.topological c.loop-number.number-index c.loop-number-test.true in
+    search rules
+
+-- what is known of the class of the next number
+record Next (headers : Headers) (number : ℕ) (header : Header) (read : List ℕ) : Type 0 where
+  there : slice_get (all_headers headers) number ≡ Some header
+  targets : read ≡ filter_map (number_of headers) (supers header)
+
+next_class : (c : After-as_slice) → Next c.args.headers.now (get_or c.args.order.now c.loop-number.number-index 0) c.unwrap-header.result.now c.as_slice.result.now
+next_class c =
+    let number = get_or c.args.order.now c.loop-number.number-index 0 in
+    let header = c.unwrap-header.result.now in
+    let there : slice_get (all_headers c.args.headers.now) number ≡ Some header = sym c.get.ensures ∙ ap option_copied c.unwrap-header.ensures in
+    record {
+      there = there;
+      targets = c.as_slice.ensures ∙ targets_are c.args.headers.now c.requires.hierarchy c.args.graph.now c.requires.graph number header there c.index-graph-number.result c.index-graph-number.is;
+    }
+
+pub split_supers-superclass-requires : goal.split_supers-superclass-requires
+split_supers-superclass-requires c = λ some.
+    let n = next_class c in
+    subst (λ (l : List ℕ). 0 < length l) (sym n.targets) (some_target c.args.headers.now c.requires.hierarchy c.args.graph.now c.requires.graph (get_or c.args.order.now c.loop-number.number-index 0) c.unwrap-header.result.now n.there some)
+
+-- those that the class names are of classes
+parts_below : (c : After-split_supers-superclass) → Next c.args.headers.now (get_or c.args.order.now c.loop-number.number-index 0) c.unwrap-header.result.now c.as_slice.result.now → All (λ number. number < length c.loop-number.marks) (option_to_list c.split_supers-superclass.result.0 ++ c.split_supers-superclass.result.1.now)
+parts_below c n =
+    let below = targets_below c.args.headers.now c.requires.hierarchy c.args.graph.now c.requires.graph (get_or c.args.order.now c.loop-number.number-index 0) c.unwrap-header.result.now n.there in
+    subst (λ (count : ℕ). All (λ number. number < count) (option_to_list c.split_supers-superclass.result.0 ++ c.split_supers-superclass.result.1.now)) (sym c.loop-number.invariant.count)
+    (subst (All (λ number. number < length (all_headers c.args.headers.now))) (sym n.targets ∙ c.split_supers-superclass.ensures.parts) below)
+
+pub list_of_class-requires-clause-superclass : goal.list_of_class-requires-clause-superclass
+list_of_class-requires-clause-superclass c =
+    let at = goal.at.list_of_class-requires-clause-superclass c in
+    superclass_within (λ number. number < length c.loop-number.marks) c.split_supers-superclass.result.0 c.split_supers-superclass.result.1.now (parts_below at.After-split_supers-superclass (next_class at.After-as_slice))
+
+pub list_of_class-requires-clause-interfaces : goal.list_of_class-requires-clause-interfaces
+list_of_class-requires-clause-interfaces c =
+    let at = goal.at.list_of_class-requires-clause-interfaces c in
+    interfaces_within (λ number. number < length c.loop-number.marks) c.split_supers-superclass.result.0 c.split_supers-superclass.result.1.now (parts_below at.After-split_supers-superclass (next_class at.After-as_slice))
+
+pub index_mut-requires : goal.index_mut-requires
+index_mut-requires c =
+    let below = next_below c.args.headers.now c.requires.hierarchy c.args.graph.now c.requires.graph c.args.order.now c.requires.topological c.loop-number.number-index c.loop-number-test.true in
+    omega (arith, below, c.loop-number.invariant.fit.len, c.loop-number.invariant.count, c.loop-number.lists.ok.0)
+
+-- the list that was made
+list_is : (c : In_ok-list) → Next c.args.headers.now (get_or c.args.order.now c.loop-number.number-index 0) c.unwrap-header.result.now c.as_slice.result.now → AreNumbersOf c.args.headers.now c.unwrap-header.result.now.name c.in_ok-list.list
+list_is c n =
+    let headers = c.args.headers.now in
+    let order = c.args.order.now in
+    let at = c.loop-number.number-index in
+    let lists = c.loop-number.lists.items in
+    let superclass = c.split_supers-superclass.result.0 in
+    let interfaces = c.split_supers-superclass.result.1.now in
+    let listed = targets_listed headers c.requires.hierarchy c.args.graph.now c.requires.graph order c.requires.topological at c.loop-number-test.true lists c.loop-number.marks c.loop-number.invariant c.unwrap-header.result.now n.there in
+    let are = class_numbers headers c.requires.hierarchy lists c.requires.in_order (get_or order at 0) c.unwrap-header.result.now n.there superclass interfaces (sym n.targets ∙ c.split_supers-superclass.ensures.parts) c.split_supers-superclass.ensures.superclass listed in
+    subst (AreNumbersOf headers c.unwrap-header.result.now.name)
+    (sym (c.in_ok-list.ensures.list ∙ ap (λ (table : List (List ℕ)). with_numbers [] (with_lists table interfaces ++ unwrap_or (option_map (λ number. get_or table number []) superclass) [])) c.as_slice-in-loop-number.ensures.value))
+    are
+
+pub loop-number-preserved : goal.loop-number-preserved
+loop-number-preserved c =
+    let at = goal.at.loop-number-preserved c in
+    let n = next_class at.After-as_slice in
+    one_made c.args.headers.now c.args.order.now c.loop-number.number-index c.loop-number.lists.items c.loop-number.marks c.loop-number.invariant c.loop-number-test.true c.unwrap-header.result.now n.there c.in_ok-list.list (list_is at.In_ok-list n) c.list_of_class.new.marks c.list_of_class.auto.marks c.in_ok-list.ensures.marks
+
+pub returns : goal.returns
+returns c =
+    all_made c.args.headers.now c.args.order.now c.loop-number.number-index c.loop-number.lists.items c.loop-number.marks c.loop-number.invariant c.loop-number-test.false
+    (λ node below. c.requires.all node (omega (arith, below, graph_len c.args.headers.now, ap length c.requires.graph)))

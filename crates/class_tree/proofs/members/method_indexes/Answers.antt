@@ -1,0 +1,17 @@
+use Rattle.std.proofs.Common.{◌≡◌, Some, None, length, slice_get, sym, subst, rules}
+use Rattle.class_tree.specs.Headers.{all_headers}
+use Rattle.class_tree.proofs.MemberIndexes.{AreFirstIndexes, another_indexed, all_indexed}
+use Rattle.class_tree.proofs.members.method_indexes.Goals as goal
+
+pub loop-header-preserved : goal.loop-header-preserved
+loop-header-preserved c =
+    let headers = all_headers c.args.headers.now in
+    let indexes = c.loop-header.indexes.items in
+    let there : slice_get headers (length indexes) ≡ Some c.in-Some.header.now = search rules in
+    subst (AreFirstIndexes (λ header. header.methods) headers) (sym c.in_ok-push.ensures.items)
+    (another_indexed (λ header. header.methods) headers indexes c.in-Some.header.now c.in_ok-member_index.field-0 c.loop-header.invariant there (search rules))
+
+pub returns : goal.returns
+returns c =
+    let past : slice_get (all_headers c.args.headers.now) (length c.loop-header.indexes.items) ≡ None = search rules in
+    all_indexed (λ header. header.methods) c.args.headers.now c.loop-header.indexes.items c.loop-header.invariant past

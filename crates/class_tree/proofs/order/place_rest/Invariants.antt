@@ -1,0 +1,9 @@
+use Rattle.std.proofs.Common.{◌≡◌, ◌-◌, length}
+use Rattle.class_tree.specs.Placing.{AreBehindTargets}
+use Rattle.class_tree.proofs.order.place_rest.Given as goal
+
+abbrev pub invariant-loop-node : goal.invariant-loop-node
+invariant-loop-node l = (l.placed.size ≡ length l.graph) × AreBehindTargets l.graph l.placed.nodes
+
+abbrev pub decreases-loop-node : goal.decreases-loop-node
+decreases-loop-node l = length l.graph - length l.placed.nodes

@@ -1,0 +1,11 @@
+use Rattle.std.proofs.Common.{◌↔◌, length}
+use Rattle.class_tree.specs.Headers.{Headers}
+use Rattle.class_tree.specs.Subtype.{IsSubtype}
+use Rattle.class_tree.proofs.Subtypes.{AreNoArrays}
+use Rattle.class_tree.proofs.subtype.innermost.Given as goal
+
+abbrev pub invariant-loop-low_component : goal.invariant-loop-low_component
+invariant-loop-low_component l = (headers : Headers) → AreNoArrays headers → IsSubtype headers l.fn.low l.fn.high ↔ IsSubtype headers l.low l.high
+
+abbrev pub decreases-loop-low_component : goal.decreases-loop-low_component
+decreases-loop-low_component l = length l.low

@@ -1,0 +1,14 @@
+pub mod Headers
+pub mod Names
+pub mod Subtype
+pub mod Problems
+pub mod Answers
+pub mod Steps
+pub mod Trees
+pub mod Interfaces
+pub mod Order
+pub mod Graphs
+pub mod MemberIndex
+pub mod Nodes
+pub mod InterfaceNumbers
+pub mod Placing

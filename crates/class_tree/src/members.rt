@@ -1,0 +1,103 @@
+//! An index of the members of a class, by name and descriptor.
+ghost use Rattle.std.specs.Prelude.{◌≡◌, [], ◌∷◌, IfOk};
+ghost use Rattle.std.specs.Cmp.Lexicographic.{slice_cmp};
+ghost use Rattle.std.specs.Ordering.{is_lt, nat_cmp};
+ghost use Rattle.class_tree.specs.MemberIndex.{IsMemberIndex, key_at};
+ghost use Rattle.class_tree.specs.Names.{is_member};
+ghost use Rattle.class_tree.specs.Nodes.{AreMemberIndexes};
+ghost use Rattle.class_tree.specs.Order.{member_place};
+
+use crate::headers::Headers;
+use class_model::{ListOf, Member, NoMemory};
+use std::alloc::Global;
+use std::cmp::Ordering;
+
+/// The indexes of the fields of each class, by number.
+pub(crate) fn field_indexes(
+    alloc: Global,
+    headers: &Headers<'_>,
+) -> Result<Vec<ListOf<usize>>, NoMemory>
+    ensures { IfOk result (λ indexes. AreMemberIndexes (λ header. header.fields) headers.now indexes.items) }
+{
+    let mut indexes = Vec::with_capacity(alloc, headers.len())?;
+    while let Some(header) = headers.get(indexes.len()) {
+        indexes.push(member_index(alloc, header.fields.as_slice())?)?;
+    }
+    Ok(indexes)
+}
+
+/// The indexes of the methods of each class, by number.
+pub(crate) fn method_indexes(
+    alloc: Global,
+    headers: &Headers<'_>,
+) -> Result<Vec<ListOf<usize>>, NoMemory>
+    ensures { IfOk result (λ indexes. AreMemberIndexes (λ header. header.methods) headers.now indexes.items) }
+{
+    let mut indexes = Vec::with_capacity(alloc, headers.len())?;
+    while let Some(header) = headers.get(indexes.len()) {
+        indexes.push(member_index(alloc, header.methods.as_slice())?)?;
+    }
+    Ok(indexes)
+}
+
+// The index of these members.
+fn member_index(alloc: Global, members: &[Member]) -> Result<ListOf<usize>, NoMemory>
+    ensures { IfOk result (λ index. IsMemberIndex members.now index) }
+{
+    let mut places: Vec<usize> = (0..members.len()).collect(alloc)?;
+    places.sort_by(|one, other| compare(members, *one, *other))?;
+    Ok(ListOf::from_vec(places))
+}
+
+// How two places compare: by name, then by descriptor, then by place.
+fn compare(members: &[Member], one: usize, other: usize) -> Ordering
+    ensures { result ≡ slice_cmp (slice_cmp nat_cmp) (key_at members.now one) (key_at members.now other) }
+{
+    let (one_name, one_desc) = texts(members, one);
+    let (other_name, other_desc) = texts(members, other);
+    one_name
+        .cmp(other_name)
+        .then(one_desc.cmp(other_desc))
+        .then(one.cmp(&other))
+}
+
+// The name and the descriptor of the member at a place.
+fn texts(members: &[Member], place: usize) -> (&[u8], &[u8])
+    ensures { key_at members.now place ≡ result.0.now ∷ result.1.now ∷ (place ∷ []) ∷ [] }
+{
+    match members.get(place) {
+        Some(member) => (member.name.bytes(), member.desc.bytes()),
+        None => (&[], &[]),
+    }
+}
+
+/// The place of the first member of a name and descriptor.
+pub(crate) fn find_member(
+    members: &[Member],
+    index: &[usize],
+    name: &[u8],
+    desc: &[u8],
+) -> Option<usize>
+    requires { IsMemberIndex members.now index.now }
+    ensures { result ≡ member_place name.now desc.now members.now }
+{
+    let point = index.partition_point(|place| is_before(members, *place, name, desc));
+    let place = *index.get(point)?;
+    let member = members.get(place)?;
+    is_member(member, name, desc).then_some(place)
+}
+
+// Whether a place stands before all that have this name and descriptor.
+fn is_before(members: &[Member], place: usize, name: &[u8], desc: &[u8]) -> bool
+    ensures { result ≡ is_lt (slice_cmp (slice_cmp nat_cmp) (key_at members.now place) (name.now ∷ desc.now ∷ [])) }
+{
+    let (own_name, own_desc) = texts(members, place);
+    own_name.cmp(name).then(own_desc.cmp(desc)).is_lt()
+}
+
+// Whether the member has this name and descriptor.
+fn is_member(member: &Member, name: &[u8], desc: &[u8]) -> bool
+    ensures { result ≡ is_member name.now desc.now member.now }
+{
+    name == member.name.bytes() && desc == member.desc.bytes()
+}

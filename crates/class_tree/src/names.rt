@@ -1,0 +1,86 @@
+//! Names of classes that linking knows (JVM Specification SE 8, 4.10.1.2 and 6.5), and what flags say.
+ghost use Rattle.std.specs.Prelude.{◌≡◌, map};
+ghost use Rattle.class_model.specs.Members as members;
+ghost use Rattle.class_tree.specs.Names as names;
+
+use class_model::Header;
+
+pub(crate) const OBJECT: &[u8] = b"java/lang/Object";
+
+pub(crate) const CLONEABLE: &[u8] = b"java/lang/Cloneable";
+
+pub(crate) const SERIALIZABLE: &[u8] = b"java/io/Serializable";
+
+pub(crate) const THROWABLE: &[u8] = b"java/lang/Throwable";
+
+pub(crate) const METHOD_HANDLE: &[u8] = b"java/lang/invoke/MethodHandle";
+
+pub(crate) const METHOD_TYPE: &[u8] = b"java/lang/invoke/MethodType";
+
+const BASE_NAMES: [&[u8]; 16] = [
+    b"java/io/Serializable",
+    b"java/lang/AbstractMethodError",
+    b"java/lang/ArithmeticException",
+    b"java/lang/ArrayIndexOutOfBoundsException",
+    b"java/lang/ArrayStoreException",
+    b"java/lang/Class",
+    b"java/lang/ClassCastException",
+    b"java/lang/Cloneable",
+    b"java/lang/IllegalAccessError",
+    b"java/lang/IllegalMonitorStateException",
+    b"java/lang/IncompatibleClassChangeError",
+    b"java/lang/NegativeArraySizeException",
+    b"java/lang/NullPointerException",
+    b"java/lang/Object",
+    b"java/lang/String",
+    b"java/lang/Throwable",
+];
+
+/// The classes that each library has, in byte order.
+pub(crate) fn base_names() -> &'static [&'static [u8]]
+    ensures { map (λ name. name.now) result.now ≡ names.base_names }
+{
+    &BASE_NAMES
+}
+
+const MACHINE_THROWABLES: [&[u8]; 10] = [
+    b"java/lang/AbstractMethodError",
+    b"java/lang/ArithmeticException",
+    b"java/lang/ArrayIndexOutOfBoundsException",
+    b"java/lang/ArrayStoreException",
+    b"java/lang/ClassCastException",
+    b"java/lang/IllegalAccessError",
+    b"java/lang/IllegalMonitorStateException",
+    b"java/lang/IncompatibleClassChangeError",
+    b"java/lang/NegativeArraySizeException",
+    b"java/lang/NullPointerException",
+];
+
+/// The throwables that instructions raise, in byte order.
+pub(crate) fn machine_throwables() -> &'static [&'static [u8]]
+    ensures { map (λ name. name.now) result.now ≡ names.machine_throwables }
+{
+    &MACHINE_THROWABLES
+}
+
+pub(crate) const ACC_PUBLIC: u16 = 0x0001;
+
+pub(crate) const ACC_STATIC: u16 = 0x0008;
+
+pub(crate) const ACC_FINAL: u16 = 0x0010;
+
+const ACC_INTERFACE: u16 = 0x0200;
+
+/// Whether a flag is set.
+pub(crate) fn has(flags: u16, mask: u16) -> bool
+    ensures { result ≡ members.has flags mask }
+{
+    flags & mask != 0
+}
+
+/// Whether a class is an interface.
+pub(crate) fn is_interface(header: &Header) -> bool
+    ensures { result ≡ names.is_interface header.now }
+{
+    has(header.flags, ACC_INTERFACE)
+}
