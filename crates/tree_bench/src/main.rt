@@ -1,0 +1,126 @@
+//! Reads class files that it writes itself and builds their hierarchy, which `bench/trees.sh` times. The words are
+//! `read COUNT TIMES`, `build COUNT TIMES`, `chain COUNT TIMES` or `ask COUNT QUESTIONS`; the number of classes that were
+//! read, built or stand in a chain, or of questions that were answered by yes, is printed, of all times together.
+#![tactic(auto)]
+
+mod asking;
+#[cfg(test)]
+mod base_tests;
+#[cfg(test)]
+mod declared;
+mod generated;
+mod input;
+mod library;
+#[cfg(test)]
+mod question_tests;
+#[cfg(test)]
+mod refusal_tests;
+mod shape;
+
+use asking::superclasses;
+use class_model::Text;
+use class_tree::{Place, Tree, is_sub};
+use generated::{INTERFACES, chain_of, class_name, tree_of};
+use std::alloc::Global;
+use std::env;
+use std::process::ExitCode;
+
+fn main(rt: HostRuntime) -> ExitCode {
+    let Ok(args) = env::args(&rt) else {
+        return ExitCode::FAILURE;
+    };
+    let Ok(words) = args.skip(1).collect::<Vec<String>>(rt.alloc()) else {
+        return ExitCode::FAILURE;
+    };
+    let [kind, count, times] = words.as_slice() else {
+        return ExitCode::FAILURE;
+    };
+    let (Ok(count), Ok(times)) = (count.parse::<u32>(), times.parse::<u32>()) else {
+        return ExitCode::FAILURE;
+    };
+    let counted = match kind.as_str() {
+        "read" => read_trees(rt.alloc(), count as usize, times),
+        "build" => build_trees(rt.alloc(), count as usize, times),
+        "chain" => build_chains(rt.alloc(), count as usize, times),
+        "ask" => ask(rt.alloc(), count as usize, times),
+        _ => return ExitCode::FAILURE,
+    };
+    match counted {
+        Some(counted) if println!(rt; "{counted}").is_ok() => ExitCode::SUCCESS,
+        _ => ExitCode::FAILURE,
+    }
+}
+
+// Reads so many classes so many times, and counts them. None where memory runs out, as in what follows.
+fn read_trees(alloc: Global, count: usize, times: u32) -> Option<u64> {
+    let mut read: u64 = 0;
+    for _ in 0..times {
+        read = read.wrapping_add(tree_of(alloc, count).ok()?.len());
+    }
+    Some(read)
+}
+
+// Reads so many classes and builds their hierarchy so many times, and counts them.
+fn build_trees(alloc: Global, count: usize, times: u32) -> Option<u64> {
+    let mut built: u64 = 0;
+    for _ in 0..times {
+        let tree = tree_of(alloc, count).ok()?.build(alloc).ok()?;
+        built = built.wrapping_add(classes_in(&tree));
+    }
+    Some(built)
+}
+
+// Reads a chain of so many classes and builds their hierarchy so many times, and counts the superclasses of the last.
+fn build_chains(alloc: Global, count: usize, times: u32) -> Option<u64> {
+    let mut above: u64 = 0;
+    for _ in 0..times {
+        let tree = chain_of(alloc, count).ok()?.build(alloc).ok()?;
+        let last = Text::of_bytes(alloc, &class_name(count.saturating_sub(1))).ok()?;
+        above = above.wrapping_add(superclasses(alloc, &tree, &last).ok()?.len() as u64);
+    }
+    Some(above)
+}
+
+// Builds the hierarchy of so many classes and asks so many questions of it, and counts those that are answered by yes.
+fn ask(alloc: Global, count: usize, questions: u32) -> Option<u64> {
+    let tree = tree_of(alloc, count).ok()?.build(alloc).ok()?;
+    Some(count_yes(&tree, questions))
+}
+
+// How many classes a hierarchy has.
+fn classes_in(tree: &Tree) -> u64 {
+    (tree.folder().len() as u64).wrapping_add(tree.library().len() as u64)
+}
+
+// Asks so many questions, and counts those that are answered by yes.
+fn count_yes(tree: &Tree, questions: u32) -> u64 {
+    let mut yes: u64 = 0;
+    for question in 0..questions {
+        yes = yes.wrapping_add(answer(tree, question as usize) as u64);
+    }
+    yes
+}
+
+// How many classes are asked about, from all over the folder: a few that stay in the processor's caches.
+const ASKED: usize = 100;
+
+// Whether a class of the folder is below another, of three kinds in turn: that of a sixteenth of its number, any class,
+// and one of the interfaces, which are the last in byte order.
+fn answer(tree: &Tree, question: usize) -> bool {
+    let count = tree.folder().len();
+    if count == 0 {
+        return false;
+    }
+    let step = count / ASKED + 1;
+    let low = (question.wrapping_mul(7919) % ASKED).wrapping_mul(step) % count;
+    let high = match question % 3 {
+        0 => low / 16,
+        1 => (question.wrapping_mul(31) % ASKED).wrapping_mul(step) % count,
+        _ => count.saturating_sub(1 + question % INTERFACES),
+    };
+    let (low, high) = (Place::Folder(low), Place::Folder(high));
+    match (tree.header(low), tree.header(high)) {
+        (Some(low), Some(high)) => is_sub(tree, &low.name, &high.name),
+        _ => false,
+    }
+}
