@@ -18,3 +18,5 @@ test:
 bench: bin/pea
 	bash bench/copy.sh
 	bash bench/codes.sh
+	bash bench/classes.sh
+	bash bench/trees.sh

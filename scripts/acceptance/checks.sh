@@ -1,0 +1,51 @@
+# How a check is made. Sourced by acceptance.sh, which sets pea and work.
+passed=0
+failed=0
+
+# A fresh working folder, with the folders of the input and of the library.
+fresh() {
+    rm -rf "$work/case"
+    mkdir -p "$work/case/in" "$work/case/lib"
+    cd "$work/case" || exit 1
+}
+
+# Runs the program on the words, and keeps its status and what it printed.
+run() {
+    "$pea" "$@" >"$work/printed" 2>"$work/errors"
+    status=$?
+}
+
+# check NAME STATUS LINE TEST..: the last run has this status and printed this line (none where it is
+# empty), nothing on standard error, and the test holds.
+check() {
+    local name=$1 want_status=$2 want_line=$3
+    shift 3
+    if [ -n "$want_line" ]; then printf '%s\n' "$want_line"; fi >"$work/wanted"
+    if [ "$status" = "$want_status" ] && cmp -s "$work/printed" "$work/wanted" && [ ! -s "$work/errors" ] && "$@"; then
+        passed=$((passed + 1))
+        echo "ok $name"
+    else
+        failed=$((failed + 1))
+        echo "FAILED $name (status $status, printed: $(head -c 200 "$work/printed"))"
+    fi
+}
+
+skipped() { echo "skipped: $1, since $2"; }
+
+same() { diff -r "$1" "$2" >/dev/null; }
+absent() { [ ! -e "$1" ]; }
+
+# The number of kept methods that the last run printed.
+kept() { sed -n 's/.* kept=//p' "$work/printed"; }
+
+# How many class files a folder has.
+class_files() { find "$1" -type f -name '*.class' | wc -l; }
+
+# hex BYTES..: writes the bytes
+hex() { printf "$(printf '%s' "$*" | tr -d ' \n' | sed 's/../\\x&/g')"; }
+
+# A class named A behind its version, with no members, of 53 bytes, and one with two abstract methods.
+plain_rest='0005 070002 01000141 070004 0100106a6176612f6c616e672f4f626a656374 0021 0001 0003 0000 0000 0000 0000'
+plain="cafebabe 0000 0034 $plain_rest"
+two_methods='cafebabe 0000 0034 0008 070002 01000141 070004 0100106a6176612f6c616e672f4f626a656374 0100016d 0100016e 010003282956
+    0421 0001 0003 0000 0000 0002 0401 0005 0007 0000 0401 0006 0007 0000 0000'

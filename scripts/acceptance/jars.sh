@@ -1,0 +1,41 @@
+# The class files of Debian's Java packages that are installed, jar by jar, byte for byte.
+
+# unpack JAR FOLDER: puts the files of a jar into the folder.
+unpack() {
+    if command -v unzip >/dev/null; then
+        unzip -qq -o "$1" '*.class' -d "$2" 2>/dev/null
+    else
+        (cd "$2" && jar xf "$1")
+    fi
+}
+
+# Leaves in a folder the class files of versions 50.x, 51.x and 52.0 alone, told by their first eight bytes.
+leave_read_versions() {
+    find "$1" -type f \( ! -name '*.class' -o -size -8c \) -delete
+    find "$1" -type f -print0 | sort -z >"$work/names"
+    xargs -0 -r head -q -c 8 <"$work/names" | od -An -v -tx1 -w8 | tr -d ' ' | paste - <(tr '\0' '\n' <"$work/names") |
+        grep -vE '^(cafebabe....003[23]|cafebabe00000034)' | cut -f2 | while IFS= read -r name; do rm "$name"; done
+    find "$1" -mindepth 1 -type d -empty -delete
+}
+
+jars() {
+    local jar files found=0
+    for jar in /usr/share/java/*.jar; do
+        if [ -L "$jar" ] || [ ! -f "$jar" ]; then continue; fi
+        fresh
+        unpack "$jar" in
+        leave_read_versions in
+        files=$(class_files in)
+        if [ "$files" = 0 ]; then continue; fi
+        found=1
+        run optimise in out --lib lib
+        check "$(basename "$jar"), $files class files" 0 "done files=$files classes=$files rewritten=0 kept=$(kept)" same in out
+    done
+    if [ "$found" = 0 ]; then skipped "class files of Debian's packages" "none are in /usr/share/java"; fi
+}
+
+if command -v unzip >/dev/null || command -v jar >/dev/null; then
+    jars
+else
+    skipped "class files of Debian's packages" "unzip and jar are missing"
+fi
