@@ -56,7 +56,7 @@ for times in 1 2 4; do
     echo "$count classes, $builds times: read in $read_ms ms, built in $build_ms ms; $questions questions in $ask_ms ms"
     built=$(growth "$first_build" "$build_ms")
     asked=$(growth "$first_ask" "$ask_ms")
-    wanted "building $built times the first (in proportion: $times; at most twice that is wanted)" "$built <= $times * 2"
+    wanted "building $built times the first (in proportion: $times; at most half as much again is wanted)" "$built <= $times * 1.5"
     wanted "questions $asked times the first (at most twice is wanted)" "$asked <= 2"
 done
 
