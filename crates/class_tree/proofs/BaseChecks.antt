@@ -1,5 +1,5 @@
 -- What the machine needs of its library, part by part.
-use Rattle.std.proofs.Common.{◌≡◌, Bool, List, [], ◌∷◌, ◌++◌, map, Result, IsSome, IsTrue, sym, subst, append_assoc}
+use Rattle.std.proofs.Common.{◌≡◌, ◌⊎◌, Bool, true, false, List, [], ◌∷◌, ◌++◌, map, Result, Ok, Err, IsSome, IsTrue, sym, subst, inl, inr, append_assoc}
 use Rattle.std.specs.List.{list_any}
 use Rattle.std.specs.Option.{IfSome}
 use Rattle.class_model.specs.Header.{header_of}
@@ -13,6 +13,7 @@ use Rattle.class_tree.specs.Problems.{Check, check, asked_each, asked_if, AllHol
 use Rattle.class_tree.specs.Steps.{base_checks, has_constant, is_method_handle, is_method_type, HasOneConstructor}
 use Rattle.class_tree.specs.Subtype.{IsBelow}
 use Rattle.class_tree.specs.declared.fault.LinkFault.{LinkFault}
+use Rattle.class_tree.specs.declared.fault.LinkFault.TheVariants.{Unlinked, NoMemory}
 use Rattle.class_tree.specs.declared.fault.LinkRule.TheVariants as rules
 use Rattle.class_tree.proofs.LinkChecks.{Remain, all_remain, remain}
 
@@ -51,8 +52,18 @@ handle_checks headers folder = need_checks headers folder is_method_handle metho
 abbrev pub type_checks : Headers → List ClassFile → List Check
 type_checks headers folder = need_checks headers folder is_method_type method_type
 
-pub need_told : (headers : Headers) (folder : List ClassFile) (test : Const → Bool) (name : Name) (needed : Bool) (result : Result (Unit {0}) LinkFault) → needed ≡ list_any (has_constant test) folder → Answers (asked_if needed (check name rules.Missing (IsThere headers name) ∷ [])) result → Answers (need_checks headers folder test name) result
-need_told headers folder test name needed result is told =
+-- a class that is there answers what asks for it, whether it is needed or not
+there_told : {P : Type 0} (name : Name) (asked needed : Bool) (result : Result (Unit {0}) LinkFault) → P → Answers (asked_if needed (check name rules.Missing P ∷ [])) result → Answers (asked_if asked (check name rules.Missing P ∷ [])) result
+there_told name true needed (Ok x) h told = (h, tt)
+there_told name false needed (Ok x) h told = tt
+there_told name asked needed (Err NoMemory) h told = tt
+there_told name asked true (Err (Unlinked class member rule)) h (inl here) = absurd (here.0 h)
+there_told name asked true (Err (Unlinked class member rule)) h (inr later) = absurd later.1
+there_told name asked false (Err (Unlinked class member rule)) h told = absurd told
+
+pub need_told : (headers : Headers) (folder : List ClassFile) (test : Const → Bool) (name : Name) (needed : Bool) (result : Result (Unit {0}) LinkFault) → IsThere headers name ⊎ (needed ≡ list_any (has_constant test) folder) → Answers (asked_if needed (check name rules.Missing (IsThere headers name) ∷ [])) result → Answers (need_checks headers folder test name) result
+need_told headers folder test name needed result (inl there) told = there_told name (list_any (has_constant test) folder) needed result there told
+need_told headers folder test name needed result (inr is) told =
     subst (λ (n : Bool). Answers (asked_if n (check name rules.Missing (IsThere headers name) ∷ [])) result) is told
 
 -- ---- the parts in turn

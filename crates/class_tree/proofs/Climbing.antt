@@ -8,6 +8,7 @@ use Rattle.std.proofs.lemmas.Map.Steps.{length-le_from_distinct_below}
 use Rattle.class_model.specs.declared.header.Header.{Header}
 use Rattle.class_tree.specs.Graphs.{IsEdge, IsPath, edge}
 use Rattle.class_tree.specs.Headers.{Name, Headers, all_headers, class_named, IsThere}
+use Rattle.class_tree.specs.Hierarchy.{climb, height, superclass_of}
 use Rattle.class_tree.specs.Names.{object}
 use Rattle.class_tree.specs.Nodes.{number_of, graph_of}
 use Rattle.class_tree.specs.Order.{header_at, place_of}
@@ -19,35 +20,22 @@ use Rattle.class_tree.proofs.GraphPaths.{edge_above, below_from_path}
 use Rattle.class_tree.proofs.LinkedClasses.{IsAt, class_at}
 use Rattle.class_tree.proofs.Places.{HasNumber, place_number, header_of_place, number_of_itself}
 use Rattle.class_tree.proofs.Superclasses.{Placed, placed, super_is_there, place_of_itself}
-use Rattle.class_tree.proofs.TreeClasses.{IsHierarchy}
+use Rattle.class_tree.proofs.TreeClasses.{HoldsSteps}
 
 -- a class that stands at a place, by its name
-pub named_at_place : (headers : Headers) → IsHierarchy headers → (place : Place) (header : Header) → header_at headers place ≡ Some header → class_named headers header.name ≡ Some header
+pub named_at_place : (headers : Headers) → HoldsSteps headers → (place : Place) (header : Header) → header_at headers place ≡ Some header → class_named headers header.name ≡ Some header
 named_at_place headers tree place header at = (number_of_itself headers tree.in_order _ header (header_of_place headers place header at)).named
-
--- the place of the superclass of the class at a place
-abbrev pub superclass_of : Headers → Place → Option Place
-superclass_of headers place = option_and_then (λ header. option_and_then (place_of headers) header.super_name) (header_at headers place)
 
 pub no_superclass : (headers : Headers) (place : Place) (header : Header) → header_at headers place ≡ Some header → header.super_name ≡ None → superclass_of headers place ≡ None
 no_superclass headers place header at none = ap (option_and_then (λ header. option_and_then (place_of headers) header.super_name)) at ∙ ap (option_and_then (place_of headers)) none
 
-pub some_superclass : (headers : Headers) → IsHierarchy headers → (place : Place) (header : Header) → header_at headers place ≡ Some header → (name : Name) → header.super_name ≡ Some name → Placed headers name
+pub some_superclass : (headers : Headers) → HoldsSteps headers → (place : Place) (header : Header) → header_at headers place ≡ Some header → (name : Name) → header.super_name ≡ Some name → Placed headers name
 some_superclass headers tree place header at name some = placed headers name (super_is_there headers header name (named_holds headers tree.hold header.name header (named_at_place headers tree place header at)).there some)
 
 pub superclass_is : (headers : Headers) (place : Place) (header : Header) → header_at headers place ≡ Some header → (name : Name) → header.super_name ≡ Some name → superclass_of headers place ≡ place_of headers name
 superclass_is headers place header at name some = ap (option_and_then (λ header. option_and_then (place_of headers) header.super_name)) at ∙ ap (option_and_then (place_of headers)) some
 
 -- ---- heights
-
--- how many classes there are from a place upwards, as far as the fuel goes
-pub climb : Headers → ℕ → Option Place → ℕ
-climb headers zero next = 0
-climb headers (suc fuel) None = 0
-climb headers (suc fuel) (Some place) = suc (climb headers fuel (superclass_of headers place))
-
-abbrev pub height : Headers → Option Place → ℕ
-height headers next = climb headers (length (all_headers headers)) next
 
 -- paths lead from each of these numbers to the class at a place
 record AreMet (headers : Headers) (met : List ℕ) (place : Place) : Type 0 where
@@ -63,7 +51,7 @@ one_has P [] all number one = absurd (false≢true one)
 one_has P (first ∷ numbers) all number one =
     elim (or_cases _ _ one) [ inl here ↦ subst P (sym (eqb-true number first here)) all.0 | inr there ↦ one_has P numbers all.1 number there ]
 
-module _ (headers : Headers) (tree : IsHierarchy headers) where
+module _ (headers : Headers) (tree : HoldsSteps headers) where
   number_is : (place : Place) (header : Header) → header_at headers place ≡ Some header → HasNumber headers header.name (place_number headers place) header
   number_is place header at = number_of_itself headers tree.in_order _ header (header_of_place headers place header at)
 
@@ -184,7 +172,7 @@ first_climbed headers name next there is =
       there = ap is_some class.at;
     })
 
-chain_more : (headers : Headers) → IsHierarchy headers → (place : Place) (header : Header) → header_at headers place ≡ Some header → (rest : List Name) → IsChainFrom headers (superclass_of headers place) rest → IsChain headers header.name (header.name ∷ rest)
+chain_more : (headers : Headers) → HoldsSteps headers → (place : Place) (header : Header) → header_at headers place ≡ Some header → (rest : List Name) → IsChainFrom headers (superclass_of headers place) rest → IsChain headers header.name (header.name ∷ rest)
 chain_more headers tree place header at rest more = by header.super_name refl
   where
     named : class_named headers header.name ≡ Some header
@@ -200,7 +188,7 @@ chain_more headers tree place header at rest more = by header.super_name refl
         let same : found.0.name ≡ name = let e = class.at in let f = found.1 in let g = class.same in cc in
         below header.name name header rest named some (subst (λ n. IsChain headers n rest) same found.2)
 
-pub superclass_there : (headers : Headers) → IsHierarchy headers → (place : Place) → IfSome (superclass_of headers place) (λ above. IsSome (header_at headers above))
+pub superclass_there : (headers : Headers) → HoldsSteps headers → (place : Place) → IfSome (superclass_of headers place) (λ above. IsSome (header_at headers above))
 superclass_there headers tree place = of_class (header_at headers place) refl
   where
     of_super : (header : Header) → header_at headers place ≡ Some header → (super : Option Name) → header.super_name ≡ super → IfSome (superclass_of headers place) (λ above. IsSome (header_at headers above))
@@ -213,7 +201,7 @@ superclass_there headers tree place = of_class (header_at headers place) refl
     of_class None none = subst (λ (next : Option Place). IfSome next (λ above. IsSome (header_at headers above))) (sym (ap (option_and_then (λ (header : Header). option_and_then (place_of headers) header.super_name)) none)) tt
     of_class (Some header) at = of_super header at header.super_name refl
 
-pub climbed_more : (headers : Headers) → IsHierarchy headers → (name : Name) (names : List Name) (place : Place) (header : Header) (next : Option Place) → IsClimbed headers name names (Some place) → header_at headers place ≡ Some header → next ≡ superclass_of headers place → IsClimbed headers name (names ++ header.name ∷ []) next
+pub climbed_more : (headers : Headers) → HoldsSteps headers → (name : Name) (names : List Name) (place : Place) (header : Header) (next : Option Place) → IsClimbed headers name names (Some place) → header_at headers place ≡ Some header → next ≡ superclass_of headers place → IsClimbed headers name (names ++ header.name ∷ []) next
 climbed_more headers tree name names place header next climbed at is = subst (IsClimbed headers name (names ++ header.name ∷ [])) (sym is) (record {
   joins = λ rest more. subst (IsChain headers name) (sym (append_assoc names (header.name ∷ []) rest)) (climbed.joins (header.name ∷ rest) (header, at, chain_more headers tree place header at rest more));
   there = superclass_there headers tree place;

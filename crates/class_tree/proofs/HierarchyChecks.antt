@@ -6,7 +6,7 @@ use Rattle.std.proofs.lemmas.Option.{slice_get_within, get_or_from_slice_get, sl
 use Rattle.class_model.specs.declared.header.Header.{Header}
 use Rattle.class_tree.specs.Answers.{Answers}
 use Rattle.class_tree.specs.Graphs.{Graph, IsPath}
-use Rattle.class_tree.specs.Headers.{Headers, all_headers}
+use Rattle.class_tree.specs.Headers.{Name, Headers, all_headers}
 use Rattle.class_tree.specs.Nodes.{graph_of, number_of, place_at}
 use Rattle.class_tree.specs.Order.{header_at}
 use Rattle.class_tree.specs.Problems.{Check, asked_each, AllHold}
@@ -17,7 +17,7 @@ use Rattle.class_tree.specs.declared.fault.LinkFault.{LinkFault}
 use Rattle.class_tree.specs.declared.place.Place.TheVariants.{Library}
 use Rattle.class_tree.proofs.GraphPaths.{path_is_below}
 use Rattle.class_tree.proofs.LinkChecks.{Remain, all_remain, remain, refused}
-use Rattle.class_tree.proofs.Places.{header_at_number, place_in_folder, place_in_library}
+use Rattle.class_tree.proofs.Places.{class_of_number, number_of_itself, header_at_number, place_in_folder, place_in_library}
 
 -- ---- the class of a number
 
@@ -37,6 +37,13 @@ circle_decides headers graph number header test order is there same =
       λ yes. below.0 (subst (λ (g : Graph). IsPath g number number) is (same.0 yes)),
       λ circle. same.1 (subst (λ (g : Graph). IsPath g number number) (sym is) (below.1 circle)),
     )
+
+-- it has a name where the name has its number
+pub number_decides : (headers : Headers) (name : Name) (number : ℕ) (header : Header) (test : Bool) → IsInOrder headers → slice_get (all_headers headers) number ≡ Some header → (test ≡ true ↔ (number_of headers name ≡ Some number)) → (test ≡ true) ↔ (header.name ≡ name)
+number_decides headers name number header test order there same = (
+  λ yes. let c = class_of_number headers name number (same.0 yes) in subst (λ (h : Header). h.name ≡ name) (same_Some c.0 header (sym c.1.there ∙ there)) c.1.same,
+  λ e. same.1 (subst (λ n. number_of headers n ≡ Some number) e (number_of_itself headers order number header there).is),
+)
 
 pub same_in_folder : (headers : Headers) (number : ℕ) (header other : Header) → slice_get (all_headers headers) number ≡ Some header → slice_get headers.folder number ≡ Some other → header ≡ other
 same_in_folder headers number header other there is =

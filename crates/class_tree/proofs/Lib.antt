@@ -33,3 +33,4 @@ pub mod Superclasses
 pub mod TreeClasses
 pub mod WalkedNames
 pub mod BuiltSteps
+pub mod HierarchyLaws

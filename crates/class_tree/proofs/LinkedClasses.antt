@@ -1,5 +1,5 @@
 -- What a hierarchy keeps of the class at a place.
-use Rattle.std.proofs.Common.{◌≡◌, ◌<◌, ℕ, List, length, get_or, map, filter_map, slice_get, Option, Some, None, IsSome, IfSome, option_map, option_and_then, refl, sym, ap, subst, ◌∙◌, arith}
+use Rattle.std.proofs.Common.{◌≡◌, ◌<◌, ℕ, List, length, get_or, map, slice_get, Option, Some, None, IsSome, IfSome, option_map, option_and_then, refl, sym, ap, subst, ◌∙◌, arith}
 use Rattle.std.proofs.lemmas.List.{length-map}
 use Rattle.std.proofs.lemmas.Option.{slice_get-get_or, slice_get-map, slice_get_within, get_or_from_slice_get}
 use Rattle.class_model.specs.declared.header.Header.{Header}
@@ -7,15 +7,11 @@ use Rattle.class_model.specs.declared.header.Member.{Member}
 use Rattle.class_tree.specs.Headers.{Name, Classes, Headers, headers_of, all_headers}
 use Rattle.class_tree.specs.Interfaces.{AreSuperinterfaces}
 use Rattle.class_tree.specs.MemberIndex.{IsMemberIndex}
-use Rattle.class_tree.specs.Nodes.{number_of, place_at, AreInterfaceLists, AreMemberIndexes, AreLinks}
+use Rattle.class_tree.specs.Nodes.{place_at, super_place, AreInterfaceLists, AreMemberIndexes, AreLinks}
 use Rattle.class_tree.specs.Order.{header_at, place_of}
-use Rattle.class_tree.specs.Steps.{supers}
 use Rattle.class_tree.specs.declared.links.Links.{Links}
 use Rattle.class_tree.specs.declared.place.Place.{Place}
-use Rattle.class_tree.proofs.ClassHolds.{class_holds}
 use Rattle.class_tree.proofs.Places.{header_at_number}
-use Rattle.class_tree.proofs.Superclasses.{first_super}
-use Rattle.class_tree.proofs.TreeClasses.{tree_is_hierarchy}
 
 -- the class at a place, which has this number
 pub record IsAt (headers : Headers) (place : Place) (number : ℕ) : Type 0 where
@@ -33,10 +29,6 @@ class_at headers place number is some = by (header_at headers place) refl some
         let there : slice_get (all_headers headers) number ≡ Some header = sym (header_at_number headers number) ∙ ap (header_at headers) is ∙ at in
         record { header = header; at = at; there = there; within = slice_get_within (all_headers headers) number header there }
 
-pub some_behind : {X Y : Type 0} (f : X → Option Y) (found : Option X) → IsSome (option_and_then f found) → IsSome found
-some_behind f None some = some
-some_behind f (Some x) some = refl
-
 -- an index of the members of the class
 pub index_is : (members : Header → List Member) (headers : Headers) (indexes : List (List ℕ)) (place : Place) (number : ℕ) (class : IsAt headers place number) (index : List ℕ) → AreMemberIndexes members headers indexes → index ≡ get_or indexes number index → IsMemberIndex (members class.header) index
 index_is members headers indexes place number class index are is =
@@ -49,26 +41,13 @@ superinterfaces_are headers lists place number class places are is =
     (are.each number class.header places class.there (slice_get-get_or lists number places (omega (arith, class.within, are.len)) ∙ ap Some (sym is)))
 
 module _ (classes : Classes) (of_folder : List Header) (links : Links) (linked : AreLinks classes of_folder links) (place : Place) (number : ℕ) (class : IsAt (headers_of classes) place number) where
-  targets : Header → List ℕ
-  targets header = filter_map (number_of (headers_of classes)) (supers header)
+  pub superclasses_have : number < length links.superclasses.items
+  superclasses_have = omega (arith, class.within, ap length linked.superclasses, length-map (all_headers (headers_of classes)) (super_place (headers_of classes)))
 
-  pub graph_has : number < length links.graph.items
-  unfolding targets
-  graph_has = omega (arith, class.within, ap length linked.graph, length-map (all_headers (headers_of classes)) targets)
-
-  row_is : (row : List ℕ) → row ≡ get_or links.graph.items number row → row ≡ targets class.header
-  unfolding targets
-  row_is row is =
-      is ∙ get_or_from_slice_get links.graph.items number (targets class.header) row
-      (ap (λ graph. slice_get graph number) linked.graph ∙ slice_get-map targets (all_headers (headers_of classes)) number ∙ ap (option_map targets) class.there)
-
-  -- the first class above it is its superclass
-  pub superclass_is_first : (row : List ℕ) → row ≡ get_or links.graph.items number row → IsSome (option_and_then (λ header. header.super_name) (header_at (headers_of classes) place)) → option_map (place_at (headers_of classes)) (slice_get row 0) ≡ option_and_then (λ header. option_and_then (place_of (headers_of classes)) header.super_name) (header_at (headers_of classes) place)
-  unfolding targets
-  superclass_is_first row is some =
-      let tree = tree_is_hierarchy classes linked.tree in
-      let there = (class_holds (headers_of classes) tree.hold number class.header class.there).there in
-      let named : IsSome class.header.super_name = subst (λ found. IsSome (option_and_then (λ header. header.super_name) found)) class.at some in
-      ap (λ row. option_map (place_at (headers_of classes)) (slice_get row 0)) (row_is row is)
-      ∙ first_super (headers_of classes) class.header there named
-      ∙ sym (ap (option_and_then (λ header. option_and_then (place_of (headers_of classes)) header.super_name)) class.at)
+  -- what is kept is the place of its superclass
+  pub superclass_is : (kept : Option Place) → kept ≡ get_or links.superclasses.items number kept → kept ≡ option_and_then (super_place (headers_of classes)) (header_at (headers_of classes) place)
+  superclass_is kept is =
+      is
+      ∙ get_or_from_slice_get links.superclasses.items number (super_place (headers_of classes) class.header) kept
+      (ap (λ (places : List (Option Place)). slice_get places number) linked.superclasses ∙ slice_get-map (super_place (headers_of classes)) (all_headers (headers_of classes)) number ∙ ap (option_map (super_place (headers_of classes))) class.there)
+      ∙ sym (ap (option_and_then (super_place (headers_of classes))) class.at)

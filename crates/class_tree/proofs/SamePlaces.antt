@@ -14,7 +14,7 @@ use Rattle.class_tree.specs.declared.place.Place.{Place}
 use Rattle.class_tree.specs.declared.place.Place.TheVariants.{Folder, Library}
 use Rattle.class_tree.proofs.Places.{place_of_number, header_of_place, number_of_itself, class_of_place}
 use Rattle.class_tree.proofs.Superclasses.{placed, place_of_itself}
-use Rattle.class_tree.proofs.TreeClasses.{IsHierarchy}
+use Rattle.class_tree.proofs.TreeClasses.{HoldsSteps}
 
 abbrev pub is_place : Place → Place → Bool
 is_place place other = ghosts.eq other place
@@ -26,7 +26,7 @@ same_place (Folder one) (Library other) = (λ same. absurd (false≢true same), 
 same_place (Library one) (Folder other) = (λ same. absurd (false≢true same), λ same. absurd cc)
 
 -- the class at a place is the class of its name
-pub place_of_own : (headers : Headers) → IsHierarchy headers → (place : Place) (header : Header) → header_at headers place ≡ Some header → place_of headers header.name ≡ Some place
+pub place_of_own : (headers : Headers) → HoldsSteps headers → (place : Place) (header : Header) → header_at headers place ≡ Some header → place_of headers header.name ≡ Some place
 place_of_own headers tree place header at =
     place_of_number headers header.name
     ∙ ap (option_map (place_at headers)) (number_of_itself headers tree.in_order _ header (header_of_place headers place header at)).is
@@ -43,7 +43,7 @@ same_test false true to from = from refl
 same_test false false to from = refl
 
 -- the place of a class is one of the places of names where its name is one of them
-pub one_place : (headers : Headers) → IsHierarchy headers → (place : Place) (header : Header) → header_at headers place ≡ Some header → (names : List Name) (places : List Place) → map (place_of headers) names ≡ map Some places → list_any (is_place place) places ≡ list_any (bytes_eq header.name) names
+pub one_place : (headers : Headers) → HoldsSteps headers → (place : Place) (header : Header) → header_at headers place ≡ Some header → (names : List Name) (places : List Place) → map (place_of headers) names ≡ map Some places → list_any (is_place place) places ≡ list_any (bytes_eq header.name) names
 one_place headers tree place header at [] [] same = refl
 one_place headers tree place header at [] (first ∷ places) same = absurd cc
 one_place headers tree place header at (name ∷ names) [] same = absurd cc

@@ -3,14 +3,15 @@ use Rattle.std.proofs.Common.{◌≡◌, ◌≢◌, ◌⊎◌, ◌↔◌, Option
 use Rattle.std.proofs.lemmas.Option.{same_Some}
 use Rattle.class_model.specs.declared.header.Header.{Header}
 use Rattle.class_tree.specs.Headers.{Name, Headers, class_named}
+use Rattle.class_tree.specs.Hierarchy.{superclass_of}
 use Rattle.class_tree.specs.Names.{is_interface}
 use Rattle.class_tree.specs.Order.{header_at, place_of}
 use Rattle.class_tree.specs.Subtype.{IsDirectlyBelow, superclass, IsBelow, directly, onwards}
 use Rattle.class_tree.specs.declared.place.Place.{Place}
-use Rattle.class_tree.proofs.Climbing.{superclass_of, superclass_there, no_superclass, some_superclass, superclass_is, named_at_place, rooted}
+use Rattle.class_tree.proofs.Climbing.{superclass_there, no_superclass, some_superclass, superclass_is, named_at_place, rooted}
 use Rattle.class_tree.proofs.SamePlaces.{place_of_own}
 use Rattle.class_tree.proofs.Superclasses.{Placed}
-use Rattle.class_tree.proofs.TreeClasses.{IsHierarchy}
+use Rattle.class_tree.proofs.TreeClasses.{HoldsSteps}
 use Rattle.class_tree.proofs.WalkedNames.{class_is_climbed}
 
 -- the class of the name stands at the place or is above it
@@ -19,7 +20,7 @@ IsReached headers None name = ⊥
 IsReached headers (Some place) name = (header : Header) × (header_at headers place ≡ Some header) × ((header.name ≡ name) ⊎ IsBelow headers header.name name)
 
 -- what is above a class is reached from its superclass
-reached_decides : (headers : Headers) → IsHierarchy headers → (place : Place) (header : Header) → header_at headers place ≡ Some header → (above : Place) (high : Header) → header_at headers above ≡ Some high → IsFalse (is_interface high) → IsBelow headers header.name high.name ↔ IsReached headers (superclass_of headers place) high.name
+reached_decides : (headers : Headers) → HoldsSteps headers → (place : Place) (header : Header) → header_at headers place ≡ Some header → (above : Place) (high : Header) → header_at headers above ≡ Some high → IsFalse (is_interface high) → IsBelow headers header.name high.name ↔ IsReached headers (superclass_of headers place) high.name
 reached_decides headers tree place header at above high above_at kind = (to, from header.super_name refl)
   where
     named : class_named headers header.name ≡ Some header
@@ -53,13 +54,13 @@ pub record IsSought (headers : Headers) (class above : Place) (next : Option Pla
   pub decides : (low high : Header) → header_at headers class ≡ Some low → header_at headers above ≡ Some high → IsFalse (is_interface high) → IsBelow headers low.name high.name ↔ IsReached headers next high.name
   pub there : IfSome next (λ place. IsSome (header_at headers place))
 
-pub first_sought : (headers : Headers) → IsHierarchy headers → (class above : Place) → IsSought headers class above (superclass_of headers class)
+pub first_sought : (headers : Headers) → HoldsSteps headers → (class above : Place) → IsSought headers class above (superclass_of headers class)
 first_sought headers tree class above = record {
   decides = λ low high low_at high_at kind. reached_decides headers tree class low low_at above high high_at kind;
   there = superclass_there headers tree class;
 }
 
-pub sought_more : (headers : Headers) → IsHierarchy headers → (class above place : Place) (header : Header) → header_at headers place ≡ Some header → place ≢ above → IsSought headers class above (Some place) → IsSought headers class above (superclass_of headers place)
+pub sought_more : (headers : Headers) → HoldsSteps headers → (class above place : Place) (header : Header) → header_at headers place ≡ Some header → place ≢ above → IsSought headers class above (Some place) → IsSought headers class above (superclass_of headers place)
 sought_more headers tree class above place header at differ sought = record {
   decides = λ low high low_at high_at kind.
       let before = sought.decides low high low_at high_at kind in

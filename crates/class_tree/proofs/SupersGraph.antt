@@ -1,7 +1,7 @@
 -- The graph of classes, made class by class and name by name.
-use Rattle.std.proofs.Common.{◌≡◌, ℕ, ◌+◌, ◌<◌, List, [], ◌∷◌, ◌++◌, length, get_or, take, slice_get, filter_map, option_map, option_to_list, Option, Some, None, refl, sym, ap, ◌∙◌, append_assoc}
+use Rattle.std.proofs.Common.{◌≡◌, ℕ, ◌+◌, ◌<◌, List, [], ◌∷◌, ◌++◌, length, get_or, take, slice_get, map, filter_map, option_map, option_to_list, Option, Some, None, refl, sym, ap, ◌∙◌, append_assoc}
 use Rattle.std.specs.List.{cons_option}
-use Rattle.std.proofs.lemmas.List.{take_more}
+use Rattle.std.proofs.lemmas.List.{take_more, map-append}
 use Rattle.std.proofs.lemmas.List.Elements.{filter_map-append}
 use Rattle.std.proofs.lemmas.Option.{slice_get-map, slice_get_within, get_or_from_slice_get}
 use Rattle.class_model.specs.declared.header.Header.{Header}
@@ -32,3 +32,13 @@ one_class_more headers number header graph more targets is so_far made pushed =
     ∙ ap (λ (g : List (List ℕ)). g ++ targets ∷ []) so_far
     ∙ ap (λ (ts : List ℕ). take number (graph_of headers) ++ ts ∷ []) (made ∙ sym here)
     ∙ sym (take_more (graph_of headers) number [] (slice_get_within (graph_of headers) number _ there))
+
+-- one item more of what is made of each
+pub one_more : {X Y : Type 0} (f : X → Y) (xs : List X) (number : ℕ) (x : X) (so_far more : List Y) (made : Y) → slice_get xs number ≡ Some x → so_far ≡ map f (take number xs) → made ≡ f x → more ≡ so_far ++ made ∷ [] → more ≡ map f (take (number + 1) xs)
+one_more f xs number x so_far more made there is same pushed =
+    let here = get_or_from_slice_get xs number x x there in
+    pushed
+    ∙ ap (λ ys. ys ++ made ∷ []) is
+    ∙ ap (λ y. map f (take number xs) ++ y ∷ []) (same ∙ ap f (sym here))
+    ∙ sym (map-append f (take number xs) (get_or xs number x ∷ []))
+    ∙ sym (ap (map f) (take_more xs number x (slice_get_within xs number x there)))

@@ -93,13 +93,13 @@ each_library_class (first ∷ list) all (suc number) header there = each_library
 -- ---- hierarchies
 
 -- Classes in order that hold what is asked of a hierarchy; none has the name of an array.
-pub record IsHierarchy (headers : Headers) : Type 0 where
+pub record HoldsSteps (headers : Headers) : Type 0 where
   pub in_order : IsInOrder headers
   pub hold : AllHold (hierarchy_checks headers)
   pub named : (name : Name) (header : Header) → class_named headers name ≡ Some header → ¬ IsArray name
 
-pub tree_is_hierarchy : (classes : Classes) → IsTree classes → IsHierarchy (headers_of classes)
-tree_is_hierarchy classes tree = record {
+pub tree_holds_steps : (classes : Classes) → IsTree classes → HoldsSteps (headers_of classes)
+tree_holds_steps classes tree = record {
   in_order = tree.in_order;
   hold = front_holds (hierarchy_checks (headers_of classes)) _ tree.holds;
   named = named;

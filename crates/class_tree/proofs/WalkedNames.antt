@@ -21,16 +21,16 @@ use Rattle.class_tree.proofs.InterfaceWalks.{class_there, own_name, same_class, 
 abbrev pub IsOneName : List Name → Name → Type 0
 IsOneName names name = list_any (bytes_eq name) names ≡ true
 
-one_name_first : (name other : Name) (names : List Name) → other ≡ name → IsOneName (other ∷ names) name
+pub one_name_first : (name other : Name) (names : List Name) → other ≡ name → IsOneName (other ∷ names) name
 one_name_first name other names same = or_left _ _ ((bytes_eq-Decides name other).1 (sym same))
 
 none_of_none : (name : Name) → ¬ IsOneName [] name
 none_of_none name one = false≢true one
 
-one_of_first : (first : Name) (names : List Name) (name : Name) → IsOneName (first ∷ names) name → (first ≡ name) ⊎ IsOneName names name
+pub one_of_first : (first : Name) (names : List Name) (name : Name) → IsOneName (first ∷ names) name → (first ≡ name) ⊎ IsOneName names name
 one_of_first first names name one = elim (or_cases _ _ one) [ inl here ↦ inl (sym ((bytes_eq-Decides name first).0 here)) | inr there ↦ inr there ]
 
-one_of_either : (front back : List Name) (name : Name) → IsOneName (front ++ back) name → IsOneName front name ⊎ IsOneName back name
+pub one_of_either : (front back : List Name) (name : Name) → IsOneName (front ++ back) name → IsOneName front name ⊎ IsOneName back name
 one_of_either front back name one = or_cases _ _ (sym (list_any-append (bytes_eq name) front back) ∙ one)
 
 one_in_front : (front back : List Name) (name : Name) → IsOneName front name → IsOneName (front ++ back) name
@@ -184,7 +184,7 @@ module _ (headers : Headers) (hold : AllHold (hierarchy_checks headers)) where
       let at = subst (λ super. IfSome super (λ name. IfSome (class_named headers name) (λ above. IsFalse (is_interface above)))) some kind in
       subst (λ found. IfSome found (λ above. IsFalse (is_interface above))) above_is at
 
-  interface_kind : (low : Name) (header : Header) → class_named headers low ≡ Some header → (name : Name) → IsOneName header.interfaces name → (above : Header) → class_named headers name ≡ Some above → IsTrue (is_interface above)
+  pub interface_kind : (low : Name) (header : Header) → class_named headers low ≡ Some header → (name : Name) → IsOneName header.interfaces name → (above : Header) → class_named headers name ≡ Some above → IsTrue (is_interface above)
   interface_kind low header is name one above above_is =
       let kind = each_of_names (λ name. IfSome (class_named headers name) (λ above. IsTrue (is_interface above))) header.interfaces (named_holds headers hold low header is).kinds.interfaces name one in
       subst (λ found. IfSome found (λ above. IsTrue (is_interface above))) above_is kind

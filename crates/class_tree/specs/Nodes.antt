@@ -1,6 +1,6 @@
 -- How a hierarchy is kept: each class has a number, those of the folder first, and knows the numbers of the classes that
 -- it names.
-use Rattle.std.specs.Prelude.{◌≡◌, ◌-◌, ℕ, List, map, length, nat_lt, filter_map, bytes_eq, slice_get, Option, Some, Result, Ok, Err, if◌then◌else◌}
+use Rattle.std.specs.Prelude.{◌≡◌, ◌-◌, ℕ, List, map, length, nat_lt, filter_map, bytes_eq, slice_get, Option, Some, option_and_then, Result, Ok, Err, if◌then◌else◌}
 use Rattle.class_model.specs.Header.{header_of}
 use Rattle.class_model.specs.declared.header.Header.{Header}
 use Rattle.class_model.specs.declared.header.Member.{Member}
@@ -29,6 +29,10 @@ place_at headers number = if nat_lt number (length headers.folder) then Folder n
 abbrev pub graph_of : Headers → Graph
 graph_of headers = map (λ header. filter_map (number_of headers) (supers header)) (all_headers headers)
 
+-- the place of the superclass of a class
+abbrev pub super_place : Headers → Header → Option Place
+super_place headers header = option_and_then (place_of headers) header.super_name
+
 -- the superinterfaces of each class, as places
 pub record AreInterfaceLists (headers : Headers) (lists : List (List Place)) : Type 0 where
   pub len : length lists ≡ length (all_headers headers)
@@ -43,7 +47,7 @@ pub record AreMemberIndexes (members : Header → List Member) (headers : Header
 pub record AreLinks (classes : Classes) (of_folder : List Header) (links : Links) : Type 0 where
   pub tree : IsTree classes
   pub headers : of_folder ≡ map header_of classes.folder
-  pub graph : links.graph.items ≡ graph_of (headers_of classes)
+  pub superclasses : links.superclasses.items ≡ map (super_place (headers_of classes)) (all_headers (headers_of classes))
   pub interfaces : AreInterfaceLists (headers_of classes) links.interfaces.items
   pub fields : AreMemberIndexes (λ header. header.fields) (headers_of classes) links.fields.items
   pub methods : AreMemberIndexes (λ header. header.methods) (headers_of classes) links.methods.items

@@ -7,6 +7,7 @@ ghost use Rattle.class_model.specs.PoolChecks.{utf8_at};
 ghost use Rattle.class_tree.specs.Headers.{Name, IsClassFile};
 ghost use Rattle.class_tree.specs.Trees.{AreHeadersInOrder, IsBefore, times};
 
+use crate::guesses::NameGuesses;
 use crate::headers::Headers;
 use crate::tree::{ClassFileList, HeaderList};
 use class_model::{
@@ -46,15 +47,28 @@ fn name_of(class: &ClassFile) -> &[u8]
     }
 }
 
-/// The headers of class files.
-pub(crate) fn headers_of(alloc: Global, folder: &[ClassFile]) -> Result<Vec<Header>, NoMemory>
+/// The headers of class files, whose numbers are added to the guesses.
+pub(crate) fn headers_of(
+    alloc: Global,
+    folder: &[ClassFile],
+    guesses: &mut NameGuesses,
+) -> Result<Vec<Header>, NoMemory>
     ensures { IfOk result (λ headers. headers.items ≡ map header_of folder.now) }
 {
     let mut headers = Vec::with_capacity(alloc, folder.len())?;
     for class in folder {
-        headers.push(header_of(alloc, class)?)?;
+        let header = header_of(alloc, class)?;
+        guesses.add(header.name.bytes(), headers.len());
+        headers.push(header)?;
     }
     Ok(headers)
+}
+
+/// Adds the numbers of the classes of a library, which stand behind so many others.
+pub(crate) fn add_library(guesses: &mut NameGuesses, before: usize, library: &[Header]) {
+    for (place, header) in library.iter().enumerate() {
+        guesses.add(header.name.bytes(), before.saturating_add(place));
+    }
 }
 
 // The header of a class file.

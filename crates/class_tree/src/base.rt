@@ -1,5 +1,5 @@
 //! The third step: what the machine needs of its library.
-ghost use Rattle.std.specs.Prelude.{◌≡◌, ◌↔◌, ◌||◌, false, [], ◌∷◌, map, Some, IfOk, IfSome, IsSome, IsTrue};
+ghost use Rattle.std.specs.Prelude.{◌≡◌, ◌↔◌, ◌⊎◌, ◌||◌, false, [], ◌∷◌, map, Some, IfOk, IfSome, IsSome, IsTrue};
 ghost use Rattle.std.specs.List.{list_any};
 ghost use Rattle.std.specs.Option.{option_copied, option_map_or};
 ghost use Rattle.class_model.specs.Header.{header_of};
@@ -44,7 +44,7 @@ pub(crate) fn check_base(
     check_object(alloc, headers)?;
     check_throwables(alloc, headers, graph)?;
     check_interfaces(alloc, headers)?;
-    let constants = constants_of(folder);
+    let constants = needs_of(headers, folder);
     check_need(alloc, headers, constants.method_handle, METHOD_HANDLE)?;
     check_need(alloc, headers, constants.method_type, METHOD_TYPE)
 }
@@ -234,6 +234,27 @@ impl Constants {
     }
 }
 
+// What constants of a folder need, as far as it matters: where the classes that they may need are there, no pool is read.
+fn needs_of(headers: &Headers<'_>, folder: &[ClassFile]) -> Constants
+    requires { IsInOrder headers.now }
+    ensures method_handle { IsThere headers.now names.method_handle ⊎ (result.method_handle ≡ list_any (has_constant is_method_handle) folder.now) }
+    ensures method_type { IsThere headers.now names.method_type ⊎ (result.method_type ≡ list_any (has_constant is_method_type) folder.now) }
+{
+    if is_there(headers, METHOD_HANDLE) && is_there(headers, METHOD_TYPE) {
+        Constants::none()
+    } else {
+        constants_of(folder)
+    }
+}
+
+// Whether a class of this name is there.
+fn is_there(headers: &Headers<'_>, name: &[u8]) -> bool
+    requires { IsInOrder headers.now }
+    ensures { IsTrue result ↔ IsThere headers.now name.now }
+{
+    class_of(headers, name).is_some()
+}
+
 // Whether the pools of class files have such constants.
 fn constants_of(folder: &[ClassFile]) -> Constants
     ensures method_handle { result.method_handle ≡ list_any (has_constant is_method_handle) folder.now }
@@ -300,10 +321,5 @@ fn check_need(
     if !is_needed {
         return Ok(());
     }
-    ask_named(
-        alloc,
-        class_of(headers, name).is_some(),
-        name,
-        LinkRule::Missing,
-    )
+    ask_named(alloc, is_there(headers, name), name, LinkRule::Missing)
 }

@@ -6,17 +6,19 @@ ghost use Rattle.class_tree.specs.Headers.{IsClassFile, IsLibraryClass};
 ghost use Rattle.class_tree.specs.Nodes.{IsLinksOf};
 ghost use Rattle.class_tree.specs.Trees.{AreHeadersInOrder, IsInOrder, IsTreeOf};
 
-use crate::arrange::{first_duplicate, headers_of, sort_folder, sort_library};
+use crate::arrange::{add_library, first_duplicate, headers_of, sort_folder, sort_library};
 use crate::ask::ask;
 use crate::base::check_base;
 use crate::fault::{LinkFault, LinkRule};
 use crate::graph::supers_graph;
+use crate::guesses::NameGuesses;
 use crate::headers::Headers;
 use crate::hierarchy::check_hierarchy;
 use crate::interfaces::interface_lists;
 use crate::links::Links;
 use crate::members::{field_indexes, method_indexes};
 use crate::order::topological;
+use crate::super_places::super_places;
 use crate::tree::{ClassFileList, HeaderList, Tree};
 use class_model::{ClassFile, Header};
 use std::alloc::Global;
@@ -39,12 +41,21 @@ pub fn build_tree(
 {
     let folder = sort_folder(alloc, folder)?;
     let library = sort_library(alloc, library)?;
-    let headers = headers_of(alloc, folder.as_slice())?;
-    let links = link(alloc, folder.as_slice(), &headers, library.as_slice())?;
+    let mut guesses = NameGuesses::new(alloc, folder.len().saturating_add(library.len()))?;
+    let headers = headers_of(alloc, folder.as_slice(), &mut guesses)?;
+    add_library(&mut guesses, headers.len(), library.as_slice());
+    let links = link(
+        alloc,
+        folder.as_slice(),
+        &headers,
+        library.as_slice(),
+        &guesses,
+    )?;
     Ok(Tree {
         folder,
         library,
         headers,
+        guesses,
         links,
     })
 }
@@ -55,6 +66,7 @@ fn link(
     folder: &[ClassFile],
     headers: &[Header],
     library: &[Header],
+    guesses: &NameGuesses,
 ) -> Result<Links, LinkFault>
     requires headers { headers.now ≡ map header_of folder.now }
     requires folder { AllByRecursion IsClassFile folder.now }
@@ -63,7 +75,7 @@ fn link(
     requires library_sorted { AreHeadersInOrder library.now }
     ensures { IsLinksOf (record { folder = folder.now; library = library.now }) headers.now result }
 {
-    let all = Headers::new(headers, library);
+    let all = Headers::new(headers, library, guesses);
     if let Some(name) = first_duplicate(&all) {
         ask(alloc, false, name, LinkRule::Duplicate)?;
     }
@@ -89,11 +101,12 @@ fn link_in_order(
     if !folder.is_empty() {
         check_base(alloc, folder, headers, &graph)?;
     }
+    let superclasses = super_places(alloc, headers, &graph)?;
     let interfaces = interface_lists(alloc, headers, &graph, order)?;
     let fields = field_indexes(alloc, headers)?;
     let methods = method_indexes(alloc, headers)?;
     Ok(Links {
-        graph,
+        superclasses,
         interfaces,
         fields,
         methods,

@@ -1,11 +1,12 @@
 //! The headers of a folder and its library.
-ghost use Rattle.std.specs.Prelude.{◌≡◌, ◌+◌, ◌<◌, ◌≤◌, ℕ, List, length, count_by, bytes_eq, slice_get, IfSome, IfNone, if◌then◌else◌};
+ghost use Rattle.std.specs.Prelude.{◌≡◌, ◌+◌, ◌<◌, ◌≤◌, ℕ, List, length, count_by, bytes_eq, slice_get, Some, IfSome, IfNone, if◌then◌else◌};
 ghost use Rattle.std.specs.Option.{option_copied};
 ghost use Rattle.class_tree.specs.Headers.{all_headers};
 ghost use Rattle.class_tree.specs.Nodes.{number_of, place_at};
 ghost use Rattle.class_tree.specs.Order.{first_place, place_of};
 ghost use Rattle.class_tree.specs.Trees.{AreHeadersInOrder, IsBefore, IsInOrder, times};
 
+use crate::guesses::NameGuesses;
 use crate::place::Place;
 use class_model::Header;
 use std::marker::Model;
@@ -16,6 +17,7 @@ use std::marker::Model;
 pub(crate) struct Headers<'a> {
     folder: &'a [Header],
     library: &'a [Header],
+    guesses: &'a NameGuesses,
 }
 
 impl<'a> Model for Headers<'a> {
@@ -27,17 +29,21 @@ impl<'a> Model for Headers<'a> {
 }
 
 impl<'a> Headers<'a> {
-    pub(crate) fn new(folder: &'a [Header], library: &'a [Header]) -> Self
+    pub(crate) fn new(folder: &'a [Header], library: &'a [Header], guesses: &'a NameGuesses) -> Self
         ensures { result ≡ record { folder = folder.now; library = library.now } }
     {
-        Headers { folder, library }
+        Headers {
+            folder,
+            library,
+            guesses,
+        }
     }
 
     /// The same headers.
     pub(crate) fn copy(&self) -> Headers<'a>
         ensures { result ≡ self.now }
     {
-        Headers::new(self.folder, self.library)
+        Headers::new(self.folder, self.library, self.guesses)
     }
 
     /// How many classes there are.
@@ -70,13 +76,19 @@ impl<'a> Headers<'a> {
     {
         match (self.folder, self.library) {
             ([], []) => None,
-            ([first, rest @ ..], []) => Some((first, Headers::new(rest, self.library))),
-            ([], [first, rest @ ..]) => Some((first, Headers::new(self.folder, rest))),
+            ([first, rest @ ..], []) => Some((
+                first,
+                Headers::new(rest, self.library, self.guesses),
+            )),
+            ([], [first, rest @ ..]) => Some((
+                first,
+                Headers::new(self.folder, rest, self.guesses),
+            )),
             ([one, ones @ ..], [other, others @ ..]) => {
                 if one.name.bytes().cmp(other.name.bytes()).is_gt() {
-                    Some((other, Headers::new(self.folder, others)))
+                    Some((other, Headers::new(self.folder, others, self.guesses)))
                 } else {
-                    Some((one, Headers::new(ones, self.library)))
+                    Some((one, Headers::new(ones, self.library, self.guesses)))
                 }
             }
         }
@@ -84,6 +96,31 @@ impl<'a> Headers<'a> {
 
     /// The place of the class of a name.
     pub(crate) fn find(&self, name: &[u8]) -> Option<Place>
+        requires { IsInOrder self.now }
+        ensures { result ≡ place_of self.now name.now }
+    {
+        match self.guess(name) {
+            Some(place) => Some(place),
+            None => self.search(name),
+        }
+    }
+
+    // The same, where the guess at its number is right.
+    fn guess(&self, name: &[u8]) -> Option<Place>
+        requires { IsInOrder self.now }
+        ensures { IfSome result (λ place. place_of self.now name.now ≡ Some place) }
+    {
+        let number = self.guesses.get(name)?;
+        let header = self.get(number)?;
+        if header.name.bytes() == name {
+            Some(self.place(number))
+        } else {
+            None
+        }
+    }
+
+    // The place of the class of a name, by a search.
+    fn search(&self, name: &[u8]) -> Option<Place>
         requires { IsInOrder self.now }
         ensures { result ≡ place_of self.now name.now }
     {

@@ -35,10 +35,12 @@ pub(crate) fn check_hierarchy(
     ensures { Answers (hierarchy_checks headers.now) result }
 {
     let placed = placed_nodes(alloc, graph.len(), order)?;
+    let object = headers.number_of(OBJECT);
     for number in 0..headers.len() {
         let is_placed = placed[number];
         let is_on_circle = !is_placed && reaches(alloc, graph, number, number)?;
-        check_class(alloc, headers, graph, number, is_on_circle)?;
+        let is_object = object == Some(number);
+        check_class(alloc, headers, graph, number, is_on_circle, is_object)?;
     }
     Ok(())
 }
@@ -56,18 +58,20 @@ fn placed_nodes(alloc: Global, len: usize, order: &[usize]) -> Result<Vec<bool>,
     Ok(placed)
 }
 
-// Asks the class of a number, which is above itself or not.
+// Asks the class of a number, which is above itself or not, and is java/lang/Object or not.
 fn check_class(
     alloc: Global,
     headers: &Headers<'_>,
     graph: &[ListOf<usize>],
     number: usize,
     is_on_circle: bool,
+    is_object: bool,
 ) -> Result<(), LinkFault>
     requires in_order { IsInOrder headers.now }
     requires graph { graph.now ≡ graph_of headers.now }
     requires number { number < length (all_headers headers.now) }
     requires circle { IsTrue is_on_circle ↔ IsPath graph.now number number }
+    requires object { IsTrue is_object ↔ (number_of headers.now names.object ≡ Some number) }
     ensures folder { (header : Header) → slice_get headers.now.folder number ≡ Some header → Answers (folder_checks headers.now header) result }
     ensures library { (header : Header) → length headers.now.folder ≤ number → slice_get headers.now.library (number - length headers.now.folder) ≡ Some header → Answers (library_checks headers.now header) result }
 {
@@ -76,7 +80,14 @@ fn check_class(
     };
     let above = graph[number].as_slice();
     match headers.place(number) {
-        Place::Folder(_) => check_folder_class(alloc, headers, header, above, is_on_circle),
+        Place::Folder(_) => check_folder_class(
+            alloc,
+            headers,
+            header,
+            above,
+            is_on_circle,
+            is_object,
+        ),
         Place::Library(_) => check_library_class(alloc, headers, header, above, is_on_circle),
     }
 }
@@ -88,9 +99,11 @@ fn check_folder_class(
     header: &Header,
     above: &[usize],
     is_on_circle: bool,
+    is_object: bool,
 ) -> Result<(), LinkFault>
     requires above { above.now ≡ filter_map (number_of headers.now) (supers header.now) }
     requires circle { IsTrue is_on_circle ↔ IsBelow headers.now header.now.name header.now.name }
+    requires object { IsTrue is_object ↔ (header.now.name ≡ names.object) }
     ensures { Answers (folder_checks headers.now header.now) result }
 {
     let name = &header.name;
@@ -104,7 +117,7 @@ fn check_folder_class(
     )?;
     ask(
         alloc,
-        fits_folder_kinds(headers, header, above),
+        fits_folder_kinds(headers, header, above, is_object),
         name,
         LinkRule::KindOfSuper,
     )
@@ -201,11 +214,17 @@ fn is_extensible(headers: &Headers<'_>, header: &Header, above: &[usize]) -> boo
 }
 
 // Whether the kinds fit, and the class is not java/lang/Object.
-fn fits_folder_kinds(headers: &Headers<'_>, header: &Header, above: &[usize]) -> bool
-    requires { map (number_of headers.now) (supers header.now) ≡ map Some above.now }
+fn fits_folder_kinds(
+    headers: &Headers<'_>,
+    header: &Header,
+    above: &[usize],
+    is_object: bool,
+) -> bool
+    requires above { map (number_of headers.now) (supers header.now) ≡ map Some above.now }
+    requires object { IsTrue is_object ↔ (header.now.name ≡ names.object) }
     ensures { IsTrue result ↔ (FitsKinds headers.now header.now × (header.now.name ≢ names.object)) }
 {
-    fits_kinds(headers, header, above) && header.name.bytes() != OBJECT
+    fits_kinds(headers, header, above) && !is_object
 }
 
 // Whether the superclass is no interface, each interface is one, and the superclass of an interface and of no other

@@ -5,7 +5,8 @@ ghost use Rattle.class_tree.specs.Names as names;
 
 use class_model::Header;
 
-pub(crate) const OBJECT: &[u8] = b"java/lang/Object";
+/// The class that each other class is below.
+pub const OBJECT: &[u8] = b"java/lang/Object";
 
 pub(crate) const CLONEABLE: &[u8] = b"java/lang/Cloneable";
 
@@ -13,7 +14,8 @@ pub(crate) const SERIALIZABLE: &[u8] = b"java/io/Serializable";
 
 pub(crate) const THROWABLE: &[u8] = b"java/lang/Throwable";
 
-pub(crate) const METHOD_HANDLE: &[u8] = b"java/lang/invoke/MethodHandle";
+/// The class of method handles.
+pub const METHOD_HANDLE: &[u8] = b"java/lang/invoke/MethodHandle";
 
 pub(crate) const METHOD_TYPE: &[u8] = b"java/lang/invoke/MethodType";
 
@@ -72,7 +74,7 @@ pub(crate) const ACC_FINAL: u16 = 0x0010;
 const ACC_INTERFACE: u16 = 0x0200;
 
 /// Whether a flag is set.
-pub(crate) fn has(flags: u16, mask: u16) -> bool
+pub fn has(flags: u16, mask: u16) -> bool
     ensures { result ≡ members.has flags mask }
 {
     flags & mask != 0

@@ -8,6 +8,7 @@ ghost use Rattle.class_tree.specs.Nodes.{place_at};
 ghost use Rattle.class_tree.specs.Order.{header_at, place_of, member_place};
 ghost use Rattle.class_tree.specs.Trees.{IsTree};
 
+use crate::guesses::NameGuesses;
 use crate::headers::Headers;
 use crate::links::Links;
 use crate::members::find_member;
@@ -29,6 +30,7 @@ pub struct Tree {
     pub(crate) library: HeaderList,
     // of the classes of the folder
     pub(crate) headers: Vec<Header>,
+    pub(crate) guesses: NameGuesses,
     pub(crate) links: Links,
 }
 
@@ -67,8 +69,8 @@ impl Tree {
         self.find(name.bytes())
     }
 
-    /// The place of the class of a name.
-    pub(crate) fn find(&self, name: &[u8]) -> Option<Place>
+    /// The place of the class of a name that is given as bytes.
+    pub fn find(&self, name: &[u8]) -> Option<Place>
         ensures tree { IsTree self.now }
         ensures same { result ≡ place_of (headers_of self.now) name.now }
     {
@@ -110,20 +112,8 @@ impl Tree {
     pub fn superclass(&self, place: Place) -> Option<Place>
         ensures { result ≡ option_and_then (λ header. option_and_then (place_of (headers_of self.now)) header.super_name) (header_at (headers_of self.now) place) }
     {
-        match &self.header(place)?.super_name {
-            Some(_) => self.first_super(place),
-            None => None,
-        }
-    }
-
-    // The place of the first class that the class at a place names above it, which is its superclass.
-    fn first_super(&self, place: Place) -> Option<Place>
-        requires { IsSome (option_and_then (λ header. header.super_name) (header_at (headers_of self.now) place)) }
-        ensures { result ≡ option_and_then (λ header. option_and_then (place_of (headers_of self.now)) header.super_name) (header_at (headers_of self.now) place) }
-    {
-        let supers = self.links.graph.get(self.number(place))?;
-        let number = supers.get(0)?;
-        Some(self.all().place(*number))
+        let _class = self.header(place)?;
+        *self.links.superclasses.get(self.number(place))?
     }
 
     /// The superinterfaces of the class at a place, each once, in depth-first order: each before its own, those of the
@@ -171,7 +161,11 @@ impl Tree {
         ensures same { result ≡ headers_of self.now }
         ensures tree { IsTree self.now }
     {
-        Headers::new(self.headers.as_slice(), self.library.as_slice())
+        Headers::new(
+            self.headers.as_slice(),
+            self.library.as_slice(),
+            &self.guesses,
+        )
     }
 
     // The number of the class at a place.

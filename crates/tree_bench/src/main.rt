@@ -101,9 +101,6 @@ fn count_yes(tree: &Tree, questions: u32) -> u64 {
     yes
 }
 
-// How many classes are asked about, from all over the folder: a few that stay in the processor's caches.
-const ASKED: usize = 100;
-
 // Whether a class of the folder is below another, of three kinds in turn: that of a sixteenth of its number, any class,
 // and one of the interfaces, which are the last in byte order.
 fn answer(tree: &Tree, question: usize) -> bool {
@@ -111,11 +108,10 @@ fn answer(tree: &Tree, question: usize) -> bool {
     if count == 0 {
         return false;
     }
-    let step = count / ASKED + 1;
-    let low = (question.wrapping_mul(7919) % ASKED).wrapping_mul(step) % count;
+    let low = question.wrapping_mul(7919) % count;
     let high = match question % 3 {
         0 => low / 16,
-        1 => (question.wrapping_mul(31) % ASKED).wrapping_mul(step) % count,
+        1 => question.wrapping_mul(31) % count,
         _ => count.saturating_sub(1 + question % INTERFACES),
     };
     let (low, high) = (Place::Folder(low), Place::Folder(high));

@@ -52,7 +52,7 @@ returns-in_err-check_need c =
     let p = err_from_is_err_and c.from_residual-in_err-check_need.result c.from_residual-in_err-check_need.ensures.1 in
     let headers = c.args.headers.now in
     let folder = c.args.folder.now in
-    let told = parts.need_told headers folder is_method_handle method_handle c.constants_of-constants.result.method_handle (Err c.in_err-check_need.field-0.0) c.constants_of-constants.ensures.method_handle c.in_err-check_need.ensures in
+    let told = parts.need_told headers folder is_method_handle method_handle c.needs_of-constants.result.method_handle (Err c.in_err-check_need.field-0.0) c.needs_of-constants.ensures.method_handle c.in_err-check_need.ensures in
     let left = parts.at_handles headers folder c.requires.folder c.in_ok-check_names.ensures c.in_ok-check_object.ensures c.in_ok-check_throwables.ensures c.in_ok-check_interfaces.ensures in
     rw (p.1, p.2) (refused (parts.handle_checks headers folder) (parts.type_checks headers folder) _ left told)
 
@@ -63,7 +63,7 @@ pub returns : goal.returns
 returns c =
     let headers = c.args.headers.now in
     let folder = c.args.folder.now in
-    let handles = parts.need_told headers folder is_method_handle method_handle c.constants_of-constants.result.method_handle (Ok tt) c.constants_of-constants.ensures.method_handle c.in_ok-check_need.ensures in
-    let told = parts.need_told headers folder is_method_type method_type c.constants_of-constants.result.method_type c.check_need-2.result c.constants_of-constants.ensures.method_type c.check_need-2.ensures in
+    let handles = parts.need_told headers folder is_method_handle method_handle c.needs_of-constants.result.method_handle (Ok tt) c.needs_of-constants.ensures.method_handle c.in_ok-check_need.ensures in
+    let told = parts.need_told headers folder is_method_type method_type c.needs_of-constants.result.method_type c.check_need-2.result c.needs_of-constants.ensures.method_type c.check_need-2.ensures in
     let left = parts.at_types headers folder c.requires.folder c.in_ok-check_names.ensures c.in_ok-check_object.ensures c.in_ok-check_throwables.ensures c.in_ok-check_interfaces.ensures handles in
     answered _ left told

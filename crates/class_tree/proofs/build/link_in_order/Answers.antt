@@ -1,8 +1,9 @@
-use Rattle.std.proofs.Common.{◌∙◌, ap, sym, subst, rules}
+use Rattle.std.proofs.Common.{◌≡◌, ◌∙◌, map, sym, subst, rules}
 use Rattle.std.proofs.lemmas.Bool.{true≢false}
 use Rattle.std.proofs.lemmas.Result.{err_from_is_err_and}
 use Rattle.class_tree.specs.Graphs.{IsWithin}
-use Rattle.class_tree.specs.Nodes.{graph_of, AreInterfaceLists, AreMemberIndexes}
+use Rattle.class_tree.specs.Headers.{all_headers}
+use Rattle.class_tree.specs.Nodes.{super_place, AreInterfaceLists, AreMemberIndexes}
 use Rattle.class_tree.specs.Trees.{IsInOrder}
 use Rattle.class_tree.proofs.BuiltSteps.{same_headers, hierarchy_refused, base_refused, steps_hold, classes_are_placed}
 use Rattle.class_tree.proofs.GraphPaths.{graph_is_within}
@@ -24,8 +25,8 @@ returns-in_err-check_base c =
 
 pub interface_lists-requires-clause-all : goal.interface_lists-requires-clause-all
 interface_lists-requires-clause-all c =
-    classes_are_placed c.args.headers.now c.deref-3.result.now c.as_slice-order.result.now c.requires.in_order c.in_ok-check_hierarchy.ensures
-    (c.deref-3.ensures.value ∙ c.in_ok-graph.ensures)
+    classes_are_placed c.args.headers.now c.deref-4.result.now c.as_slice-order.result.now c.requires.in_order c.in_ok-check_hierarchy.ensures
+    (c.deref-4.ensures.value ∙ c.in_ok-graph.ensures)
     (search rules)
 
 pub returns : goal.returns
@@ -42,7 +43,7 @@ returns c =
         ]);
       };
       headers = c.requires.headers;
-      graph = c.in_ok-graph.ensures ∙ ap graph_of same;
+      superclasses = subst (λ headers. c.in_ok-superclasses.superclasses.items ≡ map (super_place headers) (all_headers headers)) same c.in_ok-superclasses.ensures;
       interfaces = subst (λ headers. AreInterfaceLists headers c.in_ok-interfaces.interfaces.items) same c.in_ok-interfaces.ensures;
       fields = subst (λ headers. AreMemberIndexes (λ header. header.fields) headers c.in_ok-fields.fields.items) same c.in_ok-fields.ensures;
       methods = subst (λ headers. AreMemberIndexes (λ header. header.methods) headers c.in_ok-methods.methods.items) same c.in_ok-methods.ensures;

@@ -1,5 +1,6 @@
 use Rattle.class_tree.specs.Headers.{headers_of}
-use Rattle.class_tree.proofs.Climbing.{height, IsClimbed}
+use Rattle.class_tree.specs.Hierarchy.{height}
+use Rattle.class_tree.proofs.Climbing.{IsClimbed}
 use Rattle.class_tree.proofs.chains.chain.Given as goal
 
 abbrev pub invariant-loop-next : goal.invariant-loop-next

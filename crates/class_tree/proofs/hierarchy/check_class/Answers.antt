@@ -1,14 +1,19 @@
 use Rattle.std.proofs.Common.{sym, ◌∙◌, subst}
 use Rattle.class_tree.specs.Answers.{Answers}
+use Rattle.class_tree.specs.Names.{object}
 use Rattle.class_tree.specs.Steps.{folder_checks, library_checks}
 use Rattle.std.proofs.lemmas.Option.{slice_get_within}
-use Rattle.class_tree.proofs.HierarchyChecks.{targets_at, circle_decides, same_in_folder, same_in_library}
+use Rattle.class_tree.proofs.HierarchyChecks.{targets_at, circle_decides, number_decides, same_in_folder, same_in_library}
 use Rattle.class_tree.proofs.Places.{place_in_folder}
 use Rattle.class_tree.proofs.hierarchy.check_class.Goals as goal
 
 pub check_folder_class-requires-clause-circle : goal.check_folder_class-requires-clause-circle
 check_folder_class-requires-clause-circle c =
     circle_decides c.args.headers.now c.args.graph.now c.args.number c.in-Some.header.now c.args.is_on_circle c.requires.in_order c.requires.graph (sym c.in-Some.ensures) c.requires.circle
+
+pub check_folder_class-requires-clause-object : goal.check_folder_class-requires-clause-object
+check_folder_class-requires-clause-object c =
+    number_decides c.args.headers.now object c.args.number c.in-Some.header.now c.args.is_object c.requires.in_order (sym c.in-Some.ensures) c.requires.object
 
 pub check_library_class-requires-clause-above : goal.check_library_class-requires-clause-above
 check_library_class-requires-clause-above c =

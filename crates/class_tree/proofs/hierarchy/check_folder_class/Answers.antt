@@ -35,9 +35,9 @@ returns-in_err-ask-3 c =
     let left = passes (passes (all_remain (folder_checks c.args.headers.now c.args.header.now)) there) ((not_so c.requires.circle).0 c.in_ok-ask-2.ensures.0) in
     rw (p.1, p.2) (fails _ _ left c.is_extensible.ensures c.in_err-ask-3.ensures)
 
-pub fits_folder_kinds-requires : goal.fits_folder_kinds-requires
-fits_folder_kinds-requires c =
-    numbers_of_all c.args.headers.now (supers c.args.header.now) c.args.above.now c.requires.above ((are_there (goal.at.fits_folder_kinds-requires c).After-are_there).0 c.in_ok-ask.ensures.0)
+pub fits_folder_kinds-requires-clause-above : goal.fits_folder_kinds-requires-clause-above
+fits_folder_kinds-requires-clause-above c =
+    numbers_of_all c.args.headers.now (supers c.args.header.now) c.args.above.now c.requires.above ((are_there (goal.at.fits_folder_kinds-requires-clause-above c).After-are_there).0 c.in_ok-ask.ensures.0)
 
 pub returns : goal.returns
 returns c =

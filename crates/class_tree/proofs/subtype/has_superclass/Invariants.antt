@@ -1,5 +1,5 @@
 use Rattle.class_tree.specs.Headers.{headers_of}
-use Rattle.class_tree.proofs.Climbing.{height}
+use Rattle.class_tree.specs.Hierarchy.{height}
 use Rattle.class_tree.proofs.Sought.{IsSought}
 use Rattle.class_tree.proofs.subtype.has_superclass.Given as goal
 

@@ -6,7 +6,7 @@ use Rattle.class_tree.specs.Names.{is_interface}
 use Rattle.class_tree.specs.Subtype.{IsBelow}
 use Rattle.class_tree.proofs.Places.{class_of_place}
 use Rattle.class_tree.proofs.SamePlaces.{placed_is_there}
-use Rattle.class_tree.proofs.TreeClasses.{tree_is_hierarchy}
+use Rattle.class_tree.proofs.TreeClasses.{tree_holds_steps}
 use Rattle.class_tree.proofs.WalkedNames.{above_is_there, low_is_there}
 use Rattle.class_tree.proofs.subtype.is_below.Goals as goal
 
@@ -18,7 +18,7 @@ returns-in_default c =
 pub returns-in_default-find : goal.returns-in_default-find
 returns-in_default-find c =
     let headers = headers_of c.args.tree.now in
-    let tree = tree_is_hierarchy c.args.tree.now c.find.ensures.tree in
+    let tree = tree_holds_steps c.args.tree.now c.find.ensures.tree in
     (λ yes. absurd (false≢true yes), λ up. absurd (placed_is_there headers c.args.high.now (above_is_there headers tree.hold up) (sym c.find-2.ensures.same ∙ c.in_default-find.is)))
 
 pub has_interface-requires-clause-class : goal.has_interface-requires-clause-class

@@ -6,13 +6,13 @@ use Rattle.class_tree.specs.Subtype.{IsArray, IsSubtype, itself}
 use Rattle.class_tree.specs.Trees.{IsTree}
 use Rattle.class_tree.proofs.Subtypes.{array_decides, class_decides}
 use Rattle.class_tree.proofs.Superclasses.{placed}
-use Rattle.class_tree.proofs.TreeClasses.{IsHierarchy, tree_is_hierarchy}
+use Rattle.class_tree.proofs.TreeClasses.{HoldsSteps, tree_holds_steps}
 use Rattle.class_tree.proofs.WalkedNames.{directly_there}
 use Rattle.class_tree.proofs.subtype.is_sub.Goals as goal
 use Rattle.class_tree.proofs.subtype.is_sub.Goals.{After-innermost, Else-eq}
 
-tree : (c : After-innermost) → IsHierarchy (headers_of c.args.tree.now)
-tree c = tree_is_hierarchy c.args.tree.now (subst IsTree c.tree.view_is c.tree.invariant.tree)
+tree : (c : After-innermost) → HoldsSteps (headers_of c.args.tree.now)
+tree c = tree_holds_steps c.args.tree.now (subst IsTree c.tree.view_is c.tree.invariant.tree)
 
 -- both are as their innermost components are
 inner : (c : After-innermost) → IsSubtype (headers_of c.args.tree.now) c.args.low.now c.args.high.now ↔ IsSubtype (headers_of c.args.tree.now) c.innermost.result.0.now c.innermost.result.1.now

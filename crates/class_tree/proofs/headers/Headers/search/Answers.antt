@@ -3,7 +3,7 @@ use Rattle.class_tree.specs.Headers.{Headers}
 use Rattle.class_tree.specs.Order.{first_place, place_of}
 use Rattle.class_tree.specs.declared.place.Place.TheVariants.{Library}
 use Rattle.class_tree.proofs.Places.{has_name, once_in_folder, once_in_library, place_in_back}
-use Rattle.class_tree.proofs.headers.Headers.find.Goals as goal
+use Rattle.class_tree.proofs.headers.Headers.search.Goals as goal
 
 pub find_header-requires-clause-once : goal.find_header-requires-clause-once
 find_header-requires-clause-once c = subst (λ (h : Headers). (name : List ℕ) → count_by (has_name name) h.folder ≤ 1) (sym c.self.view_is) (once_in_folder c.args.self.now c.requires)
