@@ -1,0 +1,19 @@
+-- Lists of which one item has a property, in a loop that looks for it.
+use Rattle.std.proofs.Common.{◌⊎◌, ◌+◌, ◌<◌, ◌≤◌, ℕ, zero, suc, List, [], ◌∷◌, length, get_or, drop, subst, inl, inr, arith}
+use Rattle.std.specs.List.{AllByRecursion}
+use Rattle.std.proofs.lemmas.List.{drop_more, drop_all}
+
+abbrev pub OneHas : {X : Type 0} → (X → Type 0) → List X → Type 0
+OneHas P [] = ⊥
+OneHas P (x ∷ xs) = P x ⊎ OneHas P xs
+
+pub one_left : {X : Type 0} (P : X → Type 0) (xs : List X) (i : ℕ) (d : X) → i < length xs → ¬ P (get_or xs i d) → OneHas P (drop i xs) → OneHas P (drop (i + 1) xs)
+one_left P xs i d within not one = elim (subst (OneHas P) (drop_more xs i d within) one) [ inl here ↦ absurd (not here) | inr there ↦ there ]
+
+pub none_left : {X : Type 0} (P : X → Type 0) (xs : List X) (i : ℕ) → length xs ≤ i → ¬ OneHas P (drop i xs)
+none_left P xs i past one = subst (OneHas P) (drop_all i xs past) one
+
+pub each_at : {X : Type 0} (P : X → Type 0) (xs : List X) → AllByRecursion P xs → (i : ℕ) (d : X) → i < length xs → P (get_or xs i d)
+each_at P [] all i d within = absurd (omega arith)
+each_at P (x ∷ xs) all zero d within = all.0
+each_at P (x ∷ xs) all (suc i) d within = each_at P xs all.1 i d (omega arith)

@@ -1,0 +1,30 @@
+use Rattle.std.proofs.Common.{sym, subst, ◌∙◌}
+use Rattle.std.proofs.lemmas.Option.{same_Some}
+use Rattle.std.proofs.lemmas.Result.{err_from_is_err_and}
+use Rattle.class_model.specs.declared.header.Header.{Header}
+use Rattle.class_tree.specs.Answers.{Answers}
+use Rattle.class_tree.specs.Headers.{headers_of}
+use Rattle.class_tree.specs.Problems.{asked_each}
+use Rattle.member_link.specs.Declarations.{declaration_checks, declared_field_checks, declared_method_checks}
+use Rattle.member_link.proofs.LinkSteps.{all_remain, passes, remain, refused, answered}
+use Rattle.member_link.proofs.declarations.check_class.Goals as goal
+
+pub returns-in_err-check_fields : goal.returns-in_err-check_fields
+returns-in_err-check_fields c = λ header at.
+    let headers = headers_of c.args.tree.now in
+    let class = c.in-Some.header.now in
+    let p = err_from_is_err_and c.from_residual-in_err-check_fields.result c.from_residual-in_err-check_fields.ensures.1 in
+    let left = passes (all_remain (declaration_checks headers class)) (c.are_supers_accessible.ensures.0 c.in_ok-ask.ensures.0) in
+    let told = refused (asked_each (declared_field_checks headers class) class.fields) (asked_each (declared_method_checks headers class) class.methods) _ left c.in_err-check_fields.ensures in
+    subst (λ (header : Header). Answers (declaration_checks headers header) c.from_residual-in_err-check_fields.result) (same_Some class header (c.in-Some.ensures ∙ at)) (rw (p.1, p.2) told)
+
+pub check_methods-requires : goal.check_methods-requires
+check_methods-requires c = c.a_tree_is_a_hierarchy.ensures.of_place c.args.place c.in-Some.header.now (sym c.in-Some.ensures)
+
+pub returns : goal.returns
+returns c = λ header at.
+    let headers = headers_of c.args.tree.now in
+    let class = c.in-Some.header.now in
+    let left = passes (all_remain (declaration_checks headers class)) (c.are_supers_accessible.ensures.0 c.in_ok-ask.ensures.0) in
+    let last = remain (asked_each (declared_field_checks headers class) class.fields) (asked_each (declared_method_checks headers class) class.methods) left c.in_ok-check_fields.ensures in
+    subst (λ (header : Header). Answers (declaration_checks headers header) c.check_methods.result) (same_Some class header (c.in-Some.ensures ∙ at)) (answered c.check_methods.result last c.check_methods.ensures)

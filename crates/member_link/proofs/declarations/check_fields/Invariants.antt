@@ -1,0 +1,10 @@
+use Rattle.std.proofs.Common.{drop}
+use Rattle.class_tree.specs.Headers.{headers_of}
+use Rattle.class_tree.specs.Problems.{asked_each}
+use Rattle.member_link.specs.Declarations.{declared_field_checks}
+use Rattle.member_link.proofs.LinkSteps.{Remain}
+use Rattle.member_link.proofs.declarations.check_fields.Given as goal
+
+abbrev pub invariant-loop-field : goal.invariant-loop-field
+invariant-loop-field l =
+    Remain (asked_each (declared_field_checks (headers_of l.tree) l.header) l.header.fields) (asked_each (declared_field_checks (headers_of l.tree) l.header) (drop l.field-index l.field-items))

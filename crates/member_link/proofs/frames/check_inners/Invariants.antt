@@ -1,0 +1,8 @@
+use Rattle.member_link.specs.Resolving.{scope_of}
+use Rattle.member_link.specs.Uses.{inner_checks, home_of}
+use Rattle.member_link.proofs.EachUse.{AskedBelow}
+use Rattle.member_link.proofs.frames.check_inners.Given as goal
+
+abbrev pub invariant-loop-attr : goal.invariant-loop-attr
+invariant-loop-attr l =
+    AskedBelow (inner_checks (scope_of l.resolver l.code.member.now) (home_of l.code.class.now) l.code.method.now l.code.part.now) l.attr-items l.attr-index

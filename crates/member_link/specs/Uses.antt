@@ -1,0 +1,214 @@
+-- What the references of a folder's methods are asked to be linked (JVM Specification SE 8, 5.4.3 and 5.4.4): in a method
+-- those of its instructions by offset, then the caught classes in table order, then the classes that stated frames name.
+-- Constants that none of these use are not linked.
+use Rattle.std.specs.Prelude.{◌==◌, not, ℕ, List, [], ◌∷◌, ◌++◌, Option, Some, None, Result, Ok, Err}
+use Rattle.class_model.specs.Checks.{Fault}
+use Rattle.class_model.specs.Code.{inner_is_named, stack_map_table}
+use Rattle.class_model.specs.Frames.{table_at}
+use Rattle.class_model.specs.Header.{header_of}
+use Rattle.class_model.specs.Instructions.{decoded}
+use Rattle.class_model.specs.Methods.{Home, entry_of}
+use Rattle.class_model.specs.Pool.{Constants, constant_at}
+use Rattle.class_model.specs.PoolChecks.{class_at, utf8_at, descriptor_at}
+use Rattle.class_model.specs.declared.class_file.Attr.{Attr}
+use Rattle.class_model.specs.declared.class_file.Attr.TheVariants.{Raw, Code}
+use Rattle.class_model.specs.declared.class_file.ClassFile.{ClassFile}
+use Rattle.class_model.specs.declared.class_file.CodePart.{CodePart}
+use Rattle.class_model.specs.declared.class_file.Handler.{Handler}
+use Rattle.class_model.specs.declared.class_file.InnerAttr.{InnerAttr}
+use Rattle.class_model.specs.declared.class_file.Method.{Method}
+use Rattle.class_model.specs.declared.frame.PlacedFrame.{PlacedFrame}
+use Rattle.class_model.specs.declared.frame.VType.{VType}
+use Rattle.class_model.specs.declared.frame.VType.TheVariants.{Object}
+use Rattle.class_model.specs.declared.header.Header.{Header}
+use Rattle.class_model.specs.declared.header.Member.{Member}
+use Rattle.class_model.specs.declared.instr.Instr.{Instr}
+use Rattle.class_model.specs.declared.instr.Instr.TheVariants.{Ldc, GetStatic, PutStatic, GetField, PutField, Invoke, Dynamic, New, NewRefArray, NewMulti, Cast, InstanceOf}
+use Rattle.class_model.specs.declared.instr.Placed.{Placed}
+use Rattle.class_model.specs.declared.pool.Const.{Const}
+use Rattle.class_model.specs.declared.pool.Const.TheVariants.{Class, Fieldref, Methodref, InterfaceMethodref, MethodHandle, MethodType, InvokeDynamic}
+use Rattle.class_tree.specs.Headers.{Name, Headers, IsThere}
+use Rattle.class_tree.specs.Problems.{Check, asked_each, asked_if}
+use Rattle.class_tree.specs.declared.fault.LinkRule.TheVariants as rules
+use Rattle.member_link.specs.Access.{IsClassAccessible, IsAccessible}
+use Rattle.member_link.specs.Declarations.{Site, asked, site_of}
+use Rattle.member_link.specs.DeclaredMembers.{Declared}
+use Rattle.member_link.specs.Fields.{FindsField}
+use Rattle.member_link.specs.Forms.{IsStaticForm, IsInstanceForm, FitsCall, IsInstantiable}
+use Rattle.member_link.specs.Methods.{FindsMethod}
+use Rattle.member_link.specs.References.{Reference, reference_at, FieldTypeNames, DescriptorNames, IsNamedThere, IsNamedAccessible}
+
+-- Where references stand: the classes, the pool of the class file, and the method.
+pub record Scope : Type 0 where
+  pub headers : Headers
+  pub pool : Constants
+  pub site : Site
+
+-- ---- classes
+
+-- a class that is named is there and accessible
+abbrev pub named_class_checks : Scope → Name → List Check
+named_class_checks s name =
+    asked s.site rules.Missing (IsNamedThere s.headers name)
+    ∷ asked s.site rules.NoAccess (IsNamedAccessible s.headers s.site.class name)
+    ∷ []
+
+-- what is asked of the name of a Class constant
+abbrev pub asked_of_class : Scope → (Name → List Check) → ℕ → List Check
+asked_of_class s asks index = of_name asks (class_at s.pool index) where
+  of_name : (Name → List Check) → Option Name → List Check
+  of_name asks None = []
+  of_name asks (Some name) = asks name
+
+abbrev pub class_checks : Scope → ℕ → List Check
+class_checks s index = asked_of_class s (named_class_checks s) index
+
+abbrev pub new_checks : Scope → ℕ → List Check
+new_checks s index = asked_of_class s (λ name. named_class_checks s name ++ asked s.site rules.WrongForm (IsInstantiable s.headers name) ∷ []) index
+
+-- ---- members
+
+-- What is asked of a reference to a member: its classes are there, the named class is accessible, it is found, it has a
+-- form, and it is accessible.
+abbrev pub member_checks : Scope → Reference → Type 0 → (Option Declared → Type 0) → (Declared → Type 0) → List Check
+member_checks s reference OthersAreThere Finds HasForm =
+    asked s.site rules.Missing (IsNamedThere s.headers reference.class × OthersAreThere)
+    ∷ asked s.site rules.NoAccess (IsNamedAccessible s.headers s.site.class reference.class)
+    ∷ asked s.site rules.NoMember ((member : Declared) × Finds (Some member))
+    ∷ asked s.site rules.WrongForm ((member : Declared) → Finds (Some member) → HasForm member)
+    ∷ asked s.site rules.NoAccess ((member : Declared) → Finds (Some member) → IsAccessible s.headers s.site.class reference.class member)
+    ∷ []
+
+abbrev pub field_checks : Scope → (Declared → Type 0) → Reference → List Check
+field_checks s HasForm reference =
+    member_checks s reference (FieldTypeNames (IsThere s.headers) reference.desc) (FindsField s.headers reference.class reference.name reference.desc) HasForm
+
+abbrev pub method_checks : Scope → (Reference → Declared → Type 0) → Reference → List Check
+method_checks s HasForm reference =
+    member_checks s reference (DescriptorNames (IsThere s.headers) reference.desc) (FindsMethod s.headers reference.class reference.name reference.desc) (HasForm reference)
+
+-- what is asked of a reference that could be had
+abbrev pub asked_of_reference : (Reference → List Check) → Option Reference → List Check
+asked_of_reference asks None = []
+asked_of_reference asks (Some reference) = asks reference
+
+-- of a field
+abbrev pub fieldref_checks : Scope → (Declared → Type 0) → Option Const → List Check
+fieldref_checks s HasForm (Some (Fieldref class member)) = asked_of_reference (field_checks s HasForm) (reference_at s.pool class member)
+fieldref_checks s HasForm constant = []
+
+-- of a method
+abbrev pub methodref_checks : Scope → (Reference → Declared → Type 0) → Option Const → List Check
+methodref_checks s HasForm (Some (Methodref class member)) = asked_of_reference (method_checks s HasForm) (reference_at s.pool class member)
+methodref_checks s HasForm (Some (InterfaceMethodref class member)) = asked_of_reference (method_checks s HasForm) (reference_at s.pool class member)
+methodref_checks s HasForm constant = []
+
+-- ---- constants that are loaded
+
+-- any form
+abbrev pub HasAnyForm : Declared → Type 0
+HasAnyForm member = Unit {0}
+
+-- what a method handle refers to is a field or a method
+abbrev pub handle_checks : Scope → Option Const → List Check
+handle_checks s constant = fieldref_checks s HasAnyForm constant ++ methodref_checks s (λ reference. HasAnyForm) constant
+
+-- what is asked of a text that is there
+abbrev pub asked_of_text : (List ℕ → List Check) → Option (List ℕ) → List Check
+asked_of_text asks None = []
+asked_of_text asks (Some text) = asks text
+
+-- the classes of a method type are there and accessible (5.4.3.5)
+abbrev pub method_type_checks : Scope → List ℕ → List Check
+method_type_checks s desc =
+    asked s.site rules.Missing (DescriptorNames (IsThere s.headers) desc)
+    ∷ asked s.site rules.NoAccess (DescriptorNames (IsClassAccessible s.headers s.site.class) desc)
+    ∷ []
+
+abbrev pub loaded_checks : Scope → ℕ → Option Const → List Check
+loaded_checks s index (Some (Class name)) = class_checks s index
+loaded_checks s index (Some (MethodHandle kind reference)) = handle_checks s (constant_at s.pool reference)
+loaded_checks s index (Some (MethodType desc)) = asked_of_text (method_type_checks s) (utf8_at s.pool desc)
+loaded_checks s index constant = []
+
+-- the classes of a dynamic call's descriptor are there
+abbrev pub dynamic_checks : Scope → Option Const → List Check
+dynamic_checks s (Some (InvokeDynamic bootstrap member)) = asked_of_text (λ desc. asked s.site rules.Missing (DescriptorNames (IsThere s.headers) desc) ∷ []) (descriptor_at s.pool member)
+dynamic_checks s constant = []
+
+-- ---- instructions
+
+abbrev pub instr_checks : Scope → Instr → List Check
+instr_checks s (Ldc index) = loaded_checks s index (constant_at s.pool index)
+instr_checks s (GetStatic index) = fieldref_checks s IsStaticForm (constant_at s.pool index)
+instr_checks s (PutStatic index) = fieldref_checks s IsStaticForm (constant_at s.pool index)
+instr_checks s (GetField index) = fieldref_checks s IsInstanceForm (constant_at s.pool index)
+instr_checks s (PutField index) = fieldref_checks s IsInstanceForm (constant_at s.pool index)
+instr_checks s (Invoke opcode index count) = methodref_checks s (FitsCall s.headers opcode (constant_at s.pool index)) (constant_at s.pool index)
+instr_checks s (Dynamic index) = dynamic_checks s (constant_at s.pool index)
+instr_checks s (New index) = new_checks s index
+instr_checks s (NewRefArray index) = class_checks s index
+instr_checks s (NewMulti index dimensions) = class_checks s index
+instr_checks s (Cast index) = class_checks s index
+instr_checks s (InstanceOf index) = class_checks s index
+instr_checks s other = []
+
+abbrev pub instrs_checks : Scope → Result (List Placed) Fault → List Check
+instrs_checks s (Ok instrs) = asked_each (λ placed. instr_checks s placed.instr) instrs
+instrs_checks s (Err fault) = []
+
+-- ---- caught classes
+
+abbrev pub handler_checks : Scope → Handler → List Check
+handler_checks s handler = asked_if (not (handler.catch_type == 0)) (class_checks s handler.catch_type)
+
+-- ---- stated frames
+
+abbrev pub type_name_checks : Scope → Name → List Check
+type_name_checks s name = asked s.site rules.Missing (IsNamedThere s.headers name) ∷ []
+
+abbrev pub type_checks : Scope → VType → List Check
+type_checks s (Object name) = type_name_checks s name
+type_checks s other = []
+
+abbrev pub frame_checks : Scope → PlacedFrame → List Check
+frame_checks s placed = asked_each (type_checks s) placed.frame.locals ++ asked_each (type_checks s) placed.frame.stack
+
+abbrev pub frames_checks : Scope → Result (List PlacedFrame) Fault → List Check
+frames_checks s (Ok frames) = asked_each (frame_checks s) frames
+frames_checks s (Err fault) = []
+
+-- the frames that an attribute of a method's code states
+abbrev pub stated_frames : Home → Method → CodePart → Result (List Placed) Fault → InnerAttr → Result (List PlacedFrame) Fault
+stated_frames home method part (Ok instrs) attr = table_at (record { pool = home.pool; max_locals = part.max_locals; max_stack = part.max_stack; code = instrs }) (entry_of home method part) attr.bytes
+stated_frames home method part (Err fault) attr = Ok []
+
+abbrev pub inner_checks : Scope → Home → Method → CodePart → InnerAttr → List Check
+inner_checks s home method part attr =
+    asked_if (inner_is_named s.pool stack_map_table attr) (frames_checks s (stated_frames home method part (decoded part.code) attr))
+
+-- ---- methods
+
+abbrev pub code_checks : Scope → Home → Method → CodePart → List Check
+code_checks s home method part =
+    instrs_checks s (decoded part.code)
+    ++ asked_each (handler_checks s) part.handlers
+    ++ asked_each (inner_checks s home method part) part.attrs
+
+abbrev pub attr_checks : Scope → Home → Method → Attr → List Check
+attr_checks s home method (Code name part) = code_checks s home method part
+attr_checks s home method (Raw name bytes) = []
+
+abbrev pub home_of : ClassFile → Home
+home_of class = record { pool = class.pool; major = class.major; flags = class.flags; name = class_at class.pool class.this_class }
+
+-- the methods of a class file, each with its flags, name and descriptor
+abbrev pub methods_checks : Headers → ClassFile → Header → List Method → List Member → List Check
+methods_checks headers class header (method ∷ methods) (member ∷ members) =
+    asked_each (attr_checks (record { headers = headers; pool = class.pool; site = site_of header member }) (home_of class) method) method.attrs
+    ++ methods_checks headers class header methods members
+methods_checks headers class header methods members = []
+
+-- what the references of a class are asked
+abbrev pub use_checks : Headers → ClassFile → List Check
+use_checks headers class = methods_checks headers class (header_of class) class.methods (header_of class).methods

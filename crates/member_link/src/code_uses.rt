@@ -1,0 +1,111 @@
+//! What the references of a method's code are asked: those of its instructions, the caught classes, and the classes that
+//! its stated frames name.
+ghost use Rattle.std.specs.Prelude.{◌≡◌, Ok, IfOk};
+ghost use Rattle.class_model.specs.Checks.{AllHold};
+ghost use Rattle.class_model.specs.Instructions.{decoded};
+ghost use Rattle.class_tree.specs.Answers.{Answers};
+ghost use Rattle.class_tree.specs.Problems.{asked_each};
+ghost use Rattle.code_bytes.specs.Decoding.{code_checks as decoding_checks};
+ghost use Rattle.member_link.specs.Codes.{IsReadMethod};
+ghost use Rattle.member_link.specs.Resolving.{scope_of};
+ghost use Rattle.member_link.specs.Uses.{code_checks, handler_checks, home_of, instr_checks};
+
+use crate::frames::{MethodCode, check_inners};
+use crate::instructions::check_instr;
+use crate::resolver::{Resolver, check_class};
+use class_model::{
+    ClassFault, ClassFile, CodePart, Handler, Member, Method, NoMemory, Placed, PlacedList,
+};
+use class_tree::LinkFault;
+use code_bytes::decode;
+use std::alloc::Global;
+
+/// Asks that what the code of a method refers to is there, of the right form and accessible. The method is this member of
+/// its class's header.
+pub(crate) fn check_code(
+    alloc: Global,
+    resolver: &mut Resolver<'_>,
+    class: &ClassFile,
+    method: &Method,
+    member: &Member,
+    part: &CodePart,
+) -> Result<(), LinkFault>
+    requires pool { resolver.old.pool ≡ class.now.pool }
+    requires method { IsReadMethod class.now.pool method.now }
+    requires code { AllHold (decoding_checks part.now.code) }
+    ensures same { resolver.new ≡ resolver.old }
+    ensures told { Answers (code_checks (scope_of resolver.old member.now) (home_of class.now) method.now part.now) result }
+{
+    let instrs = instrs_of(alloc, part.code.as_slice())?;
+    check_instrs(alloc, resolver, member, instrs.as_slice())?;
+    check_handlers(alloc, resolver, member, part.handlers.as_slice())?;
+    let code = MethodCode {
+        class,
+        method,
+        member,
+        part,
+        instrs: &instrs,
+    };
+    check_inners(alloc, resolver, &code)
+}
+
+// The instructions of a code that was read.
+fn instrs_of(alloc: Global, code: &[u8]) -> Result<PlacedList, NoMemory>
+    requires { AllHold (decoding_checks code.now) }
+    ensures { IfOk result (λ instrs. decoded code.now ≡ Ok instrs) }
+{
+    match decode(alloc, code) {
+        Ok(instrs) => Ok(instrs),
+        Err(ClassFault::NoMemory) => Err(NoMemory),
+        Err(ClassFault::Malformed { .. }) => unreachable!(),
+        Err(ClassFault::Version { .. }) => unreachable!(),
+    }
+}
+
+// Asks that what each of these instructions refers to is there, of the right form and accessible.
+fn check_instrs(
+    alloc: Global,
+    resolver: &mut Resolver<'_>,
+    member: &Member,
+    instrs: &[Placed],
+) -> Result<(), LinkFault>
+    ensures same { resolver.new ≡ resolver.old }
+    ensures told { Answers (asked_each (λ placed. instr_checks (scope_of resolver.old member.now) placed.instr) instrs.now) result }
+{
+    for placed in instrs {
+        check_instr(alloc, resolver, member, &placed.instr)?;
+    }
+    Ok(())
+}
+
+// Asks that the classes that an exception table catches are there and accessible.
+fn check_handlers(
+    alloc: Global,
+    resolver: &mut Resolver<'_>,
+    member: &Member,
+    handlers: &[Handler],
+) -> Result<(), LinkFault>
+    ensures same { resolver.new ≡ resolver.old }
+    ensures told { Answers (asked_each (handler_checks (scope_of resolver.old member.now)) handlers.now) result }
+{
+    for handler in handlers {
+        check_handler(alloc, resolver, member, *handler)?;
+    }
+    Ok(())
+}
+
+// Asks that the class that an entry catches is there and accessible. One for all that is thrown names none.
+fn check_handler(
+    alloc: Global,
+    resolver: &mut Resolver<'_>,
+    member: &Member,
+    handler: Handler,
+) -> Result<(), LinkFault>
+    ensures same { resolver.new ≡ resolver.old }
+    ensures told { Answers (handler_checks (scope_of resolver.old member.now) handler) result }
+{
+    if handler.catch_type == 0 {
+        return Ok(());
+    }
+    check_class(alloc, resolver, member, handler.catch_type)
+}

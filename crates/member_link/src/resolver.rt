@@ -1,0 +1,144 @@
+//! What the constants of one class file refer to: each is resolved once.
+ghost use Rattle.std.specs.Prelude.{◌≡◌, [], ◌∷◌, Some, IfOk, IfSome, IsTrue};
+ghost use Rattle.std.specs.Option.{option_copied};
+ghost use Rattle.class_model.specs.Pool.{constant_at};
+ghost use Rattle.class_tree.specs.Answers.{Answers};
+ghost use Rattle.class_tree.specs.Headers.{headers_of};
+ghost use Rattle.member_link.specs.Declarations.{asked};
+ghost use Rattle.member_link.specs.Resolutions.{Resolves};
+ghost use Rattle.member_link.specs.Resolving.{scope_of};
+ghost use Rattle.member_link.specs.Uses.{class_checks, type_name_checks};
+
+use crate::ask::ask_at;
+use crate::names::is_named_there;
+use crate::resolution::Resolution;
+use crate::resolving::resolve;
+use class_model::{ClassFile, Const, Member, NoMemory, Text};
+use class_tree::{LinkFault, LinkRule, Tree};
+use std::alloc::Global;
+use std::marker::Model;
+
+/// A class file whose references are resolved: the class of this name. Contracts see the classes, the pool and the name.
+#[derive(Drop)]
+pub(crate) struct Resolver<'a> {
+    tree: &'a Tree,
+    class: &'a ClassFile,
+    name: &'a Text,
+    // by index, what a constant resolves to, as soon as it was asked for
+    resolutions: Vec<Option<Resolution>>,
+}
+
+impl<'a> Model for Resolver<'a> {
+    ghost use Rattle.class_tree.specs.Headers.{headers_of};
+    ghost use Rattle.member_link.specs.Resolutions.{AreResolutions};
+    ghost use Rattle.member_link.specs.Resolving.{Resolved};
+
+    ghost Value = { Resolved };
+
+    ghost view = { λ resolver. record { headers = headers_of resolver.tree.now; pool = resolver.class.now.pool; from = resolver.name.now } };
+
+    ghost invariant = { λ resolver. AreResolutions (record { headers = headers_of resolver.tree.now; pool = resolver.class.now.pool; from = resolver.name.now }) resolver.resolutions.items };
+}
+
+impl<'a> Resolver<'a> {
+    /// The class file of a class of this name.
+    pub(crate) fn new(
+        alloc: Global,
+        tree: &'a Tree,
+        class: &'a ClassFile,
+        name: &'a Text,
+    ) -> Result<Self, NoMemory>
+        ensures { IfOk result (λ resolver. resolver ≡ record { headers = headers_of tree.now; pool = class.now.pool; from = name.now }) }
+    {
+        let resolutions = vec![in alloc; None; usize::from(class.pool.count())]?;
+        Ok(Resolver {
+            tree,
+            class,
+            name,
+            resolutions,
+        })
+    }
+
+    /// Asks that a test holds of a method of the class.
+    pub(crate) fn ask(
+        &self,
+        alloc: Global,
+        holds: bool,
+        method: &Member,
+        rule: LinkRule,
+    ) -> Result<(), LinkFault>
+        ensures { Answers (asked (scope_of self.now method.now).site rule (IsTrue holds) ∷ []) result }
+    {
+        ask_at(alloc, holds, self.name, method, rule)
+    }
+
+    /// The constant at an index.
+    pub(crate) fn constant(&self, index: u16) -> Option<&Const>
+        ensures { option_copied result ≡ constant_at self.now.pool index }
+    {
+        self.class.pool.get(index)
+    }
+
+    /// What the constant at an index resolves to.
+    pub(crate) fn resolution(&mut self, alloc: Global, index: u16) -> Result<Resolution, NoMemory>
+        ensures same { self.new ≡ self.old }
+        ensures resolved { IfOk result (Resolves self.old index) }
+    {
+        if let Some(resolution) = self.known(index) {
+            return Ok(resolution);
+        }
+        let resolution = resolve(alloc, self.tree, &self.class.pool, self.name, index)?;
+        self.keep(index, resolution);
+        Ok(resolution)
+    }
+
+    // What is known of the constant at an index.
+    fn known(&self, index: u16) -> Option<Resolution>
+        ensures { IfSome result (Resolves self.now index) }
+    {
+        *self.resolutions.get(usize::from(index))?
+    }
+
+    // Keeps what the constant at an index resolves to.
+    fn keep(&mut self, index: u16, resolution: Resolution)
+        requires { Resolves self.old index resolution }
+        ensures { self.new ≡ self.old }
+    {
+        let index = usize::from(index);
+        if index < self.resolutions.len() {
+            self.resolutions[index] = Some(resolution);
+        }
+    }
+}
+
+/// Asks that the class of a Class constant that a method names is there and accessible.
+pub(crate) fn check_class(
+    alloc: Global,
+    resolver: &mut Resolver<'_>,
+    member: &Member,
+    index: u16,
+) -> Result<(), LinkFault>
+    ensures same { resolver.new ≡ resolver.old }
+    ensures told { Answers (class_checks (scope_of resolver.old member.now) index) result }
+{
+    let Some(Const::Class(_)) = resolver.constant(index) else {
+        return Ok(());
+    };
+    match resolver.resolution(alloc, index)? {
+        Resolution::Broken(rule) => resolver.ask(alloc, false, member, rule),
+        _ => Ok(()),
+    }
+}
+
+/// Asks that the class of a name that a method's stated frame has is there.
+pub(crate) fn check_name(
+    alloc: Global,
+    resolver: &Resolver<'_>,
+    member: &Member,
+    name: &Text,
+) -> Result<(), LinkFault>
+    ensures { Answers (type_name_checks (scope_of resolver.now member.now) name.now) result }
+{
+    let is_there = is_named_there(resolver.tree, name.bytes());
+    resolver.ask(alloc, is_there, member, LinkRule::Missing)
+}
