@@ -1,0 +1,5 @@
+pub mod PlainNames
+pub mod ReadClasses
+pub mod HeldChecks
+pub mod Library
+pub mod Appended

@@ -1,0 +1,2 @@
+pub mod BaseLibrary
+pub mod Values

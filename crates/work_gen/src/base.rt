@@ -1,0 +1,72 @@
+//! The smallest library that linking accepts.
+ghost use Rattle.std.specs.Prelude.{◌≡◌, map, IfOk};
+ghost use Rattle.class_tree.specs.Names as names;
+ghost use Rattle.work_gen.specs.BaseLibrary.{IsBaseLibrary};
+ghost use Rattle.work_gen.specs.Values as values;
+
+use crate::classes::{keeper, memberless, object, throwable};
+use crate::flags::{ACC_ABSTRACT, ACC_FINAL, ACC_INTERFACE, ACC_PUBLIC, ACC_SUPER};
+use class_model::{ListOf, NoMemory};
+use class_tree::{ClassFileList, METHOD_HANDLE, OBJECT};
+use std::alloc::Global;
+
+const THROWABLE: &[u8] = b"java/lang/Throwable";
+
+const MACHINE_THROWABLES: [&[u8]; 10] = [
+    b"java/lang/AbstractMethodError",
+    b"java/lang/ArithmeticException",
+    b"java/lang/ArrayIndexOutOfBoundsException",
+    b"java/lang/ArrayStoreException",
+    b"java/lang/ClassCastException",
+    b"java/lang/IllegalAccessError",
+    b"java/lang/IllegalMonitorStateException",
+    b"java/lang/IncompatibleClassChangeError",
+    b"java/lang/NegativeArraySizeException",
+    b"java/lang/NullPointerException",
+];
+
+const INTERFACE: u16 = ACC_PUBLIC | ACC_INTERFACE | ACC_ABSTRACT;
+
+const OPEN: u16 = ACC_PUBLIC | ACC_SUPER;
+
+const FINAL: u16 = ACC_PUBLIC | ACC_SUPER | ACC_FINAL;
+
+/// The class files of the smallest library that linking accepts (JVM Specification SE 8, 4.10.1 and 6.5), of version
+/// 52.0: what the machine knows of `java/lang`, `java/lang/invoke` and `java/io`, and the class `L`, whose native
+/// methods `use` and `keep` take any object.
+///
+/// # Errors
+/// `NoMemory` where memory runs out.
+pub fn base_library(alloc: Global) -> Result<ClassFileList, NoMemory>
+    ensures { IfOk result (λ classes. IsBaseLibrary classes) }
+{
+    let mut classes = named_classes(alloc)?;
+    for name in machine_throwables() {
+        classes.push(throwable(alloc, THROWABLE, name)?)?;
+    }
+    Ok(classes)
+}
+
+// The classes but for the throwables that instructions raise.
+fn named_classes(alloc: Global) -> Result<ClassFileList, NoMemory>
+    ensures { IfOk result (λ classes. classes ≡ values.named_classes) }
+{
+    let mut classes = ListOf::new(alloc);
+    classes.push(object(alloc)?)?;
+    classes.push(memberless(alloc, INTERFACE, b"java/lang/Cloneable")?)?;
+    classes.push(memberless(alloc, INTERFACE, b"java/io/Serializable")?)?;
+    classes.push(memberless(alloc, FINAL, b"java/lang/String")?)?;
+    classes.push(memberless(alloc, FINAL, b"java/lang/Class")?)?;
+    classes.push(memberless(alloc, OPEN, METHOD_HANDLE)?)?;
+    classes.push(memberless(alloc, OPEN, b"java/lang/invoke/MethodType")?)?;
+    classes.push(keeper(alloc)?)?;
+    classes.push(throwable(alloc, OBJECT, THROWABLE)?)?;
+    Ok(classes)
+}
+
+// The throwables that instructions raise.
+fn machine_throwables() -> &'static [&'static [u8]]
+    ensures { map (λ name. name.now) result.now ≡ names.machine_throwables }
+{
+    &MACHINE_THROWABLES
+}

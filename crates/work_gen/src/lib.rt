@@ -1,0 +1,12 @@
+//! Generated work: the smallest library that linking accepts.
+#![tactic(auto)]
+
+mod base;
+mod classes;
+mod flags;
+mod parts;
+
+pub use base::base_library;
+
+#[cfg(test)]
+mod tests;
