@@ -20,3 +20,4 @@ bench: bin/pea
 	bash bench/codes.sh
 	bash bench/classes.sh
 	bash bench/trees.sh
+	bash bench/links.sh

@@ -1,0 +1,64 @@
+//! The classes of a folder and of a library, as they are read.
+ghost use Rattle.std.specs.Prelude.{◌≡◌};
+ghost use Rattle.class_tree.specs.Trees.{IsTreeOf};
+
+use crate::library::LIBRARY;
+use crate::notation::class_file;
+use class_bytes::{read_class, read_header};
+use class_model::{ClassFault, ListOf};
+use class_tree::{ClassFileList, HeaderList, LinkFault, Tree, build_tree};
+use std::alloc::Global;
+use std::marker::Model;
+
+/// The class files of a folder and the headers of a library, each read from bytes.
+#[derive(Drop)]
+pub(crate) struct Input {
+    folder: ClassFileList,
+    library: HeaderList,
+}
+
+impl Model for Input {
+    ghost use Rattle.std.specs.List.{AllByRecursion};
+    ghost use Rattle.class_tree.specs.Headers.{Classes, IsClassFile, IsLibraryClass};
+
+    ghost Value = { Classes };
+
+    ghost view = { λ input. record { folder = input.folder; library = input.library } };
+
+    ghost invariant = { λ input. AllByRecursion IsClassFile input.folder × AllByRecursion IsLibraryClass input.library };
+}
+
+impl Input {
+    /// No class of the folder, and those that each library has.
+    pub(crate) fn new(alloc: Global) -> Result<Self, ClassFault> {
+        let mut input = Input {
+            folder: ListOf::new(alloc),
+            library: ListOf::new(alloc),
+        };
+        for text in &LIBRARY {
+            input.add_header(alloc, text)?;
+        }
+        Ok(input)
+    }
+
+    /// Adds a class to the folder.
+    pub(crate) fn add_class(&mut self, alloc: Global, text: &str) -> Result<(), ClassFault> {
+        let class = read_class(alloc, &class_file(alloc, text)?)?;
+        self.folder.push(class)?;
+        Ok(())
+    }
+
+    /// Adds a class to the library.
+    pub(crate) fn add_header(&mut self, alloc: Global, text: &str) -> Result<(), ClassFault> {
+        let header = read_header(alloc, &class_file(alloc, text)?)?;
+        self.library.push(header)?;
+        Ok(())
+    }
+
+    /// The hierarchy of the classes.
+    pub(crate) fn build(self, alloc: Global) -> Result<Tree, LinkFault>
+        ensures { IsTreeOf self.folder self.library result }
+    {
+        build_tree(alloc, self.folder, self.library)
+    }
+}

@@ -1,0 +1,162 @@
+//! Class files in a small notation. A class is `FLAGS NAME SUPERCLASS INTERFACES` and then its members, with ` / ` between
+//! them: `field FLAGS NAME DESC`, or `method FLAGS NAME DESC` with what its code uses behind it, with `, ` between. Flags
+//! are words with `+` between, and `-` for none; `-` is no superclass, and `Object` is java/lang/Object. A method that is
+//! neither abstract nor native has code. A `51:` in front of a class is its version, which is else 52.
+use crate::code::push_code;
+use crate::pool::{MemberTag, PoolBytes, low_bits};
+use class_model::{NoMemory, push_u2, push_u4};
+use std::alloc::Global;
+
+/// The class that each other is below.
+pub(crate) const OBJECT: &str = "java/lang/Object";
+
+/// The bytes of the class file that a text says.
+pub(crate) fn class_file(alloc: Global, text: &str) -> Result<Vec<u8>, NoMemory> {
+    let (major, text) = match text.strip_prefix("51:") {
+        Some(text) => (51, text),
+        None => (52, text),
+    };
+    let mut pool = PoolBytes::new(alloc);
+    let body = body_of(alloc, &mut pool, text)?;
+    let mut out = Vec::new(alloc);
+    push_u4(&mut out, 0xCAFE_BABE)?;
+    push_u4(&mut out, major)?;
+    push_u2(&mut out, pool.count)?;
+    out.extend_from_slice(&pool.bytes)?;
+    out.extend_from_slice(&body)?;
+    Ok(out)
+}
+
+// The members of a kind: how many, and their bytes.
+#[derive(Drop)]
+struct Members {
+    count: u16,
+    bytes: Vec<u8>,
+}
+
+impl Members {
+    fn new(alloc: Global) -> Self {
+        Members {
+            count: 0,
+            bytes: Vec::new(alloc),
+        }
+    }
+
+    fn push_to(&self, out: &mut Vec<u8>) -> Result<(), NoMemory> {
+        push_u2(out, self.count)?;
+        out.extend_from_slice(&self.bytes)?;
+        Ok(())
+    }
+}
+
+// What stands behind the pool.
+fn body_of(alloc: Global, pool: &mut PoolBytes, text: &str) -> Result<Vec<u8>, NoMemory> {
+    let parts = text.split(" / ").collect::<Vec<&str>>(alloc)?;
+    let mut out = Vec::new(alloc);
+    let mut fields = Members::new(alloc);
+    let mut methods = Members::new(alloc);
+    if let [head, members @ ..] = parts.as_slice() {
+        push_head(alloc, &mut out, pool, head)?;
+        for member in members {
+            push_member(alloc, &mut fields, &mut methods, pool, member)?;
+        }
+    }
+    fields.push_to(&mut out)?;
+    methods.push_to(&mut out)?;
+    push_bootstraps(&mut out, pool)?;
+    Ok(out)
+}
+
+// Appends the flags, the names of the class and its superclass, and its interfaces.
+fn push_head(
+    alloc: Global,
+    out: &mut Vec<u8>,
+    pool: &mut PoolBytes,
+    head: &str,
+) -> Result<(), NoMemory> {
+    let words = head.split(' ').collect::<Vec<&str>>(alloc)?;
+    let [flags, name, superclass, interfaces @ ..] = words.as_slice() else {
+        return Ok(());
+    };
+    push_u2(out, flags_of(flags))?;
+    push_u2(out, pool.class(name.as_bytes())?)?;
+    push_u2(
+        out,
+        match *superclass {
+            "-" => 0,
+            "Object" => pool.class(OBJECT.as_bytes())?,
+            name => pool.class(name.as_bytes())?,
+        },
+    )?;
+    push_u2(out, low_bits(interfaces.len()))?;
+    for interface in interfaces {
+        push_u2(out, pool.class(interface.as_bytes())?)?;
+    }
+    Ok(())
+}
+
+// Appends a member to those of its kind.
+fn push_member(
+    alloc: Global,
+    fields: &mut Members,
+    methods: &mut Members,
+    pool: &mut PoolBytes,
+    text: &str,
+) -> Result<(), NoMemory> {
+    let pieces = text.split(", ").collect::<Vec<&str>>(alloc)?;
+    let [declaration, uses @ ..] = pieces.as_slice() else {
+        return Ok(());
+    };
+    let words = declaration.split(' ').collect::<Vec<&str>>(alloc)?;
+    let [kind, flags, name, desc] = words.as_slice() else {
+        return Ok(());
+    };
+    let flags = flags_of(flags);
+    let is_method = *kind == "method";
+    let members = if is_method { methods } else { fields };
+    members.count = members.count.wrapping_add(1);
+    push_u2(&mut members.bytes, flags)?;
+    push_u2(&mut members.bytes, pool.utf8(name.as_bytes())?)?;
+    push_u2(&mut members.bytes, pool.utf8(desc.as_bytes())?)?;
+    let has_code = is_method && flags & 0x0500 == 0;
+    push_u2(&mut members.bytes, has_code as u16)?;
+    if has_code {
+        push_code(alloc, &mut members.bytes, pool, uses)?;
+    }
+    Ok(())
+}
+
+// Appends the attributes of the class: one bootstrap method, which the dynamic calls of its code take. It is of a class that
+// is not there, which no instruction names.
+fn push_bootstraps(out: &mut Vec<u8>, pool: &mut PoolBytes) -> Result<(), NoMemory> {
+    push_u2(out, 1)?;
+    push_u2(out, pool.utf8(b"BootstrapMethods")?)?;
+    push_u4(out, 6)?;
+    push_u2(out, 1)?;
+    let run = pool.member(MemberTag::Method, b"none/Such", b"run", b"()V")?;
+    push_u2(out, pool.handle(6, run)?)?;
+    push_u2(out, 0)
+}
+
+// The flags of words with a plus between them.
+fn flags_of(words: &str) -> u16 {
+    let mut flags = 0;
+    for word in words.split('+') {
+        flags |= flag(word);
+    }
+    flags
+}
+
+fn flag(word: &str) -> u16 {
+    match word {
+        "public" => 0x0001,
+        "private" => 0x0002,
+        "protected" => 0x0004,
+        "static" => 0x0008,
+        "final" => 0x0010,
+        "native" => 0x0100,
+        "interface" => 0x0600,
+        "abstract" => 0x0400,
+        _ => 0,
+    }
+}
