@@ -7,7 +7,7 @@ set -eu
 cd "$(dirname "$0")/.."
 root=$PWD
 pea=$PWD/bin/pea
-runs=${RUNS:-5}
+. bench/measures.sh
 if [ -w /dev/shm ]; then work=$(mktemp -d -p /dev/shm); else work=$(mktemp -d); fi
 trap 'rm -rf "$work"' EXIT
 cd "$work"
@@ -19,7 +19,6 @@ for release in 7 8; do
     fi
 done
 copies=$((5000 / $(find one -name '*.class' | wc -l) + 1))
-failed=0
 
 # milliseconds COMMAND..: the processor's time of one run into a fresh output
 milliseconds() {
@@ -31,16 +30,6 @@ milliseconds() {
 least() { if [ "$1" -lt "$2" ]; then echo "$1"; else echo "$2"; fi; }
 
 ratio() { awk "BEGIN { printf \"%.2f\", $1 / $2 }"; }
-
-# wanted TEXT CONDITION: prints whether the condition, in awk's words, holds
-wanted() {
-    if awk "BEGIN { exit !($2) }"; then
-        echo "  ok: $1"
-    else
-        echo "  FAILED: $1"
-        failed=1
-    fi
-}
 
 # measure TIMES: of so many times the copies, sets bytes, pea_ms, copy_ms and peak_kb
 measure() {

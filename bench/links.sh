@@ -4,36 +4,9 @@
 # what is wanted and what came, the least time of some runs each, and fails where a want is not met.
 set -eu
 cd "$(dirname "$0")/.."
-runs=${RUNS:-5}
+. bench/measures.sh
 (cd crates/link_bench && rt check && rt run -- link 1 1) >/dev/null
 bench=$PWD/crates/link_bench/out/link_bench
-failed=0
-
-# milliseconds WORDS..: the processor's time of one run
-milliseconds() {
-    local TIMEFORMAT='%3U %3S'
-    { time "$bench" "$@" >/dev/null; } 2>&1 | awk '{ printf "%d\n", ($1 + $2) * 1000 }'
-}
-
-# measure WORDS..: the least time of the runs
-measure() {
-    local least=999999 one
-    for _ in $(seq 1 "$runs"); do
-        one=$(milliseconds "$@")
-        if [ "$one" -lt "$least" ]; then least=$one; fi
-    done
-    echo "$least"
-}
-
-# wanted TEXT CONDITION: prints whether the condition, in awk's words, holds
-wanted() {
-    if awk "BEGIN { exit !($2) }"; then
-        echo "  ok: $1"
-    else
-        echo "  FAILED: $1"
-        failed=1
-    fi
-}
 
 links=5
 first=

@@ -7,26 +7,9 @@
 # what the caches of the machine add to the times.
 set -eu
 cd "$(dirname "$0")/.."
-runs=${RUNS:-5}
+. bench/measures.sh
 (cd crates/tree_bench && rt check && rt run -- read 1 1) >/dev/null
 bench=$PWD/crates/tree_bench/out/tree_bench
-failed=0
-
-# milliseconds WORDS..: the processor's time of one run
-milliseconds() {
-    local TIMEFORMAT='%3U %3S'
-    { time "$bench" "$@" >/dev/null; } 2>&1 | awk '{ printf "%d\n", ($1 + $2) * 1000 }'
-}
-
-# measure WORDS..: the least time of the runs
-measure() {
-    local least=999999 one
-    for _ in $(seq 1 "$runs"); do
-        one=$(milliseconds "$@")
-        if [ "$one" -lt "$least" ]; then least=$one; fi
-    done
-    echo "$least"
-}
 
 # instructions WORDS..: how many instructions one run takes
 instructions() {
@@ -36,16 +19,6 @@ instructions() {
 
 # growth ONE OTHER: how many times the first the other is, each at least 1
 growth() { awk "BEGIN { one = $1 < 1 ? 1 : $1; printf \"%.2f\", $2 / one }"; }
-
-# wanted TEXT CONDITION: prints whether the condition, in awk's words, holds
-wanted() {
-    if awk "BEGIN { exit !($2) }"; then
-        echo "  ok: $1"
-    else
-        echo "  FAILED: $1"
-        failed=1
-    fi
-}
 
 builds=20
 questions=1000000
