@@ -24,3 +24,6 @@ pub mod DescriptorShapes
 pub mod CutTypes
 pub mod TextDescriptors
 pub mod ArrayDimensions
+pub mod LocalUnits
+pub mod LocalParts
+pub mod LocalEquality

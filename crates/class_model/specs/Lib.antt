@@ -8,6 +8,7 @@ pub mod Spelling
 pub mod Cutting
 pub mod PoolChecks
 pub mod Instructions
+pub mod LocalTypes
 pub mod Frames
 pub mod Members
 pub mod Code

@@ -2,8 +2,10 @@
 ghost use Rattle.std.specs.Prelude.{◌≡◌, ◌↔◌, IsTrue, IfOk};
 
 use crate::list::ListOf;
+use crate::local_types::LocalTypeList;
 use crate::memory::NoMemory;
 use crate::text::Text;
+use std::alloc::Global;
 
 /// A verification type.
 #[derive(PartialEq, Eq, Debug, Drop)]
@@ -40,6 +42,17 @@ impl VType {
     }
 }
 
+// Equal types.
+pub(crate) fn copy_types(alloc: Global, types: &[VType]) -> Result<Vec<VType>, NoMemory>
+    ensures { IfOk result (λ copy. copy.items ≡ types.now) }
+{
+    let mut copy = Vec::new(alloc);
+    for one in types {
+        copy.push(one.copy()?)?;
+    }
+    Ok(copy)
+}
+
 /// A list of verification types.
 pub type VTypeList = ListOf<VType>;
 
@@ -47,7 +60,7 @@ pub type VTypeList = ListOf<VType>;
 /// stack's entries, the lowest first.
 #[derive(PartialEq, Eq, Debug, Drop)]
 pub struct Frame {
-    pub locals: VTypeList,
+    pub locals: LocalTypeList,
     pub stack: VTypeList,
 }
 
@@ -57,6 +70,16 @@ impl Frame {
         ensures { IsTrue result ↔ (self.now ≡ other.now) }
     {
         self == other
+    }
+
+    /// An equal frame. It shares the types of the locals.
+    pub fn copy(&self, alloc: Global) -> Result<Frame, NoMemory>
+        ensures { IfOk result (λ copy. copy ≡ self.now) }
+    {
+        Ok(Frame {
+            locals: self.locals.copy(alloc)?,
+            stack: ListOf::from_vec(copy_types(alloc, self.stack.as_slice())?),
+        })
     }
 }
 

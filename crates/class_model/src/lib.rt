@@ -12,6 +12,8 @@ mod instr;
 mod items;
 mod laws;
 mod list;
+mod local_part;
+mod local_types;
 mod lookup;
 mod memory;
 mod names;
@@ -41,6 +43,7 @@ pub use laws::{
     bytes_are_one_class_file, each_file_is_told, one_first_fault, parameters_are_spelled,
 };
 pub use list::{ByteList, ListOf};
+pub use local_types::LocalTypeList;
 pub use memory::NoMemory;
 pub use names::{
     BadName, CLINIT, INIT, is_class_name, is_field_name, is_method_name, is_unqualified_name,
@@ -51,5 +54,7 @@ pub use text::{Text, TextFault, is_modified_utf8};
 
 #[cfg(test)]
 mod descriptor_tests;
+#[cfg(test)]
+mod local_types_tests;
 #[cfg(test)]
 mod tests;

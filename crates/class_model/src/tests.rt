@@ -120,12 +120,17 @@ fn numbers_are_written(rt: HostRuntime) -> Result<(), Fail> {
 #[test]
 fn frames_are_compared(rt: HostRuntime) -> Result<(), Fail> {
     let name = Text::of_bytes(rt.alloc(), b"A")?;
+    let mut locals = LocalTypeList::new(rt.alloc());
+    locals.push(VType::Int)?;
+    locals.push(VType::Uninit(5))?;
+    let mut changed = locals.copy(rt.alloc())?;
+    changed.set(1, VType::Uninit(6))?;
     let frame = Frame {
-        locals: ListOf::from_vec(vec![in rt.alloc(); VType::Int, VType::Uninit(5)]?),
+        locals,
         stack: ListOf::from_vec(vec![in rt.alloc(); VType::Object(name.copy()?)]?),
     };
     let other = Frame {
-        locals: ListOf::from_vec(vec![in rt.alloc(); VType::Int, VType::Uninit(6)]?),
+        locals: changed,
         stack: ListOf::from_vec(vec![in rt.alloc(); VType::Object(name)]?),
     };
     assert!(rt; frame.is_same(&frame) && !frame.is_same(&other));

@@ -2,7 +2,7 @@
 //! The words are `jumps COUNT TIMES` or `frames COUNT TIMES`; the number of what was read in all is printed.
 #![tactic(auto)]
 
-use class_model::{ClassFault, Frame, ListOf, Pool, VType};
+use class_model::{ClassFault, Frame, ListOf, LocalTypeList, Pool, VType};
 use code_bytes::decode;
 use map_frames::read_frames;
 use std::alloc::{AllocError, Global};
@@ -63,7 +63,7 @@ fn read_tables(alloc: Global, count: u16, times: u32) -> Result<u64, ClassFault>
     };
     let code = decode(alloc, &nops)?;
     let pool = Pool::new(alloc);
-    let mut locals = ListOf::new(alloc);
+    let mut locals = LocalTypeList::new(alloc);
     locals.push(VType::Int)?;
     let entry = Frame {
         locals,

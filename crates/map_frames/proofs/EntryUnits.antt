@@ -1,7 +1,7 @@
 -- The units that entries take.
-use Rattle.std.proofs.Common.{◌≡◌, ℕ, ◌+◌, ◌-◌, ◌*◌, ◌^◌, ◌<◌, ◌≤◌, List, [], ◌∷◌, ◌++◌, length, drop, replicate, max, Bool, true, false, cond, refl, ap, sym, ◌∙◌, arith, length-append, append_assoc}
+use Rattle.std.proofs.Common.{◌≡◌, ℕ, ◌+◌, ◌*◌, ◌^◌, ◌<◌, ◌≤◌, List, [], ◌∷◌, ◌++◌, length, drop, Bool, true, false, cond, refl, ap, sym, ◌∙◌, arith, length-append, append_assoc}
 use Rattle.std.proofs.lemmas.List.{append-nil}
-use Rattle.std.proofs.lemmas.Grind.{flat_map-append, replicate_next}
+use Rattle.std.proofs.lemmas.Grind.{flat_map-append}
 use Rattle.class_model.specs.Frames.{units, depth, units_of_entries, is_wide, entries_of_units}
 use Rattle.class_model.specs.declared.frame.VType.{VType}
 use Rattle.class_model.specs.declared.frame.VType.TheVariants.{Top, Int, Float, Long, Double, Null, UninitThis, Object, Uninit}
@@ -36,16 +36,6 @@ depth_more xs t = depth-append xs (t ∷ [])
 pub depth_fits : (old new : List VType) (t : VType) (was more : ℕ) → was ≡ depth old → more ≡ depth (t ∷ []) → new ≡ old ++ t ∷ [] → length new < 2 ^ 63 → was + more < 2 ^ 64
 depth_fits old new t was more is_was is_more now small =
     omega (arith, depth_few new, ap depth now ∙ depth_more old t)
-
--- one Top more behind the units
-pub filled_more : (xs now after : List VType) (counter : ℕ) → depth xs ≤ counter → now ≡ units_of_entries xs ++ replicate (counter - depth xs) Top → after ≡ now ++ Top ∷ [] → after ≡ units_of_entries xs ++ replicate (counter + 1 - depth xs) Top
-filled_more xs now after counter le is more =
-    let next : counter + 1 - depth xs ≡ (counter - depth xs) + 1 = omega arith in
-    rw (next, replicate_next, more, is, append_assoc) refl
-
--- all of them
-pub filled_all : (xs : List VType) (max_locals counter : ℕ) → depth xs ≤ counter → max_locals ≤ counter → counter ≤ max (depth xs) max_locals → counter - depth xs ≡ max_locals - depth xs
-filled_all xs max_locals counter le enough within = omega arith
 
 -- the entries that list locals, from the first on
 pub entries-cons : (t : VType) (after : List VType) → entries_of_units (t ∷ after) ≡ t ∷ entries_of_units (cond (is_wide t) (drop 1 after) after)

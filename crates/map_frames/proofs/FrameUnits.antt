@@ -23,12 +23,12 @@ record AreUnits (types : List VType) (n : ℕ) : Type 0 where
   pub more : ℕ
   pub same : units_of_entries (entries_of_units types) ++ replicate more Top ≡ types ++ replicate n Top
 
-wide_units : (type : VType) → is_wide type ≡ true → units type ≡ type ∷ Top ∷ []
+pub wide_units : (type : VType) → is_wide type ≡ true → units type ≡ type ∷ Top ∷ []
 wide_units Long wide = refl
 wide_units Double wide = refl
 wide_units other wide = absurd (false≢true wide)
 
-single_unit : (type : VType) → is_wide type ≡ false → units type ≡ type ∷ []
+pub single_unit : (type : VType) → is_wide type ≡ false → units type ≡ type ∷ []
 single_unit Long wide = absurd cc
 single_unit Double wide = absurd cc
 single_unit other wide = refl

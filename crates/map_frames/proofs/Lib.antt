@@ -14,3 +14,5 @@ pub mod Chosen
 pub mod FramesWritten
 pub mod TablesWritten
 pub mod OneTable
+pub mod UnitsFollow
+pub mod ListedUnits

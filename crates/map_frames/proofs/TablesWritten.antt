@@ -3,6 +3,7 @@ use Rattle.std.proofs.Common.{◌≡◌, ℕ, suc, ◌+◌, ◌<◌, List, [], �
 use Rattle.std.proofs.Math.Seq.{drop-cons}
 use Rattle.std.proofs.lemmas.List.{append-nil}
 use Rattle.std.specs.List.{AllByRecursion}
+use Rattle.class_model.specs.Frames.{listed}
 use Rattle.class_model.specs.declared.frame.PlacedFrame.{PlacedFrame}
 use Rattle.class_model.specs.declared.frame.VType.{VType}
 use Rattle.map_frames.specs.Listing.{FitsListed}
@@ -42,11 +43,11 @@ module _ (classes : List NamedIndex) (entry : List VType) (frames : List PlacedF
         stack = fits.stack;
       })
 
-  pub next_done : (frame : Listed) (bytes : List ℕ) → frame ≡ listed_at from placed → IsFrame classes before frame bytes → AreLeft classes entry frames (placed.at + 1) frame.locals (drop (i + 1) frames) (done ++ bytes)
-  next_done frame bytes same written = record {
+  pub next_done : (frame : Listed) (locals : List VType) (bytes : List ℕ) → frame ≡ listed_at from placed → locals ≡ listed placed.frame → IsFrame classes before frame bytes → AreLeft classes entry frames (placed.at + 1) locals (drop (i + 1) frames) (done ++ bytes)
+  next_done frame locals bytes same locals_are written = record {
     whole = λ rest others.
         let all : AreFrames classes from before (placed ∷ drop (i + 1) frames) (bytes ++ rest) =
-        (bytes, rest, refl, rw same at written, subst (λ (f : Listed). AreFrames classes (placed.at + 1) f.locals (drop (i + 1) frames) rest) same others) in
+        (bytes, rest, refl, rw same at written, subst (λ (l : List VType). AreFrames classes (placed.at + 1) l (drop (i + 1) frames) rest) locals_are others) in
         rw (append_assoc done bytes rest) (next_left.whole (bytes ++ rest) all);
     places = next_left.places.2;
     each = next_left.each.1;

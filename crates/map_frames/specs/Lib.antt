@@ -8,3 +8,4 @@ pub mod Change
 pub mod Tags
 pub mod Choosing
 pub mod Listing
+pub mod Units

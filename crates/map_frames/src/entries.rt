@@ -1,9 +1,11 @@
 //! The entries of a frame (JVM Specification SE 8, 4.7.4).
-ghost use Rattle.std.specs.Prelude.{◌≡◌, ◌-◌, ◌++◌, ◌∷◌, [], length, take, drop, IfOk, OnOk, if◌then◌else◌};
-ghost use Rattle.class_model.specs.Frames.{depth, filled, is_wide, listed, entries_of_units, units_of_entries};
+ghost use Rattle.std.specs.Prelude.{◌≡◌, ◌+◌, ◌-◌, ◌≤◌, ◌++◌, ◌∷◌, [], length, take, drop, IfOk, OnOk};
+ghost use Rattle.class_model.specs.Frames.{depth, filled, is_wide, listed, units_of_entries};
 ghost use Rattle.map_frames.specs.Steps.{of_locals};
+ghost use Rattle.map_frames.specs.Units.{Follows};
 
-use class_model::{ListOf, NoMemory, VType, VTypeList};
+use crate::local_units::count_listed;
+use class_model::{ListOf, LocalTypeList, NoMemory, VType, VTypeList};
 use std::alloc::Global;
 use std::marker::Model;
 
@@ -81,61 +83,80 @@ impl Entries {
     }
 
     /// The local units of the entries, with `Top` behind them up to a number of units.
-    pub(crate) fn filled(&self, alloc: Global, max_locals: u16) -> Result<VTypeList, NoMemory>
+    pub(crate) fn filled(&self, alloc: Global, max_locals: u16) -> Result<LocalTypeList, NoMemory>
         ensures { IfOk result (λ locals. locals ≡ filled max_locals self.now) }
     {
-        let mut locals = Vec::with_capacity(alloc, usize::from(max_locals))?;
-        push_units(&self.types, &mut locals)?;
-        for _ in self.units..usize::from(max_locals) {
-            locals.push(VType::Top)?;
+        let mut locals = units_of_entries(alloc, &self.types)?;
+        locals.fill(usize::from(max_locals));
+        Ok(locals)
+    }
+
+    /// Turns the local units of the frame before into those of these entries, so many of which are kept from
+    /// that frame. Its entries take `before` units. The units of entries that are kept stay shared.
+    pub(crate) fn follow(
+        &self,
+        alloc: Global,
+        max_locals: u16,
+        kept: usize,
+        before: usize,
+        locals: &mut LocalTypeList,
+    ) -> Result<(), NoMemory>
+        requires { Follows max_locals kept before self.now locals.old }
+        ensures { OnOk result (locals.new ≡ filled max_locals self.now) }
+    {
+        // Nothing is kept, or the entry frame had more units than fit.
+        if kept == 0 || before > usize::from(max_locals) {
+            *locals = self.filled(alloc, max_locals)?;
+            return Ok(());
         }
-        Ok(ListOf::from_vec(locals))
+        let mut changed = units_of_entries(alloc, &self.types[kept..])?;
+        let from = self.units - changed.len();
+        changed.fill(before - from);
+        overwrite(locals, from, &changed)
     }
 }
 
 /// The entries that list the locals of a frame, up to the last that is not `Top`.
-pub(crate) fn listed_entries(alloc: Global, locals: &[VType]) -> Result<Entries, NoMemory>
+pub(crate) fn listed_entries(alloc: Global, locals: &LocalTypeList) -> Result<Entries, NoMemory>
     ensures { IfOk result (λ entries. entries ≡ listed (of_locals locals.now)) }
 {
     let mut entries = Entries::new(alloc);
-    let mut rest = without_last_tops(locals);
-    while let Some((entry, after)) = rest.split_first() {
+    let end = count_listed(locals);
+    let mut at = 0;
+    while at < end {
+        let Some(entry) = locals.get(at) else {
+            break;
+        };
         entries.push(entry.copy()?)?;
-        rest = after_second_unit(entry, after);
+        at = at.saturating_add(units_of(entry));
     }
     Ok(entries)
 }
 
-// The locals up to the last that is not Top.
-fn without_last_tops(locals: &[VType]) -> &[VType]
-    ensures { entries_of_units result.now ≡ listed (of_locals locals.now) }
+// The local units of entries.
+fn units_of_entries(alloc: Global, entries: &[VType]) -> Result<LocalTypeList, NoMemory>
+    ensures { IfOk result (λ units. units ≡ units_of_entries entries.now) }
 {
-    let mut rest = locals;
-    while let Some((VType::Top, before)) = rest.split_last() {
-        rest = before;
-    }
-    rest
-}
-
-// The locals behind an entry, from these on that follow its first unit.
-fn after_second_unit<'a>(entry: &VType, after: &'a [VType]) -> &'a [VType]
-    ensures { result.now ≡ (if is_wide entry.now then drop 1 after.now else after.now) }
-{
-    match after {
-        [_, others @ ..] if is_wide(entry) => others,
-        _ => after,
-    }
-}
-
-// Appends the local units of entries.
-fn push_units(entries: &[VType], locals: &mut Vec<VType>) -> Result<(), NoMemory>
-    ensures { OnOk result (locals.new.items ≡ locals.old.items ++ units_of_entries entries.now) }
-{
+    let mut units = LocalTypeList::new(alloc);
     for entry in entries {
-        locals.push(entry.copy()?)?;
+        units.push(entry.copy()?)?;
         if is_wide(entry) {
-            locals.push(VType::Top)?;
+            units.push(VType::Top)?;
         }
+    }
+    Ok(units)
+}
+
+// Gives the units from a place on the types of others.
+fn overwrite(units: &mut LocalTypeList, from: usize, others: &LocalTypeList) -> Result<(), NoMemory>
+    requires within { from + length others.now ≤ length units.old }
+    requires short { length units.old ≤ 65535 }
+    ensures { OnOk result (units.new ≡ take from units.old ++ others.now ++ drop (from + length others.now) units.old) }
+{
+    let mut at = 0;
+    while let Some(unit) = others.get(at) {
+        units.set(from + at, unit.copy()?)?;
+        at += 1;
     }
     Ok(())
 }

@@ -1,20 +1,45 @@
 //! Local units, and the entries that list them: all but the second units of longs and doubles
 //! (JVM Specification SE 8, 4.7.4).
-ghost use Rattle.std.specs.Prelude.{◌≡◌, ◌<◌, [], ◌∷◌, drop, length, reverse, if◌then◌else◌, IfSome, IfNone};
+ghost use Rattle.std.specs.Prelude.{◌≡◌, ◌<◌, ◌≤◌, [], ◌∷◌, drop, take, length, reverse, if◌then◌else◌, IfOk, IfSome, IfNone};
 ghost use Rattle.class_model.specs.Frames.{is_wide, entries_of_units, without_tops};
 ghost use Rattle.map_frames.specs.Change.{AreApart, BeginSame, IsChange};
+ghost use Rattle.map_frames.specs.Units.{is_top_there};
+ghost use Rattle.std.specs.Option.{option_copied};
 
-use class_model::VType;
+use class_model::{LocalTypeList, NoMemory, VType};
+use std::alloc::Global;
 
-/// The units without those at the end that are `Top`.
-pub(crate) fn without_last_tops(units: &[VType]) -> &[VType]
-    ensures { result.now ≡ reverse (without_tops (reverse units.now)) }
+/// How many units there are up to the last that is not `Top`.
+pub(crate) fn count_listed(locals: &LocalTypeList) -> usize
+    ensures few { result ≤ length locals.now }
+    ensures listed { take result locals.now ≡ reverse (without_tops (reverse locals.now)) }
 {
-    let mut rest = units;
-    while let [others @ .., VType::Top] = rest {
-        rest = others;
+    let mut end = locals.listed();
+    while end > 0 && is_top(locals.get(end - 1)) {
+        end -= 1;
     }
-    rest
+    end
+}
+
+// Whether there is a unit and it is `Top`.
+fn is_top(unit: Option<&VType>) -> bool
+    ensures { result ≡ is_top_there (option_copied unit.entry) }
+{
+    matches!(unit, Some(VType::Top))
+}
+
+/// The units up to the last that is not `Top`.
+pub(crate) fn listed_units(alloc: Global, locals: &LocalTypeList) -> Result<Vec<VType>, NoMemory>
+    ensures { IfOk result (λ units. units.items ≡ reverse (without_tops (reverse locals.now))) }
+{
+    let end = count_listed(locals);
+    let mut units = Vec::with_capacity(alloc, end)?;
+    for at in 0..end {
+        if let Some(unit) = locals.get(at) {
+            units.push(unit.copy()?)?;
+        }
+    }
+    Ok(units)
 }
 
 /// The first entry, and the units behind it.

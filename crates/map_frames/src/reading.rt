@@ -37,12 +37,13 @@ pub fn read_frames(
         code,
     };
     let mut walk = Walk::new(alloc, entry, bytes)?;
+    let mut units = walk.units(alloc, max_locals)?;
     let mut frames = ListOf::new(alloc);
     let count = walk.count()?;
     for _ in 0..count {
-        let (at, stack) = walk.frame(&context)?;
+        let (at, stack) = walk.frame_with_units(&context, &mut units)?;
         let frame = Frame {
-            locals: walk.locals(alloc, max_locals)?,
+            locals: units.copy(alloc)?,
             stack: stack.into_list(),
         };
         frames.push(PlacedFrame { at, frame })?;

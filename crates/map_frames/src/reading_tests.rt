@@ -1,7 +1,7 @@
 use super::*;
 use class_model::{
-    ClassFault, Const, FileRule, Frame, Instr, ListOf, Placed, PlacedFrameList, PlacedList, Pool,
-    Text, VType, VTypeList,
+    ClassFault, Const, FileRule, Frame, Instr, ListOf, LocalTypeList, Placed, PlacedFrameList,
+    PlacedList, Pool, Text, VType, push_u2,
 };
 use std::alloc::Global;
 use std::test::Fail;
@@ -49,8 +49,8 @@ fn shuffled_code(alloc: Global) -> Result<PlacedList, Fail> {
 }
 
 // The types of letters: those of descriptors, `_` for Top, N for null and U for `uninitializedThis`.
-fn types(alloc: Global, letters: &str) -> Result<VTypeList, Fail> {
-    let mut types = ListOf::new(alloc);
+fn types(alloc: Global, letters: &str) -> Result<LocalTypeList, Fail> {
+    let mut types = LocalTypeList::new(alloc);
     for letter in letters.bytes() {
         types.push(match letter {
             b'I' => VType::Int,
@@ -67,22 +67,19 @@ fn types(alloc: Global, letters: &str) -> Result<VTypeList, Fail> {
     Ok(types)
 }
 
-fn push_types(text: &mut String, types: &[VType]) -> Result<(), Fail> {
-    for vtype in types {
-        text.push(match vtype {
-            VType::Top => '_',
-            VType::Int => 'I',
-            VType::Float => 'F',
-            VType::Long => 'J',
-            VType::Double => 'D',
-            VType::Null => 'N',
-            VType::UninitThis => 'U',
-            VType::Object(name) if name.bytes() == b"A".as_slice() => 'A',
-            VType::Uninit(7) => 'n',
-            _ => '?',
-        })?;
+fn letter_of(vtype: &VType) -> char {
+    match vtype {
+        VType::Top => '_',
+        VType::Int => 'I',
+        VType::Float => 'F',
+        VType::Long => 'J',
+        VType::Double => 'D',
+        VType::Null => 'N',
+        VType::UninitThis => 'U',
+        VType::Object(name) if name.bytes() == b"A".as_slice() => 'A',
+        VType::Uninit(7) => 'n',
+        _ => '?',
     }
-    Ok(())
 }
 
 // Each frame as its offset, its locals and its stack.
@@ -90,9 +87,14 @@ fn text_of(alloc: Global, frames: &PlacedFrameList) -> Result<String, Fail> {
     let mut text = String::new(alloc);
     for placed in frames.as_slice() {
         text.push_str(&format!(in alloc; "{} ", placed.at)?)?;
-        push_types(&mut text, placed.frame.locals.as_slice())?;
+        let locals = &placed.frame.locals;
+        for at in 0..locals.len() {
+            text.push(locals.get(at).map_or('.', letter_of))?;
+        }
         text.push('/')?;
-        push_types(&mut text, placed.frame.stack.as_slice())?;
+        for vtype in placed.frame.stack.as_slice() {
+            text.push(letter_of(vtype))?;
+        }
         text.push(';')?;
     }
     Ok(text)
@@ -281,6 +283,68 @@ fn refused_tables(rt: HostRuntime) -> Result<(), Fail> {
                 bytes,
             );
             assert_eq!(rt; checked, Err(fault), "at {bytes:?}");
+        }
+    }
+    Ok(())
+}
+
+// ---- many frames with many locals
+
+const LOCALS: u16 = 2_000;
+
+const SAME_FRAMES: u16 = 5_000;
+
+// So many instructions, each of one byte.
+fn nops(alloc: Global, count: u16) -> Result<PlacedList, Fail> {
+    let mut code = ListOf::new(alloc);
+    for at in 0..count {
+        let instr = Instr::Nop;
+        let at = u32::from(at);
+        code.push(Placed { at, len: 1, instr })?;
+    }
+    Ok(code)
+}
+
+// A full frame, whose locals are ints and floats by turns, and the same frames behind it.
+fn same_frames(alloc: Global) -> Result<Vec<u8>, Fail> {
+    let mut bytes = Vec::new(alloc);
+    push_u2(&mut bytes, SAME_FRAMES + 1)?;
+    bytes.push(255)?;
+    push_u2(&mut bytes, 0)?;
+    push_u2(&mut bytes, LOCALS)?;
+    for at in 0..LOCALS {
+        bytes.push(if at % 2 == 0 { 1 } else { 2 })?;
+    }
+    push_u2(&mut bytes, 0)?;
+    for _ in 0..SAME_FRAMES {
+        bytes.push(0)?;
+    }
+    Ok(bytes)
+}
+
+#[test]
+fn same_frames_behind_many_locals(rt: HostRuntime) -> Result<(), Fail> {
+    let frames = read_frames(
+        rt.alloc(),
+        &Pool::new(rt.alloc()),
+        &entry(rt.alloc(), "")?,
+        LOCALS + 1,
+        0,
+        &nops(rt.alloc(), SAME_FRAMES + 1)?,
+        &same_frames(rt.alloc())?,
+    )?;
+    assert_eq!(rt; frames.len(), usize::from(SAME_FRAMES) + 1);
+    for placed in frames.as_slice() {
+        let locals = &placed.frame.locals;
+        assert_eq!(rt; locals.len(), usize::from(LOCALS) + 1);
+        for (unit, wanted) in [
+            (0, VType::Int),
+            (999, VType::Float),
+            (1_998, VType::Int),
+            (1_999, VType::Float),
+            (2_000, VType::Top),
+        ] {
+            assert_eq!(rt; locals.get(unit), Some(&wanted));
         }
     }
     Ok(())

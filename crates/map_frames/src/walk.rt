@@ -4,7 +4,7 @@ ghost use Rattle.std.specs.Prelude.{◌≤◌, ◌^◌};
 use crate::context::{Context, fault};
 use crate::cursor::{Cursor, MISSING};
 use crate::entries::{Entries, listed_entries};
-use class_model::{ClassFault, FileRule, Frame, NoMemory, VTypeList};
+use class_model::{ClassFault, FileRule, Frame, LocalTypeList, NoMemory};
 use std::alloc::Global;
 
 /// What is left of a table, and what its next frame is stated against: the locals of the frame before, and the
@@ -13,15 +13,18 @@ use std::alloc::Global;
 pub(crate) struct Walk<'a> {
     rest: Cursor<'a>,
     locals: Entries,
+    // How many of the locals are kept from the frame before that one.
+    kept: usize,
     from: u64,
     ghost few: { from ≤ 2 ^ 32 },
 }
 
 impl<'a> Walk<'a> {
-    ghost use Rattle.std.specs.Prelude.{◌≡◌, IfOk};
+    ghost use Rattle.std.specs.Prelude.{◌≡◌, IfOk, OnOk};
     ghost use Rattle.class_model.specs.Answers.{Gives, Takes};
     ghost use Rattle.class_model.specs.Frames.{frame_at, filled, listed};
     ghost use Rattle.map_frames.specs.Settings.{setting_of, standing_of};
+    ghost use Rattle.map_frames.specs.Units.{Keeps};
     ghost use Rattle.map_frames.specs.Steps.{States, Steps, whole, number_at, end_at, chop_at, append_at, full_at};
 
     /// At the first byte of a table, behind an entry frame.
@@ -30,7 +33,8 @@ impl<'a> Walk<'a> {
     {
         Ok(Walk {
             rest: Cursor::new(bytes),
-            locals: listed_entries(alloc, entry.locals.as_slice())?,
+            locals: listed_entries(alloc, &entry.locals)?,
+            kept: 0,
             from: 0,
         })
     }
@@ -47,8 +51,8 @@ impl<'a> Walk<'a> {
         self.rest.u2()
     }
 
-    /// The locals of the frame that was read last, by unit, up to a number of units.
-    pub(crate) fn locals(&self, alloc: Global, max_locals: u16) -> Result<VTypeList, NoMemory>
+    /// The local units of the frame that was read last, up to a number of units.
+    pub(crate) fn units(&self, alloc: Global, max_locals: u16) -> Result<LocalTypeList, NoMemory>
         ensures { IfOk result (λ locals. locals ≡ filled max_locals self.now.locals) }
     {
         self.locals.filled(alloc, max_locals)
@@ -68,12 +72,32 @@ impl<'a> Walk<'a> {
         }
     }
 
+    /// Reads a frame as `frame`, and turns the local units of the frame before into those of this one.
+    ///
+    /// # Errors
+    /// As `frame`.
+    pub(crate) fn frame_with_units(
+        &mut self,
+        context: &Context,
+        units: &mut LocalTypeList,
+    ) -> Result<(u32, Entries), ClassFault>
+        requires { units.old ≡ filled context.now.max_locals self.old.locals }
+        ensures steps { Steps (setting_of context.now) (standing_of self.old) (standing_of self.new) result }
+        ensures units { OnOk result (units.new ≡ filled context.now.max_locals self.new.locals) }
+    {
+        let before = self.locals.units();
+        let read = self.frame(context)?;
+        self.locals.follow(context.alloc, context.max_locals, self.kept, before, units)?;
+        Ok(read)
+    }
+
     /// Reads a frame: its offset, in bytes of the code, and its stack. The locals become those of the frame.
     ///
     /// # Errors
     /// `FrameKind`, `FrameType`, `FrameSize` or `FramePlace` at the frame, or `Attribute` for missing bytes.
     pub(crate) fn frame(&mut self, context: &Context) -> Result<(u32, Entries), ClassFault>
-        ensures { Steps (setting_of context.now) (standing_of self.old) (standing_of self.new) result }
+        ensures steps { Steps (setting_of context.now) (standing_of self.old) (standing_of self.new) result }
+        ensures kept { OnOk result (Keeps self.new.kept self.old.locals self.new.locals) }
     {
         let place = self.rest.place();
         let (delta, stack) = self.stated(context, place)?;
@@ -86,8 +110,10 @@ impl<'a> Walk<'a> {
     fn stated(&mut self, context: &Context, place: u64) -> Result<(u16, Entries), ClassFault>
         requires { place ≡ self.old.rest.at }
         ensures stated { States (frame_at (setting_of context.now) self.old.locals self.old.rest) self.new.locals self.new.rest result }
+        ensures kept { OnOk result (Keeps self.new.kept self.old.locals self.new.locals) }
         ensures from { self.new.from ≡ self.old.from }
     {
+        self.kept = self.locals.len();
         let kind = self.rest.u1()?;
         match kind {
             0..=63 => Ok((u16::from(kind), Entries::new(context.alloc))),
@@ -116,6 +142,7 @@ impl<'a> Walk<'a> {
         count: u8,
     ) -> Result<(u16, Entries), ClassFault>
         ensures stated { States (chop_at count self.old.locals place self.old.rest) self.new.locals self.new.rest result }
+        ensures kept { OnOk result (Keeps self.new.kept self.old.locals self.new.locals) }
         ensures from { self.new.from ≡ self.old.from }
     {
         let count = usize::from(count);
@@ -124,6 +151,7 @@ impl<'a> Walk<'a> {
         }
         let delta = self.rest.u2()?;
         self.locals.chop(count);
+        self.kept = self.locals.len();
         Ok((delta, Entries::new(context.alloc)))
     }
 
@@ -135,9 +163,11 @@ impl<'a> Walk<'a> {
         count: u8,
     ) -> Result<(u16, Entries), ClassFault>
         ensures stated { States (append_at (setting_of context.now) count self.old.locals place self.old.rest) self.new.locals self.new.rest result }
+        ensures kept { OnOk result (Keeps self.new.kept self.old.locals self.new.locals) }
         ensures from { self.new.from ≡ self.old.from }
     {
         let delta = self.rest.u2()?;
+        self.kept = self.locals.len();
         context.push_entries(place, u16::from(count), &mut self.rest, &mut self.locals)?;
         Ok((delta, Entries::new(context.alloc)))
     }
@@ -145,9 +175,11 @@ impl<'a> Walk<'a> {
     // All locals, and the stack, each behind their number.
     fn full(&mut self, context: &Context, place: u64) -> Result<(u16, Entries), ClassFault>
         ensures stated { States (full_at (setting_of context.now) place self.old.rest) self.new.locals self.new.rest result }
+        ensures kept { OnOk result (Keeps self.new.kept self.old.locals self.new.locals) }
         ensures from { self.new.from ≡ self.old.from }
     {
         let delta = self.rest.u2()?;
+        self.kept = 0;
         self.locals = context.counted(place, &mut self.rest)?;
         let stack = context.counted(place, &mut self.rest)?;
         Ok((delta, stack))

@@ -1,12 +1,12 @@
 //! Writing a StackMapTable.
-ghost use Rattle.std.specs.Prelude.{◌≡◌, ◌≤◌, ◌++◌, List, ℕ, Ok, IfOk, OnOk};
-ghost use Rattle.class_model.specs.Frames.{Setting, table_at, entries_of_units};
+ghost use Rattle.std.specs.Prelude.{◌≡◌, ◌≤◌, ◌++◌, List, ℕ, Ok, IfOk, OnOk, reverse};
+ghost use Rattle.class_model.specs.Frames.{Setting, table_at, entries_of_units, without_tops};
 ghost use Rattle.map_frames.specs.Listing.{listed_of};
 ghost use Rattle.map_frames.specs.Writing.{FitsTable, IsTable, HasFrames, AreFrames, listed_at};
 
 use crate::class_indices::ClassIndices;
 use crate::frame_writing::{ListedFrame, push_frame};
-use crate::local_units::without_last_tops;
+use crate::local_units::listed_units;
 use class_model::{
     ByteList, Frame, ListOf, NoMemory, PlacedFrame, PlacedFrameList, Text, VType, push_u2,
 };
@@ -37,43 +37,47 @@ pub fn frame_bytes(
 {
     let classes = ClassIndices::new(alloc, class_index.as_slice())?;
     let frames = frames.as_slice();
-    let before = without_last_tops(entry.locals.as_slice());
+    let before = listed_units(alloc, &entry.locals)?;
     let mut out = Vec::new(alloc);
     push_u2(&mut out, frames.len() as u16)?;
-    push_frames(&mut out, &classes, before, frames)?;
+    push_frames(alloc, &mut out, &classes, before, frames)?;
     Ok(ListOf::from_vec(out))
 }
 
 // Appends frames, the first of them behind one with these locals.
 fn push_frames(
+    alloc: Global,
     out: &mut Vec<u8>,
     classes: &ClassIndices,
-    locals: &[VType],
+    locals: Vec<VType>,
     frames: &[PlacedFrame],
 ) -> Result<(), NoMemory>
     requires { FitsTable classes.now frames.now }
-    ensures { OnOk result ((bytes : List ℕ) × (out.new.items ≡ out.old.items ++ bytes) × AreFrames classes.now 0 (entries_of_units locals.now) frames.now bytes) }
+    ensures { OnOk result ((bytes : List ℕ) × (out.new.items ≡ out.old.items ++ bytes) × AreFrames classes.now 0 (entries_of_units locals.items) frames.now bytes) }
 {
     let mut before = locals;
     let mut from = 0;
     for placed in frames {
-        let frame = listed_at(from, placed);
-        push_frame(out, classes, before, &frame)?;
-        before = frame.locals;
+        let locals = listed_units(alloc, &placed.frame.locals)?;
+        let frame = listed_at(from, placed, locals.as_slice());
+        push_frame(out, classes, before.as_slice(), &frame)?;
+        before = locals;
         from = placed.at + 1;
     }
     Ok(())
 }
 
-// The frame as it is written, its delta counted from a place.
-fn listed_at(from: u32, placed: &PlacedFrame) -> ListedFrame<'_>
+// The frame as it is written, with the units of its locals up to the last that is not `Top`, and its delta
+// counted from a place.
+fn listed_at<'a>(from: u32, placed: &'a PlacedFrame, locals: &'a [VType]) -> ListedFrame<'a>
     requires after { from ≤ placed.now.at }
     requires near { placed.now.at ≤ 65535 }
+    requires locals { locals.now ≡ reverse (without_tops (reverse placed.now.frame.locals)) }
     ensures { listed_of result ≡ listed_at from placed.now }
 {
     ListedFrame {
         delta: (placed.at - from) as u16,
-        locals: without_last_tops(placed.frame.locals.as_slice()),
+        locals,
         stack: placed.frame.stack.as_slice(),
     }
 }

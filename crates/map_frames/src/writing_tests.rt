@@ -1,10 +1,12 @@
-ghost use Rattle.std.specs.Prelude.{◌≡◌, IsTrue};
+ghost use Rattle.std.specs.Prelude.{◌≡◌, IsTrue, IfOk};
 ghost use Rattle.std.specs.List.{AllByRecursion};
 ghost use Rattle.std.specs.Option.{is_some};
 ghost use Rattle.map_frames.specs.Writing.{index_of, is_by_unit, FitsType, FitsFrame, PlacesIncrease, FitsTable};
 
 use super::*;
-use class_model::{ByteList, Frame, ListOf, PlacedFrame, PlacedFrameList, Text, VType, VTypeList};
+use class_model::{
+    ByteList, Frame, ListOf, LocalTypeList, PlacedFrame, PlacedFrameList, Text, VType, VTypeList,
+};
 use std::alloc::Global;
 use std::test::Fail;
 
@@ -49,34 +51,51 @@ fn is_by_unit(units: &[VType]) -> bool
     }
 }
 
-fn fits_frame(classes: &[NamedIndex], frame: &Frame) -> bool
-    ensures { IsTrue result → FitsFrame classes.now frame.now }
+// The units as a list that lends them as a slice.
+fn units_of(alloc: Global, locals: &LocalTypeList) -> Result<VTypeList, Fail>
+    ensures { IfOk result (λ units. units ≡ locals.now) }
 {
-    let locals = frame.locals.as_slice();
-    let stack = frame.stack.as_slice();
-    let is_short = locals.len() <= 65_535 && stack.len() <= 65_535;
-    is_short && is_by_unit(locals) && fits_types(classes, locals) && fits_types(classes, stack)
+    let mut units = ListOf::new(alloc);
+    while let Some(unit) = locals.get(units.len()) {
+        units.push(unit.copy()?)?;
+    }
+    Ok(units)
 }
 
-fn fits_frames(classes: &[NamedIndex], from: u32, frames: &[PlacedFrame]) -> bool
-    ensures places { IsTrue result → PlacesIncrease from frames.now }
-    ensures each { IsTrue result → AllByRecursion (λ placed. FitsFrame classes.now placed.frame) frames.now }
+fn fits_frame(alloc: Global, classes: &[NamedIndex], frame: &Frame) -> Result<bool, Fail>
+    ensures { IfOk result (λ fits. IsTrue fits → FitsFrame classes.now frame.now) }
 {
-    match frames {
+    let units = units_of(alloc, &frame.locals)?;
+    let locals = units.as_slice();
+    let stack = frame.stack.as_slice();
+    let is_short = locals.len() <= 65_535 && stack.len() <= 65_535;
+    Ok(is_short && is_by_unit(locals) && fits_types(classes, locals) && fits_types(classes, stack))
+}
+
+fn fits_frames(
+    alloc: Global,
+    classes: &[NamedIndex],
+    from: u32,
+    frames: &[PlacedFrame],
+) -> Result<bool, Fail>
+    ensures places { IfOk result (λ fit. IsTrue fit → PlacesIncrease from frames.now) }
+    ensures each { IfOk result (λ fit. IsTrue fit → AllByRecursion (λ placed. FitsFrame classes.now placed.frame) frames.now) }
+{
+    Ok(match frames {
         [] => true,
         [first, others @ ..] => {
             from <= first.at
                 && first.at <= 65_535
-                && fits_frame(classes, &first.frame)
-                && fits_frames(classes, first.at + 1, others)
+                && fits_frame(alloc, classes, &first.frame)?
+                && fits_frames(alloc, classes, first.at + 1, others)?
         }
-    }
+    })
 }
 
-fn fits_table(classes: &[NamedIndex], frames: &[PlacedFrame]) -> bool
-    ensures { IsTrue result → FitsTable classes.now frames.now }
+fn fits_table(alloc: Global, classes: &[NamedIndex], frames: &[PlacedFrame]) -> Result<bool, Fail>
+    ensures { IfOk result (λ fits. IsTrue fits → FitsTable classes.now frames.now) }
 {
-    frames.len() <= 65_535 && fits_frames(classes, 0, frames)
+    Ok(frames.len() <= 65_535 && fits_frames(alloc, classes, 0, frames)?)
 }
 
 // ---- tables in letters
@@ -105,6 +124,14 @@ fn types_of(alloc: Global, letters: &[u8]) -> Result<VTypeList, Fail> {
     Ok(types)
 }
 
+fn locals_of(alloc: Global, letters: &[u8]) -> Result<LocalTypeList, Fail> {
+    let mut locals = LocalTypeList::new(alloc);
+    for letter in letters {
+        locals.push(type_of(alloc, *letter)?)?;
+    }
+    Ok(locals)
+}
+
 // A place, the units of the locals, and the stack.
 type Row<'a> = (u32, &'a [u8], &'a [u8]);
 
@@ -112,7 +139,7 @@ fn frames_of(alloc: Global, rows: &[Row]) -> Result<PlacedFrameList, Fail> {
     let mut frames = ListOf::new(alloc);
     for (at, locals, stack) in rows {
         let frame = Frame {
-            locals: types_of(alloc, locals)?,
+            locals: locals_of(alloc, locals)?,
             stack: types_of(alloc, stack)?,
         };
         frames.push(PlacedFrame { at: *at, frame })?;
@@ -133,12 +160,12 @@ fn class_index(alloc: Global) -> Result<IndexOfText, Fail> {
 // The bytes of a table, if it can be written.
 fn bytes_of(alloc: Global, entry: &[u8], rows: &[Row]) -> Result<Option<ByteList>, Fail> {
     let entry = Frame {
-        locals: types_of(alloc, entry)?,
+        locals: locals_of(alloc, entry)?,
         stack: ListOf::new(alloc),
     };
     let frames = frames_of(alloc, rows)?;
     let classes = class_index(alloc)?;
-    if !fits_table(classes.as_slice(), frames.as_slice()) {
+    if !fits_table(alloc, classes.as_slice(), frames.as_slice())? {
         return Ok(None);
     }
     Ok(Some(frame_bytes(alloc, &entry, &frames, &classes)?))

@@ -1,10 +1,10 @@
-use Rattle.std.proofs.Common.{◌≡◌, ◌++◌, length}
+use Rattle.std.proofs.Common.{◌≡◌, ◌-◌, ◌++◌, take, drop}
 use Rattle.class_model.specs.Frames.{entries_of_units, listed}
 use Rattle.map_frames.specs.Steps.{of_locals}
 use Rattle.map_frames.proofs.entries.listed_entries.Given as goal
 
-abbrev pub invariant-loop-entry : goal.invariant-loop-entry
-invariant-loop-entry l = l.entries ++ entries_of_units l.rest ≡ listed (of_locals l.locals)
+abbrev pub invariant-loop-at : goal.invariant-loop-at
+invariant-loop-at l = l.entries ++ entries_of_units (drop l.at (take l.end l.locals)) ≡ listed (of_locals l.locals)
 
-abbrev pub decreases-loop-entry : goal.decreases-loop-entry
-decreases-loop-entry l = length l.rest
+abbrev pub decreases-loop-at : goal.decreases-loop-at
+decreases-loop-at l = l.end - l.at

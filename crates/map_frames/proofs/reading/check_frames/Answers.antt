@@ -30,14 +30,14 @@ same_table c = ap (table c) (sym (c.new-code.ensures ∙ c.as_slice.ensures))
 pub loop-preserved : goal.loop-preserved
 loop-preserved c =
     let s = setting (goal.at.loop-preserved c).In_ok-count c.new-code.result in
-    (_, frames_next s c.in_ok-count.count (standing_of c.count.new.self) c.loop.counter c.loop.invariant.0 (standing_of c.loop.walk) (standing_of c.frame.new.self) c.in_ok-frame.field-0.0 c.in_ok-frame.field-0.1 c.loop-test.true c.loop.invariant.1 c.in_ok-frame.ensures)
+    (_, frames_next s c.in_ok-count.count (standing_of c.count.new.self) c.loop.counter c.loop.invariant.0 (standing_of c.loop.walk) (standing_of c.frame.new.self) c.in_ok-frame.field-0.0 c.in_ok-frame.field-0.1 c.loop-test.true c.loop.invariant.1 c.in_ok-frame.ensures.steps)
 
 pub returns-in_err-frame : goal.returns-in_err-frame
 returns-in_err-frame c =
     let k = (goal.at.returns-in_err-frame c).In_ok-count in
     let f = c.in_err-frame.field-0.0 in
     let p = err_from_is_err_and c.from_residual-in_err-frame.result c.from_residual-in_err-frame.ensures.1 in
-    let fails = table_fails (setting k c.new-code.result) _ _ _ (standing_of c.count.new.self) c.loop.counter c.loop.invariant.0 (standing_of c.loop.walk) (standing_of c.frame.new.self) f (start_of k) c.loop-test.true c.loop.invariant.1 c.in_err-frame.ensures in
+    let fails = table_fails (setting k c.new-code.result) _ _ _ (standing_of c.count.new.self) c.loop.counter c.loop.invariant.0 (standing_of c.loop.walk) (standing_of c.frame.new.self) f (start_of k) c.loop-test.true c.loop.invariant.1 c.in_err-frame.ensures.steps in
     rw (p.1, p.2) (accepts_refused (table k c.args.code.now) f (refuses_same _ _ f (same_table k) fails))
 
 pub returns : goal.returns

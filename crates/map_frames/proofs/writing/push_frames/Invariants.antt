@@ -7,4 +7,4 @@ use Rattle.map_frames.proofs.writing.push_frames.Given as goal
 abbrev pub invariant-loop-placed : goal.invariant-loop-placed
 invariant-loop-placed l =
     (done : List ℕ) × (l.out.items ≡ l.fn.out.items ++ done)
-    × AreLeft l.classes (entries_of_units l.locals) l.frames l.from (entries_of_units l.before) (drop l.placed-index l.frames) done
+    × AreLeft l.classes (entries_of_units l.fn.locals.items) l.frames l.from (entries_of_units l.before.items) (drop l.placed-index l.frames) done
