@@ -29,3 +29,4 @@ pub mod HeaderAnswers
 pub mod HeaderCuts
 pub mod HeaderSame
 pub mod HeaderFiles
+pub mod HeaderLaws

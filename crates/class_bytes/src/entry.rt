@@ -16,7 +16,7 @@ use crate::flags::{ACC_STATIC, has};
 use crate::home::Home;
 use crate::names::is_text;
 use class_model::{
-    Descriptor, FieldType, Frame, INIT, ListOf, NameFault, NoMemory, Text, VType, VTypeList,
+    Descriptor, FieldType, Frame, INIT, ListOf, LocalTypeList, NameFault, NoMemory, Text, VType,
     parameters_are_spelled, parse_descriptor,
 };
 use std::alloc::Global;
@@ -36,7 +36,7 @@ pub(crate) fn entry_frame(
         unreachable!()
     };
     let descriptor = descriptor_of(alloc, text, method.flags)?;
-    let mut locals = ListOf::new(alloc);
+    let mut locals = LocalTypeList::new(alloc);
     push_this(&mut locals, home, method)?;
     for param in descriptor.params.as_slice() {
         push_units(&mut locals, verification_type(param)?)?;
@@ -62,7 +62,7 @@ fn descriptor_of(alloc: Global, text: &Text, flags: u16) -> Result<Descriptor, N
 
 // Appends the type of `this`, if a method has one.
 fn push_this(
-    locals: &mut VTypeList,
+    locals: &mut LocalTypeList,
     home: &Home<'_>,
     method: &CutMember<'_>,
 ) -> Result<(), NoMemory>
@@ -104,7 +104,7 @@ fn verification_type(field_type: &FieldType) -> Result<VType, NoMemory>
 }
 
 // Appends the local units of an entry: a long or double is followed by `Top`.
-fn push_units(locals: &mut VTypeList, entry: VType) -> Result<(), NoMemory>
+fn push_units(locals: &mut LocalTypeList, entry: VType) -> Result<(), NoMemory>
     ensures { OnOk result (locals.new ≡ locals.old ++ units entry) }
 {
     let is_wide = matches!(entry, VType::Long | VType::Double);

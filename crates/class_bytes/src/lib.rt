@@ -20,6 +20,7 @@ mod header;
 mod header_checks;
 mod header_cutting;
 mod home;
+mod laws;
 mod method_code;
 mod methods;
 mod names;
@@ -29,6 +30,7 @@ mod signatures;
 mod writing;
 
 pub use header::read_header;
+pub use laws::a_library_file_is_told_once;
 pub use reading::read_class;
 pub use writing::{push_class, write_class};
 

@@ -34,3 +34,5 @@ pub mod TreeClasses
 pub mod WalkedNames
 pub mod BuiltSteps
 pub mod HierarchyLaws
+pub mod SortedOnce
+pub mod ToldOnce

@@ -12,12 +12,14 @@ pub(crate) const CLONEABLE: &[u8] = b"java/lang/Cloneable";
 
 pub(crate) const SERIALIZABLE: &[u8] = b"java/io/Serializable";
 
-pub(crate) const THROWABLE: &[u8] = b"java/lang/Throwable";
+/// The class that all that is thrown is below.
+pub const THROWABLE: &[u8] = b"java/lang/Throwable";
 
 /// The class of method handles.
 pub const METHOD_HANDLE: &[u8] = b"java/lang/invoke/MethodHandle";
 
-pub(crate) const METHOD_TYPE: &[u8] = b"java/lang/invoke/MethodType";
+/// The class of method types.
+pub const METHOD_TYPE: &[u8] = b"java/lang/invoke/MethodType";
 
 const BASE_NAMES: [&[u8]; 16] = [
     b"java/io/Serializable",

@@ -42,8 +42,8 @@ fn innermost<'a>(low: &'a [u8], high: &'a [u8]) -> (&'a [u8], &'a [u8])
     (low, high)
 }
 
-// The component of an array of references.
-fn component(array: &[u8]) -> Option<&[u8]>
+/// The component of an array of references: an array, or a class between `L` and `;`.
+pub fn component(array: &[u8]) -> Option<&[u8]>
     ensures some { IfSome result (λ component. IsReferenceComponent array.now component.now) }
     ensures none { IfNone result ((component : Name) → ¬ IsReferenceComponent array.now component) }
 {
@@ -54,22 +54,22 @@ fn component(array: &[u8]) -> Option<&[u8]>
     component.strip_prefix(b"L")?.strip_suffix(b";")
 }
 
-// Whether this is an array.
-fn is_array(name: &[u8]) -> bool
+/// Whether a name is that of an array, which is its descriptor.
+pub fn is_array(name: &[u8]) -> bool
     ensures { IsTrue result ↔ IsArray name.now }
 {
     name.starts_with(b"[")
 }
 
-// Whether each array is below this.
-fn is_above_arrays(name: &[u8]) -> bool
+/// Whether each array is below the class of a name.
+pub fn is_above_arrays(name: &[u8]) -> bool
     ensures { IsTrue result ↔ IsAboveArrays name.now }
 {
     name == OBJECT || name == CLONEABLE || name == SERIALIZABLE
 }
 
-// Whether a class is below another.
-fn is_below(tree: &Tree, low: &[u8], high: &[u8]) -> bool
+/// Whether the class of a name is below another and not the same.
+pub fn is_below(tree: &Tree, low: &[u8], high: &[u8]) -> bool
     ensures { IsTrue result ↔ IsBelow (headers_of tree.now) low.now high.now }
 {
     let Some(low) = tree.find(low) else {

@@ -1,6 +1,8 @@
 -- What the parts of a class are asked one after the other, while the resolver stays as it is.
-use Rattle.std.proofs.Common.{◌≡◌, ◌+◌, ◌<◌, ℕ, List, ◌++◌, length, drop, get_or, Result, Err, subst, ◌∙◌}
+use Rattle.std.proofs.Common.{◌≡◌, ◌+◌, ◌<◌, ℕ, zero, suc, List, [], ◌++◌, length, drop, replicate, get_or, Some, Result, Err, refl, sym, ap, subst, ◌∙◌}
 use Rattle.std.proofs.lemmas.List.{get_or_default}
+use Rattle.std.proofs.lemmas.Option.{get_or_from_slice_get, slice_get_within}
+use Rattle.std.specs.List.{slice_get}
 use Rattle.class_tree.specs.Answers.{Answers}
 use Rattle.class_tree.specs.Problems.{Check, asked_each, AllHold}
 use Rattle.class_tree.specs.declared.fault.LinkFault.{LinkFault}
@@ -23,6 +25,25 @@ one_refused asks items i item e within is asked told =
 -- an item that is read at another default
 pub read_again : {X : Type 0} (items : List X) (i : ℕ) (d : X) → i < length items → get_or items i d ≡ get_or items i (get_or items i d)
 read_again items i d within = get_or_default items i d (get_or items i d) within
+
+-- ---- a list whose items are looked up
+
+pub found_asked : {X : Type 0} (asks : X → List Check) (items : List X) (i : ℕ) (item : X) → Some item ≡ slice_get items i → AskedBelow asks items i → AllHold (asks item) → AskedBelow asks items (i + 1)
+found_asked asks items i item found is holds =
+    one_asked asks items i item (slice_get_within items i item (sym found)) (sym (get_or_from_slice_get items i item item (sym found))) is holds
+
+pub found_refused : {X : Type 0} (asks : X → List Check) (items : List X) (i : ℕ) (item : X) (e : LinkFault) → Some item ≡ slice_get items i → AskedBelow asks items i → Answers {X = Unit {0}} (asks item) (Err e) → Answers {X = Unit {0}} (asked_each asks items) (Err e)
+found_refused asks items i item e found is told =
+    one_refused asks items i item e (slice_get_within items i item (sym found)) (sym (get_or_from_slice_get items i item item (sym found))) is told
+
+-- items of which nothing is asked
+pub nothing_asked : {X : Type 0} (asks : X → List Check) (n : ℕ) (item : X) → asks item ≡ [] → asked_each asks (replicate n item) ≡ []
+nothing_asked asks zero item none = refl
+nothing_asked asks (suc n) item none = ap (λ first. first ++ asked_each asks (replicate n item)) none ∙ nothing_asked asks n item none
+
+pub rest_unasked : {X : Type 0} (asks : X → List Check) (items : List X) (i end n : ℕ) (item : X) → i ≡ end → asks item ≡ [] → drop end items ≡ replicate n item → AskedBelow asks items i → AllHold (asked_each asks items)
+rest_unasked asks items i end n item ended none rest is =
+    is.left.hold (subst AllHold (sym (ap (λ at. asked_each asks (drop at items)) ended ∙ (ap (asked_each asks) rest ∙ nothing_asked asks n item none))) tt)
 
 -- ---- with a resolver
 

@@ -24,13 +24,6 @@ use Rattle.member_link.specs.Entry.{class_entry, this_entries}
 abbrev pub with_tops : ℕ → List VType → List VType
 with_tops max_locals locals = locals ++ replicate (max_locals - length locals) types.Top
 
-pub top_more : (max_locals : ℕ) (locals : List VType) → length locals < max_locals → with_tops max_locals (locals ++ types.Top ∷ []) ≡ with_tops max_locals locals
-top_more max_locals locals below =
-    let left = max_locals - length (locals ++ types.Top ∷ []) in
-    let one_less : max_locals - length locals ≡ suc left = simp length-append (omega arith) in
-    append_assoc locals (types.Top ∷ []) (replicate left types.Top)
-    ∙ ap (λ (count : ℕ). locals ++ replicate count types.Top) (sym one_less)
-
 -- ---- this
 
 this_units : (static is_init : Bool) (class : Option (List ℕ)) → let this : List VType = cond static [] (cond is_init types.UninitThis (class_entry class) ∷ []) in units_of_entries this ≡ this

@@ -12,8 +12,8 @@ ghost use Rattle.member_link.specs.Uses.{home_of};
 
 use crate::flags::ACC_STATIC;
 use class_model::{
-    ClassFile, CodePart, Descriptor, FieldType, Frame, INIT, ListOf, Method, NameFault, NoMemory,
-    Pool, Text, VType, VTypeList, parameters_are_spelled, parse_descriptor,
+    ClassFile, CodePart, Descriptor, FieldType, Frame, INIT, ListOf, LocalTypeList, Method,
+    NameFault, NoMemory, Pool, Text, VType, parameters_are_spelled, parse_descriptor,
 };
 use class_tree::has;
 use std::alloc::Global;
@@ -34,12 +34,12 @@ pub fn entry_frame(
         unreachable!()
     };
     let descriptor = descriptor_of(alloc, text, method.flags)?;
-    let mut locals = ListOf::new(alloc);
+    let mut locals = LocalTypeList::new(alloc);
     push_this(&mut locals, class, method)?;
     for param in descriptor.params.as_slice() {
         push_units(&mut locals, verification_type(param)?)?;
     }
-    fill(&mut locals, part.max_locals)?;
+    locals.fill(usize::from(part.max_locals));
     Ok(Frame {
         locals,
         stack: ListOf::new(alloc),
@@ -60,7 +60,7 @@ fn descriptor_of(alloc: Global, text: &Text, flags: u16) -> Result<Descriptor, N
 }
 
 // Appends the type of `this`, if a method has one.
-fn push_this(locals: &mut VTypeList, class: &ClassFile, method: &Method) -> Result<(), NoMemory>
+fn push_this(locals: &mut LocalTypeList, class: &ClassFile, method: &Method) -> Result<(), NoMemory>
     ensures { OnOk result (locals.new ≡ locals.old ++ this_entries method.now.flags (utf8_at class.now.pool method.now.name) (class_at class.now.pool class.now.this_class)) }
 {
     if has(method.flags, ACC_STATIC) {
@@ -99,22 +99,12 @@ fn verification_type(field_type: &FieldType) -> Result<VType, NoMemory>
 }
 
 // Appends the local units of an entry: a long or double is followed by `Top`.
-fn push_units(locals: &mut VTypeList, entry: VType) -> Result<(), NoMemory>
+fn push_units(locals: &mut LocalTypeList, entry: VType) -> Result<(), NoMemory>
     ensures { OnOk result (locals.new ≡ locals.old ++ units entry) }
 {
     let is_wide = matches!(entry, VType::Long | VType::Double);
     locals.push(entry)?;
     if is_wide {
-        locals.push(VType::Top)?;
-    }
-    Ok(())
-}
-
-// Appends `Top` up to so many locals.
-fn fill(locals: &mut VTypeList, max_locals: u16) -> Result<(), NoMemory>
-    ensures { OnOk result (locals.new ≡ locals.old ++ replicate (max_locals - length locals.old) VType.Top) }
-{
-    while locals.len() < usize::from(max_locals) {
         locals.push(VType::Top)?;
     }
     Ok(())

@@ -10,7 +10,8 @@ ghost use Rattle.member_link.specs.Uses.{frame_checks, home_of, inner_checks, ty
 use crate::entry::{entry_frame, is_text};
 use crate::resolver::{Resolver, check_name};
 use class_model::{
-    ClassFault, ClassFile, CodePart, InnerAttr, Member, Method, PlacedFrame, PlacedList, VType,
+    ClassFault, ClassFile, CodePart, InnerAttr, LocalTypeList, Member, Method, PlacedFrame,
+    PlacedList, VType,
 };
 use class_tree::LinkFault;
 use map_frames::read_frames;
@@ -104,8 +105,26 @@ fn check_frame(
 ) -> Result<(), LinkFault>
     ensures { Answers (frame_checks (scope_of resolver.now member.now) placed.now) result }
 {
-    check_types(alloc, resolver, member, placed.frame.locals.as_slice())?;
+    check_locals(alloc, resolver, member, &placed.frame.locals)?;
     check_types(alloc, resolver, member, placed.frame.stack.as_slice())
+}
+
+// Asks that the classes that the types of local units name are there. `Top` names none.
+fn check_locals(
+    alloc: Global,
+    resolver: &Resolver<'_>,
+    member: &Member,
+    locals: &LocalTypeList,
+) -> Result<(), LinkFault>
+    ensures { Answers (asked_each (type_checks (scope_of resolver.now member.now)) locals.now) result }
+{
+    for at in 0..locals.listed() {
+        let Some(one) = locals.get(at) else {
+            unreachable!()
+        };
+        check_type(alloc, resolver, member, one)?;
+    }
+    Ok(())
 }
 
 // Asks that the classes that these types name are there.
