@@ -4,7 +4,16 @@ pub mod Copying
 pub mod Outcomes
 pub mod CallCounts
 pub mod FolderReads
+pub mod FileReads
+pub mod HeaderReads
+pub mod InputReads
+pub mod LinkProblems
 pub mod WordGrammar
 pub mod Completing
 pub mod WordsSeen
+pub mod FolderNames
+pub mod FolderValues
+pub mod FirstRefused
+pub mod BytesLaws
+pub mod OneLinkProblem
 pub mod OneAnswer

@@ -16,6 +16,9 @@ use Rattle.pea_top.specs.Folders.{IsBefore}
 pub times-cons : (name other : Bytes) (names : List Bytes) → times name (other ∷ names) ≡ cond (bytes_eq name other) 1 0 + times name names
 times-cons name other names = sum_by-cons (λ x. cond (bytes_eq name x) 1 0) other names
 
+pub times-first : (name : Bytes) (names : List Bytes) → times name (name ∷ names) ≡ 1 + times name names
+times-first name names = times-cons name name names ∙ ap {B = ℕ} (λ b. cond b 1 0 + times name names) ((bytes_eq-Decides name name).1 refl)
+
 -- by whether it is the first
 found_at : (same : Bool) (name other : Bytes) (names : List Bytes) (d : Bytes) → Decides same (name ≡ other) → 0 < cond same 1 0 + times name names
     → (0 < times name names → (k : ℕ) × (k < length names) × (get_or names k d ≡ name)) → (k : ℕ) × (k < length (other ∷ names)) × (get_or (other ∷ names) k d ≡ name)

@@ -1,87 +1,91 @@
 -- Words and told files have one answer.
-use Rattle.std.proofs.Common.{◌≡◌, ℕ, List, Result, Ok, refl, sym, ap, ◌∙◌, subst}
-use Rattle.std.specs.Cmp.Lexicographic.{slice_cmp}
-use Rattle.std.specs.FinMap.{nat_cmp-IsAntisymmetric, slice_cmp-IsAntisymmetric}
-use Rattle.std.specs.Ordering.{nat_cmp, ordering_reverse}
-use Rattle.std.specs.declared.cmp.Ordering.{Ordering}
-use Rattle.std.specs.declared.cmp.Ordering.TheVariants.{Less, Equal, Greater}
-use Rattle.std.proofs.lemmas.Cmp.{nat_list_cmp_total}
+use Rattle.std.proofs.Common.{◌≡◌, ℕ, List, refl, ap, subst}
 use Rattle.class_model.specs.Checks.{Fault, fault}
-use Rattle.class_model.specs.ClassOf.{ClassOf, FirstFault, IsOtherVersion}
-use Rattle.class_model.specs.Cutting.{Rest, Version}
+use Rattle.class_model.specs.Cutting.{Version}
 use Rattle.class_model.specs.declared.class_file.ClassFile.{ClassFile}
+use Rattle.class_model.specs.declared.header.Header.{Header}
+use Rattle.class_model.specs.declared.header.Member.{Member}
+use Rattle.class_tree.specs.Headers.{Name}
+use Rattle.class_tree.specs.Problems.{Problem}
+use Rattle.class_tree.specs.declared.fault.LinkRule.{LinkRule}
 use Rattle.host_tree.specs.Host.{Bytes, Folder, Files}
-use Rattle.pea_top.specs.Answer.{Refusal, broken, other_version, AreRefused, IsRefused, IsFirstRefused, CanDo, MustRefuse, IsAnswer}
-use Rattle.pea_top.specs.Words.{Word, Command}
+use Rattle.pea_top.specs.Answer.{Refusal, broken, other_version, IsRefusedClass, IsRefusedHeader, IsFirstOf, of_input, of_library, AreRead, CanDo, MustRefuse, CannotLink, IsAnswer}
+use Rattle.pea_top.specs.Linking.{IsLinkProblem}
+use Rattle.pea_top.specs.Words.{Word, Command, Spells}
 use Rattle.pea_top.specs.declared.status.Status.{Status}
 use Rattle.pea_top.specs.declared.status.Status.TheVariants as statuses
+use Rattle.pea_top.proofs.BytesLaws.{ClassLaws, HeaderLaws, one_class, one_class_refusal, class_not_refused, one_header, one_header_refusal, header_not_refused}
+use Rattle.pea_top.proofs.FirstRefused.{one_first_of}
+use Rattle.pea_top.proofs.FolderValues.{one_list_of_values, none_refused}
+use Rattle.pea_top.proofs.OneLinkProblem.{TreeLaws, one_link_problem, linked_no_problem}
 use Rattle.pea_top.proofs.WordGrammar.{same_command}
-
--- what class_model says of bytes that are refused
-pub record BytesLaws : Type 0 where
-  pub one_fault : (bytes : List ℕ) (one other : Fault) → FirstFault bytes one → FirstFault bytes other → one ≡ other
-  pub no_fault : (bytes : List ℕ) (version : Version) → IsOtherVersion bytes version → ((class : ClassFile) → ¬ ClassOf bytes class) × ((f : Fault) → ¬ FirstFault bytes f)
 
 abbrev version : ℕ → ℕ → Version
 version major minor = record { minor = minor; major = major }
 
--- a head gives one version
-same_version : (head : Result (Version × Rest) Fault) (v w : Version) (after other_after : Rest) → head ≡ Ok (v, after) → head ≡ Ok (w, other_after) → v ≡ w
-same_version head v w after other_after h i =
-    let both : (v, after) ≡ (w, other_after) = cc (h, i) in
-    ap (λ (pair : Version × Rest). pair.0) both
+abbrev problem_of : Name → Member → LinkRule → Problem
+problem_of class member rule = record { class = class; member = member; rule = rule }
 
-module _ (laws : BytesLaws) where
-  -- bytes are refused for one thing
-  one_refusal : (bytes : Bytes) (one other : Refusal) → AreRefused bytes one → AreRefused bytes other → one ≡ other
-  one_refusal bytes (broken f) (broken g) h i = ap broken (laws.one_fault bytes f g h i)
-  one_refusal bytes (broken f) (other_version w) h i = absurd ((laws.no_fault bytes w i).1 f h)
-  one_refusal bytes (other_version v) (broken g) h i = absurd ((laws.no_fault bytes v h).1 g i)
-  one_refusal bytes (other_version v) (other_version w) h i = ap other_version (same_version _ v w h.rest i.rest h.head i.head)
+-- the laws of the crates below
+pub record Laws : Type 0 where
+  pub classes : ClassLaws
+  pub headers : HeaderLaws
+  pub trees : TreeLaws
 
-  -- a file is refused for one thing
-  one_file : (folder : Folder) (name : Bytes) (one other : Refusal) → IsRefused folder name one → IsRefused folder name other → one ≡ other
-  one_file folder name one other h i =
-      let same : i.bytes ≡ h.bytes = cc (h.there, i.there) in
-      one_refusal h.bytes one other h.refused (subst (λ (bytes : Bytes). AreRefused bytes other) same i.refused)
-
-  -- by where the one name stands beside the other
-  one_name_by : (folder : Folder) (name other_name : Bytes) (why other_why : Refusal) (order : Ordering) → slice_cmp nat_cmp name other_name ≡ order → IsFirstRefused folder name why → IsFirstRefused folder other_name other_why
-      → name ≡ other_name
-  one_name_by folder name other_name why other_why Less e h i = absurd (i.none_before name e why h.refused)
-  one_name_by folder name other_name why other_why Equal e h i = slice_cmp-IsAntisymmetric nat_cmp-IsAntisymmetric name other_name e
-  one_name_by folder name other_name why other_why Greater e h i =
-      let back : slice_cmp nat_cmp other_name name ≡ Less = nat_list_cmp_total.antisymm other_name name ∙ ap ordering_reverse e in
-      absurd (h.none_before other_name back other_why i.refused)
-
-  -- a folder has one first file that is refused
-  one_first : (folder : Folder) (name other_name : Bytes) (why other_why : Refusal) → IsFirstRefused folder name why → IsFirstRefused folder other_name other_why → (name ≡ other_name) × (why ≡ other_why)
-  one_first folder name other_name why other_why h i =
-      let same = one_name_by folder name other_name why other_why (slice_cmp nat_cmp name other_name) refl h i in
-      (same, one_file folder name why other_why h.refused (subst (λ (n : Bytes). IsRefused folder n other_why) (sym same) i.refused))
+module _ (laws : Laws) where
+  -- what is read has no refused file
+  read_none_first : {input library : Folder} {classes : List ClassFile} {headers : List Header} {name : Bytes} {why : Refusal} → AreRead input library classes headers → ¬ IsFirstOf input library name why
+  read_none_first {name = name} {why = why} read (of_input first) = none_refused IsRefusedClass (class_not_refused laws.classes) read.classes_read name why first.refused
+  read_none_first {name = name} {why = why} read (of_library _ first) = none_refused IsRefusedHeader (header_not_refused laws.headers) read.headers_read name why first.refused
 
   module _ (words : List Word) (files : Files) where
     one_must : (name other_name : Bytes) (why other_why : Refusal) → MustRefuse words files name why → MustRefuse words files other_name other_why → (name ≡ other_name) × (why ≡ other_why)
     one_must name other_name why other_why h i =
         let same : i.command ≡ h.command = same_command words i.command h.command i.spelled h.spelled in
-        one_first (files h.command.input) name other_name why other_why h.first (subst (λ (command : Command). IsFirstRefused (files command.input) other_name other_why) same i.first)
+        let first = subst (λ (command : Command). IsFirstOf (files command.input) (files command.library) other_name other_why) same i.first in
+        one_first_of (one_class_refusal laws.classes) (one_header_refusal laws.headers) (files h.command.input) (files h.command.library) name other_name why other_why h.first first
 
-    -- a command that can be done has no file that is refused
-    not_both : (name : Bytes) (why : Refusal) → CanDo words files → ¬ MustRefuse words files name why
-    not_both name why h i =
-        let same : i.command ≡ h.command = same_command words i.command h.command i.spelled h.spelled in
-        h.none_refused name why (subst (λ (command : Command). IsRefused (files command.input) name why) same i.first.refused)
+    -- a command whose files are read has no file that is refused
+    read_not_refused : (command : Command) (classes : List ClassFile) (headers : List Header) (name : Bytes) (why : Refusal) → Spells command words → AreRead (files command.input) (files command.library) classes headers
+        → ¬ MustRefuse words files name why
+    read_not_refused command classes headers name why spelled read i =
+        let same : i.command ≡ command = same_command words i.command command i.spelled spelled in
+        read_none_first read (subst (λ (at : Command). IsFirstOf (files at.input) (files at.library) name why) same i.first)
+
+    -- a problem of linking what is read for the command
+    problem_at : (command : Command) (classes : List ClassFile) (headers : List Header) (problem : Problem) → Spells command words → AreRead (files command.input) (files command.library) classes headers
+        → CannotLink words files problem → IsLinkProblem classes headers problem
+    problem_at command classes headers problem spelled read i =
+        let same : i.command ≡ command = same_command words i.command command i.spelled spelled in
+        let other_read = subst (λ (at : Command). AreRead (files at.input) (files at.library) i.classes i.headers) same i.read in
+        let same_classes = one_list_of_values (one_class laws.classes) other_read.classes_read read.classes_read in
+        let same_headers = one_list_of_values (one_header laws.headers) other_read.headers_read read.headers_read in
+        subst (λ (list : List Header). IsLinkProblem classes list problem) same_headers (subst (λ (list : List ClassFile). IsLinkProblem list i.headers problem) same_classes i.first)
+
+    one_problem : (one other : Problem) → CannotLink words files one → CannotLink words files other → one ≡ other
+    one_problem one other h i = one_link_problem laws.trees h.classes h.headers one other h.first (problem_at h.command h.classes h.headers other h.spelled h.read i)
+
+    not_refused : (name : Bytes) (why : Refusal) → CanDo words files → ¬ MustRefuse words files name why
+    not_refused name why h = read_not_refused h.command h.classes h.headers name why h.spelled h.read
+
+    no_problem : (problem : Problem) → CanDo words files → ¬ CannotLink words files problem
+    no_problem problem h i = linked_no_problem laws.trees h.classes h.headers problem h.linked (problem_at h.command h.classes h.headers problem h.spelled h.read i)
+
+    refused_not_linked : (name : Bytes) (why : Refusal) (problem : Problem) → CannotLink words files problem → ¬ MustRefuse words files name why
+    refused_not_linked name why problem h = read_not_refused h.command h.classes h.headers name why h.spelled h.read
 
     pub one_answer : (one other : Status) → IsAnswer words files one → IsAnswer words files other → one ≡ other
     one_answer statuses.Done statuses.Done h i = refl
     one_answer statuses.Done statuses.Usage h i = absurd (i h.command h.spelled)
-    one_answer statuses.Done (statuses.Malformed name at rule) h i = absurd (not_both name (broken (fault at rule)) h i)
-    one_answer statuses.Done (statuses.Version name major minor) h i = absurd (not_both name (other_version (version major minor)) h i)
+    one_answer statuses.Done (statuses.Malformed name at rule) h i = absurd (not_refused name (broken (fault at rule)) h i)
+    one_answer statuses.Done (statuses.Version name major minor) h i = absurd (not_refused name (other_version (version major minor)) h i)
+    one_answer statuses.Done (statuses.Unlinked class member rule) h i = absurd (no_problem (problem_of class member rule) h i)
     one_answer statuses.Usage statuses.Done h i = absurd (h i.command i.spelled)
     one_answer statuses.Usage statuses.Usage h i = refl
     one_answer statuses.Usage (statuses.Malformed name at rule) h i = absurd (h i.command i.spelled)
     one_answer statuses.Usage (statuses.Version name major minor) h i = absurd (h i.command i.spelled)
-    one_answer (statuses.Malformed name at rule) statuses.Done h i = absurd (not_both name (broken (fault at rule)) i h)
+    one_answer statuses.Usage (statuses.Unlinked class member rule) h i = absurd (h i.command i.spelled)
+    one_answer (statuses.Malformed name at rule) statuses.Done h i = absurd (not_refused name (broken (fault at rule)) i h)
     one_answer (statuses.Malformed name at rule) statuses.Usage h i = absurd (i h.command h.spelled)
     one_answer (statuses.Malformed name at rule) (statuses.Malformed other_name other_at other_rule) h i =
         let same = one_must name other_name (broken (fault at rule)) (broken (fault other_at other_rule)) h i in
@@ -90,7 +94,8 @@ module _ (laws : BytesLaws) where
     one_answer (statuses.Malformed name at rule) (statuses.Version other_name major minor) h i =
         let same = one_must name other_name (broken (fault at rule)) (other_version (version major minor)) h i in
         cc (same.1)
-    one_answer (statuses.Version name major minor) statuses.Done h i = absurd (not_both name (other_version (version major minor)) i h)
+    one_answer (statuses.Malformed name at rule) (statuses.Unlinked class member broken_rule) h i = absurd (refused_not_linked name (broken (fault at rule)) (problem_of class member broken_rule) i h)
+    one_answer (statuses.Version name major minor) statuses.Done h i = absurd (not_refused name (other_version (version major minor)) i h)
     one_answer (statuses.Version name major minor) statuses.Usage h i = absurd (i h.command h.spelled)
     one_answer (statuses.Version name major minor) (statuses.Malformed other_name at rule) h i =
         let same = one_must name other_name (other_version (version major minor)) (broken (fault at rule)) h i in
@@ -99,6 +104,14 @@ module _ (laws : BytesLaws) where
         let same = one_must name other_name (other_version (version major minor)) (other_version (version other_major other_minor)) h i in
         let versions : version major minor ≡ version other_major other_minor = cc (same.1) in
         cc (same.0, ap (λ (v : Version). v.major) versions, ap (λ (v : Version). v.minor) versions)
+    one_answer (statuses.Version name major minor) (statuses.Unlinked class member rule) h i = absurd (refused_not_linked name (other_version (version major minor)) (problem_of class member rule) i h)
+    one_answer (statuses.Unlinked class member rule) statuses.Done h i = absurd (no_problem (problem_of class member rule) i h)
+    one_answer (statuses.Unlinked class member rule) statuses.Usage h i = absurd (i h.command h.spelled)
+    one_answer (statuses.Unlinked class member rule) (statuses.Malformed name at broken_rule) h i = absurd (refused_not_linked name (broken (fault at broken_rule)) (problem_of class member rule) h i)
+    one_answer (statuses.Unlinked class member rule) (statuses.Version name major minor) h i = absurd (refused_not_linked name (other_version (version major minor)) (problem_of class member rule) h i)
+    one_answer (statuses.Unlinked class member rule) (statuses.Unlinked other_class other_member other_rule) h i =
+        let same = one_problem (problem_of class member rule) (problem_of other_class other_member other_rule) h i in
+        cc (ap (λ (p : Problem). p.class) same, ap (λ (p : Problem). p.member) same, ap (λ (p : Problem). p.rule) same)
     one_answer (statuses.HostFault call) other h i = absurd h
     one_answer statuses.NoMemory other h i = absurd h
     one_answer one (statuses.HostFault call) h i = absurd i

@@ -1,23 +1,24 @@
 -- What the parts of a call leave and print, as the words see it.
-use Rattle.std.proofs.Common.{◌≡◌, ◌⊎◌, ℕ, List, [], ◌∷◌, ◌++◌, map, length, take, sym, ap, ◌∙◌, subst, inl, inr, zero-le}
+use Rattle.std.proofs.Common.{◌≡◌, ◌⊎◌, ℕ, List, [], ◌++◌, map, length, take, sym, ap, ◌∙◌, subst, inl, inr, zero-le}
 use Rattle.std.proofs.lemmas.List.{length-map, take_all}
-use Rattle.std.proofs.lemmas.List.Folds.{fold-map}
-use Rattle.std.proofs.lemmas.List.Sums.{sum_by-cons}
-use Rattle.std.specs.List.{AllByRecursion}
+use Rattle.class_model.specs.Header.{HeaderOf}
+use Rattle.class_model.specs.declared.class_file.ClassFile.{ClassFile}
+use Rattle.class_model.specs.declared.header.Header.{Header}
 use Rattle.host_tree.specs.Counts.{Rose}
 use Rattle.host_tree.specs.Host.{Bytes, Folder, Files, SameFiles, IsPrefixPrinted}
 use Rattle.host_tree.specs.declared.call.HostCall.TheVariants as calls
-use Rattle.pea_top.specs.Answer.{CanDo, IsAnswer}
-use Rattle.pea_top.specs.CommandEffects.{class_count, method_count, summary_of, LeavesWritten, PrintsWritten}
-use Rattle.pea_top.specs.Effects.{Copies, PartlyCopies, LeavesFiles, IsSummary, IsLineOf, PrintsPart, PrintsRefusal, LeavesPrinted}
-use Rattle.pea_top.specs.Folders.{HasMethods, HaveMethods, no_files, one_more}
+use Rattle.pea_top.specs.Answer.{AreRead, CanDo, IsAnswer, HasCause}
+use Rattle.pea_top.specs.CommandEffects.{LeavesWritten, PrintsWritten}
+use Rattle.pea_top.specs.Effects.{Copies, PartlyCopies, method_count, LeavesFiles, IsSummary, IsLineOf, PrintsPart, PrintsRefusal, LeavesPrinted}
+use Rattle.pea_top.specs.Folders.{HasClassFiles}
 use Rattle.pea_top.specs.Lines.{summary_line, refusal_line}
+use Rattle.pea_top.specs.Linking.{AreLinked}
 use Rattle.pea_top.specs.Reading.{AreGoodFiles}
 use Rattle.pea_top.specs.Words.{Word, Command, Spells}
 use Rattle.pea_top.specs.Writing.{content_after, Puts, PutsSome}
 use Rattle.pea_top.specs.declared.folder.NamedFile.{NamedFile}
 use Rattle.pea_top.specs.declared.status.Status.{Status}
-use Rattle.pea_top.specs.declared.status.Status.TheVariants.{Done, Usage, Malformed, Version, HostFault, NoMemory}
+use Rattle.pea_top.specs.declared.status.Status.TheVariants.{Done, Usage, Malformed, Version, Unlinked, HostFault, NoMemory}
 use Rattle.pea_top.proofs.Copying.{IsCopied-puts, IsPartlyCopied-puts}
 
 Puts-from_same : (root : Bytes) (files : List NamedFile) (old mid new : Files) → SameFiles old mid → Puts root files mid new → Puts root files old new
@@ -39,42 +40,64 @@ PutsSome-from_same root files old mid new same puts = record {
 IsPrefixPrinted-from_same : (line old mid new : Bytes) → mid ≡ old → IsPrefixPrinted line mid new → IsPrefixPrinted line old new
 IsPrefixPrinted-from_same line old mid new same prefix = record { count = prefix.count; appended = prefix.appended ∙ ap (λ before. before ++ take prefix.count line) same }
 
--- the files have together what their own numbers of methods sum up to
-have_methods : (folder : Folder) (files : List NamedFile) → AllByRecursion (λ file. HasMethods folder file.name file.methods) files → HaveMethods folder (map (λ file. file.name) files) (method_count files)
-have_methods folder [] each = no_files
-have_methods folder (file ∷ files) each =
-    let all = one_more file.name (map (λ (other : NamedFile). other.name) files) file.methods (method_count files) each.0 (have_methods folder files each.1) in
-    subst (HaveMethods folder (map (λ (other : NamedFile). other.name) (file ∷ files))) (sym (sum_by-cons (λ (other : NamedFile). other.methods) file files)) all
+-- The input and the library of a command, which were read and linked, and the line that sums them up.
+pub record IsReady (command : Command) (old : Files) (files : List NamedFile) (classes : List ClassFile) (headers : List Header) (line : Bytes) : Type 0 where
+  pub good : AreGoodFiles (old command.input) files classes
+  pub library : HasClassFiles HeaderOf (old command.library) headers
+  pub linked : AreLinked classes headers
+  pub summed_up : line ≡ summary_line (length files) (length classes) (method_count classes)
 
--- after the files of the input of a command were read
-module _ (words : List Word) (command : Command) (spelled : Spells command words) (files : List NamedFile) (old : Files) (good : AreGoodFiles (old command.input) files) where
+pub are_read : (folder library : Folder) (files : List NamedFile) (classes : List ClassFile) (headers : List Header) → AreGoodFiles folder files classes → HasClassFiles HeaderOf library headers → AreRead folder library classes headers
+are_read folder library files classes headers good has = record {
+  classes_read = record { names = map (λ (file : NamedFile). file.name) files; are_names = good.are.names; are_read = good.are_read };
+  headers_read = has;
+}
+
+-- what is left and printed then
+module _ (words : List Word) (command : Command) (spelled : Spells command words) (old : Files) {files : List NamedFile} {classes : List ClassFile} {headers : List Header} {line : Bytes} (ready : IsReady command old files classes headers line) where
   can_do : CanDo words old
-  can_do = record { command = command; spelled = spelled; none_refused = good.none_refused }
+  can_do = record {
+    command = command;
+    spelled = spelled;
+    classes = classes;
+    headers = headers;
+    read = are_read (old command.input) (old command.library) files classes headers ready.good ready.library;
+    linked = ready.linked;
+  }
 
-  is_summary : IsSummary words old (summary_of files)
-  is_summary =
-      let names = map (λ (file : NamedFile). file.name) files in
-      record {
-        command = command;
-        spelled = spelled;
-        names = names;
-        of_input = good.are.names;
-        kept = method_count files;
-        counted = have_methods (old command.input) files good.methods;
-        is =
-            ap (λ n. summary_line n (class_count files) (method_count files)) (sym (length-map files (λ file. file.name)))
-            ∙ ap (λ n. summary_line (length names) n (method_count files)) (sym (fold-map _ (λ (file : NamedFile). file.name) 0 files));
-      }
+  is_summary : IsSummary words old line
+  is_summary = record {
+    command = command;
+    spelled = spelled;
+    names = map (λ (file : NamedFile). file.name) files;
+    of_input = ready.good.are.names;
+    classes = classes;
+    are_read = ready.good.are_read;
+    is = ready.summed_up ∙ ap (λ n. summary_line n (length classes) (method_count classes)) (sym (length-map files (λ file. file.name)));
+  }
 
-  part_of_summary : (before mid after : Bytes) → mid ≡ before → IsPrefixPrinted (summary_of files) mid after → PrintsPart words old Done before after
-  part_of_summary before mid after same prefix = record { line = summary_of files; is_line = is_summary; prefix = IsPrefixPrinted-from_same (summary_of files) before mid after same prefix }
+  part_of_summary : (before mid after : Bytes) → mid ≡ before → IsPrefixPrinted line mid after → PrintsPart words old Done before after
+  part_of_summary before mid after same prefix = record { line = line; is_line = is_summary; prefix = IsPrefixPrinted-from_same line before mid after same prefix }
 
   module _ (mid new : Files) (same : SameFiles old mid) where
     copies : Puts command.output files mid new → Copies words old new
-    copies puts = record { command = command; spelled = spelled; copied = IsCopied-puts command files old new good.are (Puts-from_same command.output files old mid new same puts) }
+    copies puts = record { command = command; spelled = spelled; copied = IsCopied-puts command files old new ready.good.are (Puts-from_same command.output files old mid new same puts) }
 
     partly_copies : PutsSome command.output files mid new → PartlyCopies words old new
-    partly_copies puts = record { command = command; spelled = spelled; copied = IsPartlyCopied-puts command files old new good.are (PutsSome-from_same command.output files old mid new same puts) }
+    partly_copies puts = record { command = command; spelled = spelled; copied = IsPartlyCopied-puts command files old new ready.good.are (PutsSome-from_same command.output files old mid new same puts) }
+
+    -- the cause of the status
+    pub HasCause-written : (status : Status) → LeavesWritten command.output files mid new status → HasCause words old status
+    HasCause-written Done puts = can_do
+    HasCause-written Usage never = absurd never
+    HasCause-written (Malformed name at rule) never = absurd never
+    HasCause-written (Version name major minor) never = absurd never
+    HasCause-written (Unlinked class member rule) never = absurd never
+    HasCause-written (HostFault calls.List) never = absurd never
+    HasCause-written (HostFault calls.Read) never = absurd never
+    HasCause-written (HostFault calls.Write) puts = can_do
+    HasCause-written (HostFault calls.Print) puts = can_do
+    HasCause-written NoMemory left = tt
 
     -- what writing them left
     pub LeavesFiles-written : (status : Status) → LeavesWritten command.output files mid new status → LeavesFiles words old new status
@@ -82,6 +105,7 @@ module _ (words : List Word) (command : Command) (spelled : Spells command words
     LeavesFiles-written Usage never = absurd never
     LeavesFiles-written (Malformed name at rule) never = absurd never
     LeavesFiles-written (Version name major minor) never = absurd never
+    LeavesFiles-written (Unlinked class member rule) never = absurd never
     LeavesFiles-written (HostFault calls.List) never = absurd never
     LeavesFiles-written (HostFault calls.Read) never = absurd never
     LeavesFiles-written (HostFault calls.Write) puts = partly_copies puts
@@ -91,11 +115,12 @@ module _ (words : List Word) (command : Command) (spelled : Spells command words
     LeavesFiles-written NoMemory (inr (inr puts)) = inr (inr (copies puts))
 
   -- what was printed then
-  pub LeavesPrinted-written : (PrintRose : Type 0) (before mid after : Bytes) → mid ≡ before → (status : Status) → PrintsWritten files mid after status → LeavesPrinted words old PrintRose before after status
-  LeavesPrinted-written PrintRose before mid after same Done all = record { line = summary_of files; is_line = is_summary; printed = all ∙ ap (λ text. text ++ summary_of files) same }
+  pub LeavesPrinted-written : (PrintRose : Type 0) (before mid after : Bytes) → mid ≡ before → (status : Status) → PrintsWritten line mid after status → LeavesPrinted words old PrintRose before after status
+  LeavesPrinted-written PrintRose before mid after same Done all = record { line = line; is_line = is_summary; printed = all ∙ ap (λ text. text ++ line) same }
   LeavesPrinted-written PrintRose before mid after same Usage never = absurd never
   LeavesPrinted-written PrintRose before mid after same (Malformed name at rule) never = absurd never
   LeavesPrinted-written PrintRose before mid after same (Version name major minor) never = absurd never
+  LeavesPrinted-written PrintRose before mid after same (Unlinked class member rule) never = absurd never
   LeavesPrinted-written PrintRose before mid after same (HostFault calls.List) never = absurd never
   LeavesPrinted-written PrintRose before mid after same (HostFault calls.Read) never = absurd never
   LeavesPrinted-written PrintRose before mid after same (HostFault calls.Write) none = none ∙ same

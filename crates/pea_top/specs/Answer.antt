@@ -1,48 +1,92 @@
 -- What words and files answer.
 use Rattle.std.specs.Prelude.{◌≡◌, List, Some, IsTrue}
+use Rattle.class_bytes.specs.Reading.{FirstHeaderFault, IsNoLibraryVersion}
 use Rattle.class_model.specs.Checks.{Fault, fault}
-use Rattle.class_model.specs.ClassOf.{FirstFault, IsOtherVersion}
+use Rattle.class_model.specs.ClassOf.{ClassOf, FirstFault, IsOtherVersion}
 use Rattle.class_model.specs.Cutting as cutting
+use Rattle.class_model.specs.Header.{HeaderOf}
+use Rattle.class_model.specs.declared.class_file.ClassFile.{ClassFile}
+use Rattle.class_model.specs.declared.header.Header.{Header}
+use Rattle.class_tree.specs.Problems.{Problem}
 use Rattle.host_tree.specs.Host.{Bytes, Folder, Files}
 use Rattle.host_tree.specs.declared.call.HostCall.TheVariants as calls
 use Rattle.pea_top.specs.Words.{Word, Command, Spells, IsUsage}
-use Rattle.pea_top.specs.Folders.{IsBefore, names_class_file}
+use Rattle.pea_top.specs.Folders.{IsBefore, names_class_file, HasClassFiles}
+use Rattle.pea_top.specs.Linking.{AreLinked, IsLinkProblem}
 use Rattle.pea_top.specs.declared.status.Status.{Status}
-use Rattle.pea_top.specs.declared.status.Status.TheVariants.{Done, Usage, Malformed, Version, HostFault, NoMemory}
+use Rattle.pea_top.specs.declared.status.Status.TheVariants.{Done, Usage, Malformed, Version, Unlinked, HostFault, NoMemory}
+
+-- ---- refused files
 
 -- why the bytes of a class file are refused: they break a rule at a place, or are of a version that is not read
 pub data Refusal : Type 0 where
   broken : Fault → Refusal
   other_version : cutting.Version → Refusal
 
--- the bytes are refused for this: it is their first fault, or their version
-abbrev pub AreRefused : Bytes → Refusal → Type 0
-AreRefused bytes (broken fault) = FirstFault bytes fault
-AreRefused bytes (other_version version) = IsOtherVersion bytes version
+-- the bytes of a class file of the input are refused for this: it is their first fault, or their version
+abbrev pub IsRefusedClass : Bytes → Refusal → Type 0
+IsRefusedClass bytes (broken fault) = FirstFault bytes fault
+IsRefusedClass bytes (other_version version) = IsOtherVersion bytes version
+
+-- the same of the library, whose class files are read as headers
+abbrev pub IsRefusedHeader : Bytes → Refusal → Type 0
+IsRefusedHeader bytes (broken fault) = FirstHeaderFault bytes fault
+IsRefusedHeader bytes (other_version version) = IsNoLibraryVersion bytes version
 
 -- a file of the folder that is refused: its name is that of a class file, and its bytes are refused for this
-pub record IsRefused (folder : Folder) (name : Bytes) (why : Refusal) : Type 0 where
+pub record IsRefused (Refused : Bytes → Refusal → Type 0) (folder : Folder) (name : Bytes) (why : Refusal) : Type 0 where
   pub named : IsTrue (names_class_file name)
   pub bytes : Bytes
   pub there : folder name ≡ Some bytes
-  pub refused : AreRefused bytes why
+  pub refused : Refused bytes why
+
+-- no file of the folder is refused
+abbrev pub NoneRefused : (Bytes → Refusal → Type 0) → Folder → Type 0
+NoneRefused Refused folder = (name : Bytes) (why : Refusal) → ¬ IsRefused Refused folder name why
 
 -- the first of them in byte order, whatever the others are refused for
-pub record IsFirstRefused (folder : Folder) (name : Bytes) (why : Refusal) : Type 0 where
-  pub refused : IsRefused folder name why
-  pub none_before : (other : Bytes) → IsBefore other name → (other_why : Refusal) → ¬ IsRefused folder other other_why
+pub record IsFirstRefused (Refused : Bytes → Refusal → Type 0) (folder : Folder) (name : Bytes) (why : Refusal) : Type 0 where
+  pub refused : IsRefused Refused folder name why
+  pub none_before : (other : Bytes) → IsBefore other name → (other_why : Refusal) → ¬ IsRefused Refused folder other other_why
 
--- the words spell a command that can be done: no file of its input is refused
+-- The first refused file: one of the input, or where none of the input is refused one of the library.
+pub data IsFirstOf (input library : Folder) (name : Bytes) (why : Refusal) : Type 0 where
+  of_input : IsFirstRefused IsRefusedClass input name why → IsFirstOf input library name why
+  of_library : NoneRefused IsRefusedClass input → IsFirstRefused IsRefusedHeader library name why → IsFirstOf input library name why
+
+-- ---- what is read
+
+-- the class files of the input and the headers of the library, of which no file is refused
+pub record AreRead (input library : Folder) (classes : List ClassFile) (headers : List Header) : Type 0 where
+  pub classes_read : HasClassFiles ClassOf input classes
+  pub headers_read : HasClassFiles HeaderOf library headers
+
+-- ---- the answer
+
+-- The words spell a command that can be done: no file of its input or library is refused, and the class files of the
+-- input are linked with those of the library.
 pub record CanDo (words : List Word) (files : Files) : Type 0 where
   pub command : Command
   pub spelled : Spells command words
-  pub none_refused : (name : Bytes) (why : Refusal) → ¬ IsRefused (files command.input) name why
+  pub classes : List ClassFile
+  pub headers : List Header
+  pub read : AreRead (files command.input) (files command.library) classes headers
+  pub linked : AreLinked classes headers
 
 -- the words spell a command whose first refused file has this name, and is refused for this
 pub record MustRefuse (words : List Word) (files : Files) (name : Bytes) (why : Refusal) : Type 0 where
   pub command : Command
   pub spelled : Spells command words
-  pub first : IsFirstRefused (files command.input) name why
+  pub first : IsFirstOf (files command.input) (files command.library) name why
+
+-- the words spell a command whose files are read, and this is the first problem of linking them
+pub record CannotLink (words : List Word) (files : Files) (problem : Problem) : Type 0 where
+  pub command : Command
+  pub spelled : Spells command words
+  pub classes : List ClassFile
+  pub headers : List Header
+  pub read : AreRead (files command.input) (files command.library) classes headers
+  pub first : IsLinkProblem classes headers problem
 
 -- The answer that words and files determine. A fault of the host and want of memory are no such answer.
 abbrev pub IsAnswer : List Word → Files → Status → Type 0
@@ -50,6 +94,7 @@ IsAnswer words files Done = CanDo words files
 IsAnswer words files Usage = IsUsage words
 IsAnswer words files (Malformed name at rule) = MustRefuse words files name (broken (fault at rule))
 IsAnswer words files (Version name major minor) = MustRefuse words files name (other_version (record { minor = minor; major = major }))
+IsAnswer words files (Unlinked class member rule) = CannotLink words files (record { class = class; member = member; rule = rule })
 IsAnswer words files (HostFault call) = ⊥
 IsAnswer words files NoMemory = ⊥
 
@@ -65,3 +110,4 @@ HasCause words files Done = CanDo words files
 HasCause words files Usage = IsUsage words
 HasCause words files (Malformed name at rule) = MustRefuse words files name (broken (fault at rule))
 HasCause words files (Version name major minor) = MustRefuse words files name (other_version (record { minor = minor; major = major }))
+HasCause words files (Unlinked class member rule) = CannotLink words files (record { class = class; member = member; rule = rule })

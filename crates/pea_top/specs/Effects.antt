@@ -1,13 +1,15 @@
 -- What a call leaves of the files, and what it prints.
-use Rattle.std.specs.Prelude.{◌≡◌, ◌≢◌, ℕ, ◌⊎◌, List, ◌++◌, length, count_by, Some, None, IsSome}
+use Rattle.std.specs.Prelude.{◌≡◌, ◌≢◌, ℕ, ◌⊎◌, List, ◌++◌, length, sum_by, Some, None, IsSome}
+use Rattle.class_model.specs.ClassOf.{ClassOf}
+use Rattle.class_model.specs.declared.class_file.ClassFile.{ClassFile}
 use Rattle.host_tree.specs.Host.{Bytes, Files, SameFiles, IsPrefixPrinted}
 use Rattle.host_tree.specs.declared.call.HostCall.TheVariants as calls
 use Rattle.pea_top.specs.Words.{Word, Command, Spells}
-use Rattle.pea_top.specs.Folders.{IsBefore, AreNames, names_class_file, HaveMethods}
+use Rattle.pea_top.specs.Folders.{IsBefore, AreNames, AreReadAs}
 use Rattle.pea_top.specs.Lines.{summary_line, refusal_line}
 use Rattle.pea_top.specs.Answer.{IsAnswer}
 use Rattle.pea_top.specs.declared.status.Status.{Status}
-use Rattle.pea_top.specs.declared.status.Status.TheVariants.{Done, Usage, Malformed, Version, HostFault, NoMemory}
+use Rattle.pea_top.specs.declared.status.Status.TheVariants.{Done, Usage, Malformed, Version, Unlinked, HostFault, NoMemory}
 
 -- The output has its old files with the files of the input put in, and every other root is as before.
 pub record IsCopied (command : Command) (old new : Files) : Type 0 where
@@ -42,11 +44,16 @@ LeavesFiles words old new Done = Copies words old new
 LeavesFiles words old new Usage = SameFiles old new
 LeavesFiles words old new (Malformed name at rule) = SameFiles old new
 LeavesFiles words old new (Version name major minor) = SameFiles old new
+LeavesFiles words old new (Unlinked class member rule) = SameFiles old new
 LeavesFiles words old new (HostFault calls.List) = SameFiles old new
 LeavesFiles words old new (HostFault calls.Read) = SameFiles old new
 LeavesFiles words old new (HostFault calls.Write) = PartlyCopies words old new
 LeavesFiles words old new (HostFault calls.Print) = Copies words old new
 LeavesFiles words old new NoMemory = SameFiles old new ⊎ (PartlyCopies words old new ⊎ Copies words old new)
+
+-- how many methods these have together
+abbrev pub method_count : List ClassFile → ℕ
+method_count classes = sum_by (λ class. length class.methods) classes
 
 -- the summary of a command over these files
 pub record IsSummary (words : List Word) (files : Files) (line : Bytes) : Type 0 where
@@ -54,9 +61,9 @@ pub record IsSummary (words : List Word) (files : Files) (line : Bytes) : Type 0
   pub spelled : Spells command words
   pub names : List Bytes
   pub of_input : AreNames (files command.input) names
-  pub kept : ℕ
-  pub counted : HaveMethods (files command.input) names kept
-  pub is : line ≡ summary_line (length names) (count_by names_class_file names) kept
+  pub classes : List ClassFile
+  pub are_read : AreReadAs ClassOf (files command.input) names classes
+  pub is : line ≡ summary_line (length names) (length classes) (method_count classes)
 
 -- the line that is printed with an answer
 abbrev pub IsLineOf : List Word → Files → Status → Bytes → Type 0
@@ -64,6 +71,7 @@ IsLineOf words files Done line = IsSummary words files line
 IsLineOf words files Usage line = line ≡ refusal_line Usage
 IsLineOf words files (Malformed name at rule) line = line ≡ refusal_line (Malformed name at rule)
 IsLineOf words files (Version name major minor) line = line ≡ refusal_line (Version name major minor)
+IsLineOf words files (Unlinked class member rule) line = line ≡ refusal_line (Unlinked class member rule)
 IsLineOf words files (HostFault call) line = ⊥
 IsLineOf words files NoMemory line = ⊥
 
@@ -95,6 +103,7 @@ LeavesPrinted words files PrintRose old new Done = PrintsSummary words files old
 LeavesPrinted words files PrintRose old new Usage = PrintsRefusal Usage PrintRose old new
 LeavesPrinted words files PrintRose old new (Malformed name at rule) = PrintsRefusal (Malformed name at rule) PrintRose old new
 LeavesPrinted words files PrintRose old new (Version name major minor) = PrintsRefusal (Version name major minor) PrintRose old new
+LeavesPrinted words files PrintRose old new (Unlinked class member rule) = PrintsRefusal (Unlinked class member rule) PrintRose old new
 LeavesPrinted words files PrintRose old new (HostFault calls.List) = new ≡ old
 LeavesPrinted words files PrintRose old new (HostFault calls.Read) = new ≡ old
 LeavesPrinted words files PrintRose old new (HostFault calls.Write) = new ≡ old

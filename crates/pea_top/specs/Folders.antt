@@ -1,11 +1,9 @@
 -- The files of a folder as a list in byte order of their names.
-use Rattle.std.specs.Prelude.{◌≡◌, ℕ, ◌+◌, ◌-◌, Bool, List, [], ◌∷◌, map, drop, length, codes, bytes_eq, Some, IsSorted, IsTrue}
+use Rattle.std.specs.Prelude.{◌≡◌, ◌-◌, Bool, List, [], ◌∷◌, map, drop, length, codes, bytes_eq, Some, IsSorted, IsTrue}
 use Rattle.std.specs.List.{AllByRecursion}
 use Rattle.std.specs.Ordering.{nat_cmp}
 use Rattle.std.specs.Cmp.Lexicographic.{slice_cmp}
 use Rattle.std.specs.declared.cmp.Ordering.TheVariants.{Less}
-use Rattle.class_model.specs.ClassOf.{ClassOf}
-use Rattle.class_model.specs.declared.class_file.ClassFile.{ClassFile}
 use Rattle.host_tree.specs.Host.{Bytes, Folder, HasEachOnce}
 use Rattle.pea_top.specs.declared.folder.NamedFile.{NamedFile}
 
@@ -27,18 +25,15 @@ pub record AreFiles (folder : Folder) (files : List NamedFile) : Type 0 where
 abbrev pub names_class_file : Bytes → Bool
 names_class_file name = bytes_eq (drop (length name - 6) name) (codes ".class")
 
--- the bytes are a class file with so many methods
-pub record HasClassMethods (bytes : Bytes) (count : ℕ) : Type 0 where
-  pub class : ClassFile
-  pub is_class : ClassOf bytes class
-  pub counted : count ≡ length class.methods
+-- The class files among these names, in their order, are read as these values. The relation says what bytes are read as.
+pub data AreReadAs {X : Type 0} (Of : Bytes → X → Type 0) (folder : Folder) : List Bytes → List X → Type 0 where
+  no_name : AreReadAs Of folder [] []
+  class_file : (name bytes : Bytes) (names : List Bytes) (value : X) (values : List X) → IsTrue (names_class_file name) → folder name ≡ Some bytes → Of bytes value → AreReadAs Of folder names values
+      → AreReadAs Of folder (name ∷ names) (value ∷ values)
+  other_file : (name : Bytes) (names : List Bytes) (values : List X) → ¬ IsTrue (names_class_file name) → AreReadAs Of folder names values → AreReadAs Of folder (name ∷ names) values
 
--- how many methods the file of a name has: a class file by its name those of its class, and another none
-pub data HasMethods (folder : Folder) (name : Bytes) : ℕ → Type 0 where
-  of_class : (bytes : Bytes) (count : ℕ) → IsTrue (names_class_file name) → folder name ≡ Some bytes → HasClassMethods bytes count → HasMethods folder name count
-  of_other : ¬ IsTrue (names_class_file name) → HasMethods folder name 0
-
--- how many methods the files of these names have together
-pub data HaveMethods (folder : Folder) : List Bytes → ℕ → Type 0 where
-  no_files : HaveMethods folder [] 0
-  one_more : (name : Bytes) (names : List Bytes) (count total : ℕ) → HasMethods folder name count → HaveMethods folder names total → HaveMethods folder (name ∷ names) (count + total)
+-- the class files of the folder, in byte order of file names, are read as these values
+pub record HasClassFiles {X : Type 0} (Of : Bytes → X → Type 0) (folder : Folder) (values : List X) : Type 0 where
+  pub names : List Bytes
+  pub are_names : AreNames folder names
+  pub are_read : AreReadAs Of folder names values

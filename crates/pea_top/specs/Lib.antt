@@ -2,6 +2,7 @@ pub mod Status
 pub mod Words
 pub mod Folders
 pub mod Lines
+pub mod Linking
 pub mod Answer
 pub mod Effects
 pub mod Reading

@@ -3,9 +3,11 @@ use Rattle.std.specs.Prelude.{ℕ, ◌+◌, ◌/◌, ◌%◌, ◌&&◌, nat_le, 
 use Rattle.std.specs.List.{flat_map}
 use Rattle.class_model.specs.declared.fault.FileRule.{FileRule}
 use Rattle.class_model.specs.declared.fault.FileRule.TheVariants as rules
+use Rattle.class_tree.specs.declared.fault.LinkRule.{LinkRule}
+use Rattle.class_tree.specs.declared.fault.LinkRule.TheVariants as links
 use Rattle.host_tree.specs.Host.{Bytes}
 use Rattle.pea_top.specs.declared.status.Status.{Status}
-use Rattle.pea_top.specs.declared.status.Status.TheVariants.{Done, Usage, Malformed, Version, HostFault, NoMemory}
+use Rattle.pea_top.specs.declared.status.Status.TheVariants.{Done, Usage, Malformed, Version, Unlinked, HostFault, NoMemory}
 
 -- a hexadecimal digit in lower case
 abbrev pub hex_digit : ℕ → ℕ
@@ -57,11 +59,25 @@ rule_name rules.FrameType = codes "FrameType"
 rule_name rules.FrameSize = codes "FrameSize"
 rule_name rules.FramePlace = codes "FramePlace"
 
+-- the name of a rule of linking
+abbrev pub link_rule_name : LinkRule → Bytes
+link_rule_name links.Duplicate = codes "Duplicate"
+link_rule_name links.Missing = codes "Missing"
+link_rule_name links.Circle = codes "Circle"
+link_rule_name links.FinalSuper = codes "FinalSuper"
+link_rule_name links.LibraryLeans = codes "LibraryLeans"
+link_rule_name links.KindOfSuper = codes "KindOfSuper"
+link_rule_name links.NoMember = codes "NoMember"
+link_rule_name links.NoAccess = codes "NoAccess"
+link_rule_name links.WrongForm = codes "WrongForm"
+link_rule_name links.FinalOverridden = codes "FinalOverridden"
+
 -- what is printed of a refusal; the other statuses print none
 unfoldable pub refusal_line : Status → Bytes
 refusal_line Usage = line (codes "refused 1 Usage")
 refusal_line (Malformed name at rule) = line (codes "refused 2 Malformed " ++ printed_text name ++ codes " " ++ decimal at ++ codes " " ++ rule_name rule)
 refusal_line (Version name major minor) = line (codes "refused 3 Version " ++ printed_text name ++ codes " " ++ decimal major ++ codes " " ++ decimal minor)
+refusal_line (Unlinked class member rule) = line (codes "refused 4 Unlinked " ++ printed_text class ++ codes " " ++ printed_text member.name ++ codes " " ++ printed_text member.desc ++ codes " " ++ link_rule_name rule)
 refusal_line Done = []
 refusal_line (HostFault call) = []
 refusal_line NoMemory = []

@@ -1,12 +1,16 @@
 -- What the steps of reading a folder give.
-use Rattle.std.specs.Prelude.{◌≡◌, Some, Result, Ok, Err}
+use Rattle.std.specs.Prelude.{◌≡◌, Option, Some, None, Result, Ok, Err, IsTrue}
 use Rattle.class_model.specs.Checks.{fault}
+use Rattle.class_model.specs.ClassOf.{ClassOf}
+use Rattle.class_model.specs.Header.{HeaderOf}
+use Rattle.class_model.specs.declared.class_file.ClassFile.{ClassFile}
 use Rattle.class_model.specs.declared.fault.ClassFault.{ClassFault}
 use Rattle.class_model.specs.declared.fault.ClassFault.TheVariants as faults
+use Rattle.class_model.specs.declared.header.Header.{Header}
 use Rattle.host_tree.specs.Host.{Folder, Bytes}
 use Rattle.host_tree.specs.declared.call.HostCall.{HostCall}
-use Rattle.pea_top.specs.Answer.{Refusal, broken, other_version, AreRefused, IsRefused}
-use Rattle.pea_top.specs.Folders.{HasMethods}
+use Rattle.pea_top.specs.Answer.{Refusal, broken, other_version, IsRefusedClass, IsRefusedHeader, IsRefused}
+use Rattle.pea_top.specs.Folders.{names_class_file}
 use Rattle.pea_top.specs.declared.folder.NamedFile.{NamedFile}
 use Rattle.pea_top.specs.declared.reading.ReadStop.{ReadStop}
 use Rattle.pea_top.specs.declared.reading.ReadStop.TheVariants.{Fault, NoMemory, Malformed, Version}
@@ -18,22 +22,48 @@ IsCallStop kind Raised NoMemory = Unit {0}
 IsCallStop kind Raised (Malformed name at rule) = ⊥
 IsCallStop kind Raised (Version name major minor) = ⊥
 
--- a file of the folder with the number of its methods, not refused
-pub record IsGoodFile (folder : Folder) (file : NamedFile) : Type 0 where
+-- a class file by its name has a class, and another has none
+abbrev pub IsClassOf : Bytes → Bytes → Option ClassFile → Type 0
+IsClassOf name bytes (Some class) = IsTrue (names_class_file name) × ClassOf bytes class
+IsClassOf name bytes None = ¬ IsTrue (names_class_file name)
+
+-- a file of the folder with its class, not refused
+pub record IsGoodFile (folder : Folder) (file : NamedFile) (class : Option ClassFile) : Type 0 where
   pub there : folder file.name ≡ Some file.bytes
-  pub methods : HasMethods folder file.name file.methods
-  pub not_refused : (why : Refusal) → ¬ IsRefused folder file.name why
+  pub is_class : IsClassOf file.name file.bytes class
+  pub not_refused : (why : Refusal) → ¬ IsRefused IsRefusedClass folder file.name why
 
 -- the file of this name, or that it is refused
-abbrev pub IsFileOrWhy : Folder → Bytes → Result NamedFile ReadStop → Type 0
-IsFileOrWhy folder name (Ok file) = (file.name ≡ name) × IsGoodFile folder file
+abbrev pub IsFileOrWhy : Folder → Bytes → Result (NamedFile × Option ClassFile) ReadStop → Type 0
+IsFileOrWhy folder name (Ok (file, class)) = (file.name ≡ name) × IsGoodFile folder file class
 IsFileOrWhy folder name (Err (Fault call)) = Unit {0}
 IsFileOrWhy folder name (Err NoMemory) = Unit {0}
-IsFileOrWhy folder name (Err (Malformed refused at rule)) = (refused ≡ name) × IsRefused folder name (broken (fault at rule))
-IsFileOrWhy folder name (Err (Version refused major minor)) = (refused ≡ name) × IsRefused folder name (other_version (record { minor = minor; major = major }))
+IsFileOrWhy folder name (Err (Malformed refused at rule)) = (refused ≡ name) × IsRefused IsRefusedClass folder name (broken (fault at rule))
+IsFileOrWhy folder name (Err (Version refused major minor)) = (refused ≡ name) × IsRefused IsRefusedClass folder name (other_version (record { minor = minor; major = major }))
 
 -- why a class file is not written again: its bytes are refused for that, or memory ran out
 abbrev pub IsWhyNot : Bytes → ClassFault → Type 0
-IsWhyNot bytes (faults.Malformed at rule) = AreRefused bytes (broken (fault at rule))
-IsWhyNot bytes (faults.Version major minor) = AreRefused bytes (other_version (record { minor = minor; major = major }))
+IsWhyNot bytes (faults.Malformed at rule) = IsRefusedClass bytes (broken (fault at rule))
+IsWhyNot bytes (faults.Version major minor) = IsRefusedClass bytes (other_version (record { minor = minor; major = major }))
 IsWhyNot bytes faults.NoMemory = Unit {0}
+
+-- the stop at a file of this name
+abbrev pub stop_at : Bytes → ClassFault → ReadStop
+stop_at name (faults.Malformed at rule) = Malformed name at rule
+stop_at name (faults.Version major minor) = Version name major minor
+stop_at name faults.NoMemory = NoMemory
+
+-- the header of a file of the library that is not refused
+pub record IsGoodHeader (library : Folder) (name : Bytes) (header : Header) : Type 0 where
+  pub bytes : Bytes
+  pub there : library name ≡ Some bytes
+  pub is_header : HeaderOf bytes header
+  pub not_refused : (why : Refusal) → ¬ IsRefused IsRefusedHeader library name why
+
+-- the header of the file of this name, or that it is refused
+abbrev pub IsHeaderOrWhy : Folder → Bytes → Result Header ReadStop → Type 0
+IsHeaderOrWhy library name (Ok header) = IsGoodHeader library name header
+IsHeaderOrWhy library name (Err (Fault call)) = Unit {0}
+IsHeaderOrWhy library name (Err NoMemory) = Unit {0}
+IsHeaderOrWhy library name (Err (Malformed refused at rule)) = (refused ≡ name) × IsRefused IsRefusedHeader library name (broken (fault at rule))
+IsHeaderOrWhy library name (Err (Version refused major minor)) = (refused ≡ name) × IsRefused IsRefusedHeader library name (other_version (record { minor = minor; major = major }))

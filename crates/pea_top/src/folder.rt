@@ -5,12 +5,11 @@ ghost use Rattle.pea_top.specs.Folders.{names_class_file};
 use class_model::ByteList;
 use host_tree::FileName;
 
-/// A file with its name and the number of its methods, which is 0 where it is no class file.
+/// A file with its name.
 #[derive(Debug, Drop)]
 pub struct NamedFile {
     pub name: FileName,
     pub bytes: ByteList,
-    pub methods: usize,
 }
 
 /// Whether a name is that of a class file.

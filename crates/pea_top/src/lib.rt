@@ -4,6 +4,7 @@
 mod folder;
 mod laws;
 mod lines;
+mod linking;
 mod reading;
 mod status;
 mod top;

@@ -1,10 +1,11 @@
 //! The printed lines.
 ghost use Rattle.std.specs.Prelude.{◌≡◌, ◌<◌, ◌++◌, IfOk, OnOk};
 ghost use Rattle.std.specs.List.{flat_map};
-ghost use Rattle.pea_top.specs.Lines.{hex_digit, printed_byte, printed_text, rule_name, summary_line, refusal_line};
+ghost use Rattle.pea_top.specs.Lines.{hex_digit, printed_byte, printed_text, rule_name, link_rule_name, summary_line, refusal_line};
 
 use crate::status::Status;
 use class_model::{FileRule, NoMemory};
+use class_tree::LinkRule;
 use host_tree::FileName;
 use std::alloc::Global;
 
@@ -37,6 +38,22 @@ pub(crate) fn refusal(alloc: Global, status: &Status) -> Result<Vec<u8>, NoMemor
         Status::Version { name, major, minor } => {
             let version = format!(in alloc; " {major} {minor}\n")?;
             file_refusal(alloc, b"refused 3 Version ", name, version.as_str())
+        }
+        Status::Unlinked {
+            class,
+            member,
+            rule,
+        } => {
+            let mut line = Vec::from_slice(alloc, b"refused 4 Unlinked ")?;
+            push_text(&mut line, class.bytes())?;
+            line.push(b' ')?;
+            push_text(&mut line, member.name.bytes())?;
+            line.push(b' ')?;
+            push_text(&mut line, member.desc.bytes())?;
+            line.push(b' ')?;
+            line.extend_from_slice(link_rule_name(*rule).as_bytes())?;
+            line.push(b'\n')?;
+            Ok(line)
         }
         Status::Done | Status::HostFault(_) | Status::NoMemory => Ok(Vec::new(alloc)),
     }
@@ -86,6 +103,24 @@ fn rule_name(rule: FileRule) -> &'static str
         FileRule::FrameType => "FrameType",
         FileRule::FrameSize => "FrameSize",
         FileRule::FramePlace => "FramePlace",
+    }
+}
+
+/// The name of a rule of linking.
+fn link_rule_name(rule: LinkRule) -> &'static str
+    ensures { result.now ≡ link_rule_name rule }
+{
+    match rule {
+        LinkRule::Duplicate => "Duplicate",
+        LinkRule::Missing => "Missing",
+        LinkRule::Circle => "Circle",
+        LinkRule::FinalSuper => "FinalSuper",
+        LinkRule::LibraryLeans => "LibraryLeans",
+        LinkRule::KindOfSuper => "KindOfSuper",
+        LinkRule::NoMember => "NoMember",
+        LinkRule::NoAccess => "NoAccess",
+        LinkRule::WrongForm => "WrongForm",
+        LinkRule::FinalOverridden => "FinalOverridden",
     }
 }
 

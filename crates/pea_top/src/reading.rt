@@ -1,21 +1,37 @@
-//! Reading the input.
-ghost use Rattle.std.specs.Prelude.{◌≡◌, ◌⊎◌, Some, IsTrue, IsSome, IfOk, IfErr, IsErrOf};
+//! Reading the input and the library.
+ghost use Rattle.std.specs.Prelude.{◌≡◌, ◌⊎◌, Some, IsTrue, IsSome, IfSome, IfOk, IfErr, IsErrOf};
+ghost use Rattle.std.specs.List.{AllByRecursion};
 ghost use Rattle.host_tree.specs.declared.call.HostCall.{HostCall};
 ghost use Rattle.host_tree.specs.Host.{Folder, SameFiles};
+ghost use Rattle.class_tree.specs.Headers.{IsClassFile, IsLibraryClass};
 ghost use Rattle.host_tree.specs.Counts.{NeverFalls, Rose, CountsOnly};
-ghost use Rattle.pea_top.specs.Answer.{Refusal, AreRefused};
-ghost use Rattle.pea_top.specs.Folders.{AreNames, HasClassMethods};
-ghost use Rattle.pea_top.specs.Reading.{IsReadOrWhy};
-ghost use Rattle.pea_top.specs.ReadingSteps.{IsCallStop, IsFileOrWhy, IsWhyNot};
+ghost use Rattle.class_model.specs.ClassOf.{ClassOf};
+ghost use Rattle.pea_top.specs.Answer.{Refusal, IsRefusedClass};
+ghost use Rattle.pea_top.specs.Folders.{AreNames, names_class_file};
+ghost use Rattle.pea_top.specs.Reading.{IsReadOrWhy, IsLibraryOrWhy, IsInputOrWhy};
+ghost use Rattle.pea_top.specs.ReadingSteps.{IsCallStop, IsFileOrWhy, IsHeaderOrWhy, IsWhyNot, stop_at};
 ghost use Rattle.pea_top.specs.declared.reading.ReadStop.TheVariants.{NoMemory as no_memory};
 
 use crate::folder::{NamedFile, is_class_file};
-use class_bytes::{push_class, read_class};
+use class_bytes::{a_library_file_is_told_once, push_class, read_class, read_header};
 use class_model::{
-    ByteList, ClassFault, FileRule, a_class_file_has_no_fault, another_version_is_no_class_file,
+    ByteList, ClassFault, ClassFile, FileRule, Header, NoMemory, a_class_file_has_no_fault,
+    another_version_is_no_class_file,
 };
+use class_tree::{ClassFileList, HeaderList};
 use host_tree::{FileName, Host, HostCall, HostFail};
 use std::alloc::{AllocError, AllocFailed, Global};
+
+/// What a command reads.
+#[derive(Drop)]
+pub(crate) struct Input {
+    /// All files of the input, in byte order of their names.
+    pub files: Vec<NamedFile>,
+    /// Its class files, in the same order.
+    pub classes: ClassFileList,
+    /// The headers of the library's class files, in byte order of file names.
+    pub headers: HeaderList,
+}
 
 /// Why the input was not read.
 #[derive(Debug, Drop)]
@@ -45,6 +61,14 @@ impl From<AllocError> for ReadStop {
     }
 }
 
+impl From<NoMemory> for ReadStop {
+    ghost from_gives = { λ _ stop. stop ≡ no_memory };
+
+    fn from(_: NoMemory) -> Self {
+        ReadStop::NoMemory
+    }
+}
+
 impl<T: Drop> From<AllocFailed<T>> for ReadStop {
     ghost from_gives = { λ _ stop. stop ≡ no_memory };
 
@@ -53,22 +77,33 @@ impl<T: Drop> From<AllocFailed<T>> for ReadStop {
     }
 }
 
-/// The files of a folder, in byte order of their names, each class file read and written again.
-pub(crate) fn read_folder<H: Host>(
+/// The files of the input, each class file read and written again, and the headers of the library. Both are listed
+/// before a file is read.
+pub(crate) fn read_input<H: Host>(
     alloc: Global,
     host: &mut H,
-    root: &str,
-) -> Result<Vec<NamedFile>, ReadStop>
+    folder: &str,
+    library: &str,
+) -> Result<Input, ReadStop>
     ensures files { IsTrue H.tells → SameFiles (H.file host.old) (H.file host.new) }
     ensures printed { IsTrue H.tells → H.printed host.new ≡ H.printed host.old }
     ensures counts { (call : HostCall) → NeverFalls (H.faults host.old call) (H.faults host.new call) }
     ensures print_count { H.faults host.new HostCall.Print ≡ H.faults host.old HostCall.Print }
-    ensures found { IsTrue H.tells → IsReadOrWhy (H.file host.old root.now) result }
+    ensures found { IsTrue H.tells → IsInputOrWhy (H.file host.old folder.now) (H.file host.old library.now) result }
+    ensures classes { IfOk result (λ input. AllByRecursion IsClassFile input.classes) }
+    ensures headers { IfOk result (λ input. AllByRecursion IsLibraryClass input.headers) }
     ensures fault { (call : HostCall) → IsErrOf result (ReadStop.Fault call) → ((call ≡ HostCall.List) ⊎ (call ≡ HostCall.Read)) }
     ensures cause { (call : HostCall) → IsErrOf result (ReadStop.Fault call) → Rose (H.faults host.old call) (H.faults host.new call) }
 {
-    let names = list_names(alloc, host, root)?;
-    read_files(alloc, host, root, names)
+    let names = list_names(alloc, host, folder)?;
+    let library_names = list_names(alloc, host, library)?;
+    let (files, classes) = read_files(alloc, host, folder, names)?;
+    let headers = read_library(alloc, host, library, library_names)?;
+    Ok(Input {
+        files,
+        classes,
+        headers,
+    })
 }
 
 /// The names of a folder, in byte order.
@@ -89,40 +124,46 @@ fn list_names<H: Host>(alloc: Global, host: &mut H, root: &str) -> Result<Vec<Fi
     Ok(names)
 }
 
-/// The files with these names, which are those of the folder in byte order.
+/// The files with these names, which are those of the folder in byte order, and its class files.
 fn read_files<H: Host>(
     alloc: Global,
     host: &mut H,
     root: &str,
     names: Vec<FileName>,
-) -> Result<Vec<NamedFile>, ReadStop>
+) -> Result<(Vec<NamedFile>, ClassFileList), ReadStop>
     requires { IsTrue H.tells → AreNames (H.file host.old root.now) names.items }
     ensures files { IsTrue H.tells → SameFiles (H.file host.old) (H.file host.new) }
     ensures printed { IsTrue H.tells → H.printed host.new ≡ H.printed host.old }
     ensures counts { CountsOnly HostCall.Read (H.faults host.old) (H.faults host.new) }
     ensures found { IsTrue H.tells → IsReadOrWhy (H.file host.old root.now) result }
+    ensures classes { IfOk result (λ read. AllByRecursion IsClassFile read.1) }
     ensures cause { (call : HostCall) → IsErrOf result (ReadStop.Fault call) → (call ≡ HostCall.Read) × Rose (H.faults host.old HostCall.Read) (H.faults host.new HostCall.Read) }
 {
     let mut files = Vec::with_capacity(alloc, names.len())?;
+    let mut classes = ClassFileList::new(alloc);
     for name in names {
-        let file = read_file(alloc, host, root, name)?;
+        let (file, class) = read_file(alloc, host, root, name)?;
         files.push(file)?;
+        if let Some(class) = class {
+            classes.push(class)?;
+        }
     }
-    Ok(files)
+    Ok((files, classes))
 }
 
-/// The file with this name, which the folder has.
+/// The file with this name, which the folder has, and its class where it is a class file.
 fn read_file<H: Host>(
     alloc: Global,
     host: &mut H,
     root: &str,
     name: FileName,
-) -> Result<NamedFile, ReadStop>
+) -> Result<(NamedFile, Option<ClassFile>), ReadStop>
     requires { IsTrue H.tells → IsSome (H.file host.old root.now name) }
     ensures files { IsTrue H.tells → SameFiles (H.file host.old) (H.file host.new) }
     ensures printed { IsTrue H.tells → H.printed host.new ≡ H.printed host.old }
     ensures counts { CountsOnly HostCall.Read (H.faults host.old) (H.faults host.new) }
     ensures found { IsTrue H.tells → IsFileOrWhy (H.file host.old root.now) name result }
+    ensures class_file { IfOk result (λ read. IfSome read.1 IsClassFile) }
     ensures cause { (call : HostCall) → IsErrOf result (ReadStop.Fault call) → (call ≡ HostCall.Read) × Rose (H.faults host.old HostCall.Read) (H.faults host.new HostCall.Read) }
 {
     let bytes = read_bytes(alloc, host, root, name.as_str())?;
@@ -152,42 +193,107 @@ fn read_bytes<H: Host>(
 }
 
 /// The file of this name and these bytes. A class file is read and written again.
-fn file_of(alloc: Global, name: FileName, bytes: ByteList) -> Result<NamedFile, ReadStop>
+fn file_of(
+    alloc: Global,
+    name: FileName,
+    bytes: ByteList,
+) -> Result<(NamedFile, Option<ClassFile>), ReadStop>
     ensures file { (folder : Folder) → folder name ≡ Some bytes → IsFileOrWhy folder name result }
+    ensures class_file { IfOk result (λ read. IfSome read.1 IsClassFile) }
     ensures no_fault { (call : HostCall) → ¬ IsErrOf result (ReadStop.Fault call) }
 {
     if !is_class_file(&name) {
-        return Ok(NamedFile {
-            name,
-            bytes,
-            methods: 0,
-        });
+        return Ok((NamedFile { name, bytes }, None));
     }
     match written_again(alloc, bytes) {
-        Ok((bytes, methods)) => Ok(NamedFile {
-            name,
-            bytes,
-            methods,
-        }),
-        Err(ClassFault::Malformed { at, rule }) => Err(ReadStop::Malformed { name, at, rule }),
-        Err(ClassFault::Version { major, minor }) => Err(ReadStop::Version { name, major, minor }),
-        Err(ClassFault::NoMemory) => Err(ReadStop::NoMemory),
+        Ok((bytes, class)) => Ok((NamedFile { name, bytes }, Some(class))),
+        Err(fault) => Err(stop_of(name, fault)),
     }
 }
 
-/// The bytes of the class file that these bytes are read as, in their memory, and the number of its methods.
-fn written_again(alloc: Global, bytes: ByteList) -> Result<(ByteList, usize), ClassFault>
+/// Why reading stops at a file of this name.
+fn stop_of(name: FileName, fault: ClassFault) -> ReadStop
+    ensures { result ≡ stop_at name fault }
+{
+    match fault {
+        ClassFault::Malformed { at, rule } => ReadStop::Malformed { name, at, rule },
+        ClassFault::Version { major, minor } => ReadStop::Version { name, major, minor },
+        ClassFault::NoMemory => ReadStop::NoMemory,
+    }
+}
+
+/// The bytes of the class file that these bytes are read as, in their memory, and the class file.
+fn written_again(alloc: Global, bytes: ByteList) -> Result<(ByteList, ClassFile), ClassFault>
     ensures same { IfOk result (λ written. written.0 ≡ bytes) }
-    ensures methods { IfOk result (λ written. HasClassMethods bytes written.1) }
-    ensures not_refused { IfOk result (λ _. (why : Refusal) → ¬ AreRefused bytes why) }
+    ensures class { IfOk result (λ written. ClassOf bytes written.1) }
+    ensures spelled { IfOk result (λ written. IsClassFile written.1) }
+    ensures not_refused { IfOk result (λ _. (why : Refusal) → ¬ IsRefusedClass bytes why) }
     ensures fault { IfErr result (IsWhyNot bytes) }
 {
     let class = read_class(alloc, bytes.as_slice())?;
     a_class_file_has_no_fault();
     another_version_is_no_class_file();
-    let methods = class.methods.len();
     let mut written = bytes.into_vec();
     written.clear();
     push_class(&mut written, &class)?;
-    Ok((ByteList::from_vec(written), methods))
+    Ok((ByteList::from_vec(written), class))
+}
+
+/// The headers of the class files among these names, which are those of the library in byte order. The bytes of a file
+/// are let go as soon as its header is read.
+fn read_library<H: Host>(
+    alloc: Global,
+    host: &mut H,
+    root: &str,
+    names: Vec<FileName>,
+) -> Result<HeaderList, ReadStop>
+    requires { IsTrue H.tells → AreNames (H.file host.old root.now) names.items }
+    ensures files { IsTrue H.tells → SameFiles (H.file host.old) (H.file host.new) }
+    ensures printed { IsTrue H.tells → H.printed host.new ≡ H.printed host.old }
+    ensures counts { CountsOnly HostCall.Read (H.faults host.old) (H.faults host.new) }
+    ensures found { IsTrue H.tells → IsLibraryOrWhy (H.file host.old root.now) result }
+    ensures headers { IfOk result (AllByRecursion IsLibraryClass) }
+    ensures cause { (call : HostCall) → IsErrOf result (ReadStop.Fault call) → (call ≡ HostCall.Read) × Rose (H.faults host.old HostCall.Read) (H.faults host.new HostCall.Read) }
+{
+    let mut headers = HeaderList::new(alloc);
+    for name in names {
+        if is_class_file(&name) {
+            headers.push(read_library_file(alloc, host, root, name)?)?;
+        }
+    }
+    Ok(headers)
+}
+
+/// The header of the class file of this name, which the library has.
+fn read_library_file<H: Host>(
+    alloc: Global,
+    host: &mut H,
+    root: &str,
+    name: FileName,
+) -> Result<Header, ReadStop>
+    requires there { IsTrue H.tells → IsSome (H.file host.old root.now name) }
+    requires named { IsTrue (names_class_file name) }
+    ensures files { IsTrue H.tells → SameFiles (H.file host.old) (H.file host.new) }
+    ensures printed { IsTrue H.tells → H.printed host.new ≡ H.printed host.old }
+    ensures counts { CountsOnly HostCall.Read (H.faults host.old) (H.faults host.new) }
+    ensures found { IsTrue H.tells → IsHeaderOrWhy (H.file host.old root.now) name result }
+    ensures header { IfOk result IsLibraryClass }
+    ensures cause { (call : HostCall) → IsErrOf result (ReadStop.Fault call) → (call ≡ HostCall.Read) × Rose (H.faults host.old HostCall.Read) (H.faults host.new HostCall.Read) }
+{
+    let bytes = read_bytes(alloc, host, root, name.as_str())?;
+    header_of(alloc, name, bytes)
+}
+
+/// The header of the class file of this name and these bytes.
+fn header_of(alloc: Global, name: FileName, bytes: ByteList) -> Result<Header, ReadStop>
+    requires { IsTrue (names_class_file name) }
+    ensures found { (library : Folder) → library name ≡ Some bytes → IsHeaderOrWhy library name result }
+    ensures header { IfOk result IsLibraryClass }
+    ensures no_fault { (call : HostCall) → ¬ IsErrOf result (ReadStop.Fault call) }
+{
+    a_library_file_is_told_once();
+    match read_header(alloc, bytes.as_slice()) {
+        Ok(header) => Ok(header),
+        Err(fault) => Err(stop_of(name, fault)),
+    }
 }

@@ -2,7 +2,8 @@
 ghost use Rattle.std.specs.Prelude.{◌≡◌};
 ghost use Rattle.pea_top.specs.Status.{code_of};
 
-use class_model::FileRule;
+use class_model::{FileRule, Member, Text};
+use class_tree::LinkRule;
 use host_tree::{FileName, HostCall};
 
 /// How a call ended.
@@ -12,19 +13,26 @@ pub enum Status {
     Done,
     /// The words are not in the grammar.
     Usage,
-    /// This class file of the input breaks a rule, first at this place in bytes. It is the first class file in
-    /// byte order of names that is refused.
+    /// This class file of the input or of the library breaks a rule, first at this place in bytes. It is the first
+    /// class file that is refused: those of the input first, in byte order of names.
     Malformed {
         name: FileName,
         at: u64,
         rule: FileRule,
     },
-    /// This class file of the input is of a version that is not read. It is the first class file in byte order
-    /// of names that is refused.
+    /// This class file of the input or of the library is of a version that is not read. It is the first class file
+    /// that is refused: those of the input first, in byte order of names.
     Version {
         name: FileName,
         major: u16,
         minor: u16,
+    },
+    /// The class files of the input are not linked with those of the library: this class breaks a rule of linking, or
+    /// its member does; a member without a name is the class itself. It is the first problem.
+    Unlinked {
+        class: Text,
+        member: Member,
+        rule: LinkRule,
     },
     /// A call of the host failed.
     HostFault(HostCall),
@@ -42,6 +50,7 @@ impl Status {
             Status::Usage => 1,
             Status::Malformed { .. } => 2,
             Status::Version { .. } => 3,
+            Status::Unlinked { .. } => 4,
             Status::HostFault(_) => 6,
             Status::NoMemory => 9,
         }

@@ -7,22 +7,25 @@ ghost use Rattle.pea_top.specs.Words.{Word, Spells, IsUsage};
 ghost use Rattle.pea_top.specs.CommandView.{command_view};
 ghost use Rattle.pea_top.specs.Lines.{refusal_line};
 ghost use Rattle.pea_top.specs.Answer.{HasCause};
-ghost use Rattle.pea_top.specs.Effects.{LeavesFiles, LeavesPrinted, PrintsRefusal};
-ghost use Rattle.pea_top.specs.CommandEffects.{class_count, method_count, LeavesWritten, PrintsWritten};
+ghost use Rattle.pea_top.specs.Effects.{method_count, LeavesFiles, LeavesPrinted, PrintsRefusal};
+ghost use Rattle.pea_top.specs.CommandEffects.{LeavesWritten, PrintsWritten};
 
-use crate::folder::{NamedFile, is_class_file};
+use crate::folder::NamedFile;
 use crate::lines::{refusal, summary};
-use crate::reading::{ReadStop, read_folder};
+use crate::linking::link;
+use crate::reading::{ReadStop, read_input};
 use crate::status::Status;
 use crate::words::{Command, command_of};
 use crate::writing::write_files;
+use class_model::ClassFile;
+use class_tree::LinkFault;
 use host_tree::{Host, HostCall, HostFail};
 use std::alloc::Global;
 
 /// Does what the words behind the program's name ask for, on a host.
 ///
-/// `optimise IN OUT --lib LIB` reads the folder IN whole, and only then writes the files of IN under
-/// the same names into the folder OUT, which is not cleared, and prints one line.
+/// `optimise IN OUT --lib LIB` reads the folder IN and the class files of the folder LIB whole and links them, and only
+/// then writes the files of IN under the same names into the folder OUT, which is not cleared, and prints one line.
 ///
 /// # Errors
 /// Each status but `NoMemory` comes exactly where its clause says. A refusal prints one line.
@@ -47,7 +50,7 @@ pub fn pea<H: Host>(alloc: Global, words: &[String], host: &mut H) -> Status
     }
 }
 
-/// Reads the input of a command whole, and only then writes the output.
+/// Reads the input and the library of a command whole and links them, and only then writes the output.
 fn optimise<H: Host>(alloc: Global, command: Command<'_>, host: &mut H) -> Status
     ensures not_usage { ¬ (result ≡ Status.Usage) }
     ensures fault { (call : HostCall) → result ≡ Status.HostFault call → Rose (H.faults host.old call) (H.faults host.new call) }
@@ -57,56 +60,81 @@ fn optimise<H: Host>(alloc: Global, command: Command<'_>, host: &mut H) -> Statu
     ensures printed { (words : List Word) → Spells (command_view command.entry) words → IsTrue H.tells → LeavesPrinted words (H.file host.old)
         (Rose (H.faults host.old HostCall.Print) (H.faults host.new HostCall.Print)) (H.printed host.old) (H.printed host.new) result }
 {
-    match read_folder(alloc, host, command.input) {
-        Ok(files) => write_out(alloc, host, command.output, files.as_slice()),
-        Err(ReadStop::Fault(call)) => Status::HostFault(call),
-        Err(ReadStop::NoMemory) => Status::NoMemory,
+    let input = match read_input(alloc, host, command.input, command.library) {
+        Ok(input) => input,
+        Err(ReadStop::Fault(call)) => return Status::HostFault(call),
+        Err(ReadStop::NoMemory) => return Status::NoMemory,
         Err(ReadStop::Malformed { name, at, rule }) => {
-            refuse(alloc, host, Status::Malformed { name, at, rule })
+            return refuse(alloc, host, Status::Malformed { name, at, rule });
         }
         Err(ReadStop::Version { name, major, minor }) => {
-            refuse(alloc, host, Status::Version { name, major, minor })
+            return refuse(alloc, host, Status::Version { name, major, minor });
+        }
+    };
+    let line = summary(
+        alloc,
+        input.files.len(),
+        input.classes.len(),
+        methods(input.classes.as_slice()),
+    );
+    let Ok(line) = line else {
+        return Status::NoMemory;
+    };
+    match link(alloc, input.classes, input.headers) {
+        Ok(_tree) => write_out(
+            alloc,
+            host,
+            command.output,
+            input.files.as_slice(),
+            line.as_slice(),
+        ),
+        Err(LinkFault::NoMemory) => Status::NoMemory,
+        Err(
+            LinkFault::Unlinked {
+                class,
+                member,
+                rule,
+            },
+        ) => {
+            let status = Status::Unlinked {
+                class,
+                member,
+                rule,
+            };
+            refuse(alloc, host, status)
         }
     }
 }
 
-/// Writes the files under a root and prints their summary. All memory of its own is taken before the
-/// first write.
-fn write_out<H: Host>(alloc: Global, host: &mut H, root: &str, files: &[NamedFile]) -> Status
+/// Writes the files under a root and prints a line.
+fn write_out<H: Host>(
+    alloc: Global,
+    host: &mut H,
+    root: &str,
+    files: &[NamedFile],
+    line: &[u8],
+) -> Status
     ensures not_usage { ¬ (result ≡ Status.Usage) }
     ensures fault { (call : HostCall) → result ≡ Status.HostFault call → Rose (H.faults host.old call) (H.faults host.new call) }
     ensures counts { (call : HostCall) → NeverFalls (H.faults host.old call) (H.faults host.new call) }
     ensures files { IsTrue H.tells → LeavesWritten root.now files.now (H.file host.old) (H.file host.new) result }
-    ensures printed { IsTrue H.tells → PrintsWritten files.now (H.printed host.old) (H.printed host.new) result }
+    ensures printed { IsTrue H.tells → PrintsWritten line.now (H.printed host.old) (H.printed host.new) result }
 {
-    let Ok(line) = summary(alloc, files.len(), class_files(files), methods(files)) else {
-        return Status::NoMemory;
-    };
     match write_files(alloc, host, root, files) {
-        Ok(()) => finish(alloc, host, line.as_slice()),
+        Ok(()) => finish(alloc, host, line),
         Err(HostFail::Failed) => Status::HostFault(HostCall::Write),
         Err(HostFail::NoMemory) => Status::NoMemory,
         Err(HostFail::Absent) => unreachable!(),
     }
 }
 
-/// How many of the files are class files.
-fn class_files(files: &[NamedFile]) -> usize
-    ensures { result ≡ class_count files.now }
-{
-    files
-        .iter()
-        .filter(|file| is_class_file(&file.name))
-        .count()
-}
-
-/// How many methods the files have together.
-fn methods(files: &[NamedFile]) -> u128
-    ensures { result ≡ method_count files.now }
+/// How many methods class files have together.
+fn methods(classes: &[ClassFile]) -> u128
+    ensures { result ≡ method_count classes.now }
 {
     let mut total = 0;
-    for file in files {
-        total += file.methods as u128;
+    for class in classes {
+        total += class.methods.len() as u128;
     }
     total
 }

@@ -1,5 +1,5 @@
 use Rattle.std.proofs.Common.{refl, sym, ◌∙◌}
-use Rattle.pea_top.proofs.FolderReads.{good_other, good_class}
+use Rattle.pea_top.proofs.FileReads.{good_other, good_class}
 use Rattle.pea_top.proofs.reading.file_of.Goals as goal
 
 pub returns-then-not-is_class_file-clause-file : goal.returns-then-not-is_class_file-clause-file
@@ -9,4 +9,4 @@ returns-then-not-is_class_file-clause-file c = λ folder there.
 pub returns-in-Ok-clause-file : goal.returns-in-Ok-clause-file
 returns-in-Ok-clause-file c = λ folder there.
     let named = sym c.is_class_file.ensures ∙ c.if-not-is_class_file.false in
-    rw c.in-Ok.ensures.same (refl, good_class folder c.args.name c.args.bytes there c.in-Ok.methods named c.in-Ok.ensures.methods c.in-Ok.ensures.not_refused)
+    rw c.in-Ok.ensures.same (refl, good_class folder c.args.name c.args.bytes there c.in-Ok.class named c.in-Ok.ensures.class c.in-Ok.ensures.not_refused)

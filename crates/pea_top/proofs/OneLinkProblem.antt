@@ -1,0 +1,55 @@
+-- The first problem of linking is one, and what is linked has none.
+use Rattle.std.proofs.Common.{◌≡◌, List, [], ◌∷◌, inl, inr, sym, ◌∙◌, subst, arith}
+use Rattle.class_model.specs.declared.class_file.ClassFile.{ClassFile}
+use Rattle.class_model.specs.declared.header.Header.{Header}
+use Rattle.class_tree.specs.Headers.{Classes, headers_of}
+use Rattle.class_tree.specs.Problems.{Problem, Check, AllHold, IsFirstProblem}
+use Rattle.class_tree.specs.Trees.{IsArranged, IsInOrder, IsTree, IsProblemOf, duplicate, step, IsProblem}
+use Rattle.member_link.specs.Linked.{link_checks}
+use Rattle.pea_top.specs.Linking.{AreLinked, IsLinkProblem, of_hierarchy, of_links}
+
+one_problem_of : (checks : List Check) (one other : Problem) → IsFirstProblem checks one → IsFirstProblem checks other → one ≡ other
+one_problem_of [] one other h i = absurd h
+one_problem_of (c ∷ checks) one other (inl h) (inl i) = h.1 ∙ sym i.1
+one_problem_of (c ∷ checks) one other (inl h) (inr i) = absurd (h.0 i.0)
+one_problem_of (c ∷ checks) one other (inr h) (inl i) = absurd (i.0 h.0)
+one_problem_of (c ∷ checks) one other (inr h) (inr i) = one_problem_of checks one other h.1 i.1
+
+no_problem_of : (checks : List Check) (problem : Problem) → AllHold checks → ¬ IsFirstProblem checks problem
+no_problem_of [] problem all first = first
+no_problem_of (c ∷ checks) problem all (inl first) = first.0 all.0
+no_problem_of (c ∷ checks) problem all (inr first) = no_problem_of checks problem all.1 first.1
+
+-- a hierarchy has no problem
+no_problem_of_tree : {classes : Classes} {problem : Problem} → IsTree classes → ¬ IsProblemOf classes problem
+no_problem_of_tree tree (duplicate name twice first) = absurd (omega (arith, tree.in_order.once name))
+no_problem_of_tree {classes} tree (step problem in_order first) = no_problem_of _ problem tree.holds first
+
+-- what class_tree says of a folder and its library
+pub record TreeLaws : Type 0 where
+  pub problem : (folder : List ClassFile) (library : List Header) (one other : Problem) → IsProblem folder library one → IsProblem folder library other → one ≡ other
+  pub arranged : (folder : List ClassFile) (library : List Header) (one other : Classes) → IsArranged folder library one → IsInOrder (headers_of one) → IsArranged folder library other → one ≡ other
+
+module _ (laws : TreeLaws) (folder : List ClassFile) (library : List Header) where
+  tree_no_problem : (classes : Classes) (problem : Problem) → IsArranged folder library classes → IsTree classes → ¬ IsProblem folder library problem
+  tree_no_problem classes problem arranged tree h =
+      let same : classes ≡ h.classes = laws.arranged folder library classes h.classes arranged tree.in_order h.arranged in
+      no_problem_of_tree (subst IsTree same tree) h.first
+
+  -- the same classes are linked in one arrangement
+  links_at : (classes other : Classes) (problem : Problem) → IsArranged folder library classes → IsTree classes → IsArranged folder library other → IsFirstProblem (link_checks other) problem → IsFirstProblem (link_checks classes) problem
+  links_at classes other problem arranged tree other_arranged first =
+      let same = laws.arranged folder library classes other arranged tree.in_order other_arranged in
+      subst (λ (at : Classes). IsFirstProblem (link_checks at) problem) (sym same) first
+
+  pub one_link_problem : (one other : Problem) → IsLinkProblem folder library one → IsLinkProblem folder library other → one ≡ other
+  one_link_problem one other (of_hierarchy h) (of_hierarchy i) = laws.problem folder library one other h i
+  one_link_problem one other (of_hierarchy h) (of_links classes arranged tree first) = absurd (tree_no_problem classes one arranged tree h)
+  one_link_problem one other (of_links classes arranged tree first) (of_hierarchy i) = absurd (tree_no_problem classes other arranged tree i)
+  one_link_problem one other (of_links classes arranged tree first) (of_links others other_arranged _ other_first) =
+      one_problem_of (link_checks classes) one other first (links_at classes others other arranged tree other_arranged other_first)
+
+  pub linked_no_problem : (problem : Problem) → AreLinked folder library → ¬ IsLinkProblem folder library problem
+  linked_no_problem problem linked (of_hierarchy h) = tree_no_problem linked.classes problem linked.arranged linked.tree h
+  linked_no_problem problem linked (of_links others other_arranged _ first) =
+      no_problem_of (link_checks linked.classes) problem linked.linked (links_at linked.classes others problem linked.arranged linked.tree other_arranged first)

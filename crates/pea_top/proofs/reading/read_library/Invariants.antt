@@ -1,0 +1,19 @@
+use Rattle.std.proofs.Common.{◌≡◌, IsTrue}
+use Rattle.std.specs.List.{AllByRecursion}
+use Rattle.std.specs.Vec.Iter.{into_iter_items}
+use Rattle.class_tree.specs.Headers.{IsLibraryClass}
+use Rattle.host_tree.specs.Host.{SameFiles}
+use Rattle.host_tree.specs.Counts.{CountsOnly}
+use Rattle.host_tree.specs.declared.call.HostCall.TheVariants.{Read}
+use Rattle.pea_top.proofs.HeaderReads.{HasReadHeaders}
+use Rattle.pea_top.proofs.reading.read_library.Given as goal
+
+abbrev pub invariant-loop-name : goal.invariant-loop-name
+invariant-loop-name g l =
+    record {
+      files : IsTrue g.H.Host.tells → SameFiles (g.H.Host.file l.initial.host) (g.H.Host.file l.host);
+      printed : IsTrue g.H.Host.tells → g.H.Host.printed l.host ≡ g.H.Host.printed l.initial.host;
+      counts : CountsOnly Read (g.H.Host.faults l.initial.host) (g.H.Host.faults l.host);
+      read : IsTrue g.H.Host.tells → HasReadHeaders (g.H.Host.file l.initial.host l.root) l.fn.names.items (into_iter_items l.name-iterator) l.headers;
+      library_classes : AllByRecursion IsLibraryClass l.headers;
+    }
