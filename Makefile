@@ -21,3 +21,4 @@ bench: bin/pea
 	bash bench/classes.sh
 	bash bench/trees.sh
 	bash bench/links.sh
+	bash bench/library.sh

@@ -1,21 +1,24 @@
 #!/usr/bin/env bash
-# Copies a folder of 20,000 plain class files and 200 MB of other files, against cp -r of the same folder
-# in the same run, with a warm cache. Prints times, their ratio, and the peak memory of the program. The
+# Copies a folder of 20,000 plain class files, linked with the library of the first example, and 200 MB of other files, against
+# cp -r of the same folder in the same run, with a warm cache. Prints times, their ratio, and the peak memory of the program. The
 # folders stand in memory (/dev/shm) where the machine has it, since a disk's own noise is larger than both
 # times. The two take turns, and the least time of each counts.
 set -eu
 cd "$(dirname "$0")/.."
+root=$PWD
 pea=$PWD/bin/pea
 runs=${RUNS:-5}
 if [ -w /dev/shm ]; then work=$(mktemp -d -p /dev/shm); else work=$(mktemp -d); fi
 trap 'rm -rf "$work"' EXIT
 cd "$work"
-mkdir -p in/classes in/files lib
+mkdir -p in/classes in/files
+cp -r "$root/examples/first/lib" lib
 
-plain='\xca\xfe\xba\xbe\0\0\0\x34\0\x05\x07\0\x02\x01\0\x01A\x07\0\x04\x01\0\x10java/lang/Object\0\x21\0\x01\0\x03\0\0\0\0\0\0\0\0'
+# a class without members, whose name is C and a number
+plain='\xca\xfe\xba\xbe\0\0\0\x34\0\x05\x07\0\x02\x01\0\x06C%05d\x07\0\x04\x01\0\x10java/lang/Object\0\x21\0\x01\0\x03\0\0\0\0\0\0\0\0'
 for group in $(seq 1 200); do
     mkdir "in/classes/$group"
-    for number in $(seq 1 100); do printf "$plain" >"in/classes/$group/C$number.class"; done
+    for number in $(seq 1 100); do printf "$plain" $((group * 100 + number - 101)) >"in/classes/$group/C$number.class"; done
 done
 for number in $(seq 1 200); do head -c 1000000 /dev/urandom >"in/files/$number.bin"; done
 bytes=$(find in -type f -printf '%s\n' | awk '{ sum += $1 } END { print sum }')

@@ -13,18 +13,20 @@ wanted() {
     fi
 }
 
-# milliseconds_of WORDS..: the processor's time of one run of $bench
-milliseconds_of() {
+# least NUMBER NUMBER: the lesser
+least() { if [ "$1" -lt "$2" ]; then echo "$1"; else echo "$2"; fi; }
+
+# processor_ms COMMAND..: the processor's time of one run of a command
+processor_ms() {
     local TIMEFORMAT='%3U %3S'
-    { time "$bench" "$@" >/dev/null; } 2>&1 | awk '{ printf "%d\n", ($1 + $2) * 1000 }'
+    { time "$@" >/dev/null; } 2>&1 | awk '{ printf "%d\n", ($1 + $2) * 1000 }'
 }
 
 # measure WORDS..: the least time of the runs of $bench
 measure() {
-    local least=999999 one
+    local best=999999
     for _ in $(seq 1 "$runs"); do
-        one=$(milliseconds_of "$@")
-        if [ "$one" -lt "$least" ]; then least=$one; fi
+        best=$(least "$best" "$(processor_ms "$bench" "$@")")
     done
-    echo "$least"
+    echo "$best"
 }

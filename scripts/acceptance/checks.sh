@@ -1,11 +1,12 @@
-# How a check is made. Sourced by acceptance.sh, which sets pea and work.
+# How a check is made. Sourced by acceptance.sh, which sets pea, root and work.
 passed=0
 failed=0
 
-# A fresh working folder, with the folders of the input and of the library.
+# A fresh working folder, with the folder of the input and that of the first example's library.
 fresh() {
     rm -rf "$work/case"
-    mkdir -p "$work/case/in" "$work/case/lib"
+    mkdir -p "$work/case/in"
+    cp -r "$root/examples/first/lib" "$work/case/lib"
     cd "$work/case" || exit 1
 }
 
@@ -44,8 +45,12 @@ class_files() { find "$1" -type f -name '*.class' | wc -l; }
 # hex BYTES..: writes the bytes
 hex() { printf "$(printf '%s' "$*" | tr -d ' \n' | sed 's/../\\x&/g')"; }
 
-# A class named A behind its version, with no members, of 53 bytes, and one with two abstract methods.
-plain_rest='0005 070002 01000141 070004 0100106a6176612f6c616e672f4f626a656374 0021 0001 0003 0000 0000 0000 0000'
+# A class without members behind its version. Its name is the letter of this code.
+plain_rest_of() { echo "0005 070002 010001$1 070004 0100106a6176612f6c616e672f4f626a656374 0021 0001 0003 0000 0000 0000 0000"; }
+
+# Such classes named A, of 53 bytes, and B, and one named A with two abstract methods.
+plain_rest=$(plain_rest_of 41)
 plain="cafebabe 0000 0034 $plain_rest"
+plain_b="cafebabe 0000 0034 $(plain_rest_of 42)"
 two_methods='cafebabe 0000 0034 0008 070002 01000141 070004 0100106a6176612f6c616e672f4f626a656374 0100016d 0100016e 010003282956
     0421 0001 0003 0000 0000 0002 0401 0005 0007 0000 0401 0006 0007 0000 0000'

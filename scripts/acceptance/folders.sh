@@ -16,7 +16,7 @@ check "a plain class file" 0 "done files=1 classes=1 rewritten=0 kept=0" same in
 
 fresh
 hex "$two_methods" >in/A.class
-hex "$plain" >in/B.class
+hex "$plain_b" >in/B.class
 printf 'm n' >in/methods
 run optimise in out --lib lib
 check "methods are counted as kept" 0 "done files=3 classes=2 rewritten=0 kept=2" same in out

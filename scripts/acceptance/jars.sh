@@ -1,4 +1,5 @@
-# The class files of Debian's Java packages that are installed, jar by jar, byte for byte.
+# The class files of Debian's Java packages that are installed, each jar alone, linked with the JDK: byte for byte. A jar that is
+# not linked is one of refused-jars.tsv, with its line and the reason.
 
 # unpack JAR FOLDER: puts the files of a jar into the folder.
 unpack() {
@@ -18,8 +19,11 @@ leave_read_versions() {
     find "$1" -mindepth 1 -type d -empty -delete
 }
 
+# The line of a jar that is known to be refused, or nothing.
+refusal_of() { awk -F '\t' -v jar="$1" '$1 == jar { print $2 }' "$root/scripts/acceptance/refused-jars.tsv"; }
+
 jars() {
-    local jar files found=0
+    local jar name files line found=0
     for jar in /usr/share/java/*.jar; do
         if [ -L "$jar" ] || [ ! -f "$jar" ]; then continue; fi
         fresh
@@ -28,13 +32,21 @@ jars() {
         files=$(class_files in)
         if [ "$files" = 0 ]; then continue; fi
         found=1
-        run optimise in out --lib lib
-        check "$(basename "$jar"), $files class files" 0 "done files=$files classes=$files rewritten=0 kept=$(kept)" same in out
+        name=$(basename "$jar")
+        line=$(refusal_of "$name")
+        run optimise in out --lib "$jdk"
+        if [ -n "$line" ]; then
+            check "$name, $files class files, $line" 4 "$line" absent out
+        else
+            check "$name, $files class files" 0 "done files=$files classes=$files rewritten=0 kept=$(kept)" same in out
+        fi
     done
     if [ "$found" = 0 ]; then skipped "class files of Debian's packages" "none are in /usr/share/java"; fi
 }
 
-if command -v unzip >/dev/null || command -v jar >/dev/null; then
+if [ -n "$no_jdk" ]; then
+    skipped "class files of Debian's packages" "$no_jdk"
+elif command -v unzip >/dev/null || command -v jar >/dev/null; then
     jars
 else
     skipped "class files of Debian's packages" "unzip and jar are missing"

@@ -1,0 +1,29 @@
+#!/usr/bin/env bash
+# jdk-library.sh FOLDER: fills the folder with the class files of the JDK that is on the machine, a folder for each module. Each
+# is given the version 52.0, with which headers end; the descriptors of modules, which are no classes, are left out. Prints why
+# and ends with status 2 where there is no JDK.
+set -eu
+for tool in jimage python3; do
+    if ! command -v "$tool" >/dev/null; then
+        echo "$tool is missing"
+        exit 2
+    fi
+done
+modules=$(dirname "$(readlink -f "$(command -v jimage)")")/../lib/modules
+if [ ! -f "$modules" ]; then
+    echo "the JDK has no lib/modules"
+    exit 2
+fi
+jimage extract --dir="$1" "$modules"
+find "$1" -type f \( ! -name '*.class' -o -name module-info.class \) -delete
+find "$1" -type d -empty -delete
+python3 - "$1" <<'PYTHON'
+import os
+import sys
+
+for folder, _, names in os.walk(sys.argv[1]):
+    for name in names:
+        with open(os.path.join(folder, name), "r+b") as file:
+            file.seek(4)
+            file.write(b"\0\0\0\x34")
+PYTHON
