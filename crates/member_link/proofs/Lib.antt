@@ -2,9 +2,7 @@ pub mod FolderClasses
 pub mod LinkSteps
 pub mod MethodUses
 pub mod CodeChecks
-pub mod CodeOfClasses
 pub mod EachUse
-pub mod EntryFrames
 pub mod OwnMembers
 pub mod FieldsOnce
 pub mod UpwardsOnce

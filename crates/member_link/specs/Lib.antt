@@ -16,8 +16,6 @@ pub mod References
 pub mod Declarations
 pub mod Forms
 pub mod Uses
-pub mod Codes
-pub mod Entry
 pub mod Resolving
 pub mod Resolutions
 pub mod NeededForms

@@ -37,6 +37,7 @@ use Rattle.member_link.specs.Fields.{FindsField}
 use Rattle.member_link.specs.Forms.{IsStaticForm, IsInstanceForm, FitsCall, IsInstantiable}
 use Rattle.member_link.specs.Methods.{FindsMethod}
 use Rattle.member_link.specs.References.{Reference, reference_at, FieldTypeNames, DescriptorNames, IsNamedThere, IsNamedAccessible}
+use Rattle.read_code.specs.Codes.{home_of}
 
 -- Where references stand: the classes, the pool of the class file, and the method.
 pub record Scope : Type 0 where
@@ -198,9 +199,6 @@ code_checks s home method part =
 abbrev pub attr_checks : Scope → Home → Method → Attr → List Check
 attr_checks s home method (Code name part) = code_checks s home method part
 attr_checks s home method (Raw name bytes) = []
-
-abbrev pub home_of : ClassFile → Home
-home_of class = record { pool = class.pool; major = class.major; flags = class.flags; name = class_at class.pool class.this_class }
 
 -- the methods of a class file, each with its flags, name and descriptor
 abbrev pub methods_checks : Headers → ClassFile → Header → List Method → List Member → List Check

@@ -6,9 +6,9 @@ ghost use Rattle.class_model.specs.Instructions.{decoded};
 ghost use Rattle.class_tree.specs.Answers.{Answers};
 ghost use Rattle.class_tree.specs.Problems.{asked_each};
 ghost use Rattle.code_bytes.specs.Decoding.{code_checks as decoding_checks};
-ghost use Rattle.member_link.specs.Codes.{IsReadMethod};
 ghost use Rattle.member_link.specs.Resolving.{scope_of};
-ghost use Rattle.member_link.specs.Uses.{code_checks, handler_checks, home_of, instr_checks};
+ghost use Rattle.member_link.specs.Uses.{code_checks, handler_checks, instr_checks};
+ghost use Rattle.read_code.specs.Codes.{IsReadMethod, home_of};
 
 use crate::frames::{MethodCode, check_inners};
 use crate::instructions::check_instr;
@@ -17,7 +17,7 @@ use class_model::{
     ClassFault, ClassFile, CodePart, Handler, Member, Method, NoMemory, Placed, PlacedList,
 };
 use class_tree::LinkFault;
-use code_bytes::decode;
+use read_code::instructions_of;
 use std::alloc::Global;
 
 /// Asks that what the code of a method refers to is there, of the right form and accessible. The method is this member of
@@ -36,7 +36,7 @@ pub(crate) fn check_code(
     ensures same { resolver.new ≡ resolver.old }
     ensures told { Answers (code_checks (scope_of resolver.old member.now) (home_of class.now) method.now part.now) result }
 {
-    let instrs = instrs_of(alloc, part.code.as_slice())?;
+    let instrs = instructions_of(alloc, part.code.as_slice())?;
     check_instrs(alloc, resolver, member, instrs.as_slice())?;
     check_handlers(alloc, resolver, member, part.handlers.as_slice())?;
     let code = MethodCode {
@@ -47,19 +47,6 @@ pub(crate) fn check_code(
         instrs: &instrs,
     };
     check_inners(alloc, resolver, &code)
-}
-
-// The instructions of a code that was read.
-fn instrs_of(alloc: Global, code: &[u8]) -> Result<PlacedList, NoMemory>
-    requires { AllHold (decoding_checks code.now) }
-    ensures { IfOk result (λ instrs. decoded code.now ≡ Ok instrs) }
-{
-    match decode(alloc, code) {
-        Ok(instrs) => Ok(instrs),
-        Err(ClassFault::NoMemory) => Err(NoMemory),
-        Err(ClassFault::Malformed { .. }) => unreachable!(),
-        Err(ClassFault::Version { .. }) => unreachable!(),
-    }
 }
 
 // Asks that what each of these instructions refers to is there, of the right form and accessible.

@@ -3,11 +3,10 @@ ghost use Rattle.std.specs.Prelude.{◌≡◌, Ok};
 ghost use Rattle.class_model.specs.Instructions.{decoded};
 ghost use Rattle.class_tree.specs.Answers.{Answers};
 ghost use Rattle.class_tree.specs.Problems.{asked_each};
-ghost use Rattle.member_link.specs.Codes.{IsReadMethod};
 ghost use Rattle.member_link.specs.Resolving.{scope_of};
-ghost use Rattle.member_link.specs.Uses.{frame_checks, home_of, inner_checks, type_checks};
+ghost use Rattle.member_link.specs.Uses.{frame_checks, inner_checks, type_checks};
+ghost use Rattle.read_code.specs.Codes.{IsReadMethod, home_of};
 
-use crate::entry::{entry_frame, is_text};
 use crate::resolver::{Resolver, check_name};
 use class_model::{
     ClassFault, ClassFile, CodePart, InnerAttr, LocalTypeList, Member, Method, PlacedFrame,
@@ -15,6 +14,7 @@ use class_model::{
 };
 use class_tree::LinkFault;
 use map_frames::read_frames;
+use read_code::{entry_frame, is_text};
 use std::alloc::Global;
 
 const STACK_MAP_TABLE: &[u8] = b"StackMapTable";

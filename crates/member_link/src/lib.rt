@@ -8,7 +8,6 @@ mod code_uses;
 mod constants;
 mod declarations;
 mod defaults;
-mod entry;
 mod fields;
 mod flags;
 mod forms;
@@ -31,7 +30,6 @@ mod upwards;
 mod uses;
 
 pub use access::accessible;
-pub use entry::entry_frame;
 pub use fields::find_field;
 pub use found::Found;
 pub use laws::{

@@ -4,14 +4,15 @@ ghost use Rattle.class_model.specs.Header.{header_of};
 ghost use Rattle.class_tree.specs.Answers.{Answers};
 ghost use Rattle.class_tree.specs.Headers.{headers_of};
 ghost use Rattle.class_tree.specs.Problems.{asked_each};
-ghost use Rattle.member_link.specs.Codes.{HasInstrs, IsReadMethod, HasReadMethods};
 ghost use Rattle.member_link.specs.Resolving.{scope_of};
-ghost use Rattle.member_link.specs.Uses.{attr_checks, home_of, use_checks};
+ghost use Rattle.member_link.specs.Uses.{attr_checks, use_checks};
+ghost use Rattle.read_code.specs.Codes.{HasInstrs, IsReadMethod, HasReadMethods, home_of};
 
 use crate::code_uses::check_code;
 use crate::resolver::Resolver;
 use class_model::{Attr, ClassFile, Header, Member, Method};
 use class_tree::{LinkFault, Place, Tree};
+use read_code::a_class_file_has_read_methods;
 use std::alloc::Global;
 
 /// Asks of each method of the folder that its instructions, its exception table and its stated frames refer to what is
@@ -19,6 +20,7 @@ use std::alloc::Global;
 pub(crate) fn check_uses(alloc: Global, tree: &Tree) -> Result<(), LinkFault>
     ensures { Answers (asked_each (use_checks (headers_of tree.now)) tree.now.folder) result }
 {
+    a_class_file_has_read_methods();
     for (place, class) in tree.folder().as_slice().iter().enumerate() {
         let Some(header) = tree.header(Place::Folder(place)) else {
             unreachable!()

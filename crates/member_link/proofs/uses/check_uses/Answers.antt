@@ -12,7 +12,7 @@ use Rattle.member_link.proofs.uses.check_uses.Goals as goal
 pub check_class_uses-requires-clause-methods : goal.check_class_uses-requires-clause-methods
 check_class_uses-requires-clause-methods c =
     let items = c.as_slice-class-items.ensures ∙ c.folder.ensures.same in
-    methods_of_class c.as_slice-class-items.result.now c.loop-place.place c.class-item.result c.class-item.result (subst (AllByRecursion IsClassFile) (sym items) c.folder.ensures.tree.folder) c.loop-place-test.true c.class-item.is
+    methods_of_class c.a_class_file_has_read_methods.ensures.methods c.as_slice-class-items.result.now c.loop-place.place c.class-item.result c.class-item.result (subst (AllByRecursion IsClassFile) (sym items) c.folder.ensures.tree.folder) c.loop-place-test.true c.class-item.is
 
 pub returns-in_err-check_class_uses : goal.returns-in_err-check_class_uses
 returns-in_err-check_class_uses c =

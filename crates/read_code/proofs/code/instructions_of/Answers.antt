@@ -2,8 +2,8 @@ use Rattle.std.proofs.Common.{◌≡◌, Err, Ok, subst}
 use Rattle.class_model.specs.Answers.{Tells}
 use Rattle.class_model.specs.Instructions.{decoded}
 use Rattle.code_bytes.specs.Decoding.{code_checks}
-use Rattle.member_link.proofs.CodeOfClasses.{no_fault}
-use Rattle.member_link.proofs.code_uses.instrs_of.Goals as goal
+use Rattle.read_code.proofs.ReadMethods.{no_fault}
+use Rattle.read_code.proofs.code.instructions_of.Goals as goal
 
 pub unreachable-requires : goal.unreachable-requires
 unreachable-requires c =

@@ -1,14 +1,15 @@
--- The code of each method of a class file that was read has instructions.
+-- The code of each method of a class file has instructions, whose constants are of the kinds that they may name.
 use Rattle.std.proofs.Common.{◌≡◌, ◌+◌, ◌*◌, ◌==◌, ℕ, zero, suc, Bool, true, false, cond, List, [], ◌∷◌, ◌++◌, length, map, Option, Some, None, Result, Ok, Err, IsTrue, IsFalse, refl, sym, subst, inl, inr}
 use Rattle.std.specs.List.{AllByRecursion, flat_map}
 use Rattle.class_model.specs.Checks.{Check, Fault, fault, check, AllHold, IsFirstFault, asked_of, asked_if, ◌>>=◌}
 use Rattle.class_model.specs.ClassOf.{ClassOf, method_signature, fields_checks, methods_checks, dynamic_checks, entered_attr, entered_method}
-use Rattle.class_model.specs.Code.{code_part, jump_checks, operand_checks, handlers_checks, inners_checks}
+use Rattle.class_model.specs.Code.{OperandFits, code_part, jump_checks, operand_checks, handlers_checks, inners_checks}
 use Rattle.class_model.specs.Cutting.{Rest, Version, Cut, bytes_at, u2_at, u4_at, many_at, counted_at, pool_at, attr_at, field_at, method_at, class_at}
 use Rattle.class_model.specs.Frames.{Setting}
 use Rattle.class_model.specs.Instructions.{decoded}
 use Rattle.class_model.specs.Members.{Signature, fits_class, is_named, has_named, class_name_checks, super_checks, interfaces_checks, attrs_checks}
 use Rattle.class_model.specs.Methods.{Home, code, entry_of, instructions_checks, part_checks, content_checks, method_attr_checks, method_checks, class_attr_checks, bootstrap_count}
+use Rattle.class_model.specs.Pool.{Constants}
 use Rattle.class_model.specs.PoolChecks as pools
 use Rattle.class_model.specs.PoolChecks.{entries_checks}
 use Rattle.class_model.specs.Spelling.{attr_bytes, entry_bytes, field_bytes, method_bytes}
@@ -20,7 +21,7 @@ use Rattle.class_model.specs.declared.class_file.Method.{Method}
 use Rattle.class_model.specs.declared.fault.FileRule.TheVariants as rules
 use Rattle.class_model.specs.declared.instr.Placed.{Placed}
 use Rattle.code_bytes.specs.Decoding.{code_checks}
-use Rattle.member_link.specs.Codes.{HasInstrs, IsReadMethod, HasReadMethods}
+use Rattle.read_code.specs.Codes.{HasInstrs, HasOperands, HaveOperands, IsReadMethod, HasReadMethods, HasReadOperands}
 
 -- ---- checks that hold
 
@@ -39,6 +40,9 @@ back (c ∷ a) b h = back a b h.1
 
 first_of_four : (a b c d : List Check) → AllHold (a ++ b ++ c ++ d) → AllHold a
 first_of_four a b c d all = front a b (front (a ++ b) c (front (a ++ b ++ c) d all))
+
+second_of_four : (a b c d : List Check) → AllHold (a ++ b ++ c ++ d) → AllHold b
+second_of_four a b c d all = back a b (front (a ++ b) c (front (a ++ b ++ c) d all))
 
 seventh_of_nine : (a b c d e f g h i : List Check) → AllHold (a ++ b ++ c ++ d ++ e ++ f ++ g ++ h ++ i) → AllHold g
 seventh_of_nine a b c d e f g h i all =
@@ -145,60 +149,108 @@ abbrev placed_at : {X : Type 0} → ℕ → Result X Fault → Result X Fault
 placed_at start (Ok x) = Ok x
 placed_at start (Err f) = Err (fault (start + f.at) f.rule)
 
-part_has_instrs : (home : Home) (method : Method) (at : ℕ) (part : CodePart) → AllHold (part_checks home method at part) → AllHold (code_checks part.code)
-part_has_instrs home method at part hold = (hold.0, by (decoded part.code) hold.1.1)
+operands_fit : (start : ℕ) (pool : Constants) (major max_locals : ℕ) (instrs : List Placed) → AllHold (operand_checks start pool major max_locals instrs) → AllByRecursion (λ placed. OperandFits pool major max_locals placed.instr) instrs
+operands_fit start pool major max_locals [] h = tt
+operands_fit start pool major max_locals (placed ∷ instrs) h = (h.0, operands_fit start pool major max_locals instrs h.1)
+
+-- what is known of a code's instructions
+record IsReadPart (home : Home) (part : CodePart) : Type 0 where
+  instrs : AllHold (code_checks part.code)
+  operands : HaveOperands home.pool home.major part.max_locals (decoded part.code)
+
+part_is_read : (home : Home) (method : Method) (at : ℕ) (part : CodePart) → AllHold (part_checks home method at part) → IsReadPart home part
+part_is_read home method at part hold =
+    let by_read = by (decoded part.code) hold.1.1 in
+    record { instrs = (hold.0, by_read.0); operands = by_read.1 }
   where
-    by : (read : Result (List Placed) Fault) → AllHold (asked_of (placed_at (at + 14) read) (instructions_checks home method at part)) → AllHold (asked_of read (λ instrs. jump_checks 0 instrs instrs))
+    by : (read : Result (List Placed) Fault) → AllHold (asked_of (placed_at (at + 14) read) (instructions_checks home method at part))
+        → AllHold (asked_of read (λ instrs. jump_checks 0 instrs instrs)) × HaveOperands home.pool home.major part.max_locals read
     by (Err f) h = absurd h.0
     by (Ok instrs) h =
         let start = at + 14 in
         let table = start + length part.code + 2 in
         let setting : Setting = record { pool = home.pool; max_locals = part.max_locals; max_stack = part.max_stack; code = instrs } in
-        jumps_hold start instrs instrs
-        (first_of_four (jump_checks start instrs instrs) (operand_checks start home.pool home.major part.max_locals instrs) (handlers_checks home.pool instrs (length part.code) table part.handlers)
-        (inners_checks setting (entry_of home method part) false (table + 8 * length part.handlers + 2) part.attrs) h)
+        let jumps = jump_checks start instrs instrs in
+        let operands = operand_checks start home.pool home.major part.max_locals instrs in
+        let handlers = handlers_checks home.pool instrs (length part.code) table part.handlers in
+        let inners = inners_checks setting (entry_of home method part) false (table + 8 * length part.handlers + 2) part.attrs in
+        (jumps_hold start instrs instrs (first_of_four jumps operands handlers inners h), operands_fit start home.pool home.major part.max_locals instrs (second_of_four jumps operands handlers inners h))
 
 -- what is asked of the content of an attribute that is named Code
 abbrev named_checks : Home → Method → List Attr → ℕ → Option CodePart → List Check
 named_checks home method before at content = check at rules.Twice (IsFalse (has_named home.pool code before)) ∷ content_checks home method at content
 
-attr_has_instrs : (home : Home) (method : Method) (before : List Attr) (at : ℕ) (attr : Attr) → IsRaw attr → AllHold (method_attr_checks home method before at attr) → HasInstrs (entered_attr home.pool attr)
-attr_has_instrs home method before at (Code name part) raw hold = absurd raw
-attr_has_instrs home method before at (Raw name bytes) raw hold = by (is_named home.pool code (Raw name bytes)) refl hold.1
+-- what is known of an attribute of a method
+record IsReadAttr (home : Home) (attr : Attr) : Type 0 where
+  instrs : HasInstrs attr
+  operands : HasOperands home.pool home.major attr
+
+read_raw : (home : Home) (name : ℕ) (bytes : List ℕ) → IsReadAttr home (Raw name bytes)
+read_raw home name bytes = record { instrs = tt; operands = tt }
+
+read_code : (home : Home) (name : ℕ) (part : CodePart) → IsReadPart home part → IsReadAttr home (Code name part)
+read_code home name part is = record { instrs = is.instrs; operands = is.operands }
+
+attr_is_read : (home : Home) (method : Method) (before : List Attr) (at : ℕ) (attr : Attr) → IsRaw attr → AllHold (method_attr_checks home method before at attr) → IsReadAttr home (entered_attr home.pool attr)
+attr_is_read home method before at (Code name part) raw hold = absurd raw
+attr_is_read home method before at (Raw name bytes) raw hold = by (is_named home.pool code (Raw name bytes)) refl hold.1
   where
-    of_content : (content : Option CodePart) → code_part bytes ≡ content → is_named home.pool code (Raw name bytes) ≡ true → AllHold (named_checks home method before at content) → HasInstrs (entered_attr home.pool (Raw name bytes))
+    of_content : (content : Option CodePart) → code_part bytes ≡ content → is_named home.pool code (Raw name bytes) ≡ true → AllHold (named_checks home method before at content) → IsReadAttr home (entered_attr home.pool (Raw name bytes))
     of_content None is named h = absurd h.1.0
-    of_content (Some part) is named h = rw (named, is) (part_has_instrs home method at part h.1)
+    of_content (Some part) is named h = rw (named, is) (read_code home name part (part_is_read home method at part h.1))
 
-    by : (named : Bool) → is_named home.pool code (Raw name bytes) ≡ named → AllHold (asked_if named (named_checks home method before at (code_part bytes))) → HasInstrs (entered_attr home.pool (Raw name bytes))
+    by : (named : Bool) → is_named home.pool code (Raw name bytes) ≡ named → AllHold (asked_if named (named_checks home method before at (code_part bytes))) → IsReadAttr home (entered_attr home.pool (Raw name bytes))
     by true is h = of_content (code_part bytes) refl is h
-    by false is h = rw is tt
+    by false is h = rw is (read_raw home name bytes)
 
-attrs_have_instrs : (home : Home) (method : Method) (before : List Attr) (at : ℕ) (attrs : List Attr) → AllByRecursion IsRaw attrs → AllHold (attrs_checks (method_attr_checks home method) before at attrs) → AllByRecursion HasInstrs (map (entered_attr home.pool) attrs)
-attrs_have_instrs home method before at [] raw hold = tt
-attrs_have_instrs home method before at (attr ∷ attrs) raw hold =
+record AreReadAttrs (home : Home) (attrs : List Attr) : Type 0 where
+  instrs : AllByRecursion HasInstrs attrs
+  operands : AllByRecursion (HasOperands home.pool home.major) attrs
+
+attrs_are_read : (home : Home) (method : Method) (before : List Attr) (at : ℕ) (attrs : List Attr) → AllByRecursion IsRaw attrs → AllHold (attrs_checks (method_attr_checks home method) before at attrs) → AreReadAttrs home (map (entered_attr home.pool) attrs)
+attrs_are_read home method before at [] raw hold = record { instrs = tt; operands = tt }
+attrs_are_read home method before at (attr ∷ attrs) raw hold =
     let own = method_attr_checks home method before at attr in
     let others = attrs_checks (method_attr_checks home method) (before ++ attr ∷ []) (at + length (attr_bytes attr)) attrs in
-    (attr_has_instrs home method before at attr raw.0 (front own others hold), attrs_have_instrs home method (before ++ attr ∷ []) (at + length (attr_bytes attr)) attrs raw.1 (back own others hold))
+    let first = attr_is_read home method before at attr raw.0 (front own others hold) in
+    let rest = attrs_are_read home method (before ++ attr ∷ []) (at + length (attr_bytes attr)) attrs raw.1 (back own others hold) in
+    record { instrs = (first.instrs, rest.instrs); operands = (first.operands, rest.operands) }
 
 -- ---- methods
 
-method_is_read : (home : Home) (before : List Signature) (at : ℕ) (method : Method) → AreRaw method → AllHold (method_checks home before at method) → IsReadMethod home.pool (entered_method home.pool method)
-method_is_read home before at method raw hold = record {
-  there = hold.1.1.1.1.1.1.0;
-  descriptor = hold.1.1.1.1.1.1.1.0;
-  codes = attrs_have_instrs home method [] (at + 8) method.attrs raw hold.1.1.1.1.1.1.1.1;
-}
+-- what is known of a method
+record IsReadIn (home : Home) (method : Method) : Type 0 where
+  read : IsReadMethod home.pool method
+  operands : AllByRecursion (HasOperands home.pool home.major) method.attrs
 
-methods_are_read : (home : Home) (before : List Signature) (at : ℕ) (methods : List Method) → AllByRecursion AreRaw methods → AllHold (methods_checks home before at methods) → AllByRecursion (IsReadMethod home.pool) (map (entered_method home.pool) methods)
-methods_are_read home before at [] raw hold = tt
+method_is_read : (home : Home) (before : List Signature) (at : ℕ) (method : Method) → AreRaw method → AllHold (method_checks home before at method) → IsReadIn home (entered_method home.pool method)
+method_is_read home before at method raw hold =
+    let attrs = attrs_are_read home method [] (at + 8) method.attrs raw hold.1.1.1.1.1.1.1.1 in
+    record {
+      read = record { there = hold.1.1.1.1.1.1.0; descriptor = hold.1.1.1.1.1.1.1.0; codes = attrs.instrs };
+      operands = attrs.operands;
+    }
+
+record AreReadIn (home : Home) (methods : List Method) : Type 0 where
+  read : AllByRecursion (IsReadMethod home.pool) methods
+  operands : AllByRecursion (λ method. AllByRecursion (HasOperands home.pool home.major) method.attrs) methods
+
+methods_are_read : (home : Home) (before : List Signature) (at : ℕ) (methods : List Method) → AllByRecursion AreRaw methods → AllHold (methods_checks home before at methods) → AreReadIn home (map (entered_method home.pool) methods)
+methods_are_read home before at [] raw hold = record { read = tt; operands = tt }
 methods_are_read home before at (method ∷ methods) raw hold =
     let own = method_checks home before at method in
     let others = methods_checks home (before ++ method_signature method ∷ []) (at + length (method_bytes method)) methods in
-    (method_is_read home before at method raw.0 (front own others hold), methods_are_read home (before ++ method_signature method ∷ []) (at + length (method_bytes method)) methods raw.1 (back own others hold))
+    let first = method_is_read home before at method raw.0 (front own others hold) in
+    let rest = methods_are_read home (before ++ method_signature method ∷ []) (at + length (method_bytes method)) methods raw.1 (back own others hold) in
+    record { read = (first.read, rest.read); operands = (first.operands, rest.operands) }
 
-pub class_has_read_methods : (bytes : List ℕ) (class : ClassFile) → ClassOf bytes class → HasReadMethods class
-class_has_read_methods bytes class is =
+-- the methods of a class file
+pub record IsReadClass (class : ClassFile) : Type 0 where
+  pub read : HasReadMethods class
+  pub operands : HasReadOperands class
+
+pub class_is_read : (bytes : List ℕ) (class : ClassFile) → ClassOf bytes class → IsReadClass class
+class_is_read bytes class is =
     let c = is.cut in
     let pool = c.pool in
     let flags = 10 + length (flat_map entry_bytes pool) in
@@ -207,4 +259,5 @@ class_has_read_methods bytes class is =
     let attrs = methods + 2 + length (flat_map method_bytes c.methods) in
     let home : Home = record { pool = pool; major = c.major; flags = c.flags; name = pools.class_at pool c.this_class } in
     let hold = seventh_of_nine (entries_checks c.major pool 10 pool) (check flags rules.Flags (IsTrue (fits_class c.flags)) ∷ []) (class_name_checks pool (flags + 2) c.this_class) (super_checks pool (flags + 4) c.super_class) (interfaces_checks pool (flags + 8) c.interfaces) (fields_checks pool c.flags [] (fields + 2) c.fields) (methods_checks home [] (methods + 2) c.methods) (attrs_checks (class_attr_checks pool) [] (attrs + 2) c.attrs) (dynamic_checks (bootstrap_count pool c.attrs) 10 pool) is.holds in
-    subst HasReadMethods (sym is.is) (methods_are_read home [] (methods + 2) c.methods (class_cut is.version is.rest c is.is_cut) hold)
+    let are = methods_are_read home [] (methods + 2) c.methods (class_cut is.version is.rest c is.is_cut) hold in
+    subst IsReadClass (sym is.is) (record { read = are.read; operands = are.operands })

@@ -2,8 +2,8 @@ use Rattle.std.proofs.Common.{◌≡◌, ◌++◌, map, take}
 use Rattle.class_model.specs.Code.{verification_type}
 use Rattle.class_model.specs.Frames.{units_of_entries}
 use Rattle.class_model.specs.PoolChecks.{class_at, utf8_at}
-use Rattle.member_link.specs.Entry.{this_entries}
-use Rattle.member_link.proofs.entry.entry_frame.Given as goal
+use Rattle.read_code.specs.Entry.{this_entries}
+use Rattle.read_code.proofs.entry.entry_frame.Given as goal
 
 abbrev pub invariant-loop-param : goal.invariant-loop-param
 invariant-loop-param l =

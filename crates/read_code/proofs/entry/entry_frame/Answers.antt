@@ -5,10 +5,10 @@ use Rattle.class_model.specs.PoolChecks.{class_at, utf8_at}
 use Rattle.class_model.specs.declared.descriptor.FieldType.{FieldType}
 use Rattle.class_model.specs.declared.frame.Frame.{Frame}
 use Rattle.class_model.specs.declared.frame.VType.{VType}
-use Rattle.member_link.specs.Entry.{this_entries}
-use Rattle.member_link.specs.Uses.{home_of}
-use Rattle.member_link.proofs.EntryFrames.{frame_of, with_tops, entry_is, all_params}
-use Rattle.member_link.proofs.entry.entry_frame.Goals as goal
+use Rattle.read_code.specs.Entry.{this_entries}
+use Rattle.read_code.specs.Codes.{home_of}
+use Rattle.read_code.proofs.EntryFrames.{frame_of, with_tops, entry_is, all_params}
+use Rattle.read_code.proofs.entry.entry_frame.Goals as goal
 
 pub returns : goal.returns
 returns c =
@@ -19,6 +19,6 @@ returns c =
     ap with_stack c.new.ensures
     ∙ ap frame_of c.fill.ensures
     ∙ ap (λ (count : ℕ). frame_of (with_tops count c.loop-param.locals)) c.from.ensures
-    ∙ entry_is (home_of class) method c.args.part.now c.in-Some.text.now c.in_ok-descriptor.descriptor.params c.loop-param.locals (sym c.in-Some.ensures) c.in_ok-descriptor.ensures
+    ∙ entry_is (home_of class) method c.args.part.now c.in-Some.text.now c.in_ok-descriptor.descriptor.params c.loop-param.locals (sym c.in-Some.ensures) c.in_ok-descriptor.ensures.params
     (all_params this _ _ _ c.loop-param-test.false c.loop-param.invariant
     ∙ ap (λ (params : List FieldType). this ++ units_of_entries (map verification_type params)) c.as_slice-param-items.ensures)

@@ -16,7 +16,7 @@ use Rattle.class_model.specs.declared.descriptor.FieldType.{FieldType}
 use Rattle.class_model.specs.declared.frame.Frame.{Frame}
 use Rattle.class_model.specs.declared.frame.VType.{VType}
 use Rattle.class_model.specs.declared.frame.VType.TheVariants as types
-use Rattle.member_link.specs.Entry.{class_entry, this_entries}
+use Rattle.read_code.specs.Entry.{class_entry, this_entries}
 
 -- ---- Top in the other locals
 

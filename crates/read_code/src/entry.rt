@@ -2,21 +2,21 @@
 ghost use Rattle.std.specs.Prelude.{◌≡◌, ◌-◌, ◌++◌, length, replicate, IfOk, IfSome, IsSome, OnOk};
 ghost use Rattle.std.specs.Option.{option_copied};
 ghost use Rattle.class_model.specs.Code.{verification_type};
-ghost use Rattle.class_model.specs.Descriptors.{parameters_of};
 ghost use Rattle.class_model.specs.Frames.{units};
 ghost use Rattle.class_model.specs.Members as members;
 ghost use Rattle.class_model.specs.Methods.{IsDescriptorOf, entry_of};
 ghost use Rattle.class_model.specs.PoolChecks.{class_at, utf8_at};
-ghost use Rattle.member_link.specs.Entry.{class_entry, this_entries};
-ghost use Rattle.member_link.specs.Uses.{home_of};
+ghost use Rattle.read_code.specs.Entry.{class_entry, this_entries};
+ghost use Rattle.read_code.specs.Codes.{home_of};
 
-use crate::flags::ACC_STATIC;
+use crate::descriptor::method_descriptor;
 use class_model::{
-    ClassFile, CodePart, Descriptor, FieldType, Frame, INIT, ListOf, LocalTypeList, Method,
-    NameFault, NoMemory, Pool, Text, VType, parameters_are_spelled, parse_descriptor,
+    ClassFile, CodePart, FieldType, Frame, INIT, ListOf, LocalTypeList, Method, NoMemory, Pool,
+    Text, VType,
 };
-use class_tree::has;
 use std::alloc::Global;
+
+const ACC_STATIC: u16 = 0x0008;
 
 /// The frame that a method's code begins with: `this` and the parameters, a long or double followed by `Top`, and `Top` in
 /// the other locals.
@@ -33,7 +33,7 @@ pub fn entry_frame(
     let Some(text) = class.pool.utf8(method.desc) else {
         unreachable!()
     };
-    let descriptor = descriptor_of(alloc, text, method.flags)?;
+    let descriptor = method_descriptor(alloc, text, method.flags)?;
     let mut locals = LocalTypeList::new(alloc);
     push_this(&mut locals, class, method)?;
     for param in descriptor.params.as_slice() {
@@ -46,24 +46,11 @@ pub fn entry_frame(
     })
 }
 
-// The method descriptor that a text spells, which is that of a method of these flags.
-fn descriptor_of(alloc: Global, text: &Text, flags: u16) -> Result<Descriptor, NoMemory>
-    requires { IsDescriptorOf flags text.now }
-    ensures { IfOk result (λ descriptor. parameters_of text.now ≡ descriptor.params) }
-{
-    parameters_are_spelled();
-    match parse_descriptor(alloc, text) {
-        Ok(descriptor) => Ok(descriptor),
-        Err(NameFault::NoMemory) => Err(NoMemory),
-        Err(NameFault::BadName) => unreachable!(),
-    }
-}
-
 // Appends the type of `this`, if a method has one.
 fn push_this(locals: &mut LocalTypeList, class: &ClassFile, method: &Method) -> Result<(), NoMemory>
     ensures { OnOk result (locals.new ≡ locals.old ++ this_entries method.now.flags (utf8_at class.now.pool method.now.name) (class_at class.now.pool class.now.this_class)) }
 {
-    if has(method.flags, ACC_STATIC) {
+    if is_static(method.flags) {
         return Ok(());
     }
     let this = if is_text(&class.pool, INIT, method.name) {
@@ -72,6 +59,13 @@ fn push_this(locals: &mut LocalTypeList, class: &ClassFile, method: &Method) -> 
         class_type(class.pool.class_name(class.this_class))?
     };
     locals.push(this)
+}
+
+// Whether a method has no `this`.
+fn is_static(flags: u16) -> bool
+    ensures { result ≡ members.has flags members.STATIC }
+{
+    flags & ACC_STATIC != 0
 }
 
 // The type of an instance of a class.
@@ -111,7 +105,7 @@ fn push_units(locals: &mut LocalTypeList, entry: VType) -> Result<(), NoMemory>
 }
 
 /// Whether the Utf8 constant at an index is there and has this text.
-pub(crate) fn is_text(pool: &Pool, wanted: &[u8], index: u16) -> bool
+pub fn is_text(pool: &Pool, wanted: &[u8], index: u16) -> bool
     ensures { result ≡ members.is_text wanted.now (utf8_at pool.now index) }
 {
     match pool.utf8(index) {

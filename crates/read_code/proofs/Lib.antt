@@ -1,0 +1,2 @@
+pub mod ReadMethods
+pub mod EntryFrames
