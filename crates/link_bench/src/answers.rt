@@ -1,7 +1,7 @@
 //! What look-up, selection, access and linking answer, as texts.
 
-use crate::input::Input;
 use class_model::Text;
+use class_notation::Input;
 use class_tree::{LinkFault, Tree, has};
 use member_link::{
     CallForm, Found, Selected, accessible, check_links, find_field, find_method, select,
@@ -14,14 +14,7 @@ const ACC_STATIC: u16 = 0x0008;
 
 /// The hierarchy of a folder and what the library has besides, each with ` | ` between classes.
 pub(crate) fn tree_of(alloc: Global, folder: &str, library: &str) -> Result<Tree, Fail> {
-    let mut input = Input::new(alloc)?;
-    for text in library.split(" | ").filter(|text| !text.is_empty()) {
-        input.add_header(alloc, text)?;
-    }
-    for text in folder.split(" | ").filter(|text| !text.is_empty()) {
-        input.add_class(alloc, text)?;
-    }
-    Ok(input.build(alloc)?)
+    Ok(Input::of(alloc, folder, library)?.build(alloc)?)
 }
 
 /// What linking a folder answers: `ok`, or the class, the member and the rule that is broken.

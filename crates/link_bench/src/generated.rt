@@ -1,6 +1,6 @@
 //! Classes by number, of which as many can be made as is wanted.
-use crate::input::Input;
 use class_model::{ClassFault, NoMemory};
+use class_notation::Input;
 use std::alloc::Global;
 
 // How many packages there are.

@@ -5,18 +5,13 @@
 
 #[cfg(test)]
 mod answers;
-mod code;
 #[cfg(test)]
 mod form_tests;
 mod generated;
-mod input;
-mod library;
 #[cfg(test)]
 mod look_up_tests;
 #[cfg(test)]
 mod missing_tests;
-mod notation;
-mod pool;
 
 use class_tree::Tree;
 use generated::input_of;

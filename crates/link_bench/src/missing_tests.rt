@@ -29,16 +29,20 @@ const MISSING: [Case; 22] = [
         "T f ()V Missing",
     ),
     (
-        "public T Object / method static f ()V, ldc P",
+        "public T Object / method static f ()V, ldc class P",
         "",
         "T f ()V Missing",
     ),
     (
-        "public T Object / method static f ()V, ldc [LP;",
+        "public T Object / method static f ()V, ldc class [LP;",
         "",
         "T f ()V Missing",
     ),
-    ("public T Object / method static f ()V, ldc [I", "", "ok"),
+    (
+        "public T Object / method static f ()V, ldc class [I",
+        "",
+        "ok",
+    ),
     (
         "public T Object / method static f ()V, anewarray P",
         "",
@@ -200,7 +204,7 @@ const ORDER: [Case; 16] = [
 // What is asked of references that are no instruction's own member.
 const LOADED: [Case; 29] = [
     (
-        "public T Object / method static f ()V, ldc lib/Hidden",
+        "public T Object / method static f ()V, ldc class lib/Hidden",
         HIDDEN,
         "T f ()V NoAccess",
     ),
@@ -215,48 +219,48 @@ const LOADED: [Case; 29] = [
         "ok",
     ),
     (
-        "- lib/T Object / method static f ()V, ldc lib/Hidden",
+        "- lib/T Object / method static f ()V, ldc class lib/Hidden",
         HIDDEN,
         "ok",
     ),
     (
-        "public T Object / method static f ()V, handle invokestatic P g ()V",
+        "public T Object / method static f ()V, ldc handle invokestatic P g ()V",
         "",
         "T f ()V Missing",
     ),
     (
-        "public T Object / method static f ()V, handle invokestatic T g ()V",
+        "public T Object / method static f ()V, ldc handle invokestatic T g ()V",
         "",
         "T f ()V NoMember",
     ),
     // a handle has no form
     (
-        "public T Object / method static f ()V, handle invokestatic T g ()V / method public g ()V",
+        "public T Object / method static f ()V, ldc handle invokestatic T g ()V / method public g ()V",
         "",
         "ok",
     ),
     (
-        "public T Object / method static f ()V, handle getfield lib/Open secret I",
+        "public T Object / method static f ()V, ldc handle getfield lib/Open secret I",
         "",
         "T f ()V NoAccess",
     ),
     (
-        "public T Object / method static f ()V, handle getstatic T x I",
+        "public T Object / method static f ()V, ldc handle getstatic T x I",
         "",
         "T f ()V NoMember",
     ),
     (
-        "public T Object / method static f ()V, handle getstatic T x I / field - x I",
+        "public T Object / method static f ()V, ldc handle getstatic T x I / field - x I",
         "",
         "ok",
     ),
     (
-        "public T Object / method static f ()V, type (LP;)V",
+        "public T Object / method static f ()V, ldc type (LP;)V",
         "",
         "T f ()V Missing",
     ),
     (
-        "public T Object / method static f ()V, type (Llib/Hidden;)V",
+        "public T Object / method static f ()V, ldc type (Llib/Hidden;)V",
         HIDDEN,
         "T f ()V NoAccess",
     ),
@@ -303,42 +307,42 @@ const LOADED: [Case; 29] = [
         "ok",
     ),
     (
-        "public T Object / method static f ()V, handle invokestatic lib/Hidden s ()V",
+        "public T Object / method static f ()V, ldc handle invokestatic lib/Hidden s ()V",
         HIDDEN,
         "T f ()V NoAccess",
     ),
     (
-        "public T Object / method static f ()V, handle invokestatic T g (LP;)V",
+        "public T Object / method static f ()V, ldc handle invokestatic T g (LP;)V",
         "",
         "T f ()V Missing",
     ),
     (
-        "public T Object / method static f ()V, handle getfield [I length I",
+        "public T Object / method static f ()V, ldc handle getfield [I length I",
         "",
         "T f ()V NoMember",
     ),
     (
-        "public T Object / method static f ()V, handle new lib/Base <init> ()V",
+        "public T Object / method static f ()V, ldc handle new lib/Base <init> ()V",
         HIDDEN,
         "ok",
     ),
     (
-        "public T Object / method static f ()V, handle invokevirtual lib/Face m ()V",
+        "public T Object / method static f ()V, ldc handle invokevirtual lib/Face m ()V",
         HIDDEN,
         "ok",
     ),
     (
-        "public T Object / method static f ()V, handle invokeinterface lib/Base m ()V",
+        "public T Object / method static f ()V, ldc handle invokeinterface lib/Base m ()V",
         HIDDEN,
         "ok",
     ),
     (
-        "public T Object / method static f ()V, handle invokevirtual [I clone ()Ljava/lang/Object;",
+        "public T Object / method static f ()V, ldc handle invokevirtual [I clone ()Ljava/lang/Object;",
         "",
         "ok",
     ),
     (
-        "public T Object / method static f ()V, type ()[LP;",
+        "public T Object / method static f ()V, ldc type ()[LP;",
         "",
         "T f ()V Missing",
     ),

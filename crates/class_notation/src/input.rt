@@ -10,9 +10,9 @@ use class_tree::{ClassFileList, HeaderList, LinkFault, Tree, build_tree};
 use std::alloc::Global;
 use std::marker::Model;
 
-/// The class files of a folder and the headers of a library, each read from bytes.
+/// The class files of a folder and the headers of a library, each read from the notation.
 #[derive(Drop)]
-pub(crate) struct Input {
+pub struct Input {
     folder: ClassFileList,
     library: HeaderList,
 }
@@ -30,7 +30,7 @@ impl Model for Input {
 
 impl Input {
     /// No class of the folder, and those that each library has.
-    pub(crate) fn new(alloc: Global) -> Result<Self, ClassFault> {
+    pub fn new(alloc: Global) -> Result<Self, ClassFault> {
         let mut input = Input {
             folder: ListOf::new(alloc),
             library: ListOf::new(alloc),
@@ -41,22 +41,44 @@ impl Input {
         Ok(input)
     }
 
+    /// The classes of a folder, and what the library has beside those that each has, with ` | ` between classes.
+    pub fn of(alloc: Global, folder: &str, library: &str) -> Result<Self, ClassFault> {
+        let mut input = Input::new(alloc)?;
+        for text in library.split(" | ") {
+            if !text.is_empty() {
+                input.add_header(alloc, text)?;
+            }
+        }
+        for text in folder.split(" | ") {
+            if !text.is_empty() {
+                input.add_class(alloc, text)?;
+            }
+        }
+        Ok(input)
+    }
+
     /// Adds a class to the folder.
-    pub(crate) fn add_class(&mut self, alloc: Global, text: &str) -> Result<(), ClassFault> {
+    ///
+    /// # Errors
+    /// Those of `read_class`.
+    pub fn add_class(&mut self, alloc: Global, text: &str) -> Result<(), ClassFault> {
         let class = read_class(alloc, &class_file(alloc, text)?)?;
         self.folder.push(class)?;
         Ok(())
     }
 
     /// Adds a class to the library.
-    pub(crate) fn add_header(&mut self, alloc: Global, text: &str) -> Result<(), ClassFault> {
+    ///
+    /// # Errors
+    /// Those of `read_header`.
+    pub fn add_header(&mut self, alloc: Global, text: &str) -> Result<(), ClassFault> {
         let header = read_header(alloc, &class_file(alloc, text)?)?;
         self.library.push(header)?;
         Ok(())
     }
 
     /// The hierarchy of the classes.
-    pub(crate) fn build(self, alloc: Global) -> Result<Tree, LinkFault>
+    pub fn build(self, alloc: Global) -> Result<Tree, LinkFault>
         ensures { IsTreeOf self.folder self.library result }
     {
         build_tree(alloc, self.folder, self.library)

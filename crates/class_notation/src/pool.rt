@@ -74,6 +74,21 @@ impl PoolBytes {
         self.push_two(18, 0, member)
     }
 
+    /// Adds a string.
+    pub(crate) fn string(&mut self, text: &[u8]) -> Result<u16, NoMemory> {
+        let text = self.utf8(text)?;
+        self.push_one(8, text)
+    }
+
+    /// Adds a number by its tag and bytes. One of eight bytes takes two indices.
+    pub(crate) fn number(&mut self, tag: u8, bytes: &[u8]) -> Result<u16, NoMemory> {
+        let index = self.push(tag, bytes)?;
+        if bytes.len() == 8 {
+            self.count = self.count.wrapping_add(1);
+        }
+        Ok(index)
+    }
+
     fn name_and_type(&mut self, name: &[u8], desc: &[u8]) -> Result<u16, NoMemory> {
         let name = self.utf8(name)?;
         let desc = self.utf8(desc)?;

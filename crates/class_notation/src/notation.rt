@@ -3,6 +3,7 @@
 //! are words with `+` between, and `-` for none; `-` is no superclass, and `Object` is java/lang/Object. A method that is
 //! neither abstract nor native has code. A `51:` in front of a class is its version, which is else 52.
 use crate::code::push_code;
+use crate::counted::Counted;
 use crate::pool::{MemberTag, PoolBytes, low_bits};
 use class_model::{NoMemory, push_u2, push_u4};
 use std::alloc::Global;
@@ -27,34 +28,12 @@ pub(crate) fn class_file(alloc: Global, text: &str) -> Result<Vec<u8>, NoMemory>
     Ok(out)
 }
 
-// The members of a kind: how many, and their bytes.
-#[derive(Drop)]
-struct Members {
-    count: u16,
-    bytes: Vec<u8>,
-}
-
-impl Members {
-    fn new(alloc: Global) -> Self {
-        Members {
-            count: 0,
-            bytes: Vec::new(alloc),
-        }
-    }
-
-    fn push_to(&self, out: &mut Vec<u8>) -> Result<(), NoMemory> {
-        push_u2(out, self.count)?;
-        out.extend_from_slice(&self.bytes)?;
-        Ok(())
-    }
-}
-
 // What stands behind the pool.
 fn body_of(alloc: Global, pool: &mut PoolBytes, text: &str) -> Result<Vec<u8>, NoMemory> {
     let parts = text.split(" / ").collect::<Vec<&str>>(alloc)?;
     let mut out = Vec::new(alloc);
-    let mut fields = Members::new(alloc);
-    let mut methods = Members::new(alloc);
+    let mut fields = Counted::new(alloc);
+    let mut methods = Counted::new(alloc);
     if let [head, members @ ..] = parts.as_slice() {
         push_head(alloc, &mut out, pool, head)?;
         for member in members {
@@ -98,8 +77,8 @@ fn push_head(
 // Appends a member to those of its kind.
 fn push_member(
     alloc: Global,
-    fields: &mut Members,
-    methods: &mut Members,
+    fields: &mut Counted,
+    methods: &mut Counted,
     pool: &mut PoolBytes,
     text: &str,
 ) -> Result<(), NoMemory> {
@@ -114,14 +93,14 @@ fn push_member(
     let flags = flags_of(flags);
     let is_method = *kind == "method";
     let members = if is_method { methods } else { fields };
-    members.count = members.count.wrapping_add(1);
-    push_u2(&mut members.bytes, flags)?;
-    push_u2(&mut members.bytes, pool.utf8(name.as_bytes())?)?;
-    push_u2(&mut members.bytes, pool.utf8(desc.as_bytes())?)?;
+    let bytes = members.one_more();
+    push_u2(bytes, flags)?;
+    push_u2(bytes, pool.utf8(name.as_bytes())?)?;
+    push_u2(bytes, pool.utf8(desc.as_bytes())?)?;
     let has_code = is_method && flags & 0x0500 == 0;
-    push_u2(&mut members.bytes, has_code as u16)?;
+    push_u2(bytes, has_code as u16)?;
     if has_code {
-        push_code(alloc, &mut members.bytes, pool, uses)?;
+        push_code(alloc, bytes, pool, uses)?;
     }
     Ok(())
 }

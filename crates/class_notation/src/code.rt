@@ -1,0 +1,288 @@
+//! The code of a method by what it uses.
+use crate::code_tables::{push_frame, push_full, push_handler};
+use crate::counted::Counted;
+use crate::mnemonics::opcode;
+use crate::pool::{MemberTag, PoolBytes, low_bits};
+use class_model::{NoMemory, push_u2, push_u4};
+use std::alloc::Global;
+
+/// The parts of a Code attribute, without its name and length.
+#[derive(Drop)]
+struct Code {
+    max_stack: u8,
+    max_locals: u8,
+    instructions: Vec<u8>,
+    // no return stands at the end
+    is_open: bool,
+    handlers: Counted,
+    // the frames of a StackMapTable, if there are any
+    frames: Counted,
+}
+
+const NOP: u8 = 0x00;
+
+const RETURN: u8 = 0xB1;
+
+/// Appends a Code attribute whose instructions are `nop`, those of these uses and `return`. A use is an instruction with the
+/// member, class, descriptor or handle that it names, as `getstatic A x I`, `new A` or `ldc class A`; a `!` behind a call's
+/// name makes an InterfaceMethodref, and a number behind a descriptor is the count of an invokeinterface, which is else 1.
+/// Any other instruction has its operand bytes in decimal, as `iinc 1 255`. `limits 3 4` are the greatest depth of the stack
+/// and the number of locals, which are else 9. With `open` the code has no `return` at its end.
+///
+/// `handler 0 4 7 A` is an entry of the exception table: the start, the end and the handler as offsets in decimal, and the
+/// class, which is `any` for none. `catch A` is `handler 0 1 0 A`. `full 5 int A : long` states a full frame with this
+/// offset_delta, its locals in front of the colon and its stack behind it. A type is `top`, `int`, `float`, `long`, `double`,
+/// `null`, `this` (not initialised), `new@3` (which the `new` at this offset made), or the name of a class or array.
+/// `frame A`, in front of other frames, is one at the start with a value of the class on the stack.
+pub(crate) fn push_code(
+    alloc: Global,
+    out: &mut Vec<u8>,
+    pool: &mut PoolBytes,
+    uses: &[&str],
+) -> Result<(), NoMemory> {
+    let code = code_of(alloc, pool, uses)?;
+    push_u2(out, pool.utf8(b"Code")?)?;
+    let body = body_of(alloc, pool, &code)?;
+    push_u4(out, low_bits(body.len()) as u32)?;
+    out.extend_from_slice(&body)?;
+    Ok(())
+}
+
+fn code_of(alloc: Global, pool: &mut PoolBytes, uses: &[&str]) -> Result<Code, NoMemory> {
+    let mut code = Code {
+        max_stack: 9,
+        max_locals: 9,
+        instructions: Vec::new(alloc),
+        is_open: false,
+        handlers: Counted::new(alloc),
+        frames: Counted::new(alloc),
+    };
+    code.instructions.push(NOP)?;
+    for used in uses {
+        let words = used.split(' ').collect::<Vec<&str>>(alloc)?;
+        push_use(alloc, &mut code, pool, &words)?;
+    }
+    if !code.is_open {
+        code.instructions.push(RETURN)?;
+    }
+    Ok(code)
+}
+
+fn body_of(alloc: Global, pool: &mut PoolBytes, code: &Code) -> Result<Vec<u8>, NoMemory> {
+    let mut body = Vec::new(alloc);
+    push_u2(&mut body, code.max_stack as u16)?;
+    push_u2(&mut body, code.max_locals as u16)?;
+    push_u4(&mut body, low_bits(code.instructions.len()) as u32)?;
+    body.extend_from_slice(&code.instructions)?;
+    code.handlers.push_to(&mut body)?;
+    let has_frames = code.frames.count != 0;
+    push_u2(&mut body, has_frames as u16)?;
+    if has_frames {
+        let mut table = Vec::new(alloc);
+        code.frames.push_to(&mut table)?;
+        push_u2(&mut body, pool.utf8(b"StackMapTable")?)?;
+        push_u4(&mut body, low_bits(table.len()) as u32)?;
+        body.extend_from_slice(&table)?;
+    }
+    Ok(body)
+}
+
+// Appends what the words of a use say.
+fn push_use(
+    alloc: Global,
+    code: &mut Code,
+    pool: &mut PoolBytes,
+    words: &[&str],
+) -> Result<(), NoMemory> {
+    match words {
+        ["open"] => {
+            code.is_open = true;
+            Ok(())
+        }
+        ["limits", stack, locals] => {
+            code.max_stack = byte(stack);
+            code.max_locals = byte(locals);
+            Ok(())
+        }
+        ["catch", name] => push_handler(&mut code.handlers, pool, ["0", "1", "0"], name),
+        ["handler", start, end, at, name] => push_handler(
+            &mut code.handlers,
+            pool,
+            [start, end, at],
+            name,
+        ),
+        ["frame", name] => push_frame(&mut code.frames, pool, name),
+        ["full", delta, types @ ..] => push_full(alloc, &mut code.frames, pool, delta, types),
+        ["ldc", constant @ ..] => push_load(&mut code.instructions, pool, constant),
+        ["dynamic", desc] => {
+            let index = pool.dynamic(b"run", desc.as_bytes())?;
+            push_instruction(&mut code.instructions, 0xBA, index)?;
+            push_u2(&mut code.instructions, 0)
+        }
+        [op, operands @ ..] => push_named(&mut code.instructions, pool, op, operands),
+        _ => Ok(()),
+    }
+}
+
+// Appends an instruction that names a member or class, or has its operand bytes.
+fn push_named(
+    out: &mut Vec<u8>,
+    pool: &mut PoolBytes,
+    op: &str,
+    operands: &[&str],
+) -> Result<(), NoMemory> {
+    if let Some((opcode, tag)) = member_op(op) {
+        push_member_use(out, pool, (opcode, tag), operands)
+    } else if let (Some(opcode), [name, dimensions @ ..]) = (class_op(op), operands) {
+        push_class_use(out, pool, opcode, name, dimensions)
+    } else {
+        push_plain(out, op, operands)
+    }
+}
+
+// Appends the load of a class, a string, a number, a method type or a method handle.
+fn push_load(out: &mut Vec<u8>, pool: &mut PoolBytes, constant: &[&str]) -> Result<(), NoMemory> {
+    match constant {
+        ["int"] => {
+            let index = pool.number(3, &[0; 4])?;
+            push_instruction(out, 0x13, index)
+        }
+        ["float"] => {
+            let index = pool.number(4, &[0; 4])?;
+            push_instruction(out, 0x13, index)
+        }
+        ["long"] => {
+            let index = pool.number(5, &[0; 8])?;
+            push_instruction(out, 0x14, index)
+        }
+        ["double"] => {
+            let index = pool.number(6, &[0; 8])?;
+            push_instruction(out, 0x14, index)
+        }
+        ["string", text] => {
+            let index = pool.string(text.as_bytes())?;
+            push_instruction(out, 0x13, index)
+        }
+        ["class", name] => {
+            let index = pool.class(name.as_bytes())?;
+            push_instruction(out, 0x13, index)
+        }
+        ["type", desc] => {
+            let index = pool.method_type(desc.as_bytes())?;
+            push_instruction(out, 0x13, index)
+        }
+        ["handle", kind, class, name, desc] => {
+            let (kind, tag) = handle_kind(kind);
+            let member = pool.member(tag, class.as_bytes(), name.as_bytes(), desc.as_bytes())?;
+            let index = pool.handle(kind, member)?;
+            push_instruction(out, 0x13, index)
+        }
+        _ => Ok(()),
+    }
+}
+
+fn push_instruction(out: &mut Vec<u8>, opcode: u8, index: u16) -> Result<(), NoMemory> {
+    out.push(opcode)?;
+    push_u2(out, index)
+}
+
+// Appends an instruction that names a member of a class.
+fn push_member_use(
+    out: &mut Vec<u8>,
+    pool: &mut PoolBytes,
+    op: (u8, MemberTag),
+    operands: &[&str],
+) -> Result<(), NoMemory> {
+    let [class, name, desc, counts @ ..] = operands else {
+        return Ok(());
+    };
+    let (opcode, tag) = op;
+    let index = pool.member(tag, class.as_bytes(), name.as_bytes(), desc.as_bytes())?;
+    push_instruction(out, opcode, index)?;
+    if opcode == 0xB9 {
+        out.push(byte_or_one(counts))?;
+        out.push(0)?;
+    }
+    Ok(())
+}
+
+// Appends an instruction that names a class or array, and perhaps a number of dimensions.
+fn push_class_use(
+    out: &mut Vec<u8>,
+    pool: &mut PoolBytes,
+    opcode: u8,
+    name: &str,
+    dimensions: &[&str],
+) -> Result<(), NoMemory> {
+    let index = pool.class(name.as_bytes())?;
+    push_instruction(out, opcode, index)?;
+    if opcode == 0xC5 {
+        out.push(byte_or_one(dimensions))?;
+    }
+    Ok(())
+}
+
+// Appends an instruction by its mnemonic and its operand bytes.
+fn push_plain(out: &mut Vec<u8>, op: &str, operands: &[&str]) -> Result<(), NoMemory> {
+    if let Some(opcode) = opcode(op) {
+        out.push(opcode)?;
+        for operand in operands {
+            out.push(byte(operand))?;
+        }
+    }
+    Ok(())
+}
+
+// The byte that a word says in decimal.
+fn byte(word: &str) -> u8 {
+    word.parse::<u8>().unwrap_or(0)
+}
+
+// The byte that the first word says, or 1 where there is none.
+fn byte_or_one(words: &[&str]) -> u8 {
+    match words {
+        [word, ..] => byte(word),
+        [] => 1,
+    }
+}
+
+// The opcode of an instruction that names a member, and the constant that it names.
+fn member_op(op: &str) -> Option<(u8, MemberTag)> {
+    Some(match op {
+        "getstatic" => (0xB2, MemberTag::Field),
+        "putstatic" => (0xB3, MemberTag::Field),
+        "getfield" => (0xB4, MemberTag::Field),
+        "putfield" => (0xB5, MemberTag::Field),
+        "invokevirtual" => (0xB6, MemberTag::Method),
+        "invokespecial" => (0xB7, MemberTag::Method),
+        "invokestatic" => (0xB8, MemberTag::Method),
+        "invokespecial!" => (0xB7, MemberTag::InterfaceMethod),
+        "invokestatic!" => (0xB8, MemberTag::InterfaceMethod),
+        "invokeinterface" => (0xB9, MemberTag::InterfaceMethod),
+        _ => return None,
+    })
+}
+
+// The opcode of an instruction that names a class or array.
+fn class_op(op: &str) -> Option<u8> {
+    Some(match op {
+        "new" => 0xBB,
+        "anewarray" => 0xBD,
+        "checkcast" => 0xC0,
+        "instanceof" => 0xC1,
+        "multianewarray" => 0xC5,
+        _ => return None,
+    })
+}
+
+// The kind of a handle (JVM Specification SE 8, 4.4.8) and the constant that it names.
+fn handle_kind(kind: &str) -> (u8, MemberTag) {
+    match kind {
+        "getfield" => (1, MemberTag::Field),
+        "getstatic" => (2, MemberTag::Field),
+        "invokevirtual" => (5, MemberTag::Method),
+        "invokestatic" => (6, MemberTag::Method),
+        "new" => (8, MemberTag::Method),
+        _ => (9, MemberTag::InterfaceMethod),
+    }
+}
