@@ -1,0 +1,72 @@
+-- The constants that the instructions of a method name are of the kinds that they may name.
+use Rattle.std.proofs.Common.{◌≡◌, ℕ, List, [], ◌∷◌, Result, Ok, Some, subst}
+use Rattle.std.specs.List.{AllByRecursion}
+use Rattle.class_model.specs.Checks.{Fault}
+use Rattle.class_model.specs.Code.{OperandFits}
+use Rattle.class_model.specs.Instructions.{decoded}
+use Rattle.class_model.specs.Pool.{Constants}
+use Rattle.class_model.specs.declared.class_file.Attr.{Attr}
+use Rattle.class_model.specs.declared.class_file.Attr.TheVariants as attrs
+use Rattle.class_model.specs.declared.class_file.CodePart.{CodePart}
+use Rattle.class_model.specs.declared.instr.Instr.{Instr}
+use Rattle.class_model.specs.declared.instr.Instr.TheVariants.{Nop, Const, Ldc, Ldc2, Load, Store, Iinc, ArrayLoad, ArrayStore, Shuffle, Pure, Divide, FloatAsk, If, If2, IfSame, IfNull, Goto, Table, Lookup, Return, GetStatic, PutStatic, GetField, PutField, Invoke, Dynamic, New, NewArray, NewRefArray, NewMulti, Length, Throw, Cast, InstanceOf, Enter, Leave}
+use Rattle.class_model.specs.declared.instr.Placed.{Placed}
+use Rattle.read_code.specs.Codes.{HasOperands, HaveOperands}
+use Rattle.type_rules.specs.Rule.{FitsPool}
+use Rattle.type_rules.specs.Scope.{Scope, code_of}
+
+-- the greatest number of locals is asked of locals alone
+fits_pool : (s : Scope) (max_locals : ℕ) (instr : Instr) → OperandFits s.class.pool s.class.major max_locals instr → FitsPool s instr
+fits_pool s max_locals Nop h = h
+fits_pool s max_locals (Const imm) h = h
+fits_pool s max_locals (Ldc index) h = h
+fits_pool s max_locals (Ldc2 index) h = h
+fits_pool s max_locals (Load kind local) h = tt
+fits_pool s max_locals (Store kind local) h = tt
+fits_pool s max_locals (Iinc local by) h = tt
+fits_pool s max_locals (ArrayLoad opcode) h = h
+fits_pool s max_locals (ArrayStore opcode) h = h
+fits_pool s max_locals (Shuffle opcode) h = h
+fits_pool s max_locals (Pure opcode) h = h
+fits_pool s max_locals (Divide opcode) h = h
+fits_pool s max_locals (FloatAsk opcode) h = h
+fits_pool s max_locals (If opcode target) h = h
+fits_pool s max_locals (If2 opcode target) h = h
+fits_pool s max_locals (IfSame opcode target) h = h
+fits_pool s max_locals (IfNull opcode target) h = h
+fits_pool s max_locals (Goto target) h = h
+fits_pool s max_locals (Table low other targets) h = h
+fits_pool s max_locals (Lookup other pairs) h = h
+fits_pool s max_locals (Return kind) h = h
+fits_pool s max_locals (GetStatic index) h = h
+fits_pool s max_locals (PutStatic index) h = h
+fits_pool s max_locals (GetField index) h = h
+fits_pool s max_locals (PutField index) h = h
+fits_pool s max_locals (Invoke opcode index count) h = h
+fits_pool s max_locals (Dynamic index) h = h
+fits_pool s max_locals (New index) h = h
+fits_pool s max_locals (NewArray code) h = h
+fits_pool s max_locals (NewRefArray index) h = h
+fits_pool s max_locals (NewMulti index dimensions) h = h
+fits_pool s max_locals Length h = h
+fits_pool s max_locals Throw h = h
+fits_pool s max_locals (Cast index) h = h
+fits_pool s max_locals (InstanceOf index) h = h
+fits_pool s max_locals Enter h = h
+fits_pool s max_locals Leave h = h
+
+all_fit : (s : Scope) (max_locals : ℕ) (instrs : List Placed) → AllByRecursion (λ placed. OperandFits s.class.pool s.class.major max_locals placed.instr) instrs → AllByRecursion (λ placed. FitsPool s placed.instr) instrs
+all_fit s max_locals [] h = tt
+all_fit s max_locals (placed ∷ instrs) h = (fits_pool s max_locals placed.instr h.0, all_fit s max_locals instrs h.1)
+
+same_some : {X : Type 0} (x y : X) → Some x ≡ Some y → x ≡ y
+same_some x y e = cc
+
+-- those of the first code among attributes
+pub code_has_operands : (pool : Constants) (major : ℕ) (attrs : List Attr) (part : CodePart) → AllByRecursion (HasOperands pool major) attrs → code_of attrs ≡ Some part → HaveOperands pool major part.max_locals (decoded part.code)
+code_has_operands pool major [] part all e = absurd cc
+code_has_operands pool major (attrs.Code name own ∷ others) part all e = subst (λ (p : CodePart). HaveOperands pool major p.max_locals (decoded p.code)) (same_some own part e) all.0
+code_has_operands pool major (attrs.Raw name bytes ∷ others) part all e = code_has_operands pool major others part all.1 e
+
+pub instrs_fit : (s : Scope) (max_locals : ℕ) (read : Result (List Placed) Fault) (instrs : List Placed) → HaveOperands s.class.pool s.class.major max_locals read → read ≡ Ok instrs → AllByRecursion (λ placed. FitsPool s placed.instr) instrs
+instrs_fit s max_locals read instrs have e = all_fit s max_locals instrs (subst (HaveOperands s.class.pool s.class.major max_locals) e have)

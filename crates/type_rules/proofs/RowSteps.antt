@@ -1,0 +1,70 @@
+-- The rule of a row, from what its parts answer.
+use Rattle.std.proofs.Common.{◌≡◌, ◌-◌, Bool, true, List, [], length, Some, None, Result, Ok, Err, if◌then◌else◌, refl, ap, sym, subst, ◌∙◌, inl, inr, arith}
+use Rattle.std.proofs.lemmas.List.{drop_all}
+use Rattle.class_model.specs.declared.frame.Frame.{Frame}
+use Rattle.class_model.specs.declared.frame.VType.{VType}
+use Rattle.class_tree.specs.Headers.{Headers}
+use Rattle.type_rules.specs.Operands.{AllFit, topmost}
+use Rattle.type_rules.specs.Rows.{Row}
+use Rattle.type_rules.specs.Rule.{RowRules, stack_behind, ruled}
+use Rattle.type_rules.specs.Scope.{Scope}
+use Rattle.type_rules.specs.Steps.{EndsWith, Concludes, thrown}
+use Rattle.type_rules.specs.declared.fault.RuleFault.{RuleFault}
+use Rattle.type_rules.specs.declared.fault.RuleFault.TheVariants as faults
+use Rattle.type_rules.specs.declared.fault.TypeRule.TheVariants as rules
+use Rattle.type_rules.specs.declared.ruled.Ruled.{Ruled}
+
+-- ---- another further condition that holds where the one does
+
+pub same_further : (s : Scope) (stack : List VType) (One Other : Type 0) (wanted : Ruled) (result : Result Ruled RuleFault) → (One → Other) → (Other → One) → EndsWith s stack One wanted result → EndsWith s stack Other wanted result
+same_further s stack One Other wanted (Ok ruled) to from ends = (ends.0, to ends.1, ends.2)
+same_further s stack One Other wanted (Err (faults.Fails rules.Depth)) to from deep = deep
+same_further s stack One Other wanted (Err (faults.Fails rules.Kind)) to from fails = (fails.0, λ holds. fails.1 (from holds))
+same_further s stack One Other wanted (Err (faults.Fails other)) to from fails = absurd fails
+same_further s stack One Other wanted (Err faults.NoMemory) to from ends = tt
+
+pub same_further_row : (s : Scope) (f : Frame) (row : Row) (One : Type 0) (result : Result Ruled RuleFault) → (One → row.further) → (row.further → One) → RowRules s f (record row { further = One }) result → RowRules s f row result
+same_further_row s f row One (Ok ruled) to from answers =
+    ((answers.0.0, (answers.0.1.0, (answers.0.1.1.0, (to answers.0.1.1.1.0, tt)))), answers.1)
+same_further_row s f row One (Err (faults.Fails rule)) to from (inl stack) = inl stack
+same_further_row s f row One (Err (faults.Fails rule)) to from (inr (fits, inl local)) = inr (fits, inl local)
+same_further_row s f row One (Err (faults.Fails rule)) to from (inr (fits, inr (held, inl deep))) = inr (fits, inr (held, inl deep))
+same_further_row s f row One (Err (faults.Fails rule)) to from (inr (fits, inr (held, inr (flat, inl fails)))) =
+    inr (fits, inr (held, inr (flat, inl ((λ holds. fails.0 (from holds)), fails.1))))
+same_further_row s f row One (Err (faults.Fails rule)) to from (inr (fits, inr (held, inr (flat, inr none)))) = absurd none.1
+same_further_row s f row One (Err faults.NoMemory) to from answers = tt
+
+-- ---- a row, from what follows once the operands fit
+
+pub ends_row : (s : Scope) (f : Frame) (row : Row) (result : Result Ruled RuleFault) → AllFit s.headers row.takes (topmost (length row.takes) f.stack) → row.local → EndsWith s (stack_behind f row) row.further (ruled f row) result → RowRules s f row result
+ends_row s f row (Ok ruled) fits held ends = ((fits, (held, (ends.0, (ends.1, tt)))), ends.2)
+ends_row s f row (Err (faults.Fails rules.Depth)) fits held deep = inr (fits, inr (held, inl (deep, refl)))
+ends_row s f row (Err (faults.Fails rules.Kind)) fits held fails = inr (fits, inr (held, inr (fails.0, inl (fails.1, refl))))
+ends_row s f row (Err (faults.Fails other)) fits held fails = absurd fails
+ends_row s f row (Err faults.NoMemory) fits held ends = tt
+
+-- ---- what is left when no operand is taken
+
+pub no_needs : (headers : Headers) (stack : List VType) → AllFit headers [] (topmost 0 stack)
+no_needs headers stack = subst (λ (entries : List VType). AllFit headers [] entries) (sym none) tt
+  where
+    none : topmost 0 stack ≡ []
+    none = drop_all (length stack - 0) stack (omega arith)
+
+-- ---- a row, from the frames that a step concludes or ends with
+
+abbrev going_on : Frame → List VType → List VType → Ruled
+going_on f locals stack = record { next = Some (record { locals = locals; stack = stack }); thrown = thrown f }
+
+pub concluded_row : (s : Scope) (f : Frame) (row : Row) (stack locals : List VType) (Further : Type 0) (result : Result Ruled RuleFault) → AllFit s.headers row.takes (topmost (length row.takes) f.stack) → row.local → row.goes_on ≡ true → stack ≡ stack_behind f row → locals ≡ row.locals → (Further → row.further) → (row.further → Further) → Concludes s f stack locals Further result → RowRules s f row result
+concluded_row s f row stack locals Further result fits held on stack_is locals_is to from ends =
+    ends_row s f row result fits held (same_further s (stack_behind f row) Further row.further (ruled f row) result to from moved)
+  where
+    is_ruled : going_on f locals stack ≡ ruled f row
+    is_ruled =
+        ap (λ (list : List VType). going_on f list stack) locals_is
+        ∙ ap (λ (list : List VType). going_on f row.locals list) stack_is
+        ∙ ap (λ (b : Bool). record { next = if b then Some (record { locals = row.locals; stack = stack_behind f row }) else None; thrown = thrown f }) (sym on)
+
+    moved : EndsWith s (stack_behind f row) Further (ruled f row) result
+    moved = subst (λ (list : List VType). EndsWith s list Further (ruled f row) result) stack_is (subst (λ (wanted : Ruled). EndsWith s stack Further wanted result) is_ruled ends)

@@ -1,0 +1,157 @@
+-- What the texts of types spell, and what is read of them.
+use Rattle.std.proofs.Common.{◌≡◌, ◌≢◌, ◌+◌, ◌-◌, ◌≤◌, ℕ, zero, suc, Bool, false, List, [], ◌∷◌, ◌++◌, length, take, drop, replicate, inl, inr, Option, Some, None, IfSome, if◌then◌else◌, bytes_eq, codes, refl, sym, ap, subst, ◌∙◌, arith, append_assoc, length-append}
+use Rattle.std.proofs.lemmas.Bool.Decides.{nat_tests}
+use Rattle.std.proofs.lemmas.List.{drop_at, take_at}
+use Rattle.std.specs.List.{AllByRecursion, flat_map, join_with_byte}
+use Rattle.class_model.specs.Descriptors.{named_text, descriptor_text, field_type_text, IsArrayType, IsFieldType, IsReferenceName, SpellsDescriptor, parameters_of, result_text, type_of}
+use Rattle.class_model.specs.ModifiedUtf8.{IsText}
+use Rattle.class_model.specs.Names.{IsUnqualifiedName, IsClassName}
+use Rattle.class_model.specs.PoolChecks.{IsTypeName}
+use Rattle.class_model.specs.declared.descriptor.FieldType.{FieldType}
+use Rattle.class_model.specs.declared.descriptor.FieldType.TheVariants.{Byte, Char, Short, Bool as Boolean, Int, Long, Float, Double, Named}
+use Rattle.class_model.specs.declared.descriptor.Descriptor.{Descriptor}
+use Rattle.type_rules.specs.MemberRows.{result_of}
+use Rattle.type_rules.specs.Signatures.{IsMemberDescriptor}
+use Rattle.type_rules.proofs.ClassTexts.{name_is_text}
+
+-- ---- what names begin with
+
+record Head (name : List ℕ) : Type 0 where
+  first : ℕ
+  more : List ℕ
+  is : name ≡ first ∷ more
+  no_bracket : first ≢ 91
+
+head_of : (parts : List (List ℕ)) → parts ≢ [] → AllByRecursion IsUnqualifiedName parts → Head (join_with_byte 47 parts)
+head_of [] some each = absurd (some refl)
+head_of ([] ∷ parts) some each = absurd (each.0.some refl)
+head_of ((first ∷ front) ∷ []) some each = record { first = first; more = front; is = refl; no_bracket = each.0.bytes.0.no_bracket }
+head_of ((first ∷ front) ∷ next ∷ parts) some each = record { first = first; more = front ++ 47 ∷ join_with_byte 47 (next ∷ parts); is = refl; no_bracket = each.0.bytes.0.no_bracket }
+
+name_head : (name : List ℕ) → IsClassName name → Head name
+name_head name is_name = subst Head (sym is_name.joined) (head_of is_name.parts is_name.some is_name.unqualified)
+
+no_bracket_text : (first : ℕ) (more : List ℕ) → first ≢ 91 → named_text (first ∷ more) ≡ 76 ∷ (first ∷ more ++ 59 ∷ [])
+no_bracket_text first more other = grind (arith, nat_tests)
+
+class_text : (name : List ℕ) → IsClassName name → named_text name ≡ 76 ∷ (name ++ 59 ∷ [])
+class_text name is_name = let head = name_head name is_name in rw head.is (no_bracket_text head.first head.more head.no_bracket)
+
+some_brackets : (count : ℕ) (rest : List ℕ) → 1 ≤ count → (more : List ℕ) × (replicate count 91 ++ rest ≡ 91 ∷ more)
+some_brackets zero rest some = absurd (omega arith)
+some_brackets (suc count) rest some = (replicate count 91 ++ rest, refl)
+
+array_head : (text : List ℕ) → IsArrayType text → (more : List ℕ) × (text ≡ 91 ∷ more)
+array_head text is_array = let h = some_brackets is_array.dimensions (field_type_text is_array.element) is_array.some in (h.0, is_array.spelled ∙ h.1)
+
+array_text : (text more : List ℕ) → text ≡ 91 ∷ more → named_text text ≡ 91 ∷ more
+array_text text more e = rw e refl
+
+-- ---- the type of a text
+
+front_of : (name : List ℕ) → take (length (name ++ 59 ∷ []) - 1) (name ++ 59 ∷ []) ≡ name
+front_of name = take_at name (59 ∷ []) _ (omega (arith, length-append name (59 ∷ [])))
+
+type_of_class : (name : List ℕ) → type_of (76 ∷ (name ++ 59 ∷ [])) ≡ Named name
+type_of_class name = ap Named (front_of name)
+
+type_of_named : (name : List ℕ) → IsReferenceName name → type_of (named_text name) ≡ Named name
+type_of_named name (inl class) = rw (class_text name class) (type_of_class name)
+type_of_named name (inr array) = let head = array_head name array in rw head.1 refl
+
+pub type_of_spelled : (type : FieldType) → IsTypeName type → type_of (field_type_text type) ≡ type
+type_of_spelled Byte named = refl
+type_of_spelled Char named = refl
+type_of_spelled Short named = refl
+type_of_spelled Boolean named = refl
+type_of_spelled Int named = refl
+type_of_spelled Long named = refl
+type_of_spelled Float named = refl
+type_of_spelled Double named = refl
+type_of_spelled (Named name) named = type_of_named name named
+
+-- ---- a class type
+
+abbrev first_byte : List ℕ → ℕ
+first_byte [] = 0
+first_byte (byte ∷ bytes) = byte
+
+no_such : (a b : List ℕ) → first_byte a ≢ first_byte b → a ≢ b
+no_such a b other e = other (ap first_byte e)
+
+abbrev pub NameIsText : List ℕ → Type 0
+NameIsText rest = IsText (take (length rest - 1) rest)
+
+class_is_text : (rest : List ℕ) (type : FieldType) → IsTypeName type → 76 ∷ rest ≡ field_type_text type → IsText (76 ∷ rest) → NameIsText rest
+class_is_text rest Byte named e text = absurd (no_such (76 ∷ rest) (66 ∷ []) (λ h. omega arith) e)
+class_is_text rest Char named e text = absurd (no_such (76 ∷ rest) (67 ∷ []) (λ h. omega arith) e)
+class_is_text rest Short named e text = absurd (no_such (76 ∷ rest) (83 ∷ []) (λ h. omega arith) e)
+class_is_text rest Boolean named e text = absurd (no_such (76 ∷ rest) (90 ∷ []) (λ h. omega arith) e)
+class_is_text rest Int named e text = absurd (no_such (76 ∷ rest) (73 ∷ []) (λ h. omega arith) e)
+class_is_text rest Long named e text = absurd (no_such (76 ∷ rest) (74 ∷ []) (λ h. omega arith) e)
+class_is_text rest Float named e text = absurd (no_such (76 ∷ rest) (70 ∷ []) (λ h. omega arith) e)
+class_is_text rest Double named e text = absurd (no_such (76 ∷ rest) (68 ∷ []) (λ h. omega arith) e)
+class_is_text rest (Named name) (inl class) e text =
+    let same : rest ≡ name ++ 59 ∷ [] = ap (drop 1) (e ∙ class_text name class) in
+    let whole : IsText (76 ∷ (name ++ 59 ∷ [])) = subst (λ (t : List ℕ). IsText (76 ∷ t)) same text in
+    subst NameIsText (sym same) (subst IsText (sym (front_of name)) (name_is_text name whole))
+class_is_text rest (Named name) (inr array) e text =
+    let head = array_head name array in
+    absurd (no_such (76 ∷ rest) (91 ∷ head.0) (λ h. omega arith) (e ∙ array_text name head.0 head.1))
+
+class_of_member : (rest : List ℕ) → IsMemberDescriptor (76 ∷ rest) → IsText (76 ∷ rest) → NameIsText rest
+class_of_member rest (inl field) text = class_is_text rest field.type field.named field.spelled text
+class_of_member rest (inr method) text = absurd (no_such (76 ∷ rest) (descriptor_text method.0) (λ h. omega arith) method.1.spelled)
+
+pub name_of_class : (desc bytes rest : List ℕ) (first : ℕ) → IsMemberDescriptor desc → IsText desc → bytes ≡ desc → bytes ≡ first ∷ rest → first ≡ 76 → NameIsText rest
+name_of_class desc bytes rest first member text same cut is =
+    let e : desc ≡ 76 ∷ rest = cc in
+    class_of_member rest (subst IsMemberDescriptor e member) (subst IsText e text)
+
+-- ---- the result of a method
+
+behind_parameters : (params result : List ℕ) → drop (length params + 2) (40 ∷ (params ++ 41 ∷ result)) ≡ result
+behind_parameters params result =
+    let front : List ℕ = 40 ∷ (params ++ 41 ∷ []) in
+    let cut : 40 ∷ (params ++ 41 ∷ result) ≡ front ++ result = ap (λ (t : List ℕ). 40 ∷ t) (sym (append_assoc params (41 ∷ []) result)) in
+    ap (drop (length params + 2)) cut ∙ drop_at front result (length params + 2) (omega (arith, length-append params (41 ∷ [])))
+
+abbrev read_result : List ℕ → Option FieldType
+read_result text = if bytes_eq text (codes "V") then None else Some (type_of text)
+
+type_name : (type : FieldType) → IsFieldType type → IsTypeName type
+type_name Byte h = tt
+type_name Char h = tt
+type_name Short h = tt
+type_name Boolean h = tt
+type_name Int h = tt
+type_name Long h = tt
+type_name Float h = tt
+type_name Double h = tt
+type_name (Named name) h = h.1
+
+no_void : (type : FieldType) → IsTypeName type → bytes_eq (field_type_text type) (codes "V") ≡ false
+no_void Byte named = refl
+no_void Char named = refl
+no_void Short named = refl
+no_void Boolean named = refl
+no_void Int named = refl
+no_void Long named = refl
+no_void Float named = refl
+no_void Double named = refl
+no_void (Named name) (inl class) = ap (λ (t : List ℕ). bytes_eq t (codes "V")) (class_text name class)
+no_void (Named name) (inr array) = let head = array_head name array in ap (λ (t : List ℕ). bytes_eq t (codes "V")) (array_text name head.0 head.1)
+
+result_read : (result : Option FieldType) → IfSome result IsFieldType → read_result (result_text result) ≡ result
+result_read None h = refl
+result_read (Some type) h =
+    let named = type_name type h in
+    ap (λ (void : Bool). if void then None else Some (type_of (field_type_text type))) (no_void type named) ∙ ap Some (type_of_spelled type named)
+
+pub result_spelled : (text : List ℕ) (d : Descriptor) → parameters_of text ≡ d.params → SpellsDescriptor text d → result_of text ≡ d.result
+result_spelled text d params spells =
+    let cut : drop (length (flat_map field_type_text (parameters_of text)) + 2) text ≡ result_text d.result =
+    ap (λ (types : List FieldType). drop (length (flat_map field_type_text types) + 2) text) params
+    ∙ ap (drop (length (flat_map field_type_text d.params) + 2)) spells.spelled
+    ∙ behind_parameters (flat_map field_type_text d.params) (result_text d.result) in
+    ap read_result cut ∙ result_read d.result spells.is_descriptor.result

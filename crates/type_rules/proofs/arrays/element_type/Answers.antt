@@ -1,0 +1,5 @@
+use Rattle.type_rules.proofs.ArrayTexts.{component_text}
+use Rattle.type_rules.proofs.arrays.element_type.Goals as goal
+
+pub text_of-requires : goal.text_of-requires
+text_of-requires c = component_text c.in-Some.ensures.some (rw c.bytes.ensures.same c.bytes.ensures.text)

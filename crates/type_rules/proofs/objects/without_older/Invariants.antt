@@ -1,0 +1,7 @@
+use Rattle.std.proofs.Common.{◌≡◌}
+use Rattle.type_rules.proofs.MappedSoFar.{mapped_to}
+use Rattle.type_rules.specs.Table.{without_older}
+use Rattle.type_rules.proofs.objects.without_older.Given as goal
+
+abbrev pub invariant-loop-index : goal.invariant-loop-index
+invariant-loop-index l = l.after ≡ mapped_to (without_older l.at) l.index l.locals

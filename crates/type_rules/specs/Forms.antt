@@ -1,0 +1,13 @@
+-- What the code's forms of instructions that move stack entries mean.
+use Rattle.type_rules.specs.ShuffleRows as meant
+use Rattle.std.specs.Prelude.{map}
+use Rattle.type_rules.specs.declared.shuffles.Form.{Form}
+use Rattle.type_rules.specs.declared.shuffles.Width.{Width}
+use Rattle.type_rules.specs.declared.shuffles.Width.TheVariants as widths
+
+abbrev pub width_meant : Width → meant.Width
+width_meant widths.One = meant.one
+width_meant widths.Two = meant.two
+
+abbrev pub form_meant : Form → meant.Form
+form_meant form = record { takes = map width_meant form.takes.now; gives = form.gives.now }

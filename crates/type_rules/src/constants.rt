@@ -1,0 +1,87 @@
+//! The rules of constants (JVM Specification SE 8, 6.5.ldc and the like).
+ghost use Rattle.std.specs.Prelude.{◌≡◌, IfOk};
+ghost use Rattle.class_model.specs.ModifiedUtf8.{IsText};
+ghost use Rattle.class_model.specs.Pool.{constant_at};
+ghost use Rattle.type_rules.specs.LocalRows.{imm_row, const_row, type_of_imm, type_of_const};
+ghost use Rattle.type_rules.specs.Rule.{RowRules};
+
+use crate::fault::RuleFault;
+use crate::ruled::Ruled;
+use crate::step::Step;
+use class_model::{Const, Imm, NoMemory, Text, TextFault, VType};
+use class_tree::{METHOD_HANDLE, METHOD_TYPE};
+use std::alloc::Global;
+
+const CLASS: &[u8] = b"java/lang/Class";
+
+const STRING: &[u8] = b"java/lang/String";
+
+/// Pushes a number or null that the instruction has itself.
+pub(crate) fn push_imm(step: &Step<'_>, imm: Imm) -> Result<Ruled, RuleFault>
+    ensures { RowRules step.now.rules.now step.now.before.now (imm_row step.now.before.now imm) result }
+{
+    step.plain(&[], Some(type_of_imm(imm)))
+}
+
+/// Pushes a constant of the pool.
+pub(crate) fn push_constant(step: &Step<'_>, index: u16) -> Result<Ruled, RuleFault>
+    ensures { RowRules step.now.rules.now step.now.before.now (const_row step.now.before.now (constant_at step.now.rules.now.class.pool index)) result }
+{
+    let rules = step.rules;
+    match rules.class.pool.get(index) {
+        Some(constant) => push_type(step, constant),
+        None => step.no_row(),
+    }
+}
+
+// Pushes a constant that is there.
+fn push_type(step: &Step<'_>, constant: &Const) -> Result<Ruled, RuleFault>
+    ensures { RowRules step.now.rules.now step.now.before.now (const_row step.now.before.now (Some constant.now)) result }
+{
+    match type_of_const(step.alloc, constant)? {
+        Some(given) => step.plain(&[], Some(given)),
+        None => step.no_row(),
+    }
+}
+
+// The type of a number or null.
+fn type_of_imm(imm: Imm) -> VType
+    ensures { result ≡ type_of_imm imm }
+{
+    match imm {
+        Imm::Null => VType::Null,
+        Imm::Int(_) => VType::Int,
+        Imm::Long(_) => VType::Long,
+        Imm::Float(_) => VType::Float,
+        Imm::Double(_) => VType::Double,
+    }
+}
+
+// The type of a constant of the pool that is loaded, if it may be.
+fn type_of_const(alloc: Global, constant: &Const) -> Result<Option<VType>, NoMemory>
+    ensures { IfOk result (λ type. type ≡ type_of_const constant.now) }
+{
+    Ok(Some(match constant {
+        Const::Integer(_) => VType::Int,
+        Const::Float(_) => VType::Float,
+        Const::Long(_) => VType::Long,
+        Const::Double(_) => VType::Double,
+        Const::String(_) => VType::Object(text_of(alloc, STRING)?),
+        Const::Class(_) => VType::Object(text_of(alloc, CLASS)?),
+        Const::MethodHandle(..) => VType::Object(text_of(alloc, METHOD_HANDLE)?),
+        Const::MethodType(_) => VType::Object(text_of(alloc, METHOD_TYPE)?),
+        _ => return Ok(None),
+    }))
+}
+
+// The text of these bytes.
+fn text_of(alloc: Global, bytes: &[u8]) -> Result<Text, NoMemory>
+    requires { IsText bytes.now }
+    ensures { IfOk result (λ text. text ≡ bytes.now) }
+{
+    match Text::of_bytes(alloc, bytes) {
+        Ok(text) => Ok(text),
+        Err(TextFault::NoMemory) => Err(NoMemory),
+        Err(TextFault::BadText) => unreachable!(),
+    }
+}

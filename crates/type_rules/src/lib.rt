@@ -1,0 +1,37 @@
+//! The type checker's rules (JVM Specification SE 8, 4.10.1): assignability of types and frames, and what each instruction
+//! does to a frame.
+#![tactic(auto)]
+
+mod arguments;
+mod arithmetic;
+mod arrays;
+mod assignability;
+mod calls;
+mod constants;
+mod descriptors;
+mod fault;
+mod fields;
+mod initialisers;
+mod locals;
+mod method_rules;
+mod need;
+mod objects;
+mod offsets;
+mod operands;
+mod packages;
+mod protected;
+mod reference;
+mod returns;
+mod ruled;
+mod shuffles;
+mod step;
+mod table;
+mod typed;
+
+pub use assignability::{assignable, frame_assignable};
+pub use fault::{RuleFault, TypeRule, VerifyFault};
+pub use method_rules::MethodRules;
+pub use offsets::OffsetIndex;
+pub use ruled::Ruled;
+pub use table::rule;
+pub use typed::{TypedClass, TypedFolder, TypedMethod};

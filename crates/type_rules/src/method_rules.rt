@@ -1,0 +1,221 @@
+//! A method whose instructions are asked.
+ghost use Rattle.std.specs.Prelude.{◌≡◌, ◌↔◌, map, Some, IfOk, IsSome, IsTrue};
+ghost use Rattle.std.specs.List.{AllByRecursion};
+ghost use Rattle.std.specs.Option.{option_copied};
+ghost use Rattle.class_model.specs.Header.{header_of};
+ghost use Rattle.class_tree.specs.Headers.{headers_of, IsClassFile};
+ghost use Rattle.class_tree.specs.Order.{header_at};
+ghost use Rattle.member_link.specs.Linked.{IsLinked};
+ghost use Rattle.read_code.specs.Codes.{HasOperands, IsReadMethod};
+ghost use Rattle.type_rules.specs.MemberRows.{result_of};
+ghost use Rattle.type_rules.specs.NewClasses.{class_made};
+ghost use Rattle.type_rules.specs.Offsets.{IsIndexOf};
+ghost use Rattle.type_rules.specs.Rule.{FitsPool};
+ghost use Rattle.type_rules.specs.Scope.{class_of_new, code_of, current, instructions, is_init, own_descriptor, scope_at, scope_of};
+
+use crate::descriptors::a_descriptor_is_read_back;
+use crate::offsets::OffsetIndex;
+use class_model::{
+    Attr, ClassFile, CodePart, Descriptor, FieldType, Header, INIT, Instr, Method, MethodAt,
+    NoMemory, Placed, PlacedList, Text,
+};
+use class_tree::{Place, Tree};
+use read_code::{a_class_file_has_read_methods, instructions_of, is_text, method_descriptor};
+use std::alloc::Global;
+use std::marker::Model;
+
+/// A method with code of a linked folder, and what the rules of its instructions ask of it. Contracts see its class file,
+/// its code and the classes around it.
+#[derive(Drop)]
+pub struct MethodRules<'a> {
+    pub(crate) tree: &'a Tree,
+    pub(crate) class: &'a ClassFile,
+    // the place and the header of the class
+    pub(crate) place: Place,
+    pub(crate) header: &'a Header,
+    pub(crate) method: &'a Method,
+    pub(crate) part: &'a CodePart,
+    pub(crate) instrs: PlacedList,
+    // the instructions by their offsets
+    pub(crate) index: OffsetIndex,
+    pub(crate) descriptor: Descriptor,
+}
+
+impl<'a> Model for MethodRules<'a> {
+    ghost use Rattle.class_tree.specs.Headers.{headers_of};
+    ghost use Rattle.type_rules.specs.Scope.{Scope};
+    ghost use Rattle.type_rules.specs.Known.{IsKnown};
+
+    ghost Value = { Scope };
+
+    ghost view = { λ rules. record { headers = headers_of rules.tree.now; class = rules.class.now; method = rules.method.now; part = rules.part.now } };
+
+    ghost invariant = { λ rules. IsKnown rules.tree.now (record { headers = headers_of rules.tree.now; class = rules.class.now; method = rules.method.now; part = rules.part.now }) rules.place rules.header.now rules.instrs rules.index rules.descriptor };
+}
+
+impl<'a> MethodRules<'a> {
+    /// The method at its numbers, which has code.
+    pub fn new(alloc: Global, tree: &'a Tree, at: MethodAt) -> Result<Self, NoMemory>
+        requires linked { IsLinked tree.now }
+        requires has_code { IsSome (scope_at tree.now at) }
+        ensures { IfOk result (λ rules. scope_at tree.now at ≡ Some rules) }
+    {
+        a_class_file_has_read_methods();
+        let place = Place::Folder(at.class);
+        let Some(class) = tree.folder().get(at.class) else {
+            unreachable!()
+        };
+        let Some(header) = tree.header(place) else {
+            unreachable!()
+        };
+        let Some(method) = class.methods.get(at.method) else {
+            unreachable!()
+        };
+        of_method(alloc, tree, class, place, header, method)
+    }
+
+    /// Its instructions, by offset. The constants that they name are of the kinds that they may name.
+    pub fn instructions(&self) -> &PlacedList
+        ensures are { result.now ≡ instructions self.now }
+        ensures fit { AllByRecursion (λ placed. FitsPool self.now placed.instr) result.now }
+    {
+        &self.instrs
+    }
+
+    /// The classes around it.
+    pub fn tree(&self) -> &Tree
+        ensures { headers_of result.now ≡ self.now.headers }
+    {
+        self.tree
+    }
+
+    /// Its class file.
+    pub fn class(&self) -> &ClassFile
+        ensures { result.now ≡ self.now.class }
+    {
+        self.class
+    }
+
+    /// The header of its class file.
+    pub fn header(&self) -> &Header
+        ensures { result.now ≡ header_of self.now.class }
+    {
+        self.header
+    }
+
+    /// The method itself.
+    pub fn method(&self) -> &Method
+        ensures { result.now ≡ self.now.method }
+    {
+        self.method
+    }
+
+    /// The content of its Code attribute.
+    pub fn part(&self) -> &CodePart
+        ensures { result.now ≡ self.now.part }
+    {
+        self.part
+    }
+
+    /// Whether a class is the current one.
+    pub(crate) fn is_current(&self, name: &[u8]) -> bool
+        ensures { IsTrue result ↔ (name.now ≡ current self.now) }
+    {
+        name == self.header.name.bytes()
+    }
+
+    /// The class of the `new` at an offset, in bytes, if one stands there.
+    pub(crate) fn class_of_new(&self, at: u32) -> Option<&Text>
+        ensures { option_copied result ≡ class_of_new self.now at }
+    {
+        let placed = self.instrs.get(self.index.find(at)?)?;
+        self.class_made(&placed.instr)
+    }
+
+    // The class that an instruction makes an object of, if it is a `new`.
+    fn class_made(&self, instr: &Instr) -> Option<&Text>
+        ensures { option_copied result ≡ class_made self.now instr.now }
+    {
+        match instr {
+            Instr::New(index) => self.class.pool.class_name(*index),
+            _ => None,
+        }
+    }
+
+    /// What the method gives, if it gives a value.
+    pub(crate) fn result(&self) -> Option<&FieldType>
+        ensures { option_copied result ≡ result_of (own_descriptor self.now) }
+    {
+        a_descriptor_is_read_back();
+        self.descriptor.result.as_ref()
+    }
+
+    /// Whether the method is an instance initialiser.
+    pub(crate) fn is_init(&self) -> bool
+        ensures { result ≡ is_init self.now }
+    {
+        is_text(&self.class.pool, INIT, self.method.name)
+    }
+}
+
+// A method with code of a class file, which has this header at this place.
+fn of_method<'a>(
+    alloc: Global,
+    tree: &'a Tree,
+    class: &'a ClassFile,
+    place: Place,
+    header: &'a Header,
+    method: &'a Method,
+) -> Result<MethodRules<'a>, NoMemory>
+    requires class_file { IsClassFile class.now }
+    requires stands { header_at (headers_of tree.now) place ≡ Some header.now }
+    requires header { header.now ≡ header_of class.now }
+    requires read { IsReadMethod class.now.pool method.now }
+    requires operands { AllByRecursion (HasOperands class.now.pool class.now.major) method.now.attrs }
+    requires has_code { IsSome (scope_of (headers_of tree.now) class.now method.now) }
+    ensures { IfOk result (λ rules. scope_of (headers_of tree.now) class.now method.now ≡ Some rules) }
+{
+    let Some(part) = code_of(method.attrs.as_slice()) else {
+        unreachable!()
+    };
+    let Some(text) = class.pool.utf8(method.desc) else {
+        unreachable!()
+    };
+    let instrs = instructions_of(alloc, part.code.as_slice())?;
+    let index = index_of(alloc, instrs.as_slice())?;
+    let descriptor = method_descriptor(alloc, text, method.flags)?;
+    Ok(MethodRules {
+        tree,
+        class,
+        place,
+        header,
+        method,
+        part,
+        instrs,
+        index,
+        descriptor,
+    })
+}
+
+// The first code among attributes.
+fn code_of(attrs: &[Attr]) -> Option<&CodePart>
+    ensures { option_copied result ≡ code_of attrs.now }
+{
+    for attr in attrs {
+        if let Attr::Code { part, .. } = attr {
+            return Some(part);
+        }
+    }
+    None
+}
+
+// The instructions by their offsets.
+fn index_of(alloc: Global, instrs: &[Placed]) -> Result<OffsetIndex, NoMemory>
+    ensures { IfOk result (IsIndexOf (map (λ placed. placed.at) instrs.now)) }
+{
+    let mut offsets = Vec::new(alloc);
+    for placed in instrs {
+        offsets.push(placed.at)?;
+    }
+    OffsetIndex::of(alloc, offsets.as_slice())
+}
