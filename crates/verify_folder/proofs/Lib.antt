@@ -1,0 +1,11 @@
+pub mod OneTyping
+pub mod OneFailure
+pub mod ChecksLeft
+pub mod PlainTexts
+pub mod CaughtClasses
+pub mod StatedFrames
+pub mod Stepping
+pub mod Walking
+pub mod MethodWalk
+pub mod ClassWalk
+pub mod ReadMethods

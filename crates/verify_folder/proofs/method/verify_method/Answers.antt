@@ -1,0 +1,13 @@
+use Rattle.std.proofs.Common.{◌∙◌, ap, slice_get, sym}
+use Rattle.class_model.specs.declared.header.Header.{Header}
+use Rattle.std.specs.Option.{option_copied}
+use Rattle.verify_folder.proofs.MethodWalk.{has_member}
+use Rattle.verify_folder.proofs.method.verify_method.Goals as goal
+
+pub type_method-requires : goal.type_method-requires
+type_method-requires c = c.a_method_is_read.ensures c.args.at c.in_ok-rules.rules c.in_ok-rules.ensures
+
+pub unreachable-requires : goal.unreachable-requires
+unreachable-requires c =
+    has_member c.args.tree.now c.args.at c.in_ok-rules.rules c.in_ok-rules.ensures
+    (ap (λ (header : Header). slice_get header.methods c.args.at.method) (sym c.header.ensures) ∙ sym c.get.ensures ∙ ap option_copied c.in_default.is)

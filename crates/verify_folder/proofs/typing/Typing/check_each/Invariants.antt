@@ -1,0 +1,8 @@
+use Rattle.std.proofs.Common.{drop}
+use Rattle.std.specs.Option.{option_copied}
+use Rattle.verify_folder.specs.Checks.{target_checks}
+use Rattle.verify_folder.proofs.ChecksLeft.{Remain}
+use Rattle.verify_folder.proofs.typing.Typing.check_each.Given as goal
+
+abbrev pub invariant-loop-to : goal.invariant-loop-to
+invariant-loop-to l = Remain (target_checks l.self (option_copied l.behind) l.targets) (target_checks l.self (option_copied l.behind) (drop l.to-index l.targets))

@@ -1,0 +1,7 @@
+use Rattle.std.proofs.Common.{drop}
+use Rattle.verify_folder.specs.Checks.{handler_checks}
+use Rattle.verify_folder.proofs.ChecksLeft.{Remain}
+use Rattle.verify_folder.proofs.typing.Typing.check_handlers.Given as goal
+
+abbrev pub invariant-loop-handler : goal.invariant-loop-handler
+invariant-loop-handler l = Remain (handler_checks l.self l.at l.before l.handler-items) (handler_checks l.self l.at l.before (drop l.handler-index l.handler-items))

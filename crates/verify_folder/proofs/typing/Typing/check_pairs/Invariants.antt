@@ -1,0 +1,8 @@
+use Rattle.std.proofs.Common.{drop, map}
+use Rattle.std.specs.Option.{option_copied}
+use Rattle.verify_folder.specs.Checks.{target_checks}
+use Rattle.verify_folder.proofs.ChecksLeft.{Remain}
+use Rattle.verify_folder.proofs.typing.Typing.check_pairs.Given as goal
+
+abbrev pub invariant-loop-pair : goal.invariant-loop-pair
+invariant-loop-pair l = Remain (target_checks l.self (option_copied l.behind) (map (λ pair. pair.to) l.pairs)) (target_checks l.self (option_copied l.behind) (map (λ pair. pair.to) (drop l.pair-index l.pairs)))

@@ -1,0 +1,15 @@
+use Rattle.std.proofs.Common.{◌+◌, drop, sym, subst}
+use Rattle.verify_folder.proofs.Walking.{IsOnWalk, one_typed, all_typed}
+use Rattle.verify_folder.proofs.typing.Typing.walk.Goals as goal
+
+pub loop-placed-preserved : goal.loop-placed-preserved
+loop-placed-preserved c =
+    let s = c.args.self.now in
+    let instrs = c.as_slice-placed-items.result.now in
+    let i = c.loop-placed.placed-index in
+    subst (λ frames. IsOnWalk s frames c.in_ok-before.next (drop (i + 1) instrs)) (sym c.in_ok-push.ensures.ok)
+    (one_typed s c.loop-placed.frames c.loop-placed.flows instrs i c.loop-placed.invariant c.placed-item.result c.loop-placed-test.true c.placed-item.is c.in_ok-before.before c.in_ok-before.next c.in_ok-before.ensures)
+
+pub returns-in-None : goal.returns-in-None
+returns-in-None c =
+    all_typed c.args.self.now c.loop-placed.frames c.loop-placed.flows c.as_slice-placed-items.result.now c.loop-placed.placed-index c.loop-placed.invariant c.loop-placed-test.false c.in-None.is

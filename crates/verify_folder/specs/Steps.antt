@@ -1,0 +1,80 @@
+-- What the parts of verification answer.
+use Rattle.std.specs.Prelude.{◌≡◌, ◌⊎◌, ◌<◌, ℕ, List, length, Option, Some, None, Result, Ok, Err}
+use Rattle.std.specs.List.{AllByRecursion}
+use Rattle.class_model.specs.Instructions.{decoded}
+use Rattle.class_model.specs.declared.class_file.Handler.{Handler}
+use Rattle.class_model.specs.declared.frame.Frame.{Frame}
+use Rattle.class_model.specs.declared.frame.PlacedFrame.{PlacedFrame}
+use Rattle.class_model.specs.declared.instr.Placed.{Placed}
+use Rattle.class_tree.specs.Headers.{Name}
+use Rattle.class_tree.specs.Names.{throwable}
+use Rattle.read_code.specs.Codes.{IsReadMethod}
+use Rattle.type_rules.specs.Rule.{AllHold, Check, IsFirstToFail, row_checks, ruled}
+use Rattle.type_rules.specs.Scope.{Scope, instructions}
+use Rattle.type_rules.specs.Table.{row_of}
+use Rattle.type_rules.specs.declared.fault.TypeRule.TheVariants as rules
+use Rattle.type_rules.specs.declared.ruled.Ruled.{Ruled}
+use Rattle.verify_folder.specs.Checks.{FailsAt, IsTypedAt, MayFlowIn, frame_before}
+use Rattle.verify_folder.specs.Flow.{flows_on}
+use Rattle.verify_folder.specs.Handlers.{CatchesThrowables}
+use Rattle.verify_folder.specs.Stated.{entry, stated_at, stated_in}
+use Rattle.verify_folder.specs.Typed.{AreTyped, FailsIn, FailsInTable, IsFirstFailure, Typed}
+use Rattle.verify_folder.specs.declared.stop.Stop.{Stop}
+use Rattle.verify_folder.specs.declared.stop.Stop.TheVariants as stops
+
+-- checks of an instruction at an offset
+abbrev pub ChecksAnswer : ℕ → List Check → Result Unit Stop → Type 0
+ChecksAnswer at checks (Ok done) = AllHold checks
+ChecksAnswer at checks (Err (stops.Fails offset rule)) = (offset ≡ at) × IsFirstToFail checks rule
+ChecksAnswer at checks (Err stops.NoMemory) = Unit {0}
+
+-- the exception table
+abbrev pub TableAnswers : Scope → List Handler → Result Unit Stop → Type 0
+TableAnswers s handlers (Ok done) = AllByRecursion (CatchesThrowables s) handlers
+TableAnswers s handlers (Err (stops.Fails offset rule)) = FailsInTable s handlers offset × (rule ≡ rules.CatchType)
+TableAnswers s handlers (Err stops.NoMemory) = Unit {0}
+
+-- the frame before an instruction at an offset
+abbrev pub BeforeAnswers : Scope → Option Frame → ℕ → Result Frame Stop → Type 0
+BeforeAnswers s flows at (Ok before) = (frame_before flows (stated_at s at) ≡ Some before) × MayFlowIn s.headers flows (stated_at s at)
+BeforeAnswers s flows at (Err (stops.Fails offset rule)) =
+    (offset ≡ at)
+    × (((frame_before flows (stated_at s at) ≡ None) × (rule ≡ rules.NoFrame))
+    ⊎ (((before : Frame) × (frame_before flows (stated_at s at) ≡ Some before)) × (¬ MayFlowIn s.headers flows (stated_at s at)) × (rule ≡ rules.Mismatch)))
+BeforeAnswers s flows at (Err stops.NoMemory) = Unit {0}
+
+-- the row of an instruction behind a frame
+abbrev pub RowAnswers : Scope → Placed → Frame → Result Ruled Stop → Type 0
+RowAnswers s placed before (Ok result) = AllHold (row_checks s before (row_of s before placed)) × (result ≡ ruled before (row_of s before placed))
+RowAnswers s placed before (Err (stops.Fails offset rule)) = (offset ≡ placed.at) × IsFirstToFail (row_checks s before (row_of s before placed)) rule
+RowAnswers s placed before (Err stops.NoMemory) = Unit {0}
+
+-- an instruction, behind what flows into it: its frame, and what flows into the next
+abbrev pub StepAnswers : Scope → Option Frame → Placed → Result (Frame × Option Frame) Stop → Type 0
+StepAnswers s flows placed (Ok (before, behind)) = IsTypedAt s flows placed before × (behind ≡ flows_on s placed before)
+StepAnswers s flows placed (Err (stops.Fails offset rule)) = (offset ≡ placed.at) × FailsAt s flows placed rule
+StepAnswers s flows placed (Err stops.NoMemory) = Unit {0}
+
+-- a method
+abbrev pub TypingAnswers : Scope → Result (List Frame) Stop → Type 0
+TypingAnswers s (Ok frames) = Typed s frames
+TypingAnswers s (Err (stops.Fails offset rule)) = IsFirstFailure s offset rule
+TypingAnswers s (Err stops.NoMemory) = Unit {0}
+
+-- its instructions
+abbrev pub WalkAnswers : Scope → Result (List Frame) Stop → Type 0
+WalkAnswers s (Ok frames) = AreTyped s (Some (entry s)) (instructions s) frames
+WalkAnswers s (Err (stops.Fails offset rule)) = FailsIn s (Some (entry s)) (instructions s) offset rule
+WalkAnswers s (Err stops.NoMemory) = Unit {0}
+
+-- A method whose class file was read.
+pub record IsRead (s : Scope) : Type 0 where
+  pub method : IsReadMethod s.class.pool s.method
+  pub len : length s.part.code < 65536
+  pub instrs : decoded s.part.code ≡ Ok (instructions s)
+
+-- what is kept beside a method that is typed
+pub record IsTyping (s : Scope) (stated : List PlacedFrame) (all : Name) : Type 0 where
+  pub read : IsRead s
+  pub stated_is : stated ≡ stated_in s s.part.attrs
+  pub all_is : all ≡ throwable

@@ -1,0 +1,81 @@
+//! A folder verifies.
+ghost use Rattle.std.specs.Prelude.{◌≡◌, is_some, slice_get, Some};
+ghost use Rattle.class_tree.specs.Headers.{headers_of};
+ghost use Rattle.member_link.specs.Linked.{IsLinked};
+ghost use Rattle.type_rules.specs.Scope.{code_of};
+ghost use Rattle.verify_folder.specs.Verified.{ClassVerifies, FolderIsTyped, FolderVerifies};
+
+use crate::method::verify_method;
+use class_model::{Attr, ClassFile, MethodAt};
+use class_tree::Tree;
+use std::alloc::Global;
+use type_rules::{TypedClass, TypedFolder, VerifyFault};
+
+/// Verifies each method with code of a linked folder: the frames that type them. There are no others.
+///
+/// # Errors
+/// `Unverified` where no frames type a method, with the first failure: class by class, in byte order of their names, and
+/// method by method, as `verify_method`.
+pub fn verify_all(alloc: Global, tree: &Tree) -> Result<TypedFolder, VerifyFault>
+    requires { IsLinked tree.now }
+    ensures { FolderVerifies tree.now result }
+{
+    let mut typed = TypedFolder::new(alloc);
+    for (place, class) in tree.folder().as_slice().iter().enumerate() {
+        typed.push(verify_class(alloc, tree, place, class)?)?;
+    }
+    Ok(typed)
+}
+
+/// Verifies each method with code of a linked folder, as `verify_all`, and keeps the frames of one class at a time.
+///
+/// # Errors
+/// As `verify_all`.
+pub fn check_all(alloc: Global, tree: &Tree) -> Result<(), VerifyFault>
+    requires { IsLinked tree.now }
+    ensures { FolderIsTyped tree.now result }
+{
+    for (place, class) in tree.folder().as_slice().iter().enumerate() {
+        verify_class(alloc, tree, place, class)?;
+    }
+    Ok(())
+}
+
+// Verifies each method with code of the class at a place.
+fn verify_class(
+    alloc: Global,
+    tree: &Tree,
+    place: usize,
+    class: &ClassFile,
+) -> Result<TypedClass, VerifyFault>
+    requires linked { IsLinked tree.now }
+    requires stands { slice_get tree.now.folder place ≡ Some class.now }
+    ensures { ClassVerifies (headers_of tree.now) class.now result }
+{
+    let mut typed = TypedClass::new(alloc);
+    for (number, method) in class.methods.as_slice().iter().enumerate() {
+        let frames = if has_code(method.attrs.as_slice()) {
+            let at = MethodAt {
+                class: place,
+                method: number,
+            };
+            Some(verify_method(alloc, tree, at)?)
+        } else {
+            None
+        };
+        typed.push(frames)?;
+    }
+    Ok(typed)
+}
+
+// Whether code is among a method's attributes.
+fn has_code(attrs: &[Attr]) -> bool
+    ensures { result ≡ is_some (code_of attrs.now) }
+{
+    for attr in attrs {
+        if let Attr::Code { .. } = attr {
+            return true;
+        }
+    }
+    false
+}

@@ -1,0 +1,16 @@
+//! Verification by type checking (JVM Specification SE 8, 4.10.1): the frames that type each method of a folder, or the
+//! first failure.
+#![tactic(auto)]
+
+mod flow;
+mod folder;
+mod handlers;
+mod laws;
+mod method;
+mod stated;
+mod stop;
+mod typing;
+
+pub use folder::{check_all, verify_all};
+pub use laws::{a_failing_method_has_no_frames, a_folder_fails_once, a_method_has_one_typing};
+pub use method::verify_method;

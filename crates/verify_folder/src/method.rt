@@ -1,0 +1,69 @@
+//! A method verifies.
+ghost use Rattle.std.specs.Prelude.{◌≡◌, Some, IfOk, IsSome};
+ghost use Rattle.class_model.specs.Header.{header_of};
+ghost use Rattle.class_model.specs.declared.class_file.MethodAt.{MethodAt};
+ghost use Rattle.member_link.specs.Linked.{IsLinked};
+ghost use Rattle.type_rules.specs.Scope.{Scope, scope_at};
+ghost use Rattle.verify_folder.specs.Steps.{IsRead};
+ghost use Rattle.verify_folder.specs.Verified.{VerifiesAs};
+
+use crate::stop::Stop;
+use crate::typing::type_method;
+use class_model::{Member, MethodAt, NoMemory};
+use class_tree::Tree;
+use read_code::a_class_file_has_read_methods;
+use std::alloc::Global;
+use type_rules::{MethodRules, TypeRule, TypedMethod, VerifyFault};
+
+/// Verifies a method with code of a linked folder: the frames that type it, one for each instruction. There are no others.
+///
+/// # Errors
+/// `Unverified` where no frames type it, with the first failure: of the catch types in table order, and then of the
+/// instructions by offset.
+pub fn verify_method(alloc: Global, tree: &Tree, at: MethodAt) -> Result<TypedMethod, VerifyFault>
+    requires linked { IsLinked tree.now }
+    requires has_code { IsSome (scope_at tree.now at) }
+    ensures { VerifiesAs tree.now at result }
+{
+    a_method_is_read(tree);
+    let rules = MethodRules::new(alloc, tree, at)?;
+    match type_method(alloc, &rules) {
+        Ok(frames) => Ok(frames),
+        Err(Stop::Fails { offset, rule }) => {
+            let Some(member) = rules.header().methods.get(at.method) else {
+                unreachable!()
+            };
+            Err(unverified(&rules, member, offset, rule)?)
+        }
+        Err(Stop::NoMemory) => Err(VerifyFault::NoMemory),
+    }
+}
+
+// A method with code of a folder was read.
+fn a_method_is_read(tree: &Tree)
+    ensures { (at : MethodAt) (s : Scope) → scope_at tree.now at ≡ Some s → IsRead s }
+{
+    a_class_file_has_read_methods();
+    tree.folder();
+}
+
+// The failure of a method, which is this member of its class's header.
+fn unverified(
+    rules: &MethodRules<'_>,
+    member: &Member,
+    offset: u32,
+    rule: TypeRule,
+) -> Result<VerifyFault, NoMemory>
+    ensures { IfOk result (λ fault. fault ≡ VerifyFault.Unverified (header_of rules.now.class).name member.now offset rule) }
+{
+    Ok(VerifyFault::Unverified {
+        class: rules.header().name.copy()?,
+        method: Member {
+            flags: member.flags,
+            name: member.name.copy()?,
+            desc: member.desc.copy()?,
+        },
+        offset,
+        rule,
+    })
+}

@@ -1,0 +1,241 @@
+//! The frames of a method's instructions, found in one pass by offset (JVM Specification SE 8, 4.10.1.6).
+ghost use Rattle.std.specs.Prelude.{◌≡◌, ◌↔◌, [], ◌∷◌, map, None, Some, IfOk, IsTrue, if◌then◌else◌};
+ghost use Rattle.std.specs.Option.{option_copied};
+ghost use Rattle.class_model.specs.Instructions.{targets};
+ghost use Rattle.class_tree.specs.Names.{throwable};
+ghost use Rattle.type_rules.specs.Rule.{FitsPool};
+ghost use Rattle.verify_folder.specs.Checks.{MayGoTo, handler_checks, target_checks};
+ghost use Rattle.verify_folder.specs.Flow.{falls_through};
+ghost use Rattle.verify_folder.specs.Handlers.{caught_frame};
+ghost use Rattle.verify_folder.specs.Stated.{stated_at};
+ghost use Rattle.verify_folder.specs.Steps.{BeforeAnswers, ChecksAnswer, IsRead, RowAnswers, StepAnswers, TypingAnswers, WalkAnswers};
+
+use crate::flow::falls_through;
+use crate::handlers::{caught_frame, check_catch_types, covers};
+use crate::stated::StatedFrames;
+use crate::stop::Stop;
+use class_model::{Frame, Handler, Instr, NoMemory, Pair, Placed, Text, TextFault};
+use class_tree::THROWABLE;
+use read_code::entry_frame;
+use std::alloc::Global;
+use std::marker::Model;
+use type_rules::{MethodRules, RuleFault, Ruled, TypeRule, TypedMethod, frame_assignable};
+
+/// Finds the frames that type a method.
+pub(crate) fn type_method(alloc: Global, rules: &MethodRules<'_>) -> Result<TypedMethod, Stop>
+    requires { IsRead rules.now }
+    ensures { TypingAnswers rules.now result }
+{
+    check_catch_types(rules)?;
+    let stated = StatedFrames::of(alloc, rules)?;
+    let all = throwable_name(alloc)?;
+    let typing = Typing {
+        alloc,
+        rules,
+        stated: &stated,
+        all: &all,
+    };
+    typing.walk()
+}
+
+// The name of all throwables.
+fn throwable_name(alloc: Global) -> Result<Text, NoMemory>
+    ensures { IfOk result (λ name. name ≡ throwable) }
+{
+    match Text::of_bytes(alloc, THROWABLE) {
+        Ok(name) => Ok(name),
+        Err(TextFault::NoMemory) => Err(NoMemory),
+        Err(TextFault::BadText) => unreachable!(),
+    }
+}
+
+/// A method that is typed, the frames that its code states, and the name of all throwables. Contracts see the method.
+#[derive(Drop)]
+struct Typing<'a> {
+    alloc: Global,
+    rules: &'a MethodRules<'a>,
+    stated: &'a StatedFrames,
+    all: &'a Text,
+}
+
+impl<'a> Model for Typing<'a> {
+    ghost use Rattle.type_rules.specs.Scope.{Scope};
+    ghost use Rattle.verify_folder.specs.Steps.{IsTyping};
+
+    ghost Value = { Scope };
+
+    ghost view = { λ typing. typing.rules.now };
+
+    ghost invariant = { λ typing. IsTyping typing.rules.now typing.stated.now typing.all.now };
+}
+
+impl Typing<'_> {
+    // The frames of all instructions.
+    fn walk(&self) -> Result<TypedMethod, Stop>
+        ensures { WalkAnswers self.now result }
+    {
+        let rules = self.rules;
+        let mut frames = TypedMethod::new(self.alloc);
+        let mut flows = Some(entry_frame(self.alloc, rules.class(), rules.method(), rules.part())?);
+        for placed in rules.instructions().as_slice() {
+            let (before, next) = self.step(flows, placed)?;
+            frames.push(before)?;
+            flows = next;
+        }
+        match flows {
+            Some(_) => Err(fails(rules.part().code.len() as u32, TypeRule::FallsOff)),
+            None => Ok(frames),
+        }
+    }
+
+    // The frame of an instruction behind what flows into it, and what flows into the next.
+    fn step(&self, flows: Option<Frame>, placed: &Placed) -> Result<(Frame, Option<Frame>), Stop>
+        requires { FitsPool self.now placed.now.instr }
+        ensures { StepAnswers self.now flows placed.now result }
+    {
+        let before = self.before(flows, placed.at)?;
+        self.check_handlers(placed.at, &before)?;
+        let ruled = self.rule(placed, &before)?;
+        self.check_targets(placed, ruled.next.as_ref())?;
+        Ok((before, flows_on(placed, ruled.next)))
+    }
+
+    // The frame before an instruction at an offset.
+    fn before(&self, flows: Option<Frame>, at: u32) -> Result<Frame, Stop>
+        ensures { BeforeAnswers self.now flows at result }
+    {
+        match (self.stated.at(at), flows) {
+            (Some(stated), Some(flows)) if !frame_assignable(self.rules.tree(), &flows, stated) =>
+                Err(fails(at, TypeRule::Mismatch)),
+            (Some(stated), _) => Ok(stated.copy(self.alloc)?),
+            (None, Some(flows)) => Ok(flows),
+            (None, None) => Err(fails(at, TypeRule::NoFrame)),
+        }
+    }
+
+    // Asks that the handlers whose range has an offset may begin with these locals.
+    fn check_handlers(&self, at: u32, before: &Frame) -> Result<(), Stop>
+        ensures { ChecksAnswer at (handler_checks self.now at before.now self.now.part.handlers) result }
+    {
+        for handler in self.rules.part().handlers.as_slice() {
+            self.check_handler(at, before, handler)?;
+        }
+        Ok(())
+    }
+
+    // Asks the same of a handler.
+    fn check_handler(&self, at: u32, before: &Frame, handler: &Handler) -> Result<(), Stop>
+        ensures { ChecksAnswer at (handler_checks self.now at before.now (handler.now ∷ [])) result }
+    {
+        if !covers(handler, at) {
+            return Ok(());
+        }
+        if self.may_catch(before, handler)? {
+            Ok(())
+        } else {
+            Err(fails(at, TypeRule::Handler))
+        }
+    }
+
+    // Whether a handler may begin with these locals.
+    fn may_catch(&self, before: &Frame, handler: &Handler) -> Result<bool, NoMemory>
+        ensures { IfOk result (λ may. IsTrue may ↔ MayGoTo self.now.headers (Some (caught_frame self.now before.now handler.now)) (stated_at self.now handler.now.at)) }
+    {
+        let caught = caught_frame(self.alloc, self.rules, self.all, before, handler)?;
+        Ok(self.may_go_to(Some(&caught), u32::from(handler.at)))
+    }
+
+    // Whether control may go to an offset with a frame.
+    fn may_go_to(&self, frame: Option<&Frame>, to: u32) -> bool
+        ensures { IsTrue result ↔ MayGoTo self.now.headers (option_copied frame.entry) (stated_at self.now to) }
+    {
+        match (frame, self.stated.at(to)) {
+            (Some(frame), Some(stated)) => frame_assignable(self.rules.tree(), frame, stated),
+            _ => false,
+        }
+    }
+
+    // The rule of an instruction.
+    fn rule(&self, placed: &Placed, before: &Frame) -> Result<Ruled, Stop>
+        requires { FitsPool self.now placed.now.instr }
+        ensures { RowAnswers self.now placed.now before.now result }
+    {
+        match self.rules.rule(self.alloc, placed, before) {
+            Ok(ruled) => Ok(ruled),
+            Err(RuleFault::Fails(rule)) => Err(fails(placed.at, rule)),
+            Err(RuleFault::NoMemory) => Err(Stop::NoMemory),
+        }
+    }
+
+    // Asks that control may go to each target of an instruction with the frame behind it.
+    fn check_targets(&self, placed: &Placed, behind: Option<&Frame>) -> Result<(), Stop>
+        ensures { ChecksAnswer placed.now.at (target_checks self.now (option_copied behind.entry) (targets placed.now.instr)) result }
+    {
+        let at = placed.at;
+        match &placed.instr {
+            Instr::If(_, to)
+            | Instr::If2(_, to)
+            | Instr::IfSame(_, to)
+            | Instr::IfNull(_, to)
+            | Instr::Goto(to) => self.check_target(at, behind, *to),
+            Instr::Table { other, targets, .. } => {
+                self.check_target(at, behind, *other)?;
+                self.check_each(at, behind, targets.as_slice())
+            }
+            Instr::Lookup { other, pairs } => {
+                self.check_target(at, behind, *other)?;
+                self.check_pairs(at, behind, pairs.as_slice())
+            }
+            _ => Ok(()),
+        }
+    }
+
+    // Asks that control may go to an offset.
+    fn check_target(&self, at: u32, behind: Option<&Frame>, to: u32) -> Result<(), Stop>
+        ensures { ChecksAnswer at (target_checks self.now (option_copied behind.entry) (to ∷ [])) result }
+    {
+        if self.may_go_to(behind, to) {
+            Ok(())
+        } else {
+            Err(fails(at, TypeRule::Target))
+        }
+    }
+
+    // Asks the same of each of these offsets.
+    fn check_each(&self, at: u32, behind: Option<&Frame>, targets: &[u32]) -> Result<(), Stop>
+        ensures { ChecksAnswer at (target_checks self.now (option_copied behind.entry) targets.now) result }
+    {
+        for to in targets {
+            self.check_target(at, behind, *to)?;
+        }
+        Ok(())
+    }
+
+    // Asks the same of the targets of these pairs.
+    fn check_pairs(&self, at: u32, behind: Option<&Frame>, pairs: &[Pair]) -> Result<(), Stop>
+        ensures { ChecksAnswer at (target_checks self.now (option_copied behind.entry) (map (λ pair. pair.to) pairs.now)) result }
+    {
+        for pair in pairs {
+            self.check_target(at, behind, pair.to)?;
+        }
+        Ok(())
+    }
+}
+
+// What flows into the next instruction of the frame behind one.
+fn flows_on(placed: &Placed, behind: Option<Frame>) -> Option<Frame>
+    ensures { result ≡ (if falls_through placed.now.instr then behind else None) }
+{
+    if falls_through(&placed.instr) {
+        behind
+    } else {
+        None
+    }
+}
+
+// A rule that fails at an offset.
+fn fails(offset: u32, rule: TypeRule) -> Stop
+    ensures { result ≡ Stop.Fails offset rule }
+{
+    Stop::Fails { offset, rule }
+}
