@@ -2,6 +2,7 @@ pub mod Puts
 pub mod NamesInOrder
 pub mod Copying
 pub mod Outcomes
+pub mod MemberLines
 pub mod CallCounts
 pub mod FolderReads
 pub mod FileReads
@@ -16,4 +17,5 @@ pub mod FolderValues
 pub mod FirstRefused
 pub mod BytesLaws
 pub mod OneLinkProblem
+pub mod OneTypeFailure
 pub mod OneAnswer

@@ -5,8 +5,8 @@ use Rattle.class_model.specs.declared.header.Header.{Header}
 use Rattle.class_tree.specs.Headers.{Classes, headers_of}
 use Rattle.class_tree.specs.Problems.{Problem, Check, AllHold, IsFirstProblem}
 use Rattle.class_tree.specs.Trees.{IsArranged, IsInOrder, IsTree, IsProblemOf, duplicate, step, IsProblem}
-use Rattle.member_link.specs.Linked.{link_checks}
-use Rattle.pea_top.specs.Linking.{AreLinked, IsLinkProblem, of_hierarchy, of_links}
+use Rattle.member_link.specs.Linked.{link_checks, IsLinked}
+use Rattle.pea_top.specs.Linking.{IsLinkProblem, of_hierarchy, of_links}
 
 one_problem_of : (checks : List Check) (one other : Problem) → IsFirstProblem checks one → IsFirstProblem checks other → one ≡ other
 one_problem_of [] one other h i = absurd h
@@ -49,7 +49,7 @@ module _ (laws : TreeLaws) (folder : List ClassFile) (library : List Header) whe
   one_link_problem one other (of_links classes arranged tree first) (of_links others other_arranged _ other_first) =
       one_problem_of (link_checks classes) one other first (links_at classes others other arranged tree other_arranged other_first)
 
-  pub linked_no_problem : (problem : Problem) → AreLinked folder library → ¬ IsLinkProblem folder library problem
-  linked_no_problem problem linked (of_hierarchy h) = tree_no_problem linked.classes problem linked.arranged linked.tree h
-  linked_no_problem problem linked (of_links others other_arranged _ first) =
-      no_problem_of (link_checks linked.classes) problem linked.linked (links_at linked.classes others problem linked.arranged linked.tree other_arranged first)
+  pub linked_no_problem : (classes : Classes) (problem : Problem) → IsArranged folder library classes → IsTree classes → IsLinked classes → ¬ IsLinkProblem folder library problem
+  linked_no_problem classes problem arranged tree linked (of_hierarchy h) = tree_no_problem classes problem arranged tree h
+  linked_no_problem classes problem arranged tree linked (of_links others other_arranged _ first) =
+      no_problem_of (link_checks classes) problem linked (links_at classes others problem arranged tree other_arranged first)

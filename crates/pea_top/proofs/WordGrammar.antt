@@ -1,8 +1,8 @@
 -- Words are cut into parts in one way.
-use Rattle.std.proofs.Common.{◌≡◌, ◌≢◌, List, [], ◌∷◌, ◌++◌, refl, sym, ap, ◌∙◌}
+use Rattle.std.proofs.Common.{◌≡◌, ◌≢◌, List, [], ◌∷◌, ◌++◌, refl, sym, ap}
 use Rattle.std.specs.Prelude.{codes}
 use Rattle.std.specs.List.{flat_map, AllByRecursion}
-use Rattle.pea_top.specs.Words.{Word, Command, Part, Positional, Separate, Joined, words_of, IsOperand, IsPart, positionals, libraries, Spells}
+use Rattle.pea_top.specs.Words.{Word, Command, Optimise, Verify, folders_of, library_of, Part, Positional, Separate, Joined, words_of, IsOperand, IsPart, positionals, libraries, Spells}
 
 -- an operand does not begin with a dash
 pub not_dashed : (word rest : Word) → IsOperand word → word ≢ 45 ∷ rest
@@ -38,17 +38,17 @@ same_parts (p ∷ ps) (q ∷ qs) h i e =
     cc
 
 -- a command is given by its folders
-same_folders : (one other : Command) → one.input ≡ other.input → one.output ≡ other.output → one.library ≡ other.library → one ≡ other
-same_folders one other input output library =
-    ap (λ (word : Word). record one { input = word }) input
-    ∙ ap (λ (word : Word). record one { input = other.input; output = word }) output
-    ∙ ap (λ (word : Word). record other { library = word }) library
+same_folders : (one other : Command) → folders_of one ≡ folders_of other → library_of one ∷ [] ≡ library_of other ∷ [] → one ≡ other
+same_folders (Optimise input output library) (Optimise input' output' library') folders libraries = cc
+same_folders (Optimise input output library) (Verify input' library') folders libraries = cc
+same_folders (Verify input library) (Optimise input' output' library') folders libraries = cc
+same_folders (Verify input library) (Verify input' library') folders libraries = cc
 
 -- words spell one command at most
 pub same_command : (words : List Word) (one other : Command) → Spells one words → Spells other words → one ≡ other
 same_command words one other h i =
     let rests : flat_map words_of h.parts ≡ flat_map words_of i.parts = cc (h.spelled, i.spelled) in
     let parts : h.parts ≡ i.parts = same_parts h.parts i.parts h.each i.each rests in
-    let folders : one.input ∷ one.output ∷ [] ≡ other.input ∷ other.output ∷ [] = cc (h.folders, i.folders, ap positionals parts) in
-    let library : one.library ∷ [] ≡ other.library ∷ [] = cc (h.option, i.option, ap libraries parts) in
-    same_folders one other (cc) (cc) (cc)
+    let folders : folders_of one ≡ folders_of other = cc (h.folders, i.folders, ap positionals parts) in
+    let library : library_of one ∷ [] ≡ library_of other ∷ [] = cc (h.option, i.option, ap libraries parts) in
+    same_folders one other folders library

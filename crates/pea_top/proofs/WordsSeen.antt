@@ -1,9 +1,9 @@
 -- What one more word means behind the words seen.
-use Rattle.std.proofs.Common.{◌≡◌, ◌≢◌, ℕ, ◌+◌, ◌<◌, List, [], ◌∷◌, ◌++◌, length, get_or, drop, map, refl, arith}
+use Rattle.std.proofs.Common.{◌≡◌, ◌≢◌, ℕ, ◌+◌, ◌<◌, ◌≤◌, List, [], ◌∷◌, ◌++◌, length, get_or, drop, map, refl, arith}
 use Rattle.std.proofs.lemmas.List.{drop_more}
 use Rattle.std.specs.Prelude.{codes, ◌↔◌, IfNone, Option, None, Some}
 use Rattle.std.specs.Borrow.{Bor}
-use Rattle.pea_top.specs.Words.{Word, Command, IsOperand}
+use Rattle.pea_top.specs.Words.{Word, Command, Optimise, Verify, folders_of, library_of, IsOperand}
 use Rattle.pea_top.specs.Seen.{folder_words, library_words, awaiting, Completes, Ends, Leads, Fails, MayBeFolder}
 use Rattle.pea_top.specs.declared.words.Seen.{Seen}
 use Rattle.pea_top.specs.declared.words.Folders.{Folders}
@@ -20,11 +20,16 @@ folder_leads seen next word may operand folders library rest command =
       λ h. rw (folders, library, none) (folder_behind (folder_words seen.folders) (library_words seen.library) word rest command operand (rw none at h)),
     )
 
+-- a command has two positional words at most
+two_at_most : (command : Command) → length (folders_of command) ≤ 2
+two_at_most (Optimise input output library) = omega arith
+two_at_most (Verify input library) = omega arith
+
 -- no folder can follow, and no option
 pub folder_fails : (seen : Seen) (word : Word) → MayBeFolder seen word → (IsOperand word → length (folder_words seen.folders) ≡ 2) → Fails seen word
 folder_fails seen word may two rest command h =
     elim (begins (folder_words seen.folders) (library_words seen.library) word rest command (rw may.none_awaited at h)) [
-      | ByFolder operand more ↦ too_many _ _ _ _ (omega (arith, two operand)) more.folders
+      | ByFolder operand more ↦ too_many _ _ _ _ (omega (arith, two operand, two_at_most command)) more.folders
       | ByOption value tail is _ _ more ↦ too_many _ _ _ _ (omega (arith, may.separate is)) more.option
       | ByJoined value is some more ↦ too_many _ _ _ _ (omega (arith, may.joined value some is)) more.option
     ]
@@ -52,13 +57,13 @@ joined_leads seen next word value missing is some folders library none rest comm
   λ h. rw (folders, library, none) (joined_behind (folder_words seen.folders) [] value rest command (rw (missing, is) at h)),
 )
 
-ended_libraries : (seen_folders : List Word) (library : Library) (command : Command) → Completes seen_folders (library_words library) (awaiting library ++ []) command → (seen_folders ≡ command.input ∷ command.output ∷ []) × (library_words library ≡ command.library ∷ [])
+ended_libraries : (seen_folders : List Word) (library : Library) (command : Command) → Completes seen_folders (library_words library) (awaiting library ++ []) command → (seen_folders ≡ folders_of command) × (library_words library ≡ library_of command ∷ [])
 ended_libraries seen_folders Missing command h = none_left seen_folders [] command h
 ended_libraries seen_folders Awaited command h = absurd (no_value seen_folders [] command h)
 ended_libraries seen_folders (Given folder) command h = none_left seen_folders (folder.now ∷ []) command h
 
 -- where no word is left, the command's folders were seen
-pub ended : (seen : Seen) (command : Command) → Ends seen [] command → (folder_words seen.folders ≡ command.input ∷ command.output ∷ []) × (library_words seen.library ≡ command.library ∷ [])
+pub ended : (seen : Seen) (command : Command) → Ends seen [] command → (folder_words seen.folders ≡ folders_of command) × (library_words seen.library ≡ library_of command ∷ [])
 ended seen command h = ended_libraries (folder_words seen.folders) seen.library command h
 
 -- two folders are both folders
@@ -66,6 +71,12 @@ pub not_two : (folders : Folders) (input output : Word) → ((x y : Bor Word) �
 not_two Neither input output none e = cc
 not_two (Input folder) input output none e = cc
 not_two (Both one other) input output none e = none one other refl
+
+-- and one is the input
+pub not_input : (folders : Folders) (input : Word) → ((x : Bor Word) → folders ≢ Input x) → folder_words folders ≢ input ∷ []
+not_input Neither input none e = cc
+not_input (Input folder) input none e = none folder refl
+not_input (Both one other) input none e = cc
 
 -- a value of the option was given
 pub not_one : (library : Library) (folder : Word) → ((x : Bor Word) → library ≢ Given x) → library_words library ≢ folder ∷ []

@@ -10,11 +10,13 @@ use Rattle.class_model.specs.declared.header.Header.{Header}
 use Rattle.class_tree.specs.Problems.{Problem}
 use Rattle.host_tree.specs.Host.{Bytes, Folder, Files}
 use Rattle.host_tree.specs.declared.call.HostCall.TheVariants as calls
-use Rattle.pea_top.specs.Words.{Word, Command, Spells, IsUsage}
+use Rattle.verify_folder.specs.Verified.{Failure}
+use Rattle.pea_top.specs.Words.{Word, Command, input_of, library_of, Spells, IsUsage}
 use Rattle.pea_top.specs.Folders.{IsBefore, names_class_file, HasClassFiles}
-use Rattle.pea_top.specs.Linking.{AreLinked, IsLinkProblem}
+use Rattle.pea_top.specs.Linking.{IsLinkProblem}
+use Rattle.pea_top.specs.Verifying.{AreVerified, IsTypeFailure}
 use Rattle.pea_top.specs.declared.status.Status.{Status}
-use Rattle.pea_top.specs.declared.status.Status.TheVariants.{Done, Usage, Malformed, Version, Unlinked, HostFault, NoMemory}
+use Rattle.pea_top.specs.declared.status.Status.TheVariants.{Done, Usage, Malformed, Version, Unlinked, Unverified, HostFault, NoMemory}
 
 -- ---- refused files
 
@@ -64,20 +66,20 @@ pub record AreRead (input library : Folder) (classes : List ClassFile) (headers 
 -- ---- the answer
 
 -- The words spell a command that can be done: no file of its input or library is refused, and the class files of the
--- input are linked with those of the library.
+-- input are linked with those of the library and verified.
 pub record CanDo (words : List Word) (files : Files) : Type 0 where
   pub command : Command
   pub spelled : Spells command words
   pub classes : List ClassFile
   pub headers : List Header
-  pub read : AreRead (files command.input) (files command.library) classes headers
-  pub linked : AreLinked classes headers
+  pub read : AreRead (files (input_of command)) (files (library_of command)) classes headers
+  pub verified : AreVerified classes headers
 
 -- the words spell a command whose first refused file has this name, and is refused for this
 pub record MustRefuse (words : List Word) (files : Files) (name : Bytes) (why : Refusal) : Type 0 where
   pub command : Command
   pub spelled : Spells command words
-  pub first : IsFirstOf (files command.input) (files command.library) name why
+  pub first : IsFirstOf (files (input_of command)) (files (library_of command)) name why
 
 -- the words spell a command whose files are read, and this is the first problem of linking them
 pub record CannotLink (words : List Word) (files : Files) (problem : Problem) : Type 0 where
@@ -85,8 +87,17 @@ pub record CannotLink (words : List Word) (files : Files) (problem : Problem) : 
   pub spelled : Spells command words
   pub classes : List ClassFile
   pub headers : List Header
-  pub read : AreRead (files command.input) (files command.library) classes headers
+  pub read : AreRead (files (input_of command)) (files (library_of command)) classes headers
   pub first : IsLinkProblem classes headers problem
+
+-- the words spell a command whose files are read and linked, and this is where the input fails first
+pub record CannotVerify (words : List Word) (files : Files) (failure : Failure) : Type 0 where
+  pub command : Command
+  pub spelled : Spells command words
+  pub classes : List ClassFile
+  pub headers : List Header
+  pub read : AreRead (files (input_of command)) (files (library_of command)) classes headers
+  pub first : IsTypeFailure classes headers failure
 
 -- The answer that words and files determine. A fault of the host and want of memory are no such answer.
 abbrev pub IsAnswer : List Word → Files → Status → Type 0
@@ -95,6 +106,7 @@ IsAnswer words files Usage = IsUsage words
 IsAnswer words files (Malformed name at rule) = MustRefuse words files name (broken (fault at rule))
 IsAnswer words files (Version name major minor) = MustRefuse words files name (other_version (record { minor = minor; major = major }))
 IsAnswer words files (Unlinked class member rule) = CannotLink words files (record { class = class; member = member; rule = rule })
+IsAnswer words files (Unverified class method offset rule) = CannotVerify words files (record { class = class; method = method; offset = offset; rule = rule })
 IsAnswer words files (HostFault call) = ⊥
 IsAnswer words files NoMemory = ⊥
 
@@ -111,3 +123,4 @@ HasCause words files Usage = IsUsage words
 HasCause words files (Malformed name at rule) = MustRefuse words files name (broken (fault at rule))
 HasCause words files (Version name major minor) = MustRefuse words files name (other_version (record { minor = minor; major = major }))
 HasCause words files (Unlinked class member rule) = CannotLink words files (record { class = class; member = member; rule = rule })
+HasCause words files (Unverified class method offset rule) = CannotVerify words files (record { class = class; method = method; offset = offset; rule = rule })

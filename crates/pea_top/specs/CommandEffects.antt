@@ -5,7 +5,7 @@ use Rattle.host_tree.specs.declared.call.HostCall.TheVariants as calls
 use Rattle.pea_top.specs.Writing.{Puts, PutsSome}
 use Rattle.pea_top.specs.declared.folder.NamedFile.{NamedFile}
 use Rattle.pea_top.specs.declared.status.Status.{Status}
-use Rattle.pea_top.specs.declared.status.Status.TheVariants.{Done, Usage, Malformed, Version, Unlinked, HostFault, NoMemory}
+use Rattle.pea_top.specs.declared.status.Status.TheVariants.{Done, Usage, Malformed, Version, Unlinked, Unverified, HostFault, NoMemory}
 
 -- the files, by the status, after these were to be written under a root and a line printed
 abbrev pub LeavesWritten : Bytes → List NamedFile → Files → Files → Status → Type 0
@@ -14,6 +14,7 @@ LeavesWritten root files old new Usage = ⊥
 LeavesWritten root files old new (Malformed name at rule) = ⊥
 LeavesWritten root files old new (Version name major minor) = ⊥
 LeavesWritten root files old new (Unlinked class member rule) = ⊥
+LeavesWritten root files old new (Unverified class method offset rule) = ⊥
 LeavesWritten root files old new (HostFault calls.List) = ⊥
 LeavesWritten root files old new (HostFault calls.Read) = ⊥
 LeavesWritten root files old new (HostFault calls.Write) = PutsSome root files old new
@@ -27,6 +28,7 @@ PrintsWritten line old new Usage = ⊥
 PrintsWritten line old new (Malformed name at rule) = ⊥
 PrintsWritten line old new (Version name major minor) = ⊥
 PrintsWritten line old new (Unlinked class member rule) = ⊥
+PrintsWritten line old new (Unverified class method offset rule) = ⊥
 PrintsWritten line old new (HostFault calls.List) = ⊥
 PrintsWritten line old new (HostFault calls.Read) = ⊥
 PrintsWritten line old new (HostFault calls.Write) = new ≡ old

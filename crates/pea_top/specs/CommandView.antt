@@ -1,6 +1,8 @@
 -- The program's command as the grammar sees it.
 use Rattle.pea_top.specs.Words as grammar
 use Rattle.pea_top.specs.declared.words.Command.{Command}
+use Rattle.pea_top.specs.declared.words.Command.TheVariants.{Optimise, Verify}
 
 abbrev pub command_view : Command → grammar.Command
-command_view command = record { input = command.input.now; output = command.output.now; library = command.library.now }
+command_view (Optimise input output library) = grammar.Optimise input.now output.now library.now
+command_view (Verify input library) = grammar.Verify input.now library.now

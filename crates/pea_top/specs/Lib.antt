@@ -3,11 +3,13 @@ pub mod Words
 pub mod Folders
 pub mod Lines
 pub mod Linking
+pub mod Verifying
 pub mod Answer
 pub mod Effects
 pub mod Reading
 pub mod Writing
 pub mod CommandView
 pub mod CommandEffects
+pub mod Deciding
 pub mod ReadingSteps
 pub mod Seen

@@ -6,8 +6,10 @@ use Rattle.class_model.specs.declared.fault.FileRule.TheVariants as rules
 use Rattle.class_tree.specs.declared.fault.LinkRule.{LinkRule}
 use Rattle.class_tree.specs.declared.fault.LinkRule.TheVariants as links
 use Rattle.host_tree.specs.Host.{Bytes}
+use Rattle.type_rules.specs.declared.fault.TypeRule.{TypeRule}
+use Rattle.type_rules.specs.declared.fault.TypeRule.TheVariants as types
 use Rattle.pea_top.specs.declared.status.Status.{Status}
-use Rattle.pea_top.specs.declared.status.Status.TheVariants.{Done, Usage, Malformed, Version, Unlinked, HostFault, NoMemory}
+use Rattle.pea_top.specs.declared.status.Status.TheVariants.{Done, Usage, Malformed, Version, Unlinked, Unverified, HostFault, NoMemory}
 
 -- a hexadecimal digit in lower case
 abbrev pub hex_digit : ℕ → ℕ
@@ -27,10 +29,14 @@ printed_text (first ∷ second ∷ rest) = flat_map printed_byte (first ∷ seco
 abbrev pub line : Bytes → Bytes
 line text = text ++ 10 ∷ []
 
--- what a command that was done prints: how many files were written, how many of them are class files, and how
+-- what is printed where a folder was optimised: how many files were written, how many of them are class files, and how
 -- many methods these have, all of which are kept as they were
 unfoldable pub summary_line : ℕ → ℕ → ℕ → Bytes
 summary_line files classes kept = line (codes "done files=" ++ decimal files ++ codes " classes=" ++ decimal classes ++ codes " rewritten=0 kept=" ++ decimal kept)
+
+-- what is printed where a folder was verified: how many class files it has, and how many methods these have
+unfoldable pub verified_line : ℕ → ℕ → Bytes
+verified_line classes methods = line (codes "verified " ++ decimal classes ++ codes " " ++ decimal methods)
 
 -- the name of a rule
 abbrev pub rule_name : FileRule → Bytes
@@ -72,12 +78,26 @@ link_rule_name links.NoAccess = codes "NoAccess"
 link_rule_name links.WrongForm = codes "WrongForm"
 link_rule_name links.FinalOverridden = codes "FinalOverridden"
 
+-- the name of a rule of types
+abbrev pub type_rule_name : TypeRule → Bytes
+type_rule_name types.CatchType = codes "CatchType"
+type_rule_name types.NoFrame = codes "NoFrame"
+type_rule_name types.Mismatch = codes "Mismatch"
+type_rule_name types.Handler = codes "Handler"
+type_rule_name types.Stack = codes "Stack"
+type_rule_name types.Local = codes "Local"
+type_rule_name types.Depth = codes "Depth"
+type_rule_name types.Kind = codes "Kind"
+type_rule_name types.Target = codes "Target"
+type_rule_name types.FallsOff = codes "FallsOff"
+
 -- what is printed of a refusal; the other statuses print none
 unfoldable pub refusal_line : Status → Bytes
 refusal_line Usage = line (codes "refused 1 Usage")
 refusal_line (Malformed name at rule) = line (codes "refused 2 Malformed " ++ printed_text name ++ codes " " ++ decimal at ++ codes " " ++ rule_name rule)
 refusal_line (Version name major minor) = line (codes "refused 3 Version " ++ printed_text name ++ codes " " ++ decimal major ++ codes " " ++ decimal minor)
 refusal_line (Unlinked class member rule) = line (codes "refused 4 Unlinked " ++ printed_text class ++ codes " " ++ printed_text member.name ++ codes " " ++ printed_text member.desc ++ codes " " ++ link_rule_name rule)
+refusal_line (Unverified class method offset rule) = line (codes "refused 5 Unverified " ++ printed_text class ++ codes " " ++ printed_text method.name ++ codes " " ++ printed_text method.desc ++ codes " " ++ decimal offset ++ codes " " ++ type_rule_name rule)
 refusal_line Done = []
 refusal_line (HostFault call) = []
 refusal_line NoMemory = []

@@ -9,13 +9,6 @@ use Rattle.class_tree.specs.declared.fault.LinkFault.{LinkFault}
 use Rattle.class_tree.specs.declared.fault.LinkFault.TheVariants as faults
 use Rattle.member_link.specs.Linked.{link_checks, IsLinked}
 
--- they are a hierarchy that is linked
-pub record AreLinked (folder : List ClassFile) (library : List Header) : Type 0 where
-  pub classes : Classes
-  pub arranged : IsArranged folder library classes
-  pub tree : IsTree classes
-  pub linked : IsLinked classes
-
 -- the first problem: they are no hierarchy, or one that is not linked
 pub data IsLinkProblem (folder : List ClassFile) (library : List Header) (problem : Problem) : Type 0 where
   of_hierarchy : IsProblem folder library problem → IsLinkProblem folder library problem

@@ -1,7 +1,7 @@
 -- What the words seen so far say of a command, and which words complete it.
 use Rattle.std.specs.Prelude.{◌≡◌, ◌≢◌, ◌↔◌, List, [], ◌∷◌, ◌++◌, codes, length}
 use Rattle.std.specs.List.{flat_map, AllByRecursion}
-use Rattle.pea_top.specs.Words.{Word, Command, Part, words_of, IsPart, positionals, libraries}
+use Rattle.pea_top.specs.Words.{Word, Command, Part, words_of, IsPart, positionals, libraries, library_of, folders_of, IsApart}
 use Rattle.pea_top.specs.declared.words.Folders.{Folders}
 use Rattle.pea_top.specs.declared.words.Folders.TheVariants.{Neither, Input, Both}
 use Rattle.pea_top.specs.declared.words.Library.{Library}
@@ -31,10 +31,9 @@ pub record Completes (seen_folders seen_libraries words : List Word) (command : 
   pub parts : List Part
   pub spelled : words ≡ flat_map words_of parts
   pub each : AllByRecursion IsPart parts
-  pub folders : seen_folders ++ positionals parts ≡ command.input ∷ command.output ∷ []
-  pub option : seen_libraries ++ libraries parts ≡ command.library ∷ []
-  pub not_input : command.output ≢ command.input
-  pub not_library : command.output ≢ command.library
+  pub folders : seen_folders ++ positionals parts ≡ folders_of command
+  pub option : seen_libraries ++ libraries parts ≡ library_of command ∷ []
+  pub apart : IsApart command
 
 -- Behind the words seen, the rest completes the command.
 abbrev pub Ends : Seen → List Word → Command → Type 0

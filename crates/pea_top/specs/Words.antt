@@ -6,11 +6,33 @@ use Rattle.std.specs.List.{flat_map, AllByRecursion}
 abbrev pub Word : Type 0
 Word = List ℕ
 
--- What the words ask for: to optimise the folder input into the folder output, with the library's folder.
-pub record Command : Type 0 where
-  pub input : Word
-  pub output : Word
-  pub library : Word
+-- What the words ask for: to optimise the folder input into the folder output, or to verify the folder input, with the
+-- library's folder.
+pub data Command : Type 0 where
+  Optimise : (input output library : Word) → Command
+  Verify : (input library : Word) → Command
+
+abbrev pub name_of : Command → Word
+name_of (Optimise input output library) = codes "optimise"
+name_of (Verify input library) = codes "verify"
+
+abbrev pub input_of : Command → Word
+input_of (Optimise input output library) = input
+input_of (Verify input library) = input
+
+abbrev pub library_of : Command → Word
+library_of (Optimise input output library) = library
+library_of (Verify input library) = library
+
+-- the positional words of its spelling, in order
+abbrev pub folders_of : Command → List Word
+folders_of (Optimise input output library) = input ∷ output ∷ []
+folders_of (Verify input library) = input ∷ []
+
+-- the output differs as text from the input and from the library
+abbrev pub IsApart : Command → Type 0
+IsApart (Optimise input output library) = (output ≢ input) × (output ≢ library)
+IsApart (Verify input library) = Unit {0}
 
 -- A part of the words behind the command's name: a positional word, or the option --lib with its value
 -- in a word of its own or behind an equals sign.
@@ -48,16 +70,14 @@ libraries (Positional word ∷ parts) = libraries parts
 libraries (Separate value ∷ parts) = value ∷ libraries parts
 libraries (Joined value ∷ parts) = value ∷ libraries parts
 
--- The words are the command's name and its parts in any order: two positional words, the option once.
--- The output differs as text from the input and from the library.
+-- The words are the command's name and its parts in any order: its positional words, the option once.
 pub record Spells (command : Command) (words : List Word) : Type 0 where
   pub parts : List Part
-  pub spelled : words ≡ codes "optimise" ∷ flat_map words_of parts
+  pub spelled : words ≡ name_of command ∷ flat_map words_of parts
   pub each : AllByRecursion IsPart parts
-  pub folders : positionals parts ≡ command.input ∷ command.output ∷ []
-  pub option : libraries parts ≡ command.library ∷ []
-  pub not_input : command.output ≢ command.input
-  pub not_library : command.output ≢ command.library
+  pub folders : positionals parts ≡ folders_of command
+  pub option : libraries parts ≡ library_of command ∷ []
+  pub apart : IsApart command
 
 -- the words are outside the grammar
 abbrev pub IsUsage : List Word → Type 0

@@ -11,6 +11,7 @@ use class_model::{
     one_first_fault,
 };
 use class_tree::a_folder_is_told_once;
+use verify_folder::a_folder_fails_once;
 
 /// Words spell one command at most.
 pub fn words_spell_one_command()
@@ -27,4 +28,5 @@ pub fn words_and_files_have_one_answer()
     bytes_are_one_class_file();
     a_library_file_is_told_once();
     a_folder_is_told_once();
+    a_folder_fails_once();
 }

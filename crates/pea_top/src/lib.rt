@@ -6,6 +6,7 @@ mod laws;
 mod lines;
 mod linking;
 mod reading;
+mod sharing;
 mod status;
 mod top;
 mod words;

@@ -1,16 +1,17 @@
 //! The printed lines.
-ghost use Rattle.std.specs.Prelude.{◌≡◌, ◌<◌, ◌++◌, IfOk, OnOk};
+ghost use Rattle.std.specs.Prelude.{◌≡◌, ◌<◌, ◌++◌, codes, IfOk, OnOk};
 ghost use Rattle.std.specs.List.{flat_map};
-ghost use Rattle.pea_top.specs.Lines.{hex_digit, printed_byte, printed_text, rule_name, link_rule_name, summary_line, refusal_line};
+ghost use Rattle.pea_top.specs.Lines.{hex_digit, printed_byte, printed_text, rule_name, link_rule_name, type_rule_name, summary_line, verified_line, refusal_line};
 
 use crate::status::Status;
-use class_model::{FileRule, NoMemory};
+use class_model::{FileRule, Member, NoMemory, Text};
 use class_tree::LinkRule;
 use host_tree::FileName;
 use std::alloc::Global;
+use type_rules::TypeRule;
 
-/// The line that sums up a command that was done: how many files were written, how many of them are class
-/// files, and how many methods these have.
+/// The line that sums up what was optimised: how many files were written, how many of them are class files, and how many
+/// methods these have.
 pub(crate) fn summary(
     alloc: Global,
     files: usize,
@@ -20,6 +21,14 @@ pub(crate) fn summary(
     ensures { IfOk result (λ line. line.items ≡ summary_line files classes kept) }
 {
     let text = format!(in alloc; "done files={files} classes={classes} rewritten=0 kept={kept}\n")?;
+    Ok(text.into_bytes())
+}
+
+/// The line that sums up what was verified: how many class files, and how many methods these have.
+pub(crate) fn verified(alloc: Global, classes: usize, methods: u128) -> Result<Vec<u8>, NoMemory>
+    ensures { IfOk result (λ line. line.items ≡ verified_line classes methods) }
+{
+    let text = format!(in alloc; "verified {classes} {methods}\n")?;
     Ok(text.into_bytes())
 }
 
@@ -43,18 +52,13 @@ pub(crate) fn refusal(alloc: Global, status: &Status) -> Result<Vec<u8>, NoMemor
             class,
             member,
             rule,
-        } => {
-            let mut line = Vec::from_slice(alloc, b"refused 4 Unlinked ")?;
-            push_text(&mut line, class.bytes())?;
-            line.push(b' ')?;
-            push_text(&mut line, member.name.bytes())?;
-            line.push(b' ')?;
-            push_text(&mut line, member.desc.bytes())?;
-            line.push(b' ')?;
-            line.extend_from_slice(link_rule_name(*rule).as_bytes())?;
-            line.push(b'\n')?;
-            Ok(line)
-        }
+        } => unlinked(alloc, class, member, *rule),
+        Status::Unverified {
+            class,
+            method,
+            offset,
+            rule,
+        } => unverified(alloc, class, method, *offset, *rule),
         Status::Done | Status::HostFault(_) | Status::NoMemory => Ok(Vec::new(alloc)),
     }
 }
@@ -70,6 +74,63 @@ fn file_refusal(
 {
     let mut line = Vec::from_slice(alloc, front)?;
     push_text(&mut line, name.as_str().as_bytes())?;
+    line.extend_from_slice(back.as_bytes())?;
+    Ok(line)
+}
+
+/// The line of a problem of linking.
+#[tactic(auto, unfolding(crate::specs::Lines::refusal_line))]
+fn unlinked(
+    alloc: Global,
+    class: &Text,
+    member: &Member,
+    rule: LinkRule,
+) -> Result<Vec<u8>, NoMemory>
+    ensures { IfOk result (λ line. line.items ≡ refusal_line (Status.Unlinked class.now member.now rule)) }
+{
+    let rule = link_rule_name(rule);
+    let back = format!(in alloc; " {rule}\n")?;
+    member_refusal(alloc, b"refused 4 Unlinked ", class, member, back.as_str())
+}
+
+/// The line of a method that does not verify.
+#[tactic(auto, unfolding(crate::specs::Lines::refusal_line))]
+fn unverified(
+    alloc: Global,
+    class: &Text,
+    method: &Member,
+    offset: u32,
+    rule: TypeRule,
+) -> Result<Vec<u8>, NoMemory>
+    ensures { IfOk result (λ line. line.items ≡ refusal_line (Status.Unverified class.now method.now offset rule)) }
+{
+    let rule = type_rule_name(rule);
+    let back = format!(in alloc; " {offset} {rule}\n")?;
+    member_refusal(
+        alloc,
+        b"refused 5 Unverified ",
+        class,
+        method,
+        back.as_str(),
+    )
+}
+
+/// The line of a refusal that names a member of a class, from what stands before and behind the names.
+fn member_refusal(
+    alloc: Global,
+    front: &[u8],
+    class: &Text,
+    member: &Member,
+    back: &str,
+) -> Result<Vec<u8>, NoMemory>
+    ensures { IfOk result (λ line. line.items ≡ front.now ++ printed_text class.now ++ codes " " ++ printed_text member.now.name ++ codes " " ++ printed_text member.now.desc ++ back.now) }
+{
+    let mut line = Vec::from_slice(alloc, front)?;
+    push_text(&mut line, class.bytes())?;
+    line.push(b' ')?;
+    push_text(&mut line, member.name.bytes())?;
+    line.push(b' ')?;
+    push_text(&mut line, member.desc.bytes())?;
     line.extend_from_slice(back.as_bytes())?;
     Ok(line)
 }
@@ -121,6 +182,24 @@ fn link_rule_name(rule: LinkRule) -> &'static str
         LinkRule::NoAccess => "NoAccess",
         LinkRule::WrongForm => "WrongForm",
         LinkRule::FinalOverridden => "FinalOverridden",
+    }
+}
+
+/// The name of a rule of types.
+fn type_rule_name(rule: TypeRule) -> &'static str
+    ensures { result.now ≡ type_rule_name rule }
+{
+    match rule {
+        TypeRule::CatchType => "CatchType",
+        TypeRule::NoFrame => "NoFrame",
+        TypeRule::Mismatch => "Mismatch",
+        TypeRule::Handler => "Handler",
+        TypeRule::Stack => "Stack",
+        TypeRule::Local => "Local",
+        TypeRule::Depth => "Depth",
+        TypeRule::Kind => "Kind",
+        TypeRule::Target => "Target",
+        TypeRule::FallsOff => "FallsOff",
     }
 }
 

@@ -13,6 +13,7 @@ ghost use Rattle.pea_top.specs.ReadingSteps.{IsCallStop, IsFileOrWhy, IsHeaderOr
 ghost use Rattle.pea_top.specs.declared.reading.ReadStop.TheVariants.{NoMemory as no_memory};
 
 use crate::folder::{NamedFile, is_class_file};
+use crate::sharing::SharedTexts;
 use class_bytes::{a_library_file_is_told_once, push_class, read_class, read_header};
 use class_model::{
     ByteList, ClassFault, ClassFile, FileRule, Header, NoMemory, a_class_file_has_no_fault,
@@ -240,7 +241,7 @@ fn written_again(alloc: Global, bytes: ByteList) -> Result<(ByteList, ClassFile)
 }
 
 /// The headers of the class files among these names, which are those of the library in byte order. The bytes of a file
-/// are let go as soon as its header is read.
+/// are let go as soon as its header is read, and headers share texts.
 fn read_library<H: Host>(
     alloc: Global,
     host: &mut H,
@@ -256,9 +257,10 @@ fn read_library<H: Host>(
     ensures cause { (call : HostCall) → IsErrOf result (ReadStop.Fault call) → (call ≡ HostCall.Read) × Rose (H.faults host.old HostCall.Read) (H.faults host.new HostCall.Read) }
 {
     let mut headers = HeaderList::new(alloc);
+    let mut texts = SharedTexts::new(alloc)?;
     for name in names {
         if is_class_file(&name) {
-            headers.push(read_library_file(alloc, host, root, name)?)?;
+            headers.push(read_library_file(alloc, host, root, name, &mut texts)?)?;
         }
     }
     Ok(headers)
@@ -270,6 +272,7 @@ fn read_library_file<H: Host>(
     host: &mut H,
     root: &str,
     name: FileName,
+    texts: &mut SharedTexts,
 ) -> Result<Header, ReadStop>
     requires there { IsTrue H.tells → IsSome (H.file host.old root.now name) }
     requires named { IsTrue (names_class_file name) }
@@ -281,11 +284,16 @@ fn read_library_file<H: Host>(
     ensures cause { (call : HostCall) → IsErrOf result (ReadStop.Fault call) → (call ≡ HostCall.Read) × Rose (H.faults host.old HostCall.Read) (H.faults host.new HostCall.Read) }
 {
     let bytes = read_bytes(alloc, host, root, name.as_str())?;
-    header_of(alloc, name, bytes)
+    header_of(alloc, name, bytes, texts)
 }
 
 /// The header of the class file of this name and these bytes.
-fn header_of(alloc: Global, name: FileName, bytes: ByteList) -> Result<Header, ReadStop>
+fn header_of(
+    alloc: Global,
+    name: FileName,
+    bytes: ByteList,
+    texts: &mut SharedTexts,
+) -> Result<Header, ReadStop>
     requires { IsTrue (names_class_file name) }
     ensures found { (library : Folder) → library name ≡ Some bytes → IsHeaderOrWhy library name result }
     ensures header { IfOk result IsLibraryClass }
@@ -293,7 +301,7 @@ fn header_of(alloc: Global, name: FileName, bytes: ByteList) -> Result<Header, R
 {
     a_library_file_is_told_once();
     match read_header(alloc, bytes.as_slice()) {
-        Ok(header) => Ok(header),
+        Ok(header) => Ok(texts.header(alloc, header)?),
         Err(fault) => Err(stop_of(name, fault)),
     }
 }

@@ -5,6 +5,7 @@ ghost use Rattle.pea_top.specs.Status.{code_of};
 use class_model::{FileRule, Member, Text};
 use class_tree::LinkRule;
 use host_tree::{FileName, HostCall};
+use type_rules::TypeRule;
 
 /// How a call ended.
 #[derive(Debug, Drop)]
@@ -34,6 +35,14 @@ pub enum Status {
         member: Member,
         rule: LinkRule,
     },
+    /// The class files of the input are linked but do not verify: this method of this class breaks a rule, first at this
+    /// offset of its code, in bytes. It is the first failure.
+    Unverified {
+        class: Text,
+        method: Member,
+        offset: u32,
+        rule: TypeRule,
+    },
     /// A call of the host failed.
     HostFault(HostCall),
     /// Memory ran out.
@@ -51,6 +60,7 @@ impl Status {
             Status::Malformed { .. } => 2,
             Status::Version { .. } => 3,
             Status::Unlinked { .. } => 4,
+            Status::Unverified { .. } => 5,
             Status::HostFault(_) => 6,
             Status::NoMemory => 9,
         }

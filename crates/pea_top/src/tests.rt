@@ -7,4 +7,5 @@ mod linking;
 mod refusals;
 mod samples;
 mod support;
+mod verifying;
 mod words;

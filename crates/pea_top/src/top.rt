@@ -1,31 +1,38 @@
 //! The top call.
-ghost use Rattle.std.specs.Prelude.{◌≡◌, ◌⊎◌, List, ◌++◌, map, string_bytes, IsTrue};
+ghost use Rattle.std.specs.Prelude.{◌≡◌, ◌⊎◌, List, ◌++◌, length, map, string_bytes, IsTrue, IfOk};
+ghost use Rattle.std.specs.List.{AllByRecursion};
+ghost use Rattle.class_tree.specs.Headers.{IsClassFile, IsLibraryClass};
 ghost use Rattle.host_tree.specs.declared.call.HostCall.{HostCall};
 ghost use Rattle.host_tree.specs.Host.{SameFiles, IsPrefixPrinted};
 ghost use Rattle.host_tree.specs.Counts.{NeverFalls, Rose, CountsOnly};
+ghost use Rattle.member_link.specs.Linked.{IsLinked};
 ghost use Rattle.pea_top.specs.Words.{Word, Spells, IsUsage};
 ghost use Rattle.pea_top.specs.CommandView.{command_view};
 ghost use Rattle.pea_top.specs.Lines.{refusal_line};
 ghost use Rattle.pea_top.specs.Answer.{HasCause};
-ghost use Rattle.pea_top.specs.Effects.{method_count, LeavesFiles, LeavesPrinted, PrintsRefusal};
+ghost use Rattle.pea_top.specs.Effects.{method_count, done_line, LeavesFiles, LeavesPrinted, PrintsRefusal};
 ghost use Rattle.pea_top.specs.CommandEffects.{LeavesWritten, PrintsWritten};
+ghost use Rattle.pea_top.specs.Deciding.{AreInput, AreArranged, AreReady, IsOutcome};
 
 use crate::folder::NamedFile;
-use crate::lines::{refusal, summary};
+use crate::lines::{refusal, summary, verified};
 use crate::linking::link;
-use crate::reading::{ReadStop, read_input};
+use crate::reading::{Input, ReadStop, read_input};
 use crate::status::Status;
 use crate::words::{Command, command_of};
 use crate::writing::write_files;
-use class_model::ClassFile;
-use class_tree::LinkFault;
+use class_model::{ClassFile, NoMemory};
+use class_tree::{LinkFault, Tree};
 use host_tree::{Host, HostCall, HostFail};
 use std::alloc::Global;
+use type_rules::VerifyFault;
+use verify_folder::check_all;
 
 /// Does what the words behind the program's name ask for, on a host.
 ///
-/// `optimise IN OUT --lib LIB` reads the folder IN and the class files of the folder LIB whole and links them, and only
-/// then writes the files of IN under the same names into the folder OUT, which is not cleared, and prints one line.
+/// `optimise IN OUT --lib LIB` reads the folder IN and the class files of the folder LIB whole, links them and verifies
+/// those of IN, and only then writes the files of IN under the same names into the folder OUT, which is not cleared, and
+/// prints one line. `verify IN --lib LIB` decides the same, writes no file and prints one line.
 ///
 /// # Errors
 /// Each status but `NoMemory` comes exactly where its clause says. A refusal prints one line.
@@ -45,46 +52,52 @@ pub fn pea<H: Host>(alloc: Global, words: &[String], host: &mut H) -> Status
         (Rose (H.faults host.old HostCall.Print) (H.faults host.new HostCall.Print)) (H.printed host.old) (H.printed host.new) result }
 {
     match command_of(words) {
-        Some(command) => optimise(alloc, command, host),
+        Some(command) => perform(alloc, command, host),
         None => refuse(alloc, host, Status::Usage),
     }
 }
 
-/// Reads the input and the library of a command whole and links them, and only then writes the output.
-fn optimise<H: Host>(alloc: Global, command: Command<'_>, host: &mut H) -> Status
+/// Reads the input and the library of a command whole, and goes on with them.
+fn perform<H: Host>(alloc: Global, command: Command<'_>, host: &mut H) -> Status
     ensures not_usage { ¬ (result ≡ Status.Usage) }
     ensures fault { (call : HostCall) → result ≡ Status.HostFault call → Rose (H.faults host.old call) (H.faults host.new call) }
     ensures counts { (call : HostCall) → NeverFalls (H.faults host.old call) (H.faults host.new call) }
-    ensures cause { (words : List Word) → Spells (command_view command.entry) words → IsTrue H.tells → HasCause words (H.file host.old) result }
-    ensures files { (words : List Word) → Spells (command_view command.entry) words → IsTrue H.tells → LeavesFiles words (H.file host.old) (H.file host.new) result }
-    ensures printed { (words : List Word) → Spells (command_view command.entry) words → IsTrue H.tells → LeavesPrinted words (H.file host.old)
+    ensures outcome { (words : List Word) → Spells (command_view command.entry) words → IsTrue H.tells → IsOutcome words (H.file host.old) (H.file host.new)
         (Rose (H.faults host.old HostCall.Print) (H.faults host.new HostCall.Print)) (H.printed host.old) (H.printed host.new) result }
 {
-    let input = match read_input(alloc, host, command.input, command.library) {
-        Ok(input) => input,
-        Err(ReadStop::Fault(call)) => return Status::HostFault(call),
-        Err(ReadStop::NoMemory) => return Status::NoMemory,
+    match read_input(alloc, host, command.input(), command.library()) {
+        Ok(input) => decide(alloc, command, host, input),
+        Err(ReadStop::Fault(call)) => Status::HostFault(call),
+        Err(ReadStop::NoMemory) => Status::NoMemory,
         Err(ReadStop::Malformed { name, at, rule }) => {
-            return refuse(alloc, host, Status::Malformed { name, at, rule });
+            refuse(alloc, host, Status::Malformed { name, at, rule })
         }
         Err(ReadStop::Version { name, major, minor }) => {
-            return refuse(alloc, host, Status::Version { name, major, minor });
+            refuse(alloc, host, Status::Version { name, major, minor })
         }
-    };
-    let line = summary(
-        alloc,
-        input.files.len(),
-        input.classes.len(),
-        methods(input.classes.as_slice()),
-    );
-    let Ok(line) = line else {
+    }
+}
+
+/// Makes the line of a command, links what was read for it, and goes on with the hierarchy.
+fn decide<H: Host>(alloc: Global, command: Command<'_>, host: &mut H, input: Input) -> Status
+    requires read { IsTrue H.tells → AreInput (command_view command) (H.file host.old) input.files.items input.classes input.headers }
+    requires classes { AllByRecursion IsClassFile input.classes }
+    requires headers { AllByRecursion IsLibraryClass input.headers }
+    ensures not_usage { ¬ (result ≡ Status.Usage) }
+    ensures fault { (call : HostCall) → result ≡ Status.HostFault call → Rose (H.faults host.old call) (H.faults host.new call) }
+    ensures counts { (call : HostCall) → NeverFalls (H.faults host.old call) (H.faults host.new call) }
+    ensures outcome { (words : List Word) → Spells (command_view command.entry) words → IsTrue H.tells → IsOutcome words (H.file host.old) (H.file host.new)
+        (Rose (H.faults host.old HostCall.Print) (H.faults host.new HostCall.Print)) (H.printed host.old) (H.printed host.new) result }
+{
+    let Ok(line) = line_of(alloc, command, &input) else {
         return Status::NoMemory;
     };
     match link(alloc, input.classes, input.headers) {
-        Ok(_tree) => write_out(
+        Ok(tree) => verify(
             alloc,
+            command,
             host,
-            command.output,
+            &tree,
             input.files.as_slice(),
             line.as_slice(),
         ),
@@ -103,6 +116,78 @@ fn optimise<H: Host>(alloc: Global, command: Command<'_>, host: &mut H) -> Statu
             };
             refuse(alloc, host, status)
         }
+    }
+}
+
+/// Verifies a hierarchy, and only then carries the command out.
+fn verify<H: Host>(
+    alloc: Global,
+    command: Command<'_>,
+    host: &mut H,
+    tree: &Tree,
+    files: &[NamedFile],
+    line: &[u8],
+) -> Status
+    requires arranged { IsTrue H.tells → AreArranged (command_view command) (H.file host.old) files.now line.now tree.now }
+    requires linked { IsLinked tree.now }
+    ensures not_usage { ¬ (result ≡ Status.Usage) }
+    ensures fault { (call : HostCall) → result ≡ Status.HostFault call → Rose (H.faults host.old call) (H.faults host.new call) }
+    ensures counts { (call : HostCall) → NeverFalls (H.faults host.old call) (H.faults host.new call) }
+    ensures outcome { (words : List Word) → Spells (command_view command.entry) words → IsTrue H.tells → IsOutcome words (H.file host.old) (H.file host.new)
+        (Rose (H.faults host.old HostCall.Print) (H.faults host.new HostCall.Print)) (H.printed host.old) (H.printed host.new) result }
+{
+    match check_all(alloc, tree) {
+        Ok(()) => carry_out(alloc, command, host, files, line),
+        Err(VerifyFault::NoMemory) => Status::NoMemory,
+        Err(
+            VerifyFault::Unverified {
+                class,
+                method,
+                offset,
+                rule,
+            },
+        ) => {
+            let status = Status::Unverified {
+                class,
+                method,
+                offset,
+                rule,
+            };
+            refuse(alloc, host, status)
+        }
+    }
+}
+
+/// Writes what a command writes, and prints its line.
+fn carry_out<H: Host>(
+    alloc: Global,
+    command: Command<'_>,
+    host: &mut H,
+    files: &[NamedFile],
+    line: &[u8],
+) -> Status
+    requires { IsTrue H.tells → AreReady (command_view command) (H.file host.old) files.now line.now }
+    ensures not_usage { ¬ (result ≡ Status.Usage) }
+    ensures fault { (call : HostCall) → result ≡ Status.HostFault call → Rose (H.faults host.old call) (H.faults host.new call) }
+    ensures counts { (call : HostCall) → NeverFalls (H.faults host.old call) (H.faults host.new call) }
+    ensures outcome { (words : List Word) → Spells (command_view command.entry) words → IsTrue H.tells → IsOutcome words (H.file host.old) (H.file host.new)
+        (Rose (H.faults host.old HostCall.Print) (H.faults host.new HostCall.Print)) (H.printed host.old) (H.printed host.new) result }
+{
+    match command {
+        Command::Optimise { output, .. } => write_out(alloc, host, output, files, line),
+        Command::Verify { .. } => finish(alloc, host, line),
+    }
+}
+
+/// The line of a command that was done.
+fn line_of(alloc: Global, command: Command<'_>, input: &Input) -> Result<Vec<u8>, NoMemory>
+    ensures { IfOk result (λ line. line.items ≡ done_line (command_view command.entry) (length input.now.files.items) (length input.now.classes) (method_count input.now.classes)) }
+{
+    let classes = input.classes.len();
+    let methods = methods(input.classes.as_slice());
+    match command {
+        Command::Optimise { .. } => summary(alloc, input.files.len(), classes, methods),
+        Command::Verify { .. } => verified(alloc, classes, methods),
     }
 }
 

@@ -1,17 +1,43 @@
 //! The grammar of the words.
-ghost use Rattle.std.specs.Prelude.{◌≡◌, ◌≢◌, List, [], ◌∷◌, ◌++◌, codes, map, length, string_bytes, IfSome, IfNone};
-ghost use Rattle.pea_top.specs.Words.{Word, IsOperand, Spells, IsUsage};
-ghost use Rattle.pea_top.specs.Words.{Command as grammar_command};
+ghost use Rattle.std.specs.Prelude.{◌≡◌, ◌≢◌, List, [], ◌∷◌, ◌++◌, ◌↔◌, codes, map, length, string_bytes, IfSome, IfNone};
+ghost use Rattle.pea_top.specs.Words.{Word, IsOperand, name_of, input_of, library_of, Spells, IsUsage};
+ghost use Rattle.pea_top.specs.Words.{Command as grammar_command, Optimise as grammar_optimise, Verify as grammar_verify};
 ghost use Rattle.pea_top.specs.CommandView.{command_view};
 ghost use Rattle.pea_top.specs.Seen.{folder_words, library_words, awaiting, Completes, Ends, Leads, Fails, MayBeFolder};
 
-/// What the words ask for: to optimise the folder `input` into the folder `output`, with the folder of
-/// the library.
+/// What the words ask for: to optimise the folder `input` into the folder `output`, or to verify the folder `input`, with
+/// the folder of the library.
 #[derive(Clone, Copy, Debug)]
-pub(crate) struct Command<'a> {
-    pub(crate) input: &'a str,
-    pub(crate) output: &'a str,
-    pub(crate) library: &'a str,
+pub(crate) enum Command<'a> {
+    Optimise {
+        input: &'a str,
+        output: &'a str,
+        library: &'a str,
+    },
+    Verify {
+        input: &'a str,
+        library: &'a str,
+    },
+}
+
+impl<'a> Command<'a> {
+    /// The folder that is read.
+    pub(crate) fn input(self) -> &'a str
+        ensures { result.now ≡ input_of (command_view self.entry) }
+    {
+        match self {
+            Command::Optimise { input, .. } | Command::Verify { input, .. } => input,
+        }
+    }
+
+    /// The folder of the library.
+    pub(crate) fn library(self) -> &'a str
+        ensures { result.now ≡ library_of (command_view self.entry) }
+    {
+        match self {
+            Command::Optimise { library, .. } | Command::Verify { library, .. } => library,
+        }
+    }
 }
 
 /// The positional words seen so far.
@@ -44,16 +70,17 @@ pub(crate) fn command_of(words: &[String]) -> Option<Command<'_>>
     ensures none { IfNone result (IsUsage (map string_bytes words.now)) }
 {
     let (name, rest) = words.split_first()?;
-    if name.as_str() == "optimise" {
-        command_behind_name(rest)
-    } else {
-        None
+    let seen = seen_in(rest)?;
+    match name.as_str() {
+        "optimise" => seen.optimise(),
+        "verify" => seen.verify(),
+        _ => None,
     }
 }
 
-/// The command whose parts the words are.
-fn command_behind_name(words: &[String]) -> Option<Command<'_>>
-    ensures some { IfSome result (λ command. Completes [] [] (map string_bytes words.now) (command_view command)) }
+/// What the words behind a command's name say of it.
+fn seen_in(words: &[String]) -> Option<Seen<'_>>
+    ensures some { IfSome result (λ seen. (command : grammar_command) → Ends seen [] command ↔ Completes [] [] (map string_bytes words.now) command) }
     ensures none { IfNone result ((command : grammar_command) → ¬ Completes [] [] (map string_bytes words.now) command) }
 {
     let mut seen = Seen {
@@ -63,7 +90,7 @@ fn command_behind_name(words: &[String]) -> Option<Command<'_>>
     for word in words {
         seen = seen.with(word.as_str())?;
     }
-    seen.command()
+    Some(seen)
 }
 
 impl<'a> Folders<'a> {
@@ -136,10 +163,11 @@ impl<'a> Seen<'a> {
         Some(Seen { folders, ..self })
     }
 
-    /// The command, where no word is missing.
-    fn command(self) -> Option<Command<'a>>
+    /// The command that optimises, where no word is missing.
+    fn optimise(self) -> Option<Command<'a>>
+        ensures name { IfSome result (λ command. name_of (command_view command) ≡ codes "optimise") }
         ensures some { IfSome result (λ command. Ends self.entry [] (command_view command)) }
-        ensures none { IfNone result ((command : grammar_command) → ¬ Ends self.entry [] command) }
+        ensures none { IfNone result ((input output library : Word) → ¬ Ends self.entry [] (grammar_optimise input output library)) }
     {
         let Folders::Both { input, output } = self.folders else {
             return None;
@@ -150,11 +178,26 @@ impl<'a> Seen<'a> {
         if output == input || output == library {
             return None;
         }
-        Some(Command {
+        Some(Command::Optimise {
             input,
             output,
             library,
         })
+    }
+
+    /// The command that verifies, where no word is missing.
+    fn verify(self) -> Option<Command<'a>>
+        ensures name { IfSome result (λ command. name_of (command_view command) ≡ codes "verify") }
+        ensures some { IfSome result (λ command. Ends self.entry [] (command_view command)) }
+        ensures none { IfNone result ((input library : Word) → ¬ Ends self.entry [] (grammar_verify input library)) }
+    {
+        let Folders::Input(input) = self.folders else {
+            return None;
+        };
+        let Library::Given(library) = self.library else {
+            return None;
+        };
+        Some(Command::Verify { input, library })
     }
 }
 

@@ -1,5 +1,5 @@
 //! Class files that the tests read.
-use class_model::{NoMemory, push_u2};
+use class_model::{NoMemory, push_u2, push_u4};
 use host_tree::MemoryHost;
 use std::alloc::Global;
 use std::test::Fail;
@@ -192,6 +192,56 @@ pub(super) fn sample_bytes(
     }
     push_u2(&mut out, 0)?;
     Ok(out)
+}
+
+/// A static method that takes and returns nothing: its name and its code.
+pub(super) type SampleCode = (&'static [u8], &'static [u8]);
+
+/// The bytes of a class of version 52 with such methods, whose stack and locals have two entries.
+pub(super) fn class_with_code(
+    alloc: Global,
+    name: &[u8],
+    methods: &[SampleCode],
+) -> Result<Vec<u8>, Fail> {
+    let count = small(methods.len());
+    let mut out = Vec::from_slice(alloc, b"\xCA\xFE\xBA\xBE\0\0\0\x34")?;
+    push_u2(&mut out, 7 + u16::from(count))?;
+    push_class(&mut out, 2, name)?;
+    push_class(&mut out, 4, b"java/lang/Object")?;
+    push_utf8(&mut out, b"()V")?;
+    push_utf8(&mut out, b"Code")?;
+    for (name, _) in methods {
+        push_utf8(&mut out, name)?;
+    }
+    // flags, class, superclass, no interfaces, no fields
+    out.extend_from_slice(b"\0\x20\0\x01\0\x03\0\0\0\0")?;
+    push_u2(&mut out, u16::from(count))?;
+    for (number, (_, code)) in methods.iter().enumerate() {
+        push_method(&mut out, 7 + u16::from(small(number)), code)?;
+    }
+    push_u2(&mut out, 0)?;
+    Ok(out)
+}
+
+/// A number that fits a byte.
+fn small(number: usize) -> u8 {
+    u8::try_from(number).unwrap_or(0)
+}
+
+/// Appends such a method, whose name has this index. Its descriptor and the name of its code have the indices 5 and 6.
+fn push_method(out: &mut Vec<u8>, name: u16, code: &[u8]) -> Result<(), NoMemory> {
+    let length = u32::from(small(code.len()));
+    push_u2(out, 8)?;
+    push_u2(out, name)?;
+    push_u2(out, 5)?;
+    push_u2(out, 1)?;
+    push_u2(out, 6)?;
+    push_u4(out, 12 + length)?;
+    push_u2(out, 2)?;
+    push_u2(out, 2)?;
+    push_u4(out, length)?;
+    out.extend_from_slice(code)?;
+    push_u4(out, 0)
 }
 
 /// Appends a Class constant, and behind it its name, which has this index.

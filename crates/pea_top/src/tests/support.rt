@@ -9,6 +9,9 @@ use std::test::Fail;
 /// The words of the command that the tests give.
 pub(super) const COMMAND: &str = "optimise in out --lib lib";
 
+/// The words that verify the same folder.
+pub(super) const VERIFY: &str = "verify in --lib lib";
+
 /// A host without files, whose calls of these numbers fail.
 pub(super) fn empty_host_failing(alloc: Global, fail: &[u64]) -> Result<MemoryHost, Fail> {
     let numbers = ListOf::from_vec(Vec::from_slice(alloc, fail)?);
@@ -56,6 +59,17 @@ pub(super) fn outcome(alloc: Global, line: &str, host: &mut MemoryHost) -> Resul
             let desc = shown(member.desc.bytes());
             format!(in alloc; "Unlinked '{class}' '{name}' '{desc}' {rule:?}")?
         }
+        Status::Unverified {
+            class,
+            method,
+            offset,
+            rule,
+        } => {
+            let class = shown(class.bytes());
+            let name = shown(method.name.bytes());
+            let desc = shown(method.desc.bytes());
+            format!(in alloc; "Unverified '{class}' '{name}' '{desc}' {offset} {rule:?}")?
+        }
         status => format!(in alloc; "{status:?}")?,
     })
 }
@@ -67,7 +81,12 @@ fn shown(bytes: &[u8]) -> &str {
 
 /// The code of the status of a call with the words of the tests.
 pub(super) fn code(alloc: Global, host: &mut MemoryHost) -> Result<u8, Fail> {
-    let words = words_of(alloc, COMMAND)?;
+    code_of(alloc, COMMAND, host)
+}
+
+/// The code of the status of a call.
+pub(super) fn code_of(alloc: Global, line: &str, host: &mut MemoryHost) -> Result<u8, Fail> {
+    let words = words_of(alloc, line)?;
     Ok(pea(alloc, &words, host).code())
 }
 

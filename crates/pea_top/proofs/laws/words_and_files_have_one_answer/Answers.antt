@@ -1,6 +1,7 @@
 -- The laws of the crates below: bytes are told once, and so are a folder and its library.
 use Rattle.pea_top.proofs.BytesLaws.{ClassLaws, HeaderLaws}
 use Rattle.pea_top.proofs.OneLinkProblem.{TreeLaws}
+use Rattle.pea_top.proofs.OneTypeFailure.{TypeLaws}
 use Rattle.pea_top.proofs.OneAnswer.{one_answer}
 use Rattle.pea_top.proofs.laws.words_and_files_have_one_answer.Goals as goal
 
@@ -24,4 +25,5 @@ returns c = λ words files one other h i.
       problem = c.a_folder_is_told_once.ensures.problem;
       arranged = c.a_folder_is_told_once.ensures.arranged;
     } in
-    one_answer (record { classes = classes; headers = headers; trees = trees }) words files one other h i
+    let types : TypeLaws = record { none = c.a_folder_fails_once.ensures.none; one = c.a_folder_fails_once.ensures.one } in
+    one_answer (record { classes = classes; headers = headers; trees = trees; types = types }) words files one other h i

@@ -26,7 +26,7 @@ pub returns-in_err-read_library_file-clause-found : goal.returns-in_err-read_lib
 returns-in_err-read_library_file-clause-found g c = λ told.
     let read = rw c.in-Some.ensures.steps.0 at (c.loop-name.invariant.read told) in
     let found = IsHeaderOrWhy-same (c.loop-name.invariant.files told c.args.root.now) c.in-Some.name (Err c.in_err-read_library_file.field-0.0) (c.in_err-read_library_file.ensures.found told) in
-    let p = err_from_is_err_and c.from_residual.result c.from_residual.ensures.1 in
+    let p = err_from_is_err_and c.from_residual-in_err-read_library_file.result c.from_residual-in_err-read_library_file.ensures.1 in
     rw (p.1, p.2) (why_from_header (c.requires told) read _ found)
 
 pub returns-in_err-push-clause-counts : goal.returns-in_err-push-clause-counts

@@ -3,8 +3,8 @@ use Rattle.std.proofs.Common.{◌≡◌, [], drop, map, arith}
 use Rattle.std.specs.Prelude.{string_bytes}
 use Rattle.std.proofs.lemmas.List.{drop_all}
 use Rattle.pea_top.specs.Seen.{Completes}
-use Rattle.pea_top.proofs.WordsSeen.{next_word, follows, stops, none_then}
-use Rattle.pea_top.proofs.words.command_behind_name.Goals as goal
+use Rattle.pea_top.proofs.WordsSeen.{next_word, follows, stops}
+use Rattle.pea_top.proofs.words.seen_in.Goals as goal
 
 pub loop-word-preserved : goal.loop-word-preserved
 loop-word-preserved c =
@@ -16,7 +16,7 @@ returns-in_err-seen-clause-none c =
     let next = next_word string_bytes c.args.words.now c.loop-word.word-index c.word-item.result c.as_str.result.now (omega arith) c.word-item.is c.as_str.ensures.value in
     rw c.from_residual.ensures (stops (λ command. Completes [] [] (map string_bytes c.args.words.now) command) c.loop-word.seen c.as_str.result.now _ _ next c.in_err-seen.ensures.none c.loop-word.invariant)
 
-pub returns-clause-none : goal.returns-clause-none
-returns-clause-none c =
+pub returns-clause-some : goal.returns-clause-some
+returns-clause-some c = λ command.
     let none : drop c.loop-word.word-index c.args.words.now ≡ [] = drop_all c.loop-word.word-index c.args.words.now (omega arith) in
-    none_then c.command.result (λ fails command h. fails command (rw none at ((c.loop-word.invariant command).1 h))) c.command.ensures.none
+    rw none at (c.loop-word.invariant command)

@@ -2,7 +2,7 @@
 use Rattle.std.specs.Prelude.{◌↔◌, [], drop, map, string_bytes}
 use Rattle.pea_top.specs.Words.{Command}
 use Rattle.pea_top.specs.Seen.{Completes, Ends}
-use Rattle.pea_top.proofs.words.command_behind_name.Given as goal
+use Rattle.pea_top.proofs.words.seen_in.Given as goal
 
 abbrev pub invariant-loop-word : goal.invariant-loop-word
 invariant-loop-word l =
