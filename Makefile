@@ -22,3 +22,4 @@ bench: bin/pea
 	bash bench/trees.sh
 	bash bench/links.sh
 	bash bench/library.sh
+	bash bench/verify.sh

@@ -1,4 +1,4 @@
-# The compiled sources of examples/java, linked with the JDK: byte for byte, each method counted as kept.
+# The compiled sources of examples/java, linked with the JDK: they verify, and come out byte for byte, each method counted.
 
 # How many methods the class files of a folder have, constructors and static initialisers included.
 methods() { find "$1" -name '*.class' -print0 | xargs -0 javap -p | grep -cE '^  .*(\(.*\).*|static \{\});$'; }
@@ -19,7 +19,11 @@ compiled_java() {
     run optimise in out --lib "$jdk"
     check "Java $1, $files class files, byte for byte" "$compiled" \
         "done files=$files classes=$files rewritten=0 kept=$(kept)" same in out
+    run verify in --lib "$jdk"
+    check "Java $1, verified" 0 "verified $files $(sed -n 's/^verified [0-9]* //p' "$work/printed")" true
     if command -v javap >/dev/null; then
+        check "Java $1, verified methods" 0 "verified $files $(methods in)" true
+        run optimise in out --lib "$jdk"
         check "Java $1, kept methods" 0 "done files=$files classes=$files rewritten=0 kept=$(methods in)" true
     else
         skipped "Java $1, kept methods" "javap is missing"

@@ -43,12 +43,15 @@ ffff 0034 3 refused 3 Version A.class 52 65535
 ffff ffff 3 refused 3 Version A.class 65535 65535
 VERSIONS
 
-# code_file LENGTH: a class file whose one method has a code of so many nops. The code's length stands at byte 86.
+# code_file LENGTH: a class file whose one method has a code of so many bytes, nops and a return. The code's length stands at byte 86.
 code_file() {
     hex "cafebabe 0000 0034 0008 070002 01000141 070004 0100106a6176612f6c616e672f4f626a656374 0100016d 010003282956
         010004436f6465 0021 0001 0003 0000 0000 0001 0009 0005 0006 0001 0007 $(printf '%08x' $(($1 + 12)))
         0000 0000 $(printf '%08x' "$1")"
-    head -c "$1" /dev/zero
+    if [ "$1" != 0 ]; then
+        head -c $(($1 - 1)) /dev/zero
+        hex "b1"
+    fi
     hex "0000 0000 0000"
 }
 for length in 0 1 65535 65536; do
