@@ -22,7 +22,7 @@ use Rattle.class_model.specs.declared.header.Member.{Member}
 use Rattle.class_model.specs.declared.pool.Const.TheVariants.{Utf8}
 
 -- the texts of a pool, from the place of its first entry on
-abbrev texts_checks : ℕ → Constants → List Check
+abbrev pub texts_checks : ℕ → Constants → List Check
 texts_checks at [] = []
 texts_checks at (None ∷ entries) = texts_checks at entries
 texts_checks at (Some (Utf8 text) ∷ entries) = check at rules.Text (IsModifiedUtf8 text) ∷ texts_checks (at + length (constant_bytes (Utf8 text))) entries

@@ -16,3 +16,4 @@ pub mod Methods
 pub mod ClassOf
 pub mod Header
 pub mod Answers
+pub mod Stated

@@ -29,8 +29,9 @@ pub struct Handler {
 /// An exception table.
 pub type HandlerList = ListOf<Handler>;
 
-/// The content of a Code attribute (JVM Specification SE 8, 4.7.3). Its attributes are kept as bytes,
-/// since none of them is a Code attribute.
+/// The content of a Code attribute (JVM Specification SE 8, 4.7.3): the greatest depth of the stack in stack units, the
+/// number of locals in local units (a long or double counts two of each), and the code in bytes. Its attributes are kept as
+/// bytes, since none of them is a Code attribute.
 #[derive(Debug, Drop)]
 pub struct CodePart {
     pub max_stack: u16,

@@ -112,10 +112,10 @@ impl<T: Drop> From<AllocFailed<T>> for NameFault {
     }
 }
 
-/// The field type that a text spells.
+/// The field type that a text spells (JVM Specification SE 8, 4.3.2).
 ///
 /// # Errors
-/// `BadName` exactly where it spells none.
+/// `BadName` exactly where it spells none. `NoMemory`, where memory runs out.
 pub fn parse_field_type(alloc: Global, text: &Text) -> Result<FieldType, NameFault>
     ensures read { IfOk result (SpellsFieldType text.now) }
     ensures bad_name { IsErrOf result NameFault.BadName → (type : FieldType) → ¬ SpellsFieldType text.now type }
@@ -123,11 +123,11 @@ pub fn parse_field_type(alloc: Global, text: &Text) -> Result<FieldType, NameFau
     whole_field_type(alloc, text.bytes())
 }
 
-/// The method descriptor that a text spells, whose parameters take at most 255 local units, `this` not
-/// counted.
+/// The method descriptor that a text spells (JVM Specification SE 8, 4.3.3), whose parameters take at most 255 local units,
+/// `this` not counted.
 ///
 /// # Errors
-/// `BadName` exactly where it spells none.
+/// `BadName` exactly where it spells none. `NoMemory`, where memory runs out.
 pub fn parse_descriptor(alloc: Global, text: &Text) -> Result<Descriptor, NameFault>
     ensures read { IfOk result (SpellsDescriptor text.now) }
     ensures bad_name { IsErrOf result NameFault.BadName → (descriptor : Descriptor) → ¬ SpellsDescriptor text.now descriptor }
@@ -138,17 +138,6 @@ pub fn parse_descriptor(alloc: Global, text: &Text) -> Result<Descriptor, NameFa
     let (params, rest) = parameters_at(alloc, after)?;
     let result = whole_result(alloc, rest)?;
     Ok(Descriptor { params, result })
-}
-
-/// Whether a text's bytes spell a field type. It takes no memory.
-pub fn is_field_type(bytes: &[u8]) -> bool
-    requires { IsText bytes.now }
-    ensures { IsTrue result ↔ ((type : FieldType) × SpellsFieldType bytes.now type) }
-{
-    match after_element(bytes) {
-        Some(rest) => rest.is_empty(),
-        None => is_array_type(bytes),
-    }
 }
 
 /// Whether bytes are an array type. It takes no memory.

@@ -1,4 +1,5 @@
 use super::*;
+use crate::descriptor_bytes::is_field_descriptor;
 use std::alloc::Global;
 use std::test::Fail;
 
@@ -13,10 +14,10 @@ fn is_descriptor(alloc: Global, bytes: &[u8]) -> Result<bool, Fail> {
     Ok(true)
 }
 
-// What parse_field_type says of bytes, and what is_field_type says.
+// What parse_field_type says of bytes, and what is_field_descriptor says.
 fn field_type_kinds(alloc: Global, bytes: &[u8]) -> Result<(Option<Kind>, bool), Fail> {
     let text = Text::of_bytes(alloc, bytes)?;
-    let spells = is_field_type(text.bytes());
+    let spells = is_field_descriptor(text.bytes());
     match parse_field_type(alloc, &text) {
         Ok(field_type) => Ok((Some(field_type.kind()), spells)),
         Err(NameFault::BadName) => Ok((None, spells)),

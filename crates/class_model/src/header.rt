@@ -21,7 +21,7 @@ pub type TextList = ListOf<Text>;
 pub struct Header {
     pub name: Text,
     pub flags: u16,
-    /// None for `java/lang/Object`.
+    /// None where the superclass index is 0, as that of `java/lang/Object`.
     pub super_name: Option<Text>,
     pub interfaces: TextList,
     pub fields: MemberList,

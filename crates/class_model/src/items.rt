@@ -127,17 +127,19 @@ impl<'a> Cursor<'a> {
     }
 }
 
-/// Appends a number of two bytes.
+/// Appends a number of two bytes. Where memory runs out, the bytes stay as they were.
 pub fn push_u2(out: &mut Vec<u8>, number: u16) -> Result<(), NoMemory>
-    ensures { OnOk result (out.new.items ≡ out.old.items ++ u2 number) }
+    ensures ok { OnOk result (out.new.items ≡ out.old.items ++ u2 number) }
+    ensures err { OnErr result (out.new.items ≡ out.old.items) }
 {
     out.extend_from_slice(&number.to_be_bytes())?;
     Ok(())
 }
 
-/// Appends a number of four bytes.
+/// Appends a number of four bytes. Where memory runs out, the bytes stay as they were.
 pub fn push_u4(out: &mut Vec<u8>, number: u32) -> Result<(), NoMemory>
-    ensures { OnOk result (out.new.items ≡ out.old.items ++ u4 number) }
+    ensures ok { OnOk result (out.new.items ≡ out.old.items ++ u4 number) }
+    ensures err { OnErr result (out.new.items ≡ out.old.items) }
 {
     out.extend_from_slice(&number.to_be_bytes())?;
     Ok(())

@@ -25,8 +25,8 @@ pub use class_file::{
     InnerAttr, InnerAttrList, Method, MethodAt, MethodList,
 };
 pub use descriptor::{
-    Descriptor, FieldType, FieldTypeList, Kind, NameFault, is_array_type, is_field_type,
-    parse_descriptor, parse_field_type,
+    Descriptor, FieldType, FieldTypeList, Kind, NameFault, is_array_type, parse_descriptor,
+    parse_field_type,
 };
 pub use descriptor_bytes::{
     MethodShape, dimensions, is_field_descriptor, is_reference_name, method_shape,

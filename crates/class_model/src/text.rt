@@ -88,6 +88,15 @@ impl Text {
         Ok(Text { bytes })
     }
 
+    /// The text of bytes that are known to be one, which it copies.
+    pub fn of_text(alloc: Global, bytes: &[u8]) -> Result<Text, NoMemory>
+        requires { IsText bytes.now }
+        ensures { IfOk result (λ text. text ≡ bytes.now) }
+    {
+        let bytes = RcSlice::from_slice(alloc, bytes)?;
+        Ok(Text { bytes })
+    }
+
     /// The bytes of the text.
     pub fn bytes(&self) -> &[u8]
         ensures same { result.now ≡ self.now }

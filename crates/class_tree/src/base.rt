@@ -16,7 +16,6 @@ ghost use Rattle.class_tree.specs.Subtype.{IsBelow};
 ghost use Rattle.class_tree.specs.Trees.{IsInOrder};
 ghost use Rattle.class_tree.specs.declared.fault.LinkRule.TheVariants as rules;
 
-use crate::ask::ask_named;
 use crate::fault::{LinkFault, LinkRule};
 use crate::graph::reaches;
 use crate::headers::Headers;
@@ -25,6 +24,7 @@ use crate::names::{
     ACC_PUBLIC, ACC_STATIC, CLONEABLE, METHOD_HANDLE, METHOD_TYPE, OBJECT, SERIALIZABLE, THROWABLE,
     base_names, has, is_interface, machine_throwables,
 };
+use crate::question::ask_named;
 use class_model::{ClassFile, Const, Header, INIT, ListOf, Member, NoMemory, Pool};
 use std::alloc::Global;
 

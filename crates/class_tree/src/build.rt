@@ -7,7 +7,6 @@ ghost use Rattle.class_tree.specs.Nodes.{IsLinksOf};
 ghost use Rattle.class_tree.specs.Trees.{AreHeadersInOrder, IsInOrder, IsTreeOf};
 
 use crate::arrange::{add_library, first_duplicate, headers_of, sort_folder, sort_library};
-use crate::ask::ask;
 use crate::base::check_base;
 use crate::fault::{LinkFault, LinkRule};
 use crate::graph::supers_graph;
@@ -18,6 +17,7 @@ use crate::interfaces::interface_lists;
 use crate::links::Links;
 use crate::members::{field_indexes, method_indexes};
 use crate::order::topological;
+use crate::question::ask;
 use crate::super_places::super_places;
 use crate::tree::{ClassFileList, HeaderList, Tree};
 use class_model::{ClassFile, Header};

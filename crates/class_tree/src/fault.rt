@@ -5,28 +5,31 @@ ghost use Rattle.class_tree.specs.declared.fault.LinkFault.TheVariants.{NoMemory
 use class_model::{Member, NoMemory, Text};
 use thiserror::Error;
 
-/// A rule of linking (JVM Specification SE 8, 5.3 and 5.4).
+/// A rule of linking (JVM Specification SE 8, 5.3 and 5.4). `LibraryLeans`, and what is asked of the library's own classes that
+/// the machine needs, are this project's profile.
 #[derive(Clone, Copy, PartialEq, Eq, Debug)]
 pub enum LinkRule {
     /// Two classes have one name.
     Duplicate,
-    /// A class that is named is not there.
+    /// A class that is named is not there, or the library lacks one that the machine needs.
     Missing,
     /// A class is above itself.
     Circle,
-    /// A superclass is final.
+    /// The superclass of a class of the folder is final.
     FinalSuper,
     /// A class of the library names one of the folder above it.
     LibraryLeans,
-    /// A superclass is an interface, an interface is none, or the like.
+    /// A superclass is an interface, or an interface that is named is none; an interface is below another class than
+    /// java/lang/Object; a class but java/lang/Object has no superclass, or the folder has java/lang/Object; a throwable
+    /// that the machine raises is none, or an interface that it knows is none.
     KindOfSuper,
-    /// A member that is named is not there.
+    /// A member that is named is not there, or java/lang/Object has not the one constructor.
     NoMember,
     /// A class or a member is not accessible.
     NoAccess,
     /// A member is not of the form that an instruction needs.
     WrongForm,
-    /// A method overrides a final method.
+    /// A method overrides a final method of the folder.
     FinalOverridden,
 }
 

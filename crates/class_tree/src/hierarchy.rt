@@ -12,12 +12,12 @@ ghost use Rattle.class_tree.specs.Steps.{supers, hierarchy_checks, folder_checks
 ghost use Rattle.class_tree.specs.Subtype.{IsBelow};
 ghost use Rattle.class_tree.specs.Trees.{IsInOrder};
 
-use crate::ask::ask;
 use crate::fault::{LinkFault, LinkRule};
 use crate::graph::reaches;
 use crate::headers::Headers;
 use crate::names::{ACC_FINAL, OBJECT, has, is_interface};
 use crate::place::Place;
+use crate::question::ask;
 use class_model::{Header, ListOf, NoMemory};
 use std::alloc::Global;
 

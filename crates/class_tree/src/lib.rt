@@ -3,7 +3,6 @@
 #![tactic(auto)]
 
 mod arrange;
-mod ask;
 mod base;
 mod build;
 mod chains;
@@ -19,6 +18,7 @@ mod members;
 mod names;
 mod order;
 mod place;
+mod question;
 mod subtype;
 mod super_places;
 mod tree;
@@ -27,7 +27,8 @@ pub use build::build_tree;
 pub use chains::chain;
 pub use fault::{LinkFault, LinkRule};
 pub use laws::{a_folder_is_told_once, a_tree_is_a_hierarchy};
-pub use names::{METHOD_HANDLE, METHOD_TYPE, OBJECT, THROWABLE, has};
+pub use names::{METHOD_HANDLE, METHOD_TYPE, OBJECT, THROWABLE, has, machine_throwables};
 pub use place::Place;
+pub use question::ask;
 pub use subtype::{component, is_above_arrays, is_array, is_below, is_sub};
 pub use tree::{ClassFileList, HeaderList, Tree};

@@ -61,7 +61,7 @@ const MACHINE_THROWABLES: [&[u8]; 10] = [
 ];
 
 /// The throwables that instructions raise, in byte order.
-pub(crate) fn machine_throwables() -> &'static [&'static [u8]]
+pub fn machine_throwables() -> &'static [&'static [u8]]
     ensures { map (λ name. name.now) result.now ≡ names.machine_throwables }
 {
     &MACHINE_THROWABLES

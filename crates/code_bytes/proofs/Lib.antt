@@ -25,3 +25,5 @@ pub mod Marks
 pub mod Targets
 pub mod Sizes
 pub mod Sequences
+pub mod ReadMethods
+pub mod EntryFrames

@@ -6,3 +6,5 @@ pub mod Numbers
 pub mod Opcodes
 pub mod Operands
 pub mod Starts
+pub mod Codes
+pub mod Entry

@@ -17,7 +17,12 @@ use crate::opcodes::{
 use class_model::{ByteList, Imm, Instr, Kind, ListOf, NoMemory};
 use std::alloc::Global;
 
-/// The shortest bytes that spell an instruction at an offset of a code. The pad bytes of a switch are zero.
+/// The shortest bytes that spell an instruction (JVM Specification SE 8, 6.5) at an offset of a code, in bytes. The pad bytes of
+/// a switch are zero. The instruction has a spelling there: its opcode is of its form, its jumps reach their targets (by 16 bits
+/// but for goto and switches), offsets are below 2^31, and a switch has 1 to 65,535 targets, whose keys increase.
+///
+/// # Errors
+/// `NoMemory`, where memory runs out.
 pub fn encode_one(alloc: Global, instr: &Instr, at: u32) -> Result<ByteList, NoMemory>
     requires { HasSpelling at instr.now }
     ensures { IfOk result (IsChosen at instr.now) }
@@ -28,7 +33,7 @@ pub fn encode_one(alloc: Global, instr: &Instr, at: u32) -> Result<ByteList, NoM
     Ok(ListOf::from_vec(out))
 }
 
-/// How many bytes these are.
+/// How many bytes the shortest spelling of an instruction at an offset takes; it has one, as for `encode_one`.
 pub fn code_len(instr: &Instr, at: u32) -> u32
     requires { HasSpelling at instr.now }
     ensures { (bytes : List ℕ) × IsChosen at instr.now bytes × (result ≡ length bytes) }

@@ -1,8 +1,12 @@
-//! Instructions read from bytes and written to bytes (JVM Specification SE 8, 6.5).
+//! Instructions read from bytes and written to bytes (JVM Specification SE 8, 6.5), and what is known of the methods of a
+//! class file that was read: what reading asked of their code, their instructions, and the frame that they begin with.
 #![tactic(auto)]
 
+mod code;
 mod decoding;
+mod descriptor;
 mod encoding;
+mod entry;
 mod forms;
 mod instruction;
 mod jumps;
@@ -13,9 +17,12 @@ mod source;
 mod starts;
 mod switches;
 
+pub use code::instructions_of;
 pub use decoding::decode;
+pub use descriptor::method_descriptor;
 pub use encoding::{code_len, encode_one};
-pub use laws::one_chosen_spelling;
+pub use entry::{entry_frame, entry_locals, is_text, verification_type};
+pub use laws::{a_class_file_has_read_methods, one_chosen_spelling};
 pub use starts::Starts;
 
 #[cfg(test)]

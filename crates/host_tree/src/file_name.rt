@@ -1,13 +1,12 @@
 //! Names of files.
-ghost use Rattle.std.specs.Prelude.{◌≡◌, ◌==◌, IfOk, string_bytes};
+ghost use Rattle.std.specs.Prelude.{◌≡◌, ◌==◌, string_bytes};
 ghost use Rattle.std.specs.Cmp.{partial_order_from_own_ties};
 ghost use Rattle.std.specs.Cmp.Rules.{comparing};
 ghost use Rattle.std.specs.Cmp.Lexicographic.{pointwise, slice_cmp};
 ghost use Rattle.std.specs.Ordering.{nat_cmp, as_partial_cmp};
 ghost use Rattle.std.proofs.Common.{rules};
 
-use class_model::{ListOf, NoMemory};
-use std::alloc::Global;
+use class_model::ListOf;
 use std::cmp::Ordering;
 use std::marker::Model;
 
@@ -42,14 +41,6 @@ impl FileName {
         ensures { result.now ≡ self.now }
     {
         self.text.as_str()
-    }
-
-    /// An equal name.
-    pub fn copy(&self, alloc: Global) -> Result<FileName, NoMemory>
-        ensures { IfOk result (λ copy. copy ≡ self.now) }
-    {
-        let text = String::from_str(alloc, self.as_str())?;
-        Ok(FileName { text })
     }
 }
 

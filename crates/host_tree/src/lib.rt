@@ -1,3 +1,5 @@
+//! The outside of a program: files below roots and standard output, as a trait that says what each call does, of the system
+//! or in memory.
 #![tactic(auto)]
 
 mod call;

@@ -1,9 +1,9 @@
 //! A host in memory, for tests.
-ghost use Rattle.std.specs.Prelude.{◌≡◌, ℕ, ◌+◌, ◌-◌, ◌^◌, List, [], true, None, Some, take, min, IfOk, IsOk, OnOk, OnErr};
+ghost use Rattle.std.specs.Prelude.{◌≡◌, ℕ, ◌+◌, ◌-◌, ◌^◌, ◌++◌, ◌⊎◌, List, [], true, false, None, Some, take, min, IsSome, IfOk, IsOk, OnOk, OnErr, IsErrOf};
 ghost use Rattle.std.specs.Option.{option_copied};
 ghost use Rattle.host_tree.specs.declared.call.HostCall.{HostCall};
-ghost use Rattle.host_tree.specs.Host.{SameFiles, SameElsewhere};
-ghost use Rattle.host_tree.specs.Counts.{last_count};
+ghost use Rattle.host_tree.specs.Host.{SameFiles, SameElsewhere, IsListing, IsReadOf, IsPrefixPrinted};
+ghost use Rattle.host_tree.specs.Counts.{last_count, Rose, CountsOnly};
 ghost use Rattle.host_tree.specs.Memory.{stored, printed_by, faults_of, is_refused, next_call_of, refused_calls, SameButFiles};
 
 use crate::call::{HostCall, HostFail};
@@ -112,7 +112,19 @@ impl Host for MemoryHost {
 
     ghost faults = { faults_of };
 
-    fn list(&mut self, alloc: Global, root: &str, most: u64) -> Result<FileNameList, HostFail> {
+    fn list(&mut self, alloc: Global, root: &str, most: u64) -> Result<FileNameList, HostFail>
+        ensures names { IfOk result (IsListing (stored self.old root.now) most) }
+        ensures files { SameFiles (stored self.old) (stored self.new) }
+        ensures printed { printed_by self.new ≡ printed_by self.old }
+        ensures counts { CountsOnly HostCall.List (faults_of self.old) (faults_of self.new) }
+        ensures failed { IsErrOf result HostFail.Failed → Rose (faults_of self.old HostCall.List) (faults_of self.new HostCall.List) }
+        ensures not_absent { ¬ IsErrOf result HostFail.Absent }
+        ensures refused { is_refused self.old ≡ true → IsErrOf result HostFail.Failed }
+        ensures others { is_refused self.old ≡ false → ¬ IsErrOf result HostFail.Failed }
+        ensures numbered { next_call_of self.new ≡ min (next_call_of self.old + 1) last_count }
+        ensures kept { refused_calls self.new ≡ refused_calls self.old }
+        ensures counted { is_refused self.old ≡ false → (of : HostCall) → faults_of self.new of ≡ faults_of self.old of }
+    {
         if self.number_call() {
             self.faults.raise(HostCall::List);
             return Err(HostFail::Failed);
@@ -126,7 +138,22 @@ impl Host for MemoryHost {
         root: &str,
         name: &str,
         most: u64,
-    ) -> Result<ByteList, HostFail> {
+    ) -> Result<ByteList, HostFail>
+        ensures bytes { IfOk result (IsReadOf (stored self.old root.now name.now) most) }
+        ensures files { SameFiles (stored self.old) (stored self.new) }
+        ensures printed { printed_by self.new ≡ printed_by self.old }
+        ensures counts { CountsOnly HostCall.Read (faults_of self.old) (faults_of self.new) }
+        ensures failed { IsErrOf result HostFail.Failed → Rose (faults_of self.old HostCall.Read) (faults_of self.new HostCall.Read) }
+        ensures none_there { stored self.old root.now name.now ≡ None →
+            (faults_of self.new HostCall.Read ≡ faults_of self.old HostCall.Read) × (IsErrOf result HostFail.Absent ⊎ IsErrOf result HostFail.NoMemory) }
+        ensures absent { IsErrOf result HostFail.Absent → stored self.old root.now name.now ≡ None }
+        ensures missing { stored self.old root.now name.now ≡ None → IsErrOf result HostFail.Absent }
+        ensures refused { IsSome (stored self.old root.now name.now) → is_refused self.old ≡ true → IsErrOf result HostFail.Failed }
+        ensures others { is_refused self.old ≡ false → ¬ IsErrOf result HostFail.Failed }
+        ensures numbered { next_call_of self.new ≡ min (next_call_of self.old + 1) last_count }
+        ensures kept { refused_calls self.new ≡ refused_calls self.old }
+        ensures counted { is_refused self.old ≡ false → (of : HostCall) → faults_of self.new of ≡ faults_of self.old of }
+    {
         let refused = self.number_call();
         let Some(bytes) = self.tree.get(root, name) else {
             return Err(HostFail::Absent);
@@ -138,13 +165,20 @@ impl Host for MemoryHost {
         Ok(first_bytes(alloc, bytes, most)?)
     }
 
-    fn write(
-        &mut self,
-        alloc: Global,
-        root: &str,
-        name: &str,
-        bytes: &[u8],
-    ) -> Result<(), HostFail> {
+    fn write(&mut self, alloc: Global, root: &str, name: &str, bytes: &[u8]) -> Result<(), HostFail>
+        ensures written { OnOk result (stored self.new root.now name.now ≡ Some bytes.now) }
+        ensures elsewhere { SameElsewhere root.now name.now (stored self.old) (stored self.new) }
+        ensures printed { printed_by self.new ≡ printed_by self.old }
+        ensures counts { CountsOnly HostCall.Write (faults_of self.old) (faults_of self.new) }
+        ensures failed { IsErrOf result HostFail.Failed → Rose (faults_of self.old HostCall.Write) (faults_of self.new HostCall.Write) }
+        ensures not_absent { ¬ IsErrOf result HostFail.Absent }
+        ensures refused { is_refused self.old ≡ true → IsErrOf result HostFail.Failed }
+        ensures others { is_refused self.old ≡ false → ¬ IsErrOf result HostFail.Failed }
+        ensures numbered { next_call_of self.new ≡ min (next_call_of self.old + 1) last_count }
+        ensures kept { refused_calls self.new ≡ refused_calls self.old }
+        ensures counted { is_refused self.old ≡ false → (of : HostCall) → faults_of self.new of ≡ faults_of self.old of }
+        ensures untouched { is_refused self.old ≡ true → SameFiles (stored self.old) (stored self.new) }
+    {
         if self.number_call() {
             self.faults.raise(HostCall::Write);
             return Err(HostFail::Failed);
@@ -153,7 +187,20 @@ impl Host for MemoryHost {
         Ok(())
     }
 
-    fn print(&mut self, _alloc: Global, bytes: &[u8]) -> Result<(), HostFail> {
+    fn print(&mut self, _alloc: Global, bytes: &[u8]) -> Result<(), HostFail>
+        ensures all { OnOk result (printed_by self.new ≡ printed_by self.old ++ bytes.now) }
+        ensures prefix { IsPrefixPrinted bytes.now (printed_by self.old) (printed_by self.new) }
+        ensures files { SameFiles (stored self.old) (stored self.new) }
+        ensures counts { CountsOnly HostCall.Print (faults_of self.old) (faults_of self.new) }
+        ensures failed { IsErrOf result HostFail.Failed → Rose (faults_of self.old HostCall.Print) (faults_of self.new HostCall.Print) }
+        ensures not_absent { ¬ IsErrOf result HostFail.Absent }
+        ensures refused { is_refused self.old ≡ true → IsErrOf result HostFail.Failed }
+        ensures others { is_refused self.old ≡ false → ¬ IsErrOf result HostFail.Failed }
+        ensures numbered { next_call_of self.new ≡ min (next_call_of self.old + 1) last_count }
+        ensures kept { refused_calls self.new ≡ refused_calls self.old }
+        ensures counted { is_refused self.old ≡ false → (of : HostCall) → faults_of self.new of ≡ faults_of self.old of }
+        ensures unprinted { is_refused self.old ≡ true → printed_by self.new ≡ printed_by self.old }
+    {
         if self.number_call() {
             self.faults.raise(HostCall::Print);
             return Err(HostFail::Failed);

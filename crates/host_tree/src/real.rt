@@ -18,7 +18,9 @@ use std::rt::Files;
 use std::{fs, io};
 
 /// The files of the system, and its standard output. A root is the path of a folder, and the empty
-/// root is the working folder.
+/// root is the working folder. A walk lists regular files alone, follows no symbolic link below the root, and fails behind
+/// 1,000,000 entries; a file that is not found is `Absent`, and counted as a fault of reading; a write makes the folders above
+/// its file.
 #[derive(Drop)]
 pub struct RealHost<R> {
     rt: R,

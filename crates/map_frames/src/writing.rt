@@ -22,9 +22,12 @@ pub struct NamedIndex {
 /// The indices of classes in a pool.
 pub type IndexOfText = ListOf<NamedIndex>;
 
-/// The content of a StackMapTable that states these frames behind an entry frame, each in the first kind
-/// that fits. `class_index` names every class of the frames, the places increase, and each number and list
-/// fits two bytes.
+/// The content of a StackMapTable (JVM Specification SE 8, 4.7.4) that states these frames behind an entry frame, each in the
+/// first kind that fits. `class_index` names every class of the frames, the places increase, and each number and list fits two
+/// bytes.
+///
+/// # Errors
+/// `NoMemory`, where memory runs out.
 pub fn frame_bytes(
     alloc: Global,
     entry: &Frame,

@@ -5,7 +5,7 @@ use Rattle.class_model.specs.ClassOf.{ClassOf}
 use Rattle.class_model.specs.Spelling.{class_bytes}
 use Rattle.class_model.specs.declared.class_file.ClassFile.{ClassFile}
 use Rattle.class_tree.specs.Headers.{IsClassFile}
-use Rattle.read_code.specs.Codes.{HasReadMethods}
+use Rattle.code_bytes.specs.Codes.{HasReadMethods}
 
 -- what is said of each class file
 record Law : Type 0 where

@@ -11,7 +11,7 @@ use Rattle.class_tree.specs.Problems.{Check, asked_each, AllHold}
 use Rattle.class_tree.specs.declared.fault.LinkFault.{LinkFault}
 use Rattle.member_link.specs.Resolving.{Resolved, scope_of}
 use Rattle.member_link.specs.Uses.{attr_checks, methods_checks}
-use Rattle.read_code.specs.Codes.{home_of}
+use Rattle.code_bytes.specs.Codes.{home_of}
 use Rattle.member_link.proofs.LinkSteps.{Remain, all_remain, remain, refused}
 
 abbrev pub resolved : Headers → ClassFile → Header → Resolved

@@ -4,12 +4,12 @@
 use Rattle.std.specs.Prelude.{◌==◌, not, ℕ, List, [], ◌∷◌, ◌++◌, Option, Some, None, Result, Ok, Err}
 use Rattle.class_model.specs.Checks.{Fault}
 use Rattle.class_model.specs.Code.{inner_is_named, stack_map_table}
-use Rattle.class_model.specs.Frames.{table_at}
 use Rattle.class_model.specs.Header.{header_of}
 use Rattle.class_model.specs.Instructions.{decoded}
-use Rattle.class_model.specs.Methods.{Home, entry_of}
+use Rattle.class_model.specs.Methods.{Home}
 use Rattle.class_model.specs.Pool.{Constants, constant_at}
 use Rattle.class_model.specs.PoolChecks.{class_at, utf8_at, descriptor_at}
+use Rattle.class_model.specs.Stated.{stated_frames}
 use Rattle.class_model.specs.declared.class_file.Attr.{Attr}
 use Rattle.class_model.specs.declared.class_file.Attr.TheVariants.{Raw, Code}
 use Rattle.class_model.specs.declared.class_file.ClassFile.{ClassFile}
@@ -37,7 +37,7 @@ use Rattle.member_link.specs.Fields.{FindsField}
 use Rattle.member_link.specs.Forms.{IsStaticForm, IsInstanceForm, FitsCall, IsInstantiable}
 use Rattle.member_link.specs.Methods.{FindsMethod}
 use Rattle.member_link.specs.References.{Reference, reference_at, FieldTypeNames, DescriptorNames, IsNamedThere, IsNamedAccessible}
-use Rattle.read_code.specs.Codes.{home_of}
+use Rattle.code_bytes.specs.Codes.{home_of}
 
 -- Where references stand: the classes, the pool of the class file, and the method.
 pub record Scope : Type 0 where
@@ -178,11 +178,6 @@ frame_checks s placed = asked_each (type_checks s) placed.frame.locals ++ asked_
 abbrev pub frames_checks : Scope → Result (List PlacedFrame) Fault → List Check
 frames_checks s (Ok frames) = asked_each (frame_checks s) frames
 frames_checks s (Err fault) = []
-
--- the frames that an attribute of a method's code states
-abbrev pub stated_frames : Home → Method → CodePart → Result (List Placed) Fault → InnerAttr → Result (List PlacedFrame) Fault
-stated_frames home method part (Ok instrs) attr = table_at (record { pool = home.pool; max_locals = part.max_locals; max_stack = part.max_stack; code = instrs }) (entry_of home method part) attr.bytes
-stated_frames home method part (Err fault) attr = Ok []
 
 abbrev pub inner_checks : Scope → Home → Method → CodePart → InnerAttr → List Check
 inner_checks s home method part attr =

@@ -1,29 +1,11 @@
 //! One question of linking.
-ghost use Rattle.std.specs.Prelude.{◌≡◌, [], ◌∷◌, IfOk, IsTrue};
+ghost use Rattle.std.specs.Prelude.{◌≡◌, IfOk, IsTrue, [], ◌∷◌};
 ghost use Rattle.class_tree.specs.Answers.{Answers};
-ghost use Rattle.class_tree.specs.Problems.{check};
-ghost use Rattle.class_tree.specs.Problems as problems;
 ghost use Rattle.member_link.specs.Declarations.{asked};
 
-use class_model::{Member, NoMemory, Text, TextFault};
+use class_model::{Member, NoMemory, Text};
 use class_tree::{LinkFault, LinkRule};
 use std::alloc::Global;
-
-/// Asks that a test holds of a class itself.
-pub(crate) fn ask(alloc: Global, holds: bool, class: &Text, rule: LinkRule) -> Result<(), LinkFault>
-    ensures { Answers (check class.now rule (IsTrue holds) ∷ []) result }
-{
-    if holds {
-        return Ok(());
-    }
-    let class = class.copy()?;
-    let member = itself(alloc)?;
-    Err(LinkFault::Unlinked {
-        class,
-        member,
-        rule,
-    })
-}
 
 /// Asks that a test holds of a member of a class.
 pub(crate) fn ask_at(
@@ -56,28 +38,4 @@ fn copy_of(member: &Member) -> Result<Member, NoMemory>
         name: member.name.copy()?,
         desc: member.desc.copy()?,
     })
-}
-
-// No member.
-fn itself(alloc: Global) -> Result<Member, NoMemory>
-    ensures { IfOk result (λ member. member ≡ problems.itself) }
-{
-    let name = no_text(alloc)?;
-    let desc = name.copy()?;
-    Ok(Member {
-        flags: 0,
-        name,
-        desc,
-    })
-}
-
-// The empty text.
-fn no_text(alloc: Global) -> Result<Text, NoMemory>
-    ensures { IfOk result (λ text. text ≡ []) }
-{
-    match Text::of_bytes(alloc, &[]) {
-        Ok(text) => Ok(text),
-        Err(TextFault::NoMemory) => Err(NoMemory),
-        Err(TextFault::BadText) => unreachable!(),
-    }
 }

@@ -8,7 +8,7 @@ ghost use Rattle.class_tree.specs.Problems.{asked_each};
 ghost use Rattle.code_bytes.specs.Decoding.{code_checks as decoding_checks};
 ghost use Rattle.member_link.specs.Resolving.{scope_of};
 ghost use Rattle.member_link.specs.Uses.{code_checks, handler_checks, instr_checks};
-ghost use Rattle.read_code.specs.Codes.{IsReadMethod, home_of};
+ghost use Rattle.code_bytes.specs.Codes.{IsReadMethod, home_of};
 
 use crate::frames::{MethodCode, check_inners};
 use crate::instructions::check_instr;
@@ -17,7 +17,7 @@ use class_model::{
     ClassFault, ClassFile, CodePart, Handler, Member, Method, NoMemory, Placed, PlacedList,
 };
 use class_tree::LinkFault;
-use read_code::instructions_of;
+use code_bytes::instructions_of;
 use std::alloc::Global;
 
 /// Asks that what the code of a method refers to is there, of the right form and accessible. The method is this member of

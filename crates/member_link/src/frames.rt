@@ -5,7 +5,7 @@ ghost use Rattle.class_tree.specs.Answers.{Answers};
 ghost use Rattle.class_tree.specs.Problems.{asked_each};
 ghost use Rattle.member_link.specs.Resolving.{scope_of};
 ghost use Rattle.member_link.specs.Uses.{frame_checks, inner_checks, type_checks};
-ghost use Rattle.read_code.specs.Codes.{IsReadMethod, home_of};
+ghost use Rattle.code_bytes.specs.Codes.{IsReadMethod, home_of};
 
 use crate::resolver::{Resolver, check_name};
 use class_model::{
@@ -13,8 +13,8 @@ use class_model::{
     PlacedList, VType,
 };
 use class_tree::LinkFault;
+use code_bytes::{entry_frame, is_text};
 use map_frames::read_frames;
-use read_code::{entry_frame, is_text};
 use std::alloc::Global;
 
 const STACK_MAP_TABLE: &[u8] = b"StackMapTable";

@@ -38,4 +38,5 @@ pub use laws::{
 };
 pub use links::check_links;
 pub use methods::find_method;
+pub use packages::is_same_package;
 pub use selection::{CallForm, Selected, select};

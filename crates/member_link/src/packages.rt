@@ -3,7 +3,7 @@ ghost use Rattle.std.specs.Prelude.{◌≡◌, ◌↔◌, IsTrue};
 ghost use Rattle.member_link.specs.Overriding.{package_of};
 
 /// Whether two classes are of the same package.
-pub(crate) fn is_same_package(one: &[u8], other: &[u8]) -> bool
+pub fn is_same_package(one: &[u8], other: &[u8]) -> bool
     ensures { IsTrue result ↔ (package_of one.now ≡ package_of other.now) }
 {
     package_of(one) == package_of(other)

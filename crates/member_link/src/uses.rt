@@ -6,13 +6,13 @@ ghost use Rattle.class_tree.specs.Headers.{headers_of};
 ghost use Rattle.class_tree.specs.Problems.{asked_each};
 ghost use Rattle.member_link.specs.Resolving.{scope_of};
 ghost use Rattle.member_link.specs.Uses.{attr_checks, use_checks};
-ghost use Rattle.read_code.specs.Codes.{HasInstrs, IsReadMethod, HasReadMethods, home_of};
+ghost use Rattle.code_bytes.specs.Codes.{HasInstrs, IsReadMethod, HasReadMethods, home_of};
 
 use crate::code_uses::check_code;
 use crate::resolver::Resolver;
 use class_model::{Attr, ClassFile, Header, Member, Method};
 use class_tree::{LinkFault, Place, Tree};
-use read_code::a_class_file_has_read_methods;
+use code_bytes::a_class_file_has_read_methods;
 use std::alloc::Global;
 
 /// Asks of each method of the folder that its instructions, its exception table and its stated frames refer to what is

@@ -22,7 +22,7 @@ use std::alloc::Global;
 /// # Errors
 /// `Malformed` at the first item that needs more bytes than there are, with `Short`; or with `Tag`, at a
 /// count of 0, at a tag that is unknown or not of the version, or at that of a long or double at the last
-/// index. `NoMemory`, where memory runs out.
+/// index. `NoMemory`, where memory runs out. The cursor may then stand behind what was read.
 pub fn cut_pool<'a>(
     alloc: Global,
     major: u16,

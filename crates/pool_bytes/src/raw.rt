@@ -5,7 +5,7 @@ ghost use Rattle.class_model.specs.Pool.{constant_at, entries_of, IsPool};
 ghost use Rattle.pool_bytes.specs.Raw.{constant_of, IsCounted};
 ghost use Rattle.pool_bytes.specs.Texts.{HasText, HasTexts};
 
-use class_model::{Const, NoMemory, Pool, Text, TextFault};
+use class_model::{Const, NoMemory, Pool, Text};
 use std::alloc::Global;
 use std::marker::Model;
 
@@ -66,11 +66,7 @@ impl<'a> RawConst<'a> {
         ensures { IfOk result (λ constant. constant ≡ self.now) }
     {
         match &self.form {
-            RawForm::Text(bytes) => match Text::of_bytes(alloc, bytes) {
-                Ok(text) => Ok(Const::Utf8(text)),
-                Err(TextFault::NoMemory) => Err(NoMemory),
-                Err(TextFault::BadText) => unreachable!(),
-            },
+            RawForm::Text(bytes) => Ok(Const::Utf8(Text::of_text(alloc, bytes)?)),
             RawForm::Constant(constant) => constant.copy(),
         }
     }

@@ -5,7 +5,8 @@ ghost use Rattle.std.specs.Option.{option_copied};
 ghost use Rattle.class_model.specs.Answers.{Answers};
 ghost use Rattle.class_model.specs.PoolChecks.{utf8_at, class_at};
 ghost use Rattle.class_model.specs.Spelling.{entry_bytes};
-ghost use Rattle.pool_bytes.specs.TextChecks.{text_checks, texts_checks};
+ghost use Rattle.class_model.specs.Header.{texts_checks};
+ghost use Rattle.pool_bytes.specs.TextChecks.{text_checks};
 ghost use Rattle.pool_bytes.specs.Texts.{HasTexts};
 
 use crate::raw::{RawConst, RawPool};

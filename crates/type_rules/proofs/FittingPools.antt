@@ -1,8 +1,8 @@
 -- The constants that the instructions of a method name are of the kinds that they may name.
-use Rattle.std.proofs.Common.{◌≡◌, ℕ, List, [], ◌∷◌, Result, Ok, Some, subst}
+use Rattle.std.proofs.Common.{◌≡◌, inl, inr, ℕ, List, [], ◌∷◌, Result, Ok, Some, subst}
 use Rattle.std.specs.List.{AllByRecursion}
 use Rattle.class_model.specs.Checks.{Fault}
-use Rattle.class_model.specs.Code.{OperandFits}
+use Rattle.class_model.specs.Code.{IsCalled, OperandFits}
 use Rattle.class_model.specs.Instructions.{decoded}
 use Rattle.class_model.specs.Pool.{Constants}
 use Rattle.class_model.specs.declared.class_file.Attr.{Attr}
@@ -11,9 +11,15 @@ use Rattle.class_model.specs.declared.class_file.CodePart.{CodePart}
 use Rattle.class_model.specs.declared.instr.Instr.{Instr}
 use Rattle.class_model.specs.declared.instr.Instr.TheVariants.{Nop, Const, Ldc, Ldc2, Load, Store, Iinc, ArrayLoad, ArrayStore, Shuffle, Pure, Divide, FloatAsk, If, If2, IfSame, IfNull, Goto, Table, Lookup, Return, GetStatic, PutStatic, GetField, PutField, Invoke, Dynamic, New, NewArray, NewRefArray, NewMulti, Length, Throw, Cast, InstanceOf, Enter, Leave}
 use Rattle.class_model.specs.declared.instr.Placed.{Placed}
-use Rattle.read_code.specs.Codes.{HasOperands, HaveOperands}
-use Rattle.type_rules.specs.Rule.{FitsPool}
+use Rattle.code_bytes.specs.Codes.{HasOperands, HaveOperands}
+use Rattle.type_rules.specs.Rule.{FitsPool, NamesMethod}
 use Rattle.type_rules.specs.Scope.{Scope, code_of}
+
+-- the count of an invokeinterface is asked apart from the kind
+names_method : (pool : Constants) (major opcode method count : ℕ) → IsCalled pool major opcode method count → NamesMethod pool major opcode method
+names_method pool major opcode method count (inl virtual) = inl virtual
+names_method pool major opcode method count (inr (inl interface)) = inr (inl (interface.0, interface.1))
+names_method pool major opcode method count (inr (inr other)) = inr (inr other)
 
 -- the greatest number of locals is asked of locals alone
 fits_pool : (s : Scope) (max_locals : ℕ) (instr : Instr) → OperandFits s.class.pool s.class.major max_locals instr → FitsPool s instr
@@ -42,12 +48,12 @@ fits_pool s max_locals (GetStatic index) h = h
 fits_pool s max_locals (PutStatic index) h = h
 fits_pool s max_locals (GetField index) h = h
 fits_pool s max_locals (PutField index) h = h
-fits_pool s max_locals (Invoke opcode index count) h = h
+fits_pool s max_locals (Invoke opcode index count) h = names_method s.class.pool s.class.major opcode index count h
 fits_pool s max_locals (Dynamic index) h = h
 fits_pool s max_locals (New index) h = h
 fits_pool s max_locals (NewArray code) h = h
 fits_pool s max_locals (NewRefArray index) h = h
-fits_pool s max_locals (NewMulti index dimensions) h = h
+fits_pool s max_locals (NewMulti index dimensions) h = h.0
 fits_pool s max_locals Length h = h
 fits_pool s max_locals Throw h = h
 fits_pool s max_locals (Cast index) h = h

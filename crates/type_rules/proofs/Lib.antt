@@ -26,3 +26,5 @@ pub mod PushedElements
 pub mod FittingPools
 pub mod MethodParts
 pub mod UninitThis
+pub mod OneTyping
+pub mod EachTyped

@@ -15,7 +15,7 @@ use Rattle.class_tree.specs.Headers.{Classes, headers_of}
 use Rattle.class_tree.specs.Order.{header_at}
 use Rattle.class_tree.specs.declared.place.Place.TheVariants.{Folder}
 use Rattle.code_bytes.specs.Decoding.{code_checks}
-use Rattle.read_code.specs.Codes.{HasInstrs, HasOperands, HasReadMethods, HasReadOperands, IsReadMethod}
+use Rattle.code_bytes.specs.Codes.{HasInstrs, HasOperands, HasReadMethods, HasReadOperands, IsReadMethod}
 use Rattle.type_rules.specs.Scope.{code_of}
 
 same_some : {X : Type 0} (x y : X) → Some x ≡ Some y → x ≡ y

@@ -20,3 +20,9 @@ pub mod Calls
 pub mod Offsets
 pub mod NewClasses
 pub mod Known
+pub mod Stated
+pub mod Handlers
+pub mod Flow
+pub mod Checks
+pub mod Typed
+pub mod Verified

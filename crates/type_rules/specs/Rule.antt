@@ -1,12 +1,14 @@
 -- What an instruction does to a frame (JVM Specification SE 8, 4.10.1.4): the frame behind it and the one that handlers
 -- see, or the first rule that fails.
-use Rattle.std.specs.Prelude.{◌≡◌, ◌⊎◌, ◌≤◌, List, [], ◌∷◌, ◌++◌, length, Some, None, Result, Ok, Err, if◌then◌else◌}
-use Rattle.class_model.specs.Code.{OperandFits}
+use Rattle.std.specs.Prelude.{◌≡◌, ◌⊎◌, ◌≤◌, ℕ, List, [], ◌∷◌, ◌++◌, length, Some, None, Result, Ok, Err, if◌then◌else◌}
+use Rattle.class_model.specs.Code.{IsInterfaceConstant, IsMethodConstant, OperandFits}
 use Rattle.class_model.specs.Frames.{depth}
+use Rattle.class_model.specs.Pool.{Constants, constant_at}
+use Rattle.class_model.specs.PoolChecks.{IsClassAt}
 use Rattle.class_model.specs.declared.frame.Frame.{Frame}
 use Rattle.class_model.specs.declared.frame.VType.{VType}
 use Rattle.class_model.specs.declared.instr.Instr.{Instr}
-use Rattle.class_model.specs.declared.instr.Instr.TheVariants.{Load, Store, Iinc}
+use Rattle.class_model.specs.declared.instr.Instr.TheVariants.{Load, Store, Iinc, Invoke, NewMulti}
 use Rattle.class_model.specs.declared.instr.Placed.{Placed}
 use Rattle.type_rules.specs.Operands.{AllFit, topmost, under}
 use Rattle.type_rules.specs.Rows.{Row}
@@ -68,8 +70,17 @@ RowRules s f row (Err faults.NoMemory) = Unit {0}
 abbrev pub Rules : Scope → Placed → Frame → Result Ruled RuleFault → Type 0
 Rules s placed f result = RowRules s f (row_of s f placed) result
 
--- the constants that an instruction names are of the kinds that it may name
+-- invokevirtual names a method, invokeinterface an interface's, and the other two either in version 52
+abbrev pub NamesMethod : Constants → ℕ → ℕ → ℕ → Type 0
+NamesMethod pool major opcode method =
+    ((opcode ≡ 182) × IsMethodConstant (constant_at pool method))
+    ⊎ (((opcode ≡ 185) × IsInterfaceConstant (constant_at pool method))
+    ⊎ (((opcode ≡ 183) ⊎ (opcode ≡ 184)) × (IsMethodConstant (constant_at pool method) ⊎ ((major ≡ 52) × IsInterfaceConstant (constant_at pool method)))))
+
+-- the constants that an instruction names are of the kinds that it may name, and an array that anewarray makes is one
 abbrev pub FitsPool : Scope → Instr → Type 0
+FitsPool s (Invoke opcode method count) = NamesMethod s.class.pool s.class.major opcode method
+FitsPool s (NewMulti index dimensions) = IsClassAt s.class.pool index
 FitsPool s (Load kind local) = Unit {0}
 FitsPool s (Store kind local) = Unit {0}
 FitsPool s (Iinc local by) = Unit {0}

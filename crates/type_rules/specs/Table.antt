@@ -1,6 +1,6 @@
 -- The table of instructions (JVM Specification SE 8, 4.10.1.9 and 6.5): a row for each form, in a method and behind a
 -- frame.
-use Rattle.std.specs.Prelude.{◌≢◌, ◌==◌, ℕ, [], ◌∷◌, map, Option, Some, None, if◌then◌else◌}
+use Rattle.std.specs.Prelude.{◌≢◌, ◌==◌, ◌&&◌, nat_le, ℕ, Bool, List, [], ◌∷◌, map, Option, Some, None, if◌then◌else◌}
 use Rattle.std.specs.List.{AllByRecursion}
 use Rattle.class_model.specs.Pool.{constant_at}
 use Rattle.class_model.specs.PoolChecks.{class_at}
@@ -17,8 +17,8 @@ use Rattle.type_rules.specs.ArithmeticRows.{pure_operations, divide_operations, 
 use Rattle.type_rules.specs.ArrayRows as arrays
 use Rattle.type_rules.specs.LocalRows.{imm_row, const_row, load_row, store_row, iinc_row}
 use Rattle.type_rules.specs.MemberRows.{reference_of, get_static_row, put_static_row, get_field_row, put_field_row, call_row, dynamic_row, return_row}
-use Rattle.type_rules.specs.Operands.{of_kind, initialised, assignable_to}
-use Rattle.type_rules.specs.Rows.{Row, plain, ending, no_row}
+use Rattle.type_rules.specs.Operands.{Need, of_kind, initialised, assignable_to}
+use Rattle.type_rules.specs.Rows.{Row, plain, ending, no_row, either}
 use Rattle.type_rules.specs.Scope.{Scope}
 use Rattle.type_rules.specs.ShuffleRows.{shuffle_row}
 
@@ -44,6 +44,10 @@ cast_row f (Some name) = plain f (initialised ∷ []) (types.Object name ∷ [])
 abbrev pub throw_row : Frame → Row
 throw_row f = ending f (assignable_to (types.Object throwable) ∷ []) (Unit {0})
 
+-- a jump that compares, if its opcode is one
+abbrev pub jump_row : Frame → Bool → List Need → Row
+jump_row f is_known takes = either is_known (plain f takes []) (no_row f)
+
 -- ---- the table
 
 abbrev pub row_of : Scope → Frame → Placed → Row
@@ -62,10 +66,10 @@ row_of s f placed = of_instr placed.instr where
   of_instr (Pure opcode) = operation_row f (operation_in pure_operations opcode)
   of_instr (Divide opcode) = operation_row f (operation_in divide_operations opcode)
   of_instr (FloatAsk opcode) = operation_row f (operation_in float_operations opcode)
-  of_instr (If opcode target) = plain f (of_kind Int ∷ []) []
-  of_instr (If2 opcode target) = plain f (of_kind Int ∷ of_kind Int ∷ []) []
-  of_instr (IfSame opcode target) = plain f (of_kind Ref ∷ of_kind Ref ∷ []) []
-  of_instr (IfNull opcode target) = plain f (of_kind Ref ∷ []) []
+  of_instr (If opcode target) = jump_row f (nat_le 153 opcode && nat_le opcode 158) (of_kind Int ∷ [])
+  of_instr (If2 opcode target) = jump_row f (nat_le 159 opcode && nat_le opcode 164) (of_kind Int ∷ of_kind Int ∷ [])
+  of_instr (IfSame opcode target) = jump_row f (nat_le 165 opcode && nat_le opcode 166) (of_kind Ref ∷ of_kind Ref ∷ [])
+  of_instr (IfNull opcode target) = jump_row f (nat_le 198 opcode && nat_le opcode 199) (of_kind Ref ∷ [])
   of_instr (Goto target) = plain f [] []
   of_instr (Table low other targets) = plain f (of_kind Int ∷ []) []
   of_instr (Lookup other pairs) = plain f (of_kind Int ∷ []) []

@@ -17,7 +17,7 @@ use crate::fault::RuleFault;
 use crate::need::{Need, topmost};
 use crate::ruled::Ruled;
 use crate::step::Step;
-use class_model::{Kind, NoMemory, Text, TextFault, VType};
+use class_model::{Kind, NoMemory, Text, VType};
 use class_tree::{component, is_array};
 use std::alloc::Global;
 
@@ -111,22 +111,10 @@ fn element_type(alloc: Global, array: &VType) -> Result<VType, NoMemory>
 {
     match array {
         VType::Object(name) => match component(name.bytes()) {
-            Some(component) => Ok(VType::Object(text_of(alloc, component)?)),
+            Some(component) => Ok(VType::Object(Text::of_text(alloc, component)?)),
             None => Ok(VType::Null),
         },
         _ => Ok(VType::Null),
-    }
-}
-
-// The text of these bytes.
-fn text_of(alloc: Global, bytes: &[u8]) -> Result<Text, NoMemory>
-    requires { IsText bytes.now }
-    ensures { IfOk result (λ text. text ≡ bytes.now) }
-{
-    match Text::of_bytes(alloc, bytes) {
-        Ok(text) => Ok(text),
-        Err(TextFault::NoMemory) => Err(NoMemory),
-        Err(TextFault::BadText) => unreachable!(),
     }
 }
 
@@ -166,7 +154,7 @@ fn made(step: &Step<'_>, array: &[u8]) -> Result<Ruled, RuleFault>
     requires { IsText array.now }
     ensures { RowRules step.now.rules.now step.now.before.now (rows.made_row step.now.before.now 1 (Some array.now)) result }
 {
-    let array = text_of(step.alloc, array)?;
+    let array = Text::of_text(step.alloc, array)?;
     step.plain(&[INT], Some(VType::Object(array)))
 }
 

@@ -1,6 +1,5 @@
 //! The rules of constants (JVM Specification SE 8, 6.5.ldc and the like).
 ghost use Rattle.std.specs.Prelude.{◌≡◌, IfOk};
-ghost use Rattle.class_model.specs.ModifiedUtf8.{IsText};
 ghost use Rattle.class_model.specs.Pool.{constant_at};
 ghost use Rattle.type_rules.specs.LocalRows.{imm_row, const_row, type_of_imm, type_of_const};
 ghost use Rattle.type_rules.specs.Rule.{RowRules};
@@ -8,7 +7,7 @@ ghost use Rattle.type_rules.specs.Rule.{RowRules};
 use crate::fault::RuleFault;
 use crate::ruled::Ruled;
 use crate::step::Step;
-use class_model::{Const, Imm, NoMemory, Text, TextFault, VType};
+use class_model::{Const, Imm, NoMemory, Text, VType};
 use class_tree::{METHOD_HANDLE, METHOD_TYPE};
 use std::alloc::Global;
 
@@ -66,22 +65,10 @@ fn type_of_const(alloc: Global, constant: &Const) -> Result<Option<VType>, NoMem
         Const::Float(_) => VType::Float,
         Const::Long(_) => VType::Long,
         Const::Double(_) => VType::Double,
-        Const::String(_) => VType::Object(text_of(alloc, STRING)?),
-        Const::Class(_) => VType::Object(text_of(alloc, CLASS)?),
-        Const::MethodHandle(..) => VType::Object(text_of(alloc, METHOD_HANDLE)?),
-        Const::MethodType(_) => VType::Object(text_of(alloc, METHOD_TYPE)?),
+        Const::String(_) => VType::Object(Text::of_text(alloc, STRING)?),
+        Const::Class(_) => VType::Object(Text::of_text(alloc, CLASS)?),
+        Const::MethodHandle(..) => VType::Object(Text::of_text(alloc, METHOD_HANDLE)?),
+        Const::MethodType(_) => VType::Object(Text::of_text(alloc, METHOD_TYPE)?),
         _ => return Ok(None),
     }))
-}
-
-// The text of these bytes.
-fn text_of(alloc: Global, bytes: &[u8]) -> Result<Text, NoMemory>
-    requires { IsText bytes.now }
-    ensures { IfOk result (λ text. text ≡ bytes.now) }
-{
-    match Text::of_bytes(alloc, bytes) {
-        Ok(text) => Ok(text),
-        Err(TextFault::NoMemory) => Err(NoMemory),
-        Err(TextFault::BadText) => unreachable!(),
-    }
 }

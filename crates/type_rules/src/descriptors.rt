@@ -1,6 +1,5 @@
 //! What the descriptors of fields and methods say (JVM Specification SE 8, 4.3).
 ghost use Rattle.std.specs.Prelude.{◌≡◌, ◌-◌, ℕ, List, length, take, IfOk};
-ghost use Rattle.class_model.specs.Code.{verification_type};
 ghost use Rattle.class_model.specs.Descriptors.{SpellsDescriptor, parameters_of, type_of};
 ghost use Rattle.class_model.specs.ModifiedUtf8.{IsText};
 ghost use Rattle.class_model.specs.PoolChecks.{IsMethodDescriptor};
@@ -10,9 +9,10 @@ ghost use Rattle.type_rules.specs.Signatures.{IsMemberDescriptor};
 ghost use Rattle.type_rules.specs.Steps.{given};
 
 use class_model::{
-    Descriptor, FieldType, NameFault, NoMemory, Text, TextFault, VType, a_descriptor_of_a_text,
+    Descriptor, FieldType, NameFault, NoMemory, Text, VType, a_descriptor_of_a_text,
     parameters_are_spelled, parse_descriptor,
 };
+use code_bytes::verification_type;
 use std::alloc::Global;
 
 /// The type of a field with this descriptor. What is no field's descriptor stands for itself.
@@ -42,11 +42,8 @@ fn class_type(alloc: Global, bytes: &[u8]) -> Result<FieldType, NoMemory>
     requires { IsText (take (length bytes.now - 1) bytes.now) }
     ensures { IfOk result (λ type. type ≡ FieldType.Named (take (length bytes.now - 1) bytes.now)) }
 {
-    match Text::of_bytes(alloc, &bytes[..bytes.len().saturating_sub(1)]) {
-        Ok(name) => Ok(FieldType::Named(name)),
-        Err(TextFault::NoMemory) => Err(NoMemory),
-        Err(TextFault::BadText) => unreachable!(),
-    }
+    let name = Text::of_text(alloc, &bytes[..bytes.len().saturating_sub(1)])?;
+    Ok(FieldType::Named(name))
 }
 
 /// The method descriptor that a text spells.
@@ -62,20 +59,6 @@ pub(crate) fn method_descriptor(alloc: Global, desc: &Text) -> Result<Descriptor
         Err(NameFault::NoMemory) => Err(NoMemory),
         Err(NameFault::BadName) => unreachable!(),
     }
-}
-
-/// The verification type of a value of a field type. It shares the bytes of a name.
-pub(crate) fn verification_type(field_type: &FieldType) -> Result<VType, NoMemory>
-    ensures { IfOk result (λ type. type ≡ verification_type field_type.now) }
-{
-    Ok(match field_type {
-        FieldType::Byte | FieldType::Char | FieldType::Short | FieldType::Bool | FieldType::Int =>
-            VType::Int,
-        FieldType::Long => VType::Long,
-        FieldType::Float => VType::Float,
-        FieldType::Double => VType::Double,
-        FieldType::Named(name) => VType::Object(name.copy()?),
-    })
 }
 
 /// The type of what a method of this descriptor gives, or none.

@@ -51,7 +51,8 @@ impl From<NoMemory> for RuleFault {
 /// Why a folder does not verify.
 #[derive(Debug, Drop, Error)]
 pub enum VerifyFault {
-    /// A method breaks a rule, first at this offset of its code, in bytes.
+    /// A method breaks a rule, first at this offset of its code, in bytes: of `CatchType` the start of the handler's range, of
+    /// `FallsOff` the length of the code, else that of the instruction.
     #[error("{class:?} does not verify at {offset}: {rule:?}")]
     Unverified {
         class: Text,

@@ -7,7 +7,7 @@ ghost use Rattle.type_rules.specs.MemberRows.{reference_of, get_static_row, put_
 ghost use Rattle.type_rules.specs.References.{reference_meant};
 ghost use Rattle.type_rules.specs.Rule.{RowRules};
 
-use crate::descriptors::{field_type, verification_type};
+use crate::descriptors::field_type;
 use crate::fault::RuleFault;
 use crate::method_rules::MethodRules;
 use crate::need::Need;
@@ -17,6 +17,7 @@ use crate::reference::{Reference, reference_at};
 use crate::ruled::Ruled;
 use crate::step::Step;
 use class_model::{FieldType, NoMemory, VType};
+use code_bytes::verification_type;
 use std::alloc::Global;
 
 // A reference to a field, and the field's type.

@@ -12,13 +12,14 @@ mod descriptors;
 mod fault;
 mod fields;
 mod initialisers;
+mod jumps;
+mod laws;
 mod locals;
 mod method_rules;
 mod need;
 mod objects;
 mod offsets;
 mod operands;
-mod packages;
 mod protected;
 mod reference;
 mod returns;
@@ -30,6 +31,10 @@ mod typed;
 
 pub use assignability::{assignable, frame_assignable};
 pub use fault::{RuleFault, TypeRule, VerifyFault};
+pub use laws::{
+    a_failing_method_has_no_frames, a_method_has_one_typing, a_typed_folder_types_each_method,
+    a_typed_method_types_each_instruction,
+};
 pub use method_rules::MethodRules;
 pub use offsets::OffsetIndex;
 pub use ruled::Ruled;

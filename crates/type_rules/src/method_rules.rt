@@ -6,7 +6,7 @@ ghost use Rattle.class_model.specs.Header.{header_of};
 ghost use Rattle.class_tree.specs.Headers.{headers_of, IsClassFile};
 ghost use Rattle.class_tree.specs.Order.{header_at};
 ghost use Rattle.member_link.specs.Linked.{IsLinked};
-ghost use Rattle.read_code.specs.Codes.{HasOperands, IsReadMethod};
+ghost use Rattle.code_bytes.specs.Codes.{HasOperands, IsReadMethod};
 ghost use Rattle.type_rules.specs.MemberRows.{result_of};
 ghost use Rattle.type_rules.specs.NewClasses.{class_made};
 ghost use Rattle.type_rules.specs.Offsets.{IsIndexOf};
@@ -20,7 +20,7 @@ use class_model::{
     NoMemory, Placed, PlacedList, Text,
 };
 use class_tree::{Place, Tree};
-use read_code::{a_class_file_has_read_methods, instructions_of, is_text, method_descriptor};
+use code_bytes::{a_class_file_has_read_methods, instructions_of, is_text, method_descriptor};
 use std::alloc::Global;
 use std::marker::Model;
 

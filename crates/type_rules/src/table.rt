@@ -9,6 +9,7 @@ use crate::calls::{call, call_dynamic};
 use crate::constants::{push_constant, push_imm};
 use crate::fault::RuleFault;
 use crate::fields::{get_field, get_static, put_field, put_static};
+use crate::jumps::compare;
 use crate::method_rules::MethodRules;
 use crate::need::Need;
 use crate::objects::{cast, new_object, throw};
@@ -72,10 +73,14 @@ impl MethodRules<'_> {
             Instr::Pure(opcode) => pure(&step, *opcode),
             Instr::Divide(opcode) => divide(&step, *opcode),
             Instr::FloatAsk(opcode) => float(&step, *opcode),
-            Instr::If(..) | Instr::Table { .. } | Instr::Lookup { .. } => step.plain(&[INT], None),
-            Instr::If2(..) => step.plain(&[INT, INT], None),
-            Instr::IfSame(..) => step.plain(&[REF, REF], None),
-            Instr::IfNull(..) | Instr::Enter | Instr::Leave => step.plain(&[REF], None),
+            Instr::If(opcode, _) => compare(&step, 153 <= *opcode && *opcode <= 158, &[INT]),
+            Instr::If2(opcode, _) => compare(&step, 159 <= *opcode && *opcode <= 164, &[INT, INT]),
+            Instr::IfSame(opcode, _) => {
+                compare(&step, 165 <= *opcode && *opcode <= 166, &[REF, REF])
+            }
+            Instr::IfNull(opcode, _) => compare(&step, 198 <= *opcode && *opcode <= 199, &[REF]),
+            Instr::Table { .. } | Instr::Lookup { .. } => step.plain(&[INT], None),
+            Instr::Enter | Instr::Leave => step.plain(&[REF], None),
             Instr::Return(kind) => give_back(&step, *kind),
             Instr::GetStatic(index) => get_static(&step, *index),
             Instr::PutStatic(index) => put_static(&step, *index),

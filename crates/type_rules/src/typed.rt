@@ -47,7 +47,8 @@ impl TypedFolder {
         self.classes.push(class)
     }
 
-    /// The frames of a method, if it has code.
+    /// The frames of a method. Of frames that type a folder, None exactly where no method with code has these numbers
+    /// (`a_typed_folder_types_each_method`).
     pub fn of(&self, at: MethodAt) -> Option<&TypedMethod>
         ensures { option_copied result ≡ frames_at self.now at }
     {

@@ -11,8 +11,8 @@ use Rattle.class_tree.specs.Headers.{Name, Headers}
 use Rattle.class_tree.specs.Names.{throwable}
 use Rattle.member_link.specs.Access.{IsAtOrBelow}
 use Rattle.type_rules.specs.Scope.{Scope}
-use Rattle.verify_folder.specs.Handlers.{CatchesThrowables, caught}
-use Rattle.verify_folder.specs.Typed.{FailsInTable}
+use Rattle.type_rules.specs.Handlers.{CatchesThrowables, caught}
+use Rattle.type_rules.specs.Typed.{FailsInTable}
 
 -- one for all that is thrown
 pub catches_all : (s : Scope) (handler : Handler) → handler.catch_type ≡ 0 → CatchesThrowables s handler

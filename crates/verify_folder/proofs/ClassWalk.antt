@@ -8,7 +8,8 @@ use Rattle.class_tree.specs.Headers.{Classes, Headers, headers_of}
 use Rattle.type_rules.specs.TypedFrames.{FolderFrames}
 use Rattle.type_rules.specs.declared.fault.VerifyFault.{VerifyFault}
 use Rattle.type_rules.specs.declared.fault.VerifyFault.TheVariants as faults
-use Rattle.verify_folder.specs.Verified.{Failure, AreTypedMethods, AreTypedClasses, ClassesFail, ClassVerifies, FolderIsTyped, FolderVerifies, MethodsFail}
+use Rattle.type_rules.specs.Verified.{AreTypedMethods, AreTypedClasses}
+use Rattle.verify_folder.specs.Verifying.{Failure, ClassesFail, ClassVerifies, FolderIsTyped, FolderVerifies, MethodsFail}
 use Rattle.verify_folder.proofs.MethodWalk.{drop_at}
 
 pub record SoFar (headers : Headers) (folder : List ClassFile) (place : ℕ) (typed : FolderFrames) : Type 0 where

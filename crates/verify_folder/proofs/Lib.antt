@@ -1,4 +1,3 @@
-pub mod OneTyping
 pub mod OneFailure
 pub mod ChecksLeft
 pub mod PlainTexts

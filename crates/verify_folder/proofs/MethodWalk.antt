@@ -14,7 +14,8 @@ use Rattle.class_tree.specs.Headers.{Classes, Headers, headers_of}
 use Rattle.type_rules.specs.Scope.{Scope, code_of, scope_at, scope_of}
 use Rattle.type_rules.specs.declared.fault.VerifyFault.{VerifyFault}
 use Rattle.type_rules.specs.declared.fault.VerifyFault.TheVariants as faults
-use Rattle.verify_folder.specs.Verified.{TypesMethod, Failure, MethodFails, AreTypedMethods, MethodsFail, MethodVerifies, VerifiesAs, ClassVerifies}
+use Rattle.type_rules.specs.Verified.{TypesMethod, AreTypedMethods}
+use Rattle.verify_folder.specs.Verifying.{Failure, MethodFails, MethodsFail, MethodVerifies, VerifiesAs, ClassVerifies}
 
 -- ---- where a method stands
 

@@ -15,7 +15,7 @@ use Rattle.class_model.specs.declared.class_file.Method.{Method}
 use Rattle.class_model.specs.declared.class_file.MethodAt.{MethodAt}
 use Rattle.class_model.specs.declared.instr.Placed.{Placed}
 use Rattle.class_tree.specs.Headers.{Classes, Headers, headers_of, IsClassFile}
-use Rattle.read_code.specs.Codes.{HasInstrs, HasReadMethods, IsReadMethod}
+use Rattle.code_bytes.specs.Codes.{HasInstrs, HasReadMethods, IsReadMethod}
 use Rattle.type_rules.specs.Scope.{Scope, code_of, instructions, scope_at, scope_of}
 use Rattle.verify_folder.specs.Steps.{IsRead}
 

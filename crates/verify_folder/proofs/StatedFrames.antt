@@ -4,7 +4,7 @@ use Rattle.std.specs.Prelude.{◌==◌, if◌then◌else◌}
 use Rattle.class_model.specs.declared.frame.Frame.{Frame}
 use Rattle.class_model.specs.declared.frame.PlacedFrame.{PlacedFrame}
 use Rattle.type_rules.specs.Offsets.{first_at, number_in, IsIndexOf}
-use Rattle.verify_folder.specs.Stated.{frame_for}
+use Rattle.class_model.specs.Stated.{frame_for}
 
 abbrev pub frame_in : Option PlacedFrame → Option Frame
 frame_in placed = option_map (λ p. p.frame) placed

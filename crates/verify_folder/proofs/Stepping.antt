@@ -6,9 +6,9 @@ use Rattle.class_model.specs.declared.instr.Placed.{Placed}
 use Rattle.type_rules.specs.Rule.{AllHold, Check, row_checks}
 use Rattle.type_rules.specs.Scope.{Scope}
 use Rattle.type_rules.specs.Table.{row_of}
-use Rattle.verify_folder.specs.Checks.{FailsBehind, IsTypedAt, MayFlowIn, frame_before, handler_checks, instr_checks, target_checks}
-use Rattle.verify_folder.specs.Flow.{frame_behind}
-use Rattle.verify_folder.specs.Stated.{stated_at}
+use Rattle.type_rules.specs.Checks.{FailsBehind, IsTypedAt, MayFlowIn, frame_before, handler_checks, instr_checks, target_checks}
+use Rattle.type_rules.specs.Flow.{frame_behind}
+use Rattle.type_rules.specs.Stated.{stated_at}
 use Rattle.verify_folder.specs.Steps.{BeforeAnswers, ChecksAnswer, RowAnswers, StepAnswers}
 use Rattle.verify_folder.specs.declared.stop.Stop.{Stop}
 use Rattle.verify_folder.specs.declared.stop.Stop.TheVariants.{Fails, NoMemory}

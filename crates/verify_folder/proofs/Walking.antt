@@ -6,9 +6,9 @@ use Rattle.class_model.specs.declared.frame.Frame.{Frame}
 use Rattle.class_model.specs.declared.instr.Placed.{Placed}
 use Rattle.type_rules.specs.Scope.{Scope, instructions}
 use Rattle.type_rules.specs.declared.fault.TypeRule.{TypeRule}
-use Rattle.verify_folder.specs.Stated.{entry}
+use Rattle.type_rules.specs.Stated.{entry}
 use Rattle.verify_folder.specs.Steps.{StepAnswers}
-use Rattle.verify_folder.specs.Typed.{AreTyped, FailsIn}
+use Rattle.type_rules.specs.Typed.{AreTyped, FailsIn}
 
 -- These frames type the first instructions; this frame flows into those that are left.
 pub record IsOnWalk (s : Scope) (frames : List Frame) (flows : Option Frame) (left : List Placed) : Type 0 where

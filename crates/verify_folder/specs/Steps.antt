@@ -8,17 +8,17 @@ use Rattle.class_model.specs.declared.frame.PlacedFrame.{PlacedFrame}
 use Rattle.class_model.specs.declared.instr.Placed.{Placed}
 use Rattle.class_tree.specs.Headers.{Name}
 use Rattle.class_tree.specs.Names.{throwable}
-use Rattle.read_code.specs.Codes.{IsReadMethod}
+use Rattle.code_bytes.specs.Codes.{IsReadMethod}
 use Rattle.type_rules.specs.Rule.{AllHold, Check, IsFirstToFail, row_checks, ruled}
 use Rattle.type_rules.specs.Scope.{Scope, instructions}
 use Rattle.type_rules.specs.Table.{row_of}
 use Rattle.type_rules.specs.declared.fault.TypeRule.TheVariants as rules
 use Rattle.type_rules.specs.declared.ruled.Ruled.{Ruled}
-use Rattle.verify_folder.specs.Checks.{FailsAt, IsTypedAt, MayFlowIn, frame_before}
-use Rattle.verify_folder.specs.Flow.{flows_on}
-use Rattle.verify_folder.specs.Handlers.{CatchesThrowables}
-use Rattle.verify_folder.specs.Stated.{entry, stated_at, stated_in}
-use Rattle.verify_folder.specs.Typed.{AreTyped, FailsIn, FailsInTable, IsFirstFailure, Typed}
+use Rattle.type_rules.specs.Checks.{FailsAt, IsTypedAt, MayFlowIn, frame_before}
+use Rattle.type_rules.specs.Flow.{flows_on}
+use Rattle.type_rules.specs.Handlers.{CatchesThrowables}
+use Rattle.type_rules.specs.Stated.{entry, stated, stated_at}
+use Rattle.type_rules.specs.Typed.{AreTyped, FailsIn, FailsInTable, IsFirstFailure, Typed}
 use Rattle.verify_folder.specs.declared.stop.Stop.{Stop}
 use Rattle.verify_folder.specs.declared.stop.Stop.TheVariants as stops
 
@@ -74,7 +74,7 @@ pub record IsRead (s : Scope) : Type 0 where
   pub instrs : decoded s.part.code ≡ Ok (instructions s)
 
 -- what is kept beside a method that is typed
-pub record IsTyping (s : Scope) (stated : List PlacedFrame) (all : Name) : Type 0 where
+pub record IsTyping (s : Scope) (frames : List PlacedFrame) (all : Name) : Type 0 where
   pub read : IsRead s
-  pub stated_is : stated ≡ stated_in s s.part.attrs
+  pub stated_is : frames ≡ stated s
   pub all_is : all ≡ throwable

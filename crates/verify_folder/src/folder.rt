@@ -3,7 +3,7 @@ ghost use Rattle.std.specs.Prelude.{◌≡◌, is_some, slice_get, Some};
 ghost use Rattle.class_tree.specs.Headers.{headers_of};
 ghost use Rattle.member_link.specs.Linked.{IsLinked};
 ghost use Rattle.type_rules.specs.Scope.{code_of};
-ghost use Rattle.verify_folder.specs.Verified.{ClassVerifies, FolderIsTyped, FolderVerifies};
+ghost use Rattle.verify_folder.specs.Verifying.{ClassVerifies, FolderIsTyped, FolderVerifies};
 
 use crate::method::verify_method;
 use class_model::{Attr, ClassFile, MethodAt};

@@ -12,5 +12,5 @@ mod stop;
 mod typing;
 
 pub use folder::{check_all, verify_all};
-pub use laws::{a_failing_method_has_no_frames, a_folder_fails_once, a_method_has_one_typing};
+pub use laws::a_folder_fails_once;
 pub use method::verify_method;

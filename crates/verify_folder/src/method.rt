@@ -5,21 +5,21 @@ ghost use Rattle.class_model.specs.declared.class_file.MethodAt.{MethodAt};
 ghost use Rattle.member_link.specs.Linked.{IsLinked};
 ghost use Rattle.type_rules.specs.Scope.{Scope, scope_at};
 ghost use Rattle.verify_folder.specs.Steps.{IsRead};
-ghost use Rattle.verify_folder.specs.Verified.{VerifiesAs};
+ghost use Rattle.verify_folder.specs.Verifying.{VerifiesAs};
 
 use crate::stop::Stop;
 use crate::typing::type_method;
 use class_model::{Member, MethodAt, NoMemory};
 use class_tree::Tree;
-use read_code::a_class_file_has_read_methods;
+use code_bytes::a_class_file_has_read_methods;
 use std::alloc::Global;
 use type_rules::{MethodRules, TypeRule, TypedMethod, VerifyFault};
 
 /// Verifies a method with code of a linked folder: the frames that type it, one for each instruction. There are no others.
 ///
 /// # Errors
-/// `Unverified` where no frames type it, with the first failure: of the catch types in table order, and then of the
-/// instructions by offset.
+/// `Unverified` where no frames type it, with the first failure: of the catch types in table order (at the start of the
+/// handler's range), then of the instructions by offset, and `FallsOff` at the length of the code, in bytes.
 pub fn verify_method(alloc: Global, tree: &Tree, at: MethodAt) -> Result<TypedMethod, VerifyFault>
     requires linked { IsLinked tree.now }
     requires has_code { IsSome (scope_at tree.now at) }

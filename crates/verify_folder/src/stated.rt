@@ -2,15 +2,15 @@
 ghost use Rattle.std.specs.Prelude.{◌≡◌, map, IfOk};
 ghost use Rattle.std.specs.Option.{option_copied};
 ghost use Rattle.class_model.specs.Instructions.{decoded};
-ghost use Rattle.read_code.specs.Codes.{home_of};
-ghost use Rattle.member_link.specs.Uses.{stated_frames};
+ghost use Rattle.class_model.specs.Stated.{frame_for, read_or_none, stated_frames, stated_in};
+ghost use Rattle.code_bytes.specs.Codes.{home_of};
 ghost use Rattle.type_rules.specs.Offsets.{IsIndexOf};
-ghost use Rattle.verify_folder.specs.Stated.{frame_for, read_or_none, stated_in};
+ghost use Rattle.type_rules.specs.Stated.{stated};
 ghost use Rattle.verify_folder.specs.Steps.{IsRead};
 
 use class_model::{ClassFault, Frame, InnerAttr, NoMemory, PlacedFrame, PlacedFrameList};
+use code_bytes::{entry_frame, is_text};
 use map_frames::read_frames;
-use read_code::{entry_frame, is_text};
 use std::alloc::Global;
 use std::marker::Model;
 use type_rules::{MethodRules, OffsetIndex};
@@ -41,7 +41,7 @@ impl StatedFrames {
     /// Those of a method's code.
     pub(crate) fn of(alloc: Global, rules: &MethodRules<'_>) -> Result<Self, NoMemory>
         requires { IsRead rules.now }
-        ensures { IfOk result (λ stated. stated ≡ stated_in rules.now rules.now.part.attrs) }
+        ensures { IfOk result (λ frames. frames ≡ stated rules.now) }
     {
         let frames = frames_in(alloc, rules, rules.part().attrs.as_slice())?;
         let index = index_of(alloc, frames.as_slice())?;
@@ -75,7 +75,7 @@ fn frames_in(
     attrs: &[InnerAttr],
 ) -> Result<PlacedFrameList, NoMemory>
     requires { IsRead rules.now }
-    ensures { IfOk result (λ frames. frames ≡ stated_in rules.now attrs.now) }
+    ensures { IfOk result (λ frames. frames ≡ stated_in (home_of rules.now.class) rules.now.method rules.now.part attrs.now) }
 {
     for attr in attrs {
         if is_text(&rules.class().pool, STACK_MAP_TABLE, attr.name) {

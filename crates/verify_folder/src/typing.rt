@@ -4,19 +4,19 @@ ghost use Rattle.std.specs.Option.{option_copied};
 ghost use Rattle.class_model.specs.Instructions.{targets};
 ghost use Rattle.class_tree.specs.Names.{throwable};
 ghost use Rattle.type_rules.specs.Rule.{FitsPool};
-ghost use Rattle.verify_folder.specs.Checks.{MayGoTo, handler_checks, target_checks};
-ghost use Rattle.verify_folder.specs.Flow.{falls_through};
-ghost use Rattle.verify_folder.specs.Handlers.{caught_frame};
-ghost use Rattle.verify_folder.specs.Stated.{stated_at};
+ghost use Rattle.type_rules.specs.Checks.{MayGoTo, handler_checks, target_checks};
+ghost use Rattle.type_rules.specs.Flow.{falls_through};
+ghost use Rattle.type_rules.specs.Handlers.{caught_frame};
+ghost use Rattle.type_rules.specs.Stated.{stated_at};
 ghost use Rattle.verify_folder.specs.Steps.{BeforeAnswers, ChecksAnswer, IsRead, RowAnswers, StepAnswers, TypingAnswers, WalkAnswers};
 
 use crate::flow::falls_through;
 use crate::handlers::{caught_frame, check_catch_types, covers};
 use crate::stated::StatedFrames;
 use crate::stop::Stop;
-use class_model::{Frame, Handler, Instr, NoMemory, Pair, Placed, Text, TextFault};
+use class_model::{Frame, Handler, Instr, NoMemory, Pair, Placed, Text};
 use class_tree::THROWABLE;
-use read_code::entry_frame;
+use code_bytes::entry_frame;
 use std::alloc::Global;
 use std::marker::Model;
 use type_rules::{MethodRules, RuleFault, Ruled, TypeRule, TypedMethod, frame_assignable};
@@ -42,11 +42,7 @@ pub(crate) fn type_method(alloc: Global, rules: &MethodRules<'_>) -> Result<Type
 fn throwable_name(alloc: Global) -> Result<Text, NoMemory>
     ensures { IfOk result (λ name. name ≡ throwable) }
 {
-    match Text::of_bytes(alloc, THROWABLE) {
-        Ok(name) => Ok(name),
-        Err(TextFault::NoMemory) => Err(NoMemory),
-        Err(TextFault::BadText) => unreachable!(),
-    }
+    Text::of_text(alloc, THROWABLE)
 }
 
 /// A method that is typed, the frames that its code states, and the name of all throwables. Contracts see the method.

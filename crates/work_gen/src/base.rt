@@ -1,29 +1,13 @@
 //! The smallest library that linking accepts.
-ghost use Rattle.std.specs.Prelude.{◌≡◌, map, IfOk};
-ghost use Rattle.class_tree.specs.Names as names;
+ghost use Rattle.std.specs.Prelude.{◌≡◌, IfOk};
 ghost use Rattle.work_gen.specs.BaseLibrary.{IsBaseLibrary};
 ghost use Rattle.work_gen.specs.Values as values;
 
 use crate::classes::{keeper, memberless, object, throwable};
 use crate::flags::{ACC_ABSTRACT, ACC_FINAL, ACC_INTERFACE, ACC_PUBLIC, ACC_SUPER};
 use class_model::{ListOf, NoMemory};
-use class_tree::{ClassFileList, METHOD_HANDLE, OBJECT};
+use class_tree::{ClassFileList, METHOD_HANDLE, OBJECT, THROWABLE, machine_throwables};
 use std::alloc::Global;
-
-const THROWABLE: &[u8] = b"java/lang/Throwable";
-
-const MACHINE_THROWABLES: [&[u8]; 10] = [
-    b"java/lang/AbstractMethodError",
-    b"java/lang/ArithmeticException",
-    b"java/lang/ArrayIndexOutOfBoundsException",
-    b"java/lang/ArrayStoreException",
-    b"java/lang/ClassCastException",
-    b"java/lang/IllegalAccessError",
-    b"java/lang/IllegalMonitorStateException",
-    b"java/lang/IncompatibleClassChangeError",
-    b"java/lang/NegativeArraySizeException",
-    b"java/lang/NullPointerException",
-];
 
 const INTERFACE: u16 = ACC_PUBLIC | ACC_INTERFACE | ACC_ABSTRACT;
 
@@ -62,11 +46,4 @@ fn named_classes(alloc: Global) -> Result<ClassFileList, NoMemory>
     classes.push(keeper(alloc)?)?;
     classes.push(throwable(alloc, OBJECT, THROWABLE)?)?;
     Ok(classes)
-}
-
-// The throwables that instructions raise.
-fn machine_throwables() -> &'static [&'static [u8]]
-    ensures { map (λ name. name.now) result.now ≡ names.machine_throwables }
-{
-    &MACHINE_THROWABLES
 }

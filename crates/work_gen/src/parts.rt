@@ -8,7 +8,6 @@ ghost use Rattle.work_gen.specs.Values as values;
 use crate::flags::ACC_PUBLIC;
 use class_model::{
     Attr, ByteList, ClassFile, CodePart, Const, ListOf, Method, MethodList, NoMemory, Pool, Text,
-    TextFault,
 };
 use std::alloc::Global;
 
@@ -18,7 +17,7 @@ pub(crate) fn push_text(alloc: Global, pool: &mut Pool, text: &[u8]) -> Result<(
     requires few { length pool.old + 1 ≤ 65535 }
     ensures { OnOk result (pool.new ≡ pool.old ++ Some (consts.Utf8 text.now) ∷ []) }
 {
-    let text = text_of(alloc, text)?;
+    let text = Text::of_text(alloc, text)?;
     pool.push(Const::Utf8(text))
 }
 
@@ -31,18 +30,6 @@ pub(crate) fn push_class(alloc: Global, pool: &mut Pool, name: &[u8]) -> Result<
     let index = pool.count();
     push_text(alloc, pool, name)?;
     pool.push(Const::Class(index))
-}
-
-// The text of these bytes.
-fn text_of(alloc: Global, bytes: &[u8]) -> Result<Text, NoMemory>
-    requires { IsText bytes.now }
-    ensures { IfOk result (λ text. text ≡ bytes.now) }
-{
-    match Text::of_bytes(alloc, bytes) {
-        Ok(text) => Ok(text),
-        Err(TextFault::NoMemory) => Err(NoMemory),
-        Err(TextFault::BadText) => unreachable!(),
-    }
 }
 
 /// A method without code.

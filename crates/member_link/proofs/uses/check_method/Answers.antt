@@ -4,7 +4,7 @@ use Rattle.class_tree.specs.Answers.{Answers}
 use Rattle.class_tree.specs.Problems.{asked_each}
 use Rattle.member_link.specs.Resolving.{Resolved, scope_of}
 use Rattle.member_link.specs.Uses.{attr_checks}
-use Rattle.read_code.specs.Codes.{home_of}
+use Rattle.code_bytes.specs.Codes.{home_of}
 use Rattle.member_link.proofs.EachUse.{one_used, one_use_refused}
 use Rattle.member_link.proofs.uses.check_method.Goals as goal
 

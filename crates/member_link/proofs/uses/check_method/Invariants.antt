@@ -1,6 +1,6 @@
 use Rattle.member_link.specs.Resolving.{scope_of}
 use Rattle.member_link.specs.Uses.{attr_checks}
-use Rattle.read_code.specs.Codes.{home_of}
+use Rattle.code_bytes.specs.Codes.{home_of}
 use Rattle.member_link.proofs.EachUse.{UsedBelow}
 use Rattle.member_link.proofs.uses.check_method.Given as goal
 

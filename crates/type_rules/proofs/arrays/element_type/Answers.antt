@@ -1,5 +1,5 @@
 use Rattle.type_rules.proofs.ArrayTexts.{component_text}
 use Rattle.type_rules.proofs.arrays.element_type.Goals as goal
 
-pub text_of-requires : goal.text_of-requires
-text_of-requires c = component_text c.in-Some.ensures.some (rw c.bytes.ensures.same c.bytes.ensures.text)
+pub of_text-requires : goal.of_text-requires
+of_text-requires c = component_text c.in-Some.ensures.some (rw c.bytes.ensures.same c.bytes.ensures.text)

@@ -2,7 +2,7 @@ use Rattle.std.proofs.Common.{List, refl, subst, ◌∙◌}
 use Rattle.std.proofs.lemmas.Result.{err_from_is_err_and}
 use Rattle.class_model.specs.declared.class_file.ClassFile.{ClassFile}
 use Rattle.class_tree.specs.Headers.{headers_of}
-use Rattle.verify_folder.specs.Verified.{AreTypedClasses}
+use Rattle.type_rules.specs.Verified.{AreTypedClasses}
 use Rattle.verify_folder.proofs.ClassWalk.{all_typed, folder_stops, one_more}
 use Rattle.verify_folder.proofs.MethodWalk.{item_at}
 use Rattle.verify_folder.proofs.folder.verify_all.Goals as goal

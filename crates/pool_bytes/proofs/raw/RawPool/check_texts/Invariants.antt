@@ -1,5 +1,5 @@
 use Rattle.std.proofs.Common.{drop}
-use Rattle.pool_bytes.specs.TextChecks.{texts_checks}
+use Rattle.class_model.specs.Header.{texts_checks}
 use Rattle.pool_bytes.proofs.AnswerParts.{Left}
 use Rattle.pool_bytes.proofs.raw.RawPool.check_texts.Given as goal
 

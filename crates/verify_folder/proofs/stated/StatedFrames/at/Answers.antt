@@ -1,6 +1,6 @@
 use Rattle.std.proofs.Common.{None, Some, ap, ◌∙◌}
 use Rattle.std.specs.Option.{option_copied}
-use Rattle.verify_folder.specs.Stated.{frame_for}
+use Rattle.class_model.specs.Stated.{frame_for}
 use Rattle.verify_folder.proofs.StatedFrames.{none_there, frame_there}
 use Rattle.verify_folder.proofs.stated.StatedFrames.at.Goals as goal
 

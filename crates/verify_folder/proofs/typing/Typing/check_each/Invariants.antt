@@ -1,6 +1,6 @@
 use Rattle.std.proofs.Common.{drop}
 use Rattle.std.specs.Option.{option_copied}
-use Rattle.verify_folder.specs.Checks.{target_checks}
+use Rattle.type_rules.specs.Checks.{target_checks}
 use Rattle.verify_folder.proofs.ChecksLeft.{Remain}
 use Rattle.verify_folder.proofs.typing.Typing.check_each.Given as goal
 

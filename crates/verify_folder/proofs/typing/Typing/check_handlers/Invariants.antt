@@ -1,5 +1,5 @@
 use Rattle.std.proofs.Common.{drop}
-use Rattle.verify_folder.specs.Checks.{handler_checks}
+use Rattle.type_rules.specs.Checks.{handler_checks}
 use Rattle.verify_folder.proofs.ChecksLeft.{Remain}
 use Rattle.verify_folder.proofs.typing.Typing.check_handlers.Given as goal
 

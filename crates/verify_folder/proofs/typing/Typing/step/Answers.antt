@@ -3,7 +3,7 @@ use Rattle.std.specs.Prelude.{if◌then◌else◌}
 use Rattle.std.specs.Option.{option_copied}
 use Rattle.std.proofs.lemmas.Result.{err_from_is_err_and}
 use Rattle.type_rules.specs.declared.ruled.Ruled.{Ruled}
-use Rattle.verify_folder.specs.Flow.{falls_through}
+use Rattle.type_rules.specs.Flow.{falls_through}
 use Rattle.verify_folder.proofs.Stepping.{handlers_fail, row_fails, targets_fail, is_typed}
 use Rattle.verify_folder.proofs.typing.Typing.step.Goals as goal
 

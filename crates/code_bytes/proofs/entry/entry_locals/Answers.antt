@@ -1,0 +1,15 @@
+use Rattle.std.proofs.Common.{◌++◌, List, map, sym, ap, ◌∙◌}
+use Rattle.std.specs.Option.{option_copied}
+use Rattle.class_model.specs.Code.{verification_type}
+use Rattle.class_model.specs.Frames.{units_of_entries}
+use Rattle.class_model.specs.PoolChecks.{utf8_at}
+use Rattle.class_model.specs.declared.descriptor.FieldType.{FieldType}
+use Rattle.code_bytes.specs.Entry.{this_entries}
+use Rattle.code_bytes.proofs.EntryFrames.{all_params}
+use Rattle.code_bytes.proofs.entry.entry_locals.Goals as goal
+
+pub returns : goal.returns
+returns c =
+    let this = this_entries c.args.flags (utf8_at c.args.pool.now c.args.name) (option_copied c.args.class) in
+    all_params this _ _ _ c.loop-param-test.false c.loop-param.invariant
+    ∙ ap (λ (params : List FieldType). this ++ units_of_entries (map verification_type params)) (c.as_slice-param-items.ensures ∙ sym c.in_ok-descriptor.ensures.params)

@@ -1,0 +1,22 @@
+//! The instructions of a code that was read.
+ghost use Rattle.std.specs.Prelude.{◌≡◌, Ok, IfOk};
+ghost use Rattle.class_model.specs.Checks.{AllHold};
+ghost use Rattle.class_model.specs.Instructions.{decoded};
+ghost use Rattle.code_bytes.specs.Decoding.{code_checks};
+
+use crate::decoding::decode;
+use class_model::{ClassFault, NoMemory, PlacedList};
+use std::alloc::Global;
+
+/// The instructions of a code that was read, by offset.
+pub fn instructions_of(alloc: Global, code: &[u8]) -> Result<PlacedList, NoMemory>
+    requires { AllHold (code_checks code.now) }
+    ensures { IfOk result (λ instrs. decoded code.now ≡ Ok instrs) }
+{
+    match decode(alloc, code) {
+        Ok(instrs) => Ok(instrs),
+        Err(ClassFault::NoMemory) => Err(NoMemory),
+        Err(ClassFault::Malformed { .. }) => unreachable!(),
+        Err(ClassFault::Version { .. }) => unreachable!(),
+    }
+}

@@ -1,2 +1,0 @@
-pub mod ReadMethods
-pub mod EntryFrames
