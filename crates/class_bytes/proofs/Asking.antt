@@ -9,6 +9,14 @@ pub both_hold : (a b : List Check) → AllHold a → AllHold b → AllHold (a ++
 both_hold [] b h k = k
 both_hold (c ∷ a) b h k = (h.0, both_hold a b h.1 k)
 
+pub first_holds : (a b : List Check) → AllHold (a ++ b) → AllHold a
+first_holds [] b h = tt
+first_holds (c ∷ a) b h = (h.0, first_holds a b h.1)
+
+pub others_hold : (a b : List Check) → AllHold (a ++ b) → AllHold b
+others_hold [] b h = h
+others_hold (c ∷ a) b h = others_hold a b h.1
+
 first_behind : (a b : List Check) (f : Fault) → AllHold a → IsFirstFault b f → IsFirstFault (a ++ b) f
 first_behind [] b f h first = first
 first_behind (c ∷ a) b f h first = inr (h.0, first_behind a b f h.1 first)

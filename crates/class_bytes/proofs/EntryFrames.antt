@@ -16,7 +16,7 @@ use Rattle.class_model.specs.declared.descriptor.FieldType.{FieldType}
 use Rattle.class_model.specs.declared.frame.Frame.{Frame}
 use Rattle.class_model.specs.declared.frame.VType.{VType}
 use Rattle.class_model.specs.declared.frame.VType.TheVariants as types
-use Rattle.class_bytes.specs.Entry.{class_entry, this_entries}
+use Rattle.code_bytes.specs.Entry.{class_entry, this_entries}
 
 -- ---- locals that are not listed
 
@@ -60,12 +60,13 @@ frame_is flags (Some name) (Some class) params max_locals = elim (cases_Bool (ha
 
 -- ---- the frame
 
-pub entry_lists : (home : Home) (method : Method) (text : List ℕ) (params : List FieldType) (locals : List VType) → utf8_at home.pool method.desc ≡ Some text → parameters_of text ≡ params
-    → locals ≡ this_entries method.flags (utf8_at home.pool method.name) home.name ++ units_of_entries (map verification_type params)
+pub entry_lists : (home : Home) (method : Method) (text : List ℕ) (locals : List VType) → utf8_at home.pool method.desc ≡ Some text
+    → locals ≡ this_entries method.flags (utf8_at home.pool method.name) home.name ++ units_of_entries (map verification_type (parameters_of text))
     → (part : CodePart) → listed (frame_of locals) ≡ listed (entry_of home method part)
-entry_lists home method text params locals there spelled are part =
+entry_lists home method text locals there are part =
     let name : Option (List ℕ) = utf8_at home.pool method.name in
     let this = this_entries method.flags name home.name in
+    let params = parameters_of text in
     let parts : locals ≡ units_of_entries (this ++ map verification_type params) =
     are
     ∙ ap (λ (first : List VType). first ++ units_of_entries (map verification_type params)) (sym (this_units (has method.flags STATIC) (is_text init name) home.name))
@@ -73,19 +74,4 @@ entry_lists home method text params locals there spelled are part =
     ap (λ (of : List VType). listed (frame_of of)) parts
     ∙ sym (tops (part.max_locals - length (units_of_entries (this ++ map verification_type params))) (units_of_entries (this ++ map verification_type params)))
     ∙ sym (ap listed (frame_is method.flags name home.name params part.max_locals))
-    ∙ ap (λ (of : List FieldType). listed (entry_frame method.flags (or_empty name) home.name of part.max_locals)) (sym spelled)
     ∙ ap (λ (of : Option (List ℕ)). listed (entry_frame method.flags (or_empty name) home.name (parameters_of (or_empty of)) part.max_locals)) (sym there)
-
--- one parameter more
-pub param_more : (this locals : List VType) (params : List FieldType) (index : ℕ) (none : FieldType) → index < length params → locals ≡ this ++ units_of_entries (map verification_type (take index params))
-    → locals ++ units (verification_type (get_or params index none)) ≡ this ++ units_of_entries (map verification_type (take (index + 1) params))
-param_more this locals params index none within are =
-    let next = verification_type (get_or params index none) in
-    let so_far : List VType = map verification_type (take index params) in
-    ap (λ (front : List VType). front ++ units next) are
-    ∙ flat_map_more units this so_far next
-    ∙ ap (λ (entries : List VType). this ++ units_of_entries entries) (sym (map_more verification_type params index none within))
-
-pub all_params : (this locals : List VType) (params : List FieldType) (index : ℕ) → length params ≤ index → locals ≡ this ++ units_of_entries (map verification_type (take index params))
-    → locals ≡ this ++ units_of_entries (map verification_type params)
-all_params this locals params index past are = are ∙ ap (λ (some : List FieldType). this ++ units_of_entries (map verification_type some)) (take_all index params past)

@@ -75,7 +75,7 @@ pub no_body : (version : Version) (pool : Constants) (rest : Rest) (f : Fault) �
 no_body version pool rest f cut = seen_fault cut_header (body_at version pool rest) f (sym (header_seen version pool rest) ∙ cut)
 
 -- the pool of what was cut
-pool_kept : (version : Version) (pool : Constants) (rest : Rest) (c : ClassFile) → body_at version pool rest ≡ Ok c → c.pool ≡ pool
+pub pool_kept : (version : Version) (pool : Constants) (rest : Rest) (c : ClassFile) → body_at version pool rest ≡ Ok c → c.pool ≡ pool
 pool_kept version pool rest c e =
     let flags = bind_ok (u2_at rest) _ c e in
     let this = bind_ok (u2_at flags.0.1) _ c flags.2 in

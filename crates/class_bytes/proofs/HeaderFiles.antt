@@ -13,7 +13,7 @@ use Rattle.class_model.specs.declared.class_file.ClassFile.{ClassFile}
 use Rattle.class_model.specs.declared.fault.ClassFault.{ClassFault}
 use Rattle.class_model.specs.declared.fault.ClassFault.TheVariants as faults
 use Rattle.class_model.specs.declared.header.Header.{Header}
-use Rattle.pool_bytes.specs.TextChecks.{texts_checks}
+use Rattle.class_model.specs.Header.{texts_checks}
 use Rattle.class_bytes.specs.HeaderParts.{cut_header_at, cut_header, header_len, header_checks, header_of}
 use Rattle.class_bytes.specs.Reading.{FirstHeaderFault, in_head, behind, IsHeaderReadOf}
 use Rattle.class_bytes.specs.declared.header_cutting.CutHeader.{CutHeader}

@@ -5,6 +5,7 @@ use Rattle.std.specs.List.{flat_map}
 use Rattle.std.proofs.lemmas.Simd.{map-map}
 use Rattle.class_model.specs.Checks.{Check, check}
 use Rattle.class_model.specs.Header as headers
+use Rattle.class_model.specs.Header.{texts_checks}
 use Rattle.class_model.specs.Members.{class_name_checks, super_checks, interfaces_checks}
 use Rattle.class_model.specs.Methods.{IsDescriptorOf}
 use Rattle.class_model.specs.Names.{IsMethodName, IsFieldName}
@@ -15,7 +16,6 @@ use Rattle.class_model.specs.declared.class_file.ClassFile.{ClassFile}
 use Rattle.class_model.specs.declared.class_file.Field.{Field}
 use Rattle.class_model.specs.declared.class_file.Method.{Method}
 use Rattle.class_model.specs.declared.fault.FileRule.TheVariants as rules
-use Rattle.pool_bytes.specs.TextChecks.{texts_checks}
 use Rattle.class_bytes.specs.HeaderParts.{field_head, method_head, cut_header, field_checks, method_checks, members_checks, members_len, header_len, header_checks, member_of, header_of}
 use Rattle.class_bytes.specs.Parts.{attrs_len, fields_len, methods_len, behind_len}
 use Rattle.class_bytes.specs.declared.header_checks.MemberKind.TheVariants as kinds
@@ -44,7 +44,7 @@ header_within c = omega (arith, fields_long c.fields, methods_long c.methods)
 -- ---- checks
 
 -- those of the members of a class file
-abbrev all_fields : Constants → ℕ → List Field → List Check
+abbrev pub all_fields : Constants → ℕ → List Field → List Check
 all_fields pool at [] = []
 all_fields pool at (field ∷ fields) =
     check (at + 2) rules.Index (IsSome (utf8_at pool field.name))
@@ -53,7 +53,7 @@ all_fields pool at (field ∷ fields) =
     ∷ check (at + 4) rules.Descriptor (IfSome (utf8_at pool field.desc) IsFieldDescriptor)
     ∷ all_fields pool (at + length (field_bytes field)) fields
 
-abbrev all_methods : Constants → ℕ → List Method → List Check
+abbrev pub all_methods : Constants → ℕ → List Method → List Check
 all_methods pool at [] = []
 all_methods pool at (method ∷ methods) =
     check (at + 2) rules.Index (IsSome (utf8_at pool method.name))

@@ -30,3 +30,5 @@ pub mod HeaderCuts
 pub mod HeaderSame
 pub mod HeaderFiles
 pub mod HeaderLaws
+pub mod PoolAlone
+pub mod HeaderToo

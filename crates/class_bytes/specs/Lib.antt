@@ -6,6 +6,5 @@ pub mod Shapes
 pub mod MethodParts
 pub mod Bootstraps
 pub mod CodeParts
-pub mod Entry
 pub mod Reading
 pub mod HeaderParts

@@ -16,7 +16,7 @@ use crate::header_cutting::{CutHeader, MemberHead};
 use crate::methods::{fits_units, is_name_with};
 use class_model::{
     ClassFault, FileRule, Header, ListOf, Member, MemberList, MethodShape, NoMemory, Text,
-    TextFault, TextList, a_descriptor_of_a_text, is_class_name, is_field_descriptor, is_field_name,
+    TextList, a_descriptor_of_a_text, is_class_name, is_field_descriptor, is_field_name,
     method_shape,
 };
 use pool_bytes::RawPool;
@@ -87,7 +87,7 @@ fn own_class_name(
             rule: FileRule::Name,
         });
     }
-    Ok(own_text(alloc, name)?)
+    Ok(Text::of_text(alloc, name)?)
 }
 
 // Checks the superclass at this place, or that there is none, and answers its name.
@@ -179,8 +179,8 @@ fn own_member(
     };
     Ok(Member {
         flags: member.flags,
-        name: own_text(alloc, name)?,
-        desc: own_text(alloc, desc)?,
+        name: Text::of_text(alloc, name)?,
+        desc: Text::of_text(alloc, desc)?,
     })
 }
 
@@ -248,17 +248,5 @@ fn ask_text<'a>(pool: &'a RawPool<'_>, index: u16, at: u64) -> Result<&'a [u8], 
             at,
             rule: FileRule::Index,
         }),
-    }
-}
-
-// A copy of a text.
-fn own_text(alloc: Global, text: &[u8]) -> Result<Text, NoMemory>
-    requires { IsText text.now }
-    ensures { IfOk result (λ own. own ≡ text.now) }
-{
-    match Text::of_bytes(alloc, text) {
-        Ok(text) => Ok(text),
-        Err(TextFault::NoMemory) => Err(NoMemory),
-        Err(TextFault::BadText) => unreachable!(),
     }
 }

@@ -30,25 +30,6 @@ mod signatures;
 mod writing;
 
 pub use header::read_header;
-pub use laws::a_library_file_is_told_once;
+pub use laws::{a_class_file_has_a_header_and_a_pool, a_library_file_is_told_once};
 pub use reading::read_class;
 pub use writing::{push_class, write_class};
-
-#[cfg(test)]
-mod accepted_tests;
-#[cfg(test)]
-mod code_tests;
-#[cfg(test)]
-mod fault_tests;
-#[cfg(test)]
-mod header_tests;
-#[cfg(test)]
-mod order_tests;
-#[cfg(test)]
-mod sample_tests;
-#[cfg(test)]
-mod size_tests;
-#[cfg(test)]
-mod tests;
-#[cfg(test)]
-mod writing_tests;

@@ -20,11 +20,13 @@ use crate::code::check_code;
 use crate::cut::{CutAttr, CutMember};
 use crate::flags::{ACC_ABSTRACT, ACC_INTERFACE, ACC_NATIVE, ACC_STATIC, has, one_visibility};
 use crate::home::Home;
-use crate::names::{CODE, is_named, is_text};
+use crate::names::{CODE, is_named};
 use crate::signatures::Signatures;
 use class_model::{
-    ClassFault, FileRule, MethodShape, Pool, a_descriptor_of_a_text, is_method_name, method_shape,
+    CLINIT, ClassFault, FileRule, INIT, MethodShape, Pool, a_descriptor_of_a_text, is_method_name,
+    method_shape,
 };
+use code_bytes::is_text;
 use std::alloc::Global;
 
 /// Checks the methods of a class, the first of which stands at this place, and answers the place behind the
@@ -80,11 +82,6 @@ fn has_code(pool: &Pool, method: &CutMember<'_>) -> bool
         .iter()
         .any(|attr| is_named(pool, CODE, attr))
 }
-
-// The names of instance and of class initialisers (2.9).
-const INIT: &[u8] = b"<init>";
-
-const CLINIT: &[u8] = b"<clinit>";
 
 // The descriptor of a class initialiser, which this project's profile asks.
 const NO_PARAMETERS: &[u8] = b"()V";

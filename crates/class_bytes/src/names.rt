@@ -1,11 +1,11 @@
 //! The names of attributes (JVM Specification SE 8, 4.7).
 ghost use Rattle.std.specs.Prelude.{◌≡◌};
-ghost use Rattle.class_model.specs.Members.{is_text, is_named};
-ghost use Rattle.class_model.specs.PoolChecks.{utf8_at};
+ghost use Rattle.class_model.specs.Members.{is_named};
 ghost use Rattle.class_bytes.specs.Cut.{attr_of};
 
 use crate::cut::CutAttr;
 use class_model::Pool;
+use code_bytes::is_text;
 
 pub(crate) const CODE: &[u8] = b"Code";
 
@@ -20,14 +20,4 @@ pub(crate) fn is_named(pool: &Pool, name: &[u8], attr: &CutAttr<'_>) -> bool
     ensures { result ≡ is_named pool.now name.now (attr_of attr.now) }
 {
     is_text(pool, name, attr.name)
-}
-
-/// Whether the Utf8 constant at an index is there and has this text.
-pub(crate) fn is_text(pool: &Pool, wanted: &[u8], index: u16) -> bool
-    ensures { result ≡ is_text wanted.now (utf8_at pool.now index) }
-{
-    match pool.utf8(index) {
-        Some(text) => text.bytes() == wanted,
-        None => false,
-    }
 }

@@ -13,7 +13,10 @@ use class_model::{
 use pool_bytes::push_pool;
 use std::alloc::Global;
 
-/// The bytes of a class file, each list of which fits its count.
+/// The bytes of a class file (JVM Specification SE 8, 4.1), each list of which fits its count.
+///
+/// # Errors
+/// `NoMemory`, where memory runs out.
 pub fn write_class(alloc: Global, class: &ClassFile) -> Result<ByteList, NoMemory>
     requires { FitsCounts class.now }
     ensures { IfOk result (λ bytes. bytes ≡ class_bytes class.now) }
@@ -23,7 +26,10 @@ pub fn write_class(alloc: Global, class: &ClassFile) -> Result<ByteList, NoMemor
     Ok(ListOf::from_vec(out))
 }
 
-/// Appends the bytes of a class file, each list of which fits its count.
+/// Appends the bytes of a class file (JVM Specification SE 8, 4.1), each list of which fits its count.
+///
+/// # Errors
+/// `NoMemory`, where memory runs out; some of the bytes may then be appended.
 pub fn push_class(out: &mut Vec<u8>, class: &ClassFile) -> Result<(), NoMemory>
     requires { FitsCounts class.now }
     ensures { OnOk result (out.new.items ≡ out.old.items ++ class_bytes class.now) }

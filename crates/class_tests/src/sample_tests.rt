@@ -1,6 +1,7 @@
-use super::*;
+use class_bytes::read_class;
 use class_model::{Attr, ClassFault, ClassFile, CodePart, FileRule, Handler};
 use std::alloc::Global;
+use std::process::Abort;
 use std::test::Fail;
 
 /// Parts of a class file, each behind its place.
@@ -169,8 +170,8 @@ pub(crate) fn class_with_both<'a>(
     second: &'a [(usize, &'a [u8])],
 ) -> Result<Vec<u8>, Fail> {
     let mut bytes = Vec::new(alloc);
-    for (place, part) in PARTS {
-        let other = first.iter().chain(second).find(|(at, _)| *at == place);
+    for (place, part) in &PARTS {
+        let other = first.iter().chain(second).find(|(at, _)| at == place);
         bytes.extend_from_slice(match other {
             Some((_, other)) => other,
             None => part,
@@ -215,12 +216,21 @@ pub(crate) const OF_VERSION_50: Parts = &[
 
 #[test]
 fn places(rt: HostRuntime) -> Result<(), Fail> {
+    compare_places(&rt, &PARTS, 669)
+}
+
+/// Compares the place of each part with where those before it end, and the end of all.
+pub(crate) fn compare_places(
+    rt: &(impl Abort + AllocGlobal),
+    parts: &[(usize, &[u8])],
+    end: usize,
+) -> Result<(), Fail> {
     let mut bytes = Vec::new(rt.alloc());
-    for (place, part) in PARTS {
-        assert_eq!(rt; bytes.len(), place);
+    for (place, part) in parts {
+        assert!(rt; bytes.len() == *place, "at {place}");
         bytes.extend_from_slice(part)?;
     }
-    assert_eq!(rt; bytes.len(), 669);
+    assert!(rt; bytes.len() == end);
     Ok(())
 }
 
@@ -228,17 +238,25 @@ fn places(rt: HostRuntime) -> Result<(), Fail> {
 fn values_of_the_class(rt: HostRuntime) -> Result<(), Fail> {
     let bytes = class_with(rt.alloc(), &[])?;
     let class = read_class(rt.alloc(), &bytes)?;
-    assert_eq!(rt; (class.major, class.minor), (52, 0));
-    assert_eq!(rt; class.pool.count(), 46);
-    assert_eq!(rt;
-        (class.flags, class.this_class, class.super_class),
-        (0x21, 2, 4)
-    );
-    assert_eq!(rt; class.interfaces.as_slice(), [6].as_slice());
-    assert_eq!(rt; class.fields.len(), 2);
-    assert_eq!(rt; class.methods.len(), 5);
-    assert_eq!(rt; class.attrs.len(), 3);
+    compare_head(&rt, &class);
+    compare_counts(&rt, &class);
     Ok(())
+}
+
+fn compare_head(rt: &impl Abort, class: &ClassFile) {
+    assert!(rt; class.major == 52);
+    assert!(rt; class.minor == 0);
+    assert!(rt; class.flags == 0x21);
+    assert!(rt; class.this_class == 2);
+    assert!(rt; class.super_class == 4);
+}
+
+fn compare_counts(rt: &impl Abort, class: &ClassFile) {
+    assert!(rt; class.pool.count() == 46);
+    assert!(rt; matches!(class.interfaces.as_slice(), [6]));
+    assert!(rt; class.fields.len() == 2);
+    assert!(rt; class.methods.len() == 5);
+    assert!(rt; class.attrs.len() == 3);
 }
 
 // The handlers of the third method.
@@ -265,18 +283,33 @@ fn code_of(class: &ClassFile, method: usize) -> Option<&CodePart> {
     }
 }
 
+// How long the code of each method is.
+const LENGTHS: [Option<usize>; 5] = [Some(5), Some(1), Some(26), None, Some(6)];
+
 #[test]
 fn code_in_parts(rt: HostRuntime) -> Result<(), Fail> {
     let bytes = class_with(rt.alloc(), &[])?;
     let class = read_class(rt.alloc(), &bytes)?;
-    let lens = [Some(5), Some(1), Some(26), None, Some(6)];
-    for (method, len) in lens.into_iter().enumerate() {
-        let code = code_of(&class, method);
-        assert_eq!(rt; code.map(|part| part.code.len()), len, "at {method}");
-    }
-    assert!(rt;
-        matches!(code_of(&class, 2), Some(part) if part.max_stack == 3 && part.max_locals == 4
-            && part.handlers.as_slice() == HANDLERS.as_slice() && part.attrs.len() == 3)
-    );
+    compare_lengths(&rt, &class, &LENGTHS);
+    assert!(rt; matches!(code_of(&class, 2), Some(part) if is_third(part)));
     Ok(())
+}
+
+fn compare_lengths(rt: &impl Abort, class: &ClassFile, lengths: &[Option<usize>]) {
+    for (method, len) in lengths.iter().enumerate() {
+        let code = code_of(class, method);
+        assert!(rt; code.map(|part| part.code.len()) == *len, "at {method}");
+    }
+}
+
+// Whether this is the code of the third method.
+fn is_third(part: &CodePart) -> bool {
+    part.max_stack == 3
+        && part.max_locals == 4
+        && are_handlers(part.handlers.as_slice(), &HANDLERS)
+        && part.attrs.len() == 3
+}
+
+fn are_handlers(handlers: &[Handler], wanted: &[Handler]) -> bool {
+    handlers == wanted
 }
