@@ -18,8 +18,31 @@ fn has_name(names: &FileNameList, wanted: &str) -> bool {
     names.as_slice().iter().any(|name| name.as_str() == wanted)
 }
 
+/// How many names of a root are listed where so many are wanted.
+const COUNTS: [(u64, usize); 3] = [(10, 2), (1, 1), (0, 0)];
+
+/// The first bytes of files, and how many are wanted.
+const READ: [(&str, u64, &str); 3] = [
+    ("a/b/C.class", 100, "third"),
+    ("D.class", 6, "second"),
+    ("D.class", 0, ""),
+];
+
+/// Names that a root does not hold.
+const NOT_THERE: [&str; 4] = ["C.class", "a", "a/b/C.clas", "a/b/C.class2"];
+
 /// Writes two files, lists and reads them, through the bound.
 fn writes_and_reads<H: Host>(
+    rt: &(impl Abort + AllocGlobal),
+    host: &mut H,
+    root: &str,
+) -> Result<(), Fail> {
+    write_two(rt, host, root)?;
+    list_two(rt, host, root)?;
+    read_two(rt, host, root)
+}
+
+fn write_two<H: Host>(
     rt: &(impl Abort + AllocGlobal),
     host: &mut H,
     root: &str,
@@ -28,26 +51,56 @@ fn writes_and_reads<H: Host>(
     host.write(alloc, root, "a/b/C.class", b"first")?;
     host.write(alloc, root, "D.class", b"second, and longer")?;
     host.write(alloc, root, "a/b/C.class", b"third")?;
-    let names = host.list(alloc, root, 10)?;
-    assert_eq!(rt; names.len(), 2);
-    assert!(rt; has_name(&names, "a/b/C.class") && has_name(&names, "D.class"));
-    let one = host.list(alloc, root, 1)?;
-    assert_eq!(rt; one.len(), 1);
-    assert_eq!(rt; host.list(alloc, root, 0)?.len(), 0);
-    assert!(rt; host.list(alloc, "nowhere", 10)?.is_empty());
-    for (name, most, bytes) in [
-        ("a/b/C.class", 100, "third"),
-        ("D.class", 6, "second"),
-        ("D.class", 0, ""),
-    ] {
-        let read = host.read(alloc, root, name, most)?;
-        assert_eq!(rt; read.as_slice(), bytes.as_bytes(), "at {name}");
+    Ok(())
+}
+
+fn list_two<H: Host>(
+    rt: &(impl Abort + AllocGlobal),
+    host: &mut H,
+    root: &str,
+) -> Result<(), Fail> {
+    let alloc = rt.alloc();
+    for (most, wanted) in &COUNTS {
+        let names = host.list(alloc, root, *most)?;
+        assert!(rt; names.len() == *wanted, "{most} names");
     }
-    for name in ["C.class", "a", "a/b/C.clas", "a/b/C.class2"] {
-        let read = host.read(alloc, root, name, 100);
+    let names = host.list(alloc, root, 10)?;
+    assert!(rt; has_name(&names, "a/b/C.class") && has_name(&names, "D.class"));
+    assert!(rt; host.list(alloc, "nowhere", 10)?.is_empty());
+    Ok(())
+}
+
+fn read_two<H: Host>(
+    rt: &(impl Abort + AllocGlobal),
+    host: &mut H,
+    root: &str,
+) -> Result<(), Fail> {
+    for (name, most, bytes) in &READ {
+        let read = host.read(rt.alloc(), root, name, *most)?;
+        assert!(rt; read.as_slice() == bytes.as_bytes(), "at {name}");
+    }
+    for name in &NOT_THERE {
+        let read = host.read(rt.alloc(), root, name, 100);
         assert!(rt; read.is_err(), "at {name}");
     }
     Ok(())
+}
+
+/// Checks how often calls of each kind have failed.
+fn has_faults(rt: &impl Abort, host: &MemoryHost, wanted: u64) {
+    for call in &CALLS {
+        let told = host.faults(*call);
+        assert!(rt; told == wanted, "{told} at {call:?}");
+    }
+}
+
+/// Checks what a file of a host is.
+fn has_file(rt: &impl Abort, host: &MemoryHost, root: &str, name: &str, wanted: Option<&str>) {
+    let is_so = match (host.file(root, name), wanted) {
+        (Some(bytes), Some(text)) => bytes == text.as_bytes(),
+        (told, wanted) => told.is_none() && wanted.is_none(),
+    };
+    assert!(rt; is_so, "at {name} of {root}");
 }
 
 #[test]
@@ -57,44 +110,44 @@ fn memory_tells(rt: HostRuntime) -> Result<(), Fail> {
     host.put(alloc, "out", "D.class", b"old")?;
     host.put(alloc, "in", "D.class", b"other")?;
     writes_and_reads(&rt, &mut host, "out")?;
-    assert!(rt; matches!(host.read(alloc, "out", "E.class", 9), Err(HostFail::Absent)));
+    let absent = host.read(alloc, "out", "E.class", 9);
+    assert!(rt; matches!(absent, Err(HostFail::Absent)));
     host.print(alloc, b"one\n")?;
     host.print(alloc, b"two\n")?;
-    assert_eq!(rt; host.printed(), b"one\ntwo\n".as_slice());
-    assert_eq!(rt; host.file("in", "D.class"), Some(b"other".as_slice()));
-    assert_eq!(rt; host.file("out", "E.class"), None);
-    for call in CALLS {
-        assert_eq!(rt; host.faults(call), 0, "at {call:?}");
-    }
+    assert!(rt; host.printed() == b"one\ntwo\n".as_slice());
+    has_file(&rt, &host, "in", "D.class", Some("other"));
+    has_file(&rt, &host, "out", "E.class", None);
+    has_faults(&rt, &host, 0);
     Ok(())
+}
+
+/// Checks that a call of each kind is refused, and a read of a name that is not there told.
+fn refuses_each(rt: &(impl Abort + AllocGlobal), host: &mut MemoryHost) {
+    let alloc = rt.alloc();
+    let listed = host.list(alloc, "in", 9);
+    assert!(rt; matches!(listed, Err(HostFail::Failed)));
+    let read = host.read(alloc, "in", "C.class", 9);
+    assert!(rt; matches!(read, Err(HostFail::Failed)));
+    let written = host.write(alloc, "in", "C.class", b"new");
+    assert!(rt; matches!(written, Err(HostFail::Failed)));
+    let printed = host.print(alloc, b"lost");
+    assert!(rt; matches!(printed, Err(HostFail::Failed)));
+    let absent = host.read(alloc, "in", "D.class", 9);
+    assert!(rt; matches!(absent, Err(HostFail::Absent)));
 }
 
 #[test]
 fn memory_refuses(rt: HostRuntime) -> Result<(), Fail> {
     let alloc = rt.alloc();
-    let mut fail = ListOf::new(alloc);
-    for number in 0..5 {
-        fail.push(number)?;
-    }
+    let fail = ListOf::from_vec(Vec::from_slice(alloc, &[0, 1, 2, 3, 4])?);
     let mut host = MemoryHost::new(alloc, fail)?;
     host.put(alloc, "in", "C.class", b"kept")?;
-    assert!(rt; matches!(host.list(alloc, "in", 9), Err(HostFail::Failed)));
-    assert!(rt; matches!(host.read(alloc, "in", "C.class", 9), Err(HostFail::Failed)));
-    assert!(rt;
-        matches!(
-            host.write(alloc, "in", "C.class", b"new"),
-            Err(HostFail::Failed)
-        )
-    );
-    assert!(rt; matches!(host.print(alloc, b"lost"), Err(HostFail::Failed)));
-    assert!(rt; matches!(host.read(alloc, "in", "D.class", 9), Err(HostFail::Absent)));
-    for call in CALLS {
-        assert_eq!(rt; host.faults(call), 1, "at {call:?}");
-    }
-    assert_eq!(rt; host.file("in", "C.class"), Some(b"kept".as_slice()));
+    refuses_each(&rt, &mut host);
+    has_faults(&rt, &host, 1);
+    has_file(&rt, &host, "in", "C.class", Some("kept"));
     assert!(rt; host.printed().is_empty());
     host.write(alloc, "in", "C.class", b"new")?;
-    assert_eq!(rt; host.file("in", "C.class"), Some(b"new".as_slice()));
+    has_file(&rt, &host, "in", "C.class", Some("new"));
     Ok(())
 }
 
@@ -105,7 +158,7 @@ fn real_files(rt: HostRuntime) -> Result<(), Fail> {
     writes_and_reads(&rt, &mut host, ROOT)?;
     host.write(rt.alloc(), "", "tree_of_a_test/E.class", b"fourth")?;
     let read = host.read(rt.alloc(), ROOT, "E.class", 9)?;
-    assert_eq!(rt; read.as_slice(), b"fourth".as_slice());
+    assert!(rt; read.as_slice() == b"fourth".as_slice());
     let absent = host.read(rt.alloc(), ROOT, "F.class", 9);
     assert!(rt; matches!(absent, Err(HostFail::Absent)));
     let folder = host.read(rt.alloc(), ROOT, "a", 9);

@@ -7,6 +7,7 @@ use member_link::{
     CallForm, Found, Selected, accessible, check_links, find_field, find_method, select,
 };
 use std::alloc::Global;
+use std::process::Abort;
 use std::test::Fail;
 
 // The flag of members that are static.
@@ -17,8 +18,8 @@ pub(crate) fn tree_of(alloc: Global, folder: &str, library: &str) -> Result<Tree
     Ok(Input::of(alloc, folder, library)?.build(alloc)?)
 }
 
-/// What linking a folder answers: `ok`, or the class, the member and the rule that is broken.
-pub(crate) fn link_answer(alloc: Global, folder: &str, library: &str) -> Result<String, Fail> {
+// What linking a folder answers: `ok`, or the class, the member and the rule that is broken.
+fn link_answer(alloc: Global, folder: &str, library: &str) -> Result<String, Fail> {
     let tree = tree_of(alloc, folder, library)?;
     match check_links(alloc, &tree) {
         Ok(()) => Ok(String::from_str(alloc, "ok")?),
@@ -36,6 +37,18 @@ pub(crate) fn link_answer(alloc: Global, folder: &str, library: &str) -> Result<
         }
         Err(fault) => Err(fault)?,
     }
+}
+
+/// A folder, what the library has beside the usual, and what linking answers.
+pub(crate) type Case = (&'static str, &'static str, &'static str);
+
+/// Links the folder of each case, and compares what is answered.
+pub(crate) fn compare_links(rt: &(impl Abort + AllocGlobal), cases: &[Case]) -> Result<(), Fail> {
+    for (folder, library, wanted) in cases {
+        let told = link_answer(rt.alloc(), folder, library)?;
+        assert!(rt; told.as_str() == *wanted, "{told} for {folder}");
+    }
+    Ok(())
 }
 
 /// A member as a test names it: the class that is named, a name and a descriptor.

@@ -1,8 +1,5 @@
-use crate::answers::link_answer;
+use crate::answers::{Case, compare_links};
 use std::test::Fail;
-
-// A folder, what the library has beside the usual, and what linking answers.
-type Case = (&'static str, &'static str, &'static str);
 
 const CLASSES: &str =
     "public+interface lib/I Object / method public+abstract m ()V / method public+static s ()V / method private p ()V | public+abstract lib/A Object / method public m ()V / method public+static s ()V / method public <init> ()V";
@@ -419,11 +416,7 @@ const FINAL: [Case; 15] = [
 
 #[test]
 fn forms_access_and_final_methods(rt: HostRuntime) -> Result<(), Fail> {
-    for table in [FORMS.as_slice(), &ACCESS, &FINAL] {
-        for (folder, library, wanted) in table {
-            let told = link_answer(rt.alloc(), folder, library)?;
-            assert!(rt; told.as_str() == *wanted, "{told} for {folder}");
-        }
-    }
-    Ok(())
+    compare_links(&rt, &FORMS)?;
+    compare_links(&rt, &ACCESS)?;
+    compare_links(&rt, &FINAL)
 }

@@ -1,8 +1,5 @@
-use crate::answers::link_answer;
+use crate::answers::{Case, compare_links};
 use std::test::Fail;
-
-// A folder, what the library has beside the usual, and what linking answers.
-type Case = (&'static str, &'static str, &'static str);
 
 const HIDDEN: &str =
     "- lib/Hidden Object / method public+static s ()V | interface lib/Shy Object | public lib/Base Object / method public m ()V / method public <init> ()V | public+interface lib/Face Object / method public+abstract m ()V";
@@ -355,11 +352,7 @@ const LOADED: [Case; 29] = [
 
 #[test]
 fn classes_that_are_missing_and_the_order_of_problems(rt: HostRuntime) -> Result<(), Fail> {
-    for table in [MISSING.as_slice(), &ORDER, &LOADED] {
-        for (folder, library, wanted) in table {
-            let told = link_answer(rt.alloc(), folder, library)?;
-            assert!(rt; told.as_str() == *wanted, "{told} for {folder}");
-        }
-    }
-    Ok(())
+    compare_links(&rt, &MISSING)?;
+    compare_links(&rt, &ORDER)?;
+    compare_links(&rt, &LOADED)
 }

@@ -9,7 +9,7 @@ use Rattle.class_tree.specs.Headers.{Name}
 use Rattle.class_tree.specs.Problems.{Problem}
 use Rattle.class_tree.specs.declared.fault.LinkRule.{LinkRule}
 use Rattle.type_rules.specs.declared.fault.TypeRule.{TypeRule}
-use Rattle.verify_folder.specs.Verified.{Failure}
+use Rattle.verify_folder.specs.Verifying.{Failure}
 use Rattle.host_tree.specs.Host.{Bytes, Folder, Files}
 use Rattle.pea_top.specs.Answer.{Refusal, broken, other_version, IsRefusedClass, IsRefusedHeader, IsFirstOf, of_input, of_library, AreRead, CanDo, MustRefuse, CannotLink, CannotVerify, IsAnswer}
 use Rattle.pea_top.specs.Linking.{IsLinkProblem}
@@ -93,7 +93,7 @@ module _ (laws : Laws) where
 
     no_problem : (problem : Problem) → CanDo words files → ¬ CannotLink words files problem
     no_problem problem h i =
-        linked_no_problem laws.trees h.classes h.headers h.verified.classes problem h.verified.arranged h.verified.tree h.verified.linked (problem_at h.command h.classes h.headers problem h.spelled h.read i)
+        linked_no_problem laws.trees h.classes h.headers h.verified.classes problem h.verified.arranged h.verified.verified.tree h.verified.verified.linked (problem_at h.command h.classes h.headers problem h.spelled h.read i)
 
     no_failure : (failure : Failure) → CanDo words files → ¬ CannotVerify words files failure
     no_failure failure h i = verified_no_failure laws.trees laws.types h.classes h.headers failure h.verified (failure_at h.command h.classes h.headers failure h.spelled h.read i)

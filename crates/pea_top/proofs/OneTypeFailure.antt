@@ -5,7 +5,8 @@ use Rattle.class_model.specs.declared.header.Header.{Header}
 use Rattle.class_tree.specs.Headers.{Classes, Headers, headers_of}
 use Rattle.class_tree.specs.Trees.{IsArranged, IsTree}
 use Rattle.type_rules.specs.TypedFrames.{FolderFrames}
-use Rattle.verify_folder.specs.Verified.{Failure, AreTypedClasses, ClassesFail}
+use Rattle.type_rules.specs.Verified.{AreTypedClasses}
+use Rattle.verify_folder.specs.Verifying.{Failure, ClassesFail}
 use Rattle.pea_top.specs.Verifying.{AreVerified, IsTypeFailure}
 use Rattle.pea_top.proofs.OneLinkProblem.{TreeLaws}
 
@@ -25,5 +26,5 @@ module _ (trees : TreeLaws) (laws : TypeLaws) (folder : List ClassFile) (library
   one_type_failure one other h i = laws.one (headers_of h.classes) h.classes.folder one other h.fails (fails_at h.classes other h.arranged h.tree i)
 
   pub verified_no_failure : (failure : Failure) → AreVerified folder library → ¬ IsTypeFailure folder library failure
-  verified_no_failure failure verified h =
-      laws.none (headers_of verified.classes) verified.classes.folder verified.typed failure (fails_at verified.classes failure verified.arranged verified.tree h) verified.types
+  verified_no_failure failure found h =
+      laws.none (headers_of found.classes) found.classes.folder found.verified.typed failure (fails_at found.classes failure found.arranged found.verified.tree h) found.verified.types

@@ -103,10 +103,10 @@ module _ (words : List Word) (input output library : Word) (spelled : Spells (Op
   partly_copies : PutsSome output files old new → LeavesPart words old new
   partly_copies puts = record { command = Optimise input output library; spelled = spelled; files = IsPartlyCopied-puts input output files old new ready.summed_up.input.good.are puts }
 
-  left : SameFiles old new ⊎ (PutsSome output files old new ⊎ Puts output files old new) → SameFiles old new ⊎ (LeavesPart words old new ⊎ LeavesDone words old new)
+  left : SameFiles old new ⊎ (PutsSome output files old new ⊎ Puts output files old new) → SameFiles old new ⊎ (CanDo words old × (LeavesPart words old new ⊎ LeavesDone words old new))
   left (inl same) = inl same
-  left (inr (inl puts)) = inr (inl (partly_copies puts))
-  left (inr (inr puts)) = inr (inr (copies puts))
+  left (inr (inl puts)) = inr (can_do words _ spelled old ready, inl (partly_copies puts))
+  left (inr (inr puts)) = inr (can_do words _ spelled old ready, inr (copies puts))
 
   pub outcome_written : (status : Status) → LeavesWritten output files old new status → PrintsWritten line before after status → IsOutcome words old new PrintRose before after status
   outcome_written Done puts all = record { cause = can_do words _ spelled old ready; files = copies puts; printed = record { line = line; is_line = is_summary words _ spelled old ready; printed = all } }

@@ -10,7 +10,7 @@ use Rattle.class_model.specs.declared.header.Header.{Header}
 use Rattle.class_tree.specs.Problems.{Problem}
 use Rattle.host_tree.specs.Host.{Bytes, Folder, Files}
 use Rattle.host_tree.specs.declared.call.HostCall.TheVariants as calls
-use Rattle.verify_folder.specs.Verified.{Failure}
+use Rattle.verify_folder.specs.Verifying.{Failure}
 use Rattle.pea_top.specs.Words.{Word, Command, input_of, library_of, Spells, IsUsage}
 use Rattle.pea_top.specs.Folders.{IsBefore, names_class_file, HasClassFiles}
 use Rattle.pea_top.specs.Linking.{IsLinkProblem}

@@ -7,7 +7,7 @@ use Rattle.host_tree.specs.declared.call.HostCall.TheVariants as calls
 use Rattle.pea_top.specs.Words.{Word, Command, Optimise, Verify, input_of, Spells}
 use Rattle.pea_top.specs.Folders.{IsBefore, AreNames, AreReadAs}
 use Rattle.pea_top.specs.Lines.{summary_line, verified_line, refusal_line}
-use Rattle.pea_top.specs.Answer.{IsAnswer}
+use Rattle.pea_top.specs.Answer.{CanDo, IsAnswer}
 use Rattle.pea_top.specs.declared.status.Status.{Status}
 use Rattle.pea_top.specs.declared.status.Status.TheVariants.{Done, Usage, Malformed, Version, Unlinked, Unverified, HostFault, NoMemory}
 
@@ -60,7 +60,7 @@ LeavesFiles words old new (HostFault calls.List) = SameFiles old new
 LeavesFiles words old new (HostFault calls.Read) = SameFiles old new
 LeavesFiles words old new (HostFault calls.Write) = LeavesPart words old new
 LeavesFiles words old new (HostFault calls.Print) = LeavesDone words old new
-LeavesFiles words old new NoMemory = SameFiles old new ⊎ (LeavesPart words old new ⊎ LeavesDone words old new)
+LeavesFiles words old new NoMemory = SameFiles old new ⊎ (CanDo words old × (LeavesPart words old new ⊎ LeavesDone words old new))
 
 -- how many methods these have together
 abbrev pub method_count : List ClassFile → ℕ

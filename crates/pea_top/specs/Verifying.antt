@@ -5,17 +5,14 @@ use Rattle.class_model.specs.declared.header.Header.{Header}
 use Rattle.class_tree.specs.Headers.{Classes, headers_of}
 use Rattle.class_tree.specs.Trees.{IsArranged, IsTree}
 use Rattle.member_link.specs.Linked.{IsLinked}
-use Rattle.type_rules.specs.TypedFrames.{FolderFrames}
-use Rattle.verify_folder.specs.Verified.{Failure, ClassesFail, TypesFolder}
+use Rattle.type_rules.specs.Verified.{IsVerified}
+use Rattle.verify_folder.specs.Verifying.{Failure, ClassesFail}
 
--- they are a hierarchy that is linked, and frames type each method of the folder
+-- arranged, they are a folder that verifies
 pub record AreVerified (folder : List ClassFile) (library : List Header) : Type 0 where
   pub classes : Classes
   pub arranged : IsArranged folder library classes
-  pub tree : IsTree classes
-  pub linked : IsLinked classes
-  pub typed : FolderFrames
-  pub types : TypesFolder classes typed
+  pub verified : IsVerified classes
 
 -- they are a hierarchy that is linked, and the folder fails first in this
 pub record IsTypeFailure (folder : List ClassFile) (library : List Header) (failure : Failure) : Type 0 where

@@ -15,6 +15,3 @@ mod writing;
 pub use laws::{words_and_files_have_one_answer, words_spell_one_command};
 pub use status::Status;
 pub use top::pea;
-
-#[cfg(test)]
-mod tests;

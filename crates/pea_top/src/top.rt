@@ -35,7 +35,8 @@ use verify_folder::check_all;
 /// prints one line. `verify IN --lib LIB` decides the same, writes no file and prints one line.
 ///
 /// # Errors
-/// Each status but `NoMemory` comes exactly where its clause says. A refusal prints one line.
+/// `Done` and each refusal come exactly where their clauses say, unless memory runs out or a call of the host fails; those two
+/// come only where theirs say. A refusal prints one line.
 pub fn pea<H: Host>(alloc: Global, words: &[String], host: &mut H) -> Status
     // Usage comes where the words are outside the grammar, and nowhere else.
     ensures usage { result ≡ Status.Usage → IsUsage (map string_bytes words.now) }

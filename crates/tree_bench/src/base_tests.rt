@@ -2,6 +2,7 @@ use crate::declared::{Declared, Side, add, add_all, answer, input_of};
 use crate::library::object_with;
 use crate::shape::MemberShape;
 use std::alloc::Global;
+use std::process::Abort;
 use std::test::Fail;
 
 // The names that each library has, but for two that other classes of the library are below.
@@ -32,7 +33,7 @@ fn each_name_is_needed(rt: HostRuntime) -> Result<(), Fail> {
         };
         let told = answer(rt.alloc(), input_of(rt.alloc(), declared)?)?;
         let wanted = format!(in rt.alloc(); "{without} Missing")?;
-        assert_eq!(rt; told.as_str(), wanted.as_str());
+        assert!(rt; told == wanted, "{told} without {without}");
     }
     Ok(())
 }
@@ -175,24 +176,54 @@ const TWO_FAULTS: [Case; 8] = [
 
 #[test]
 fn what_the_machine_needs(rt: HostRuntime) -> Result<(), Fail> {
-    for table in [BASE.as_slice(), &TWO_FAULTS] {
-        for (without, folder, library, wanted) in table {
-            let declared = Declared {
-                folder,
-                library,
-                without,
-            };
-            let told = answer(rt.alloc(), input_of(rt.alloc(), declared)?)?;
-            assert!(rt; told.as_str() == *wanted, "{told} without {without}");
-        }
+    compare(&rt, &BASE)?;
+    compare(&rt, &TWO_FAULTS)
+}
+
+// Compares what building answers of each case.
+fn compare(rt: &(impl Abort + AllocGlobal), cases: &[Case]) -> Result<(), Fail> {
+    for (without, folder, library, wanted) in cases {
+        let declared = Declared {
+            folder,
+            library,
+            without,
+        };
+        let told = answer(rt.alloc(), input_of(rt.alloc(), declared)?)?;
+        assert!(rt; told.as_str() == *wanted, "{told} without {without}");
     }
     Ok(())
 }
 
-// A method of java/lang/Object.
-fn method(flags: u16, name: &'static [u8], desc: &'static [u8]) -> MemberShape {
-    MemberShape { flags, name, desc }
-}
+// Methods of java/lang/Object.
+const OPEN: MemberShape = MemberShape {
+    flags: 0x0001,
+    name: b"<init>",
+    desc: b"()V",
+};
+
+const OF_INT: MemberShape = MemberShape {
+    flags: 0x0001,
+    name: b"<init>",
+    desc: b"(I)V",
+};
+
+const RUN: MemberShape = MemberShape {
+    flags: 0x0001,
+    name: b"run",
+    desc: b"()V",
+};
+
+const PRIVATE: MemberShape = MemberShape {
+    flags: 0x0002,
+    name: b"<init>",
+    desc: b"()V",
+};
+
+const FIXED: MemberShape = MemberShape {
+    flags: 0x0009,
+    name: b"<init>",
+    desc: b"()V",
+};
 
 // What building answers where java/lang/Object has these methods.
 fn answer_with(alloc: Global, methods: &[MemberShape]) -> Result<String, Fail> {
@@ -207,26 +238,23 @@ fn answer_with(alloc: Global, methods: &[MemberShape]) -> Result<String, Fail> {
     answer(alloc, input)
 }
 
+// Two methods of java/lang/Object, and what building answers.
+const CONSTRUCTORS: [([MemberShape; 2], &str); 8] = [
+    ([RUN, RUN], "java/lang/Object NoMember"),
+    ([OPEN, RUN], "ok"),
+    ([RUN, OPEN], "ok"),
+    ([OPEN, OF_INT], "java/lang/Object NoMember"),
+    ([OPEN, OPEN], "java/lang/Object NoMember"),
+    ([RUN, OF_INT], "java/lang/Object NoMember"),
+    ([PRIVATE, RUN], "java/lang/Object NoMember"),
+    ([FIXED, RUN], "java/lang/Object NoMember"),
+];
+
 #[test]
 fn object_has_one_constructor(rt: HostRuntime) -> Result<(), Fail> {
-    let open = method(0x0001, b"<init>", b"()V");
-    let of_int = method(0x0001, b"<init>", b"(I)V");
-    let run = method(0x0001, b"run", b"()V");
-    let private = method(0x0002, b"<init>", b"()V");
-    let fixed = method(0x0009, b"<init>", b"()V");
-    let table = [
-        ([run, run], "java/lang/Object NoMember"),
-        ([open, run], "ok"),
-        ([run, open], "ok"),
-        ([open, of_int], "java/lang/Object NoMember"),
-        ([open, open], "java/lang/Object NoMember"),
-        ([run, of_int], "java/lang/Object NoMember"),
-        ([private, run], "java/lang/Object NoMember"),
-        ([fixed, run], "java/lang/Object NoMember"),
-    ];
-    for (methods, wanted) in &table {
+    for (methods, wanted) in &CONSTRUCTORS {
         let told = answer_with(rt.alloc(), methods)?;
-        assert_eq!(rt; told.as_str(), *wanted);
+        assert!(rt; told.as_str() == *wanted, "{told}, not {wanted}");
     }
     Ok(())
 }

@@ -1,6 +1,7 @@
 //! Reads class files that it writes itself and builds their hierarchy, which `bench/trees.sh` times. The words are
-//! `read COUNT TIMES`, `build COUNT TIMES`, `chain COUNT TIMES` or `ask COUNT QUESTIONS`; the number of classes that were
-//! read, built or stand in a chain, or of questions that were answered by yes, is printed, of all times together.
+//! `read COUNT TIMES`, `build COUNT TIMES`, `chain COUNT TIMES`, `ask COUNT QUESTIONS` or `few COUNT QUESTIONS`, which asks
+//! about the same number of classes however many there are; the number of classes that were read, built or stand in a
+//! chain, or of questions that were answered by yes, is printed, of all times together.
 #![tactic(auto)]
 
 mod asking;
@@ -25,6 +26,9 @@ use std::alloc::Global;
 use std::env;
 use std::process::ExitCode;
 
+// About how many classes `few` asks, spread over all.
+const FEW: usize = 1_000;
+
 fn main(rt: HostRuntime) -> ExitCode {
     let Ok(args) = env::args(&rt) else {
         return ExitCode::FAILURE;
@@ -42,7 +46,8 @@ fn main(rt: HostRuntime) -> ExitCode {
         "read" => read_trees(rt.alloc(), count as usize, times),
         "build" => build_trees(rt.alloc(), count as usize, times),
         "chain" => build_chains(rt.alloc(), count as usize, times),
-        "ask" => ask(rt.alloc(), count as usize, times),
+        "ask" => ask(rt.alloc(), count as usize, times, usize::MAX),
+        "few" => ask(rt.alloc(), count as usize, times, FEW),
         _ => return ExitCode::FAILURE,
     };
     match counted {
@@ -81,10 +86,11 @@ fn build_chains(alloc: Global, count: usize, times: u32) -> Option<u64> {
     Some(above)
 }
 
-// Builds the hierarchy of so many classes and asks so many questions of it, and counts those that are answered by yes.
-fn ask(alloc: Global, count: usize, questions: u32) -> Option<u64> {
+// Builds the hierarchy of so many classes and asks so many questions about at most so many of them, and counts those
+// that are answered by yes.
+fn ask(alloc: Global, count: usize, questions: u32, most: usize) -> Option<u64> {
     let tree = tree_of(alloc, count).ok()?.build(alloc).ok()?;
-    Some(count_yes(&tree, questions))
+    Some(count_yes(&tree, questions, most))
 }
 
 // How many classes a hierarchy has.
@@ -92,26 +98,29 @@ fn classes_in(tree: &Tree) -> u64 {
     (tree.folder().len() as u64).wrapping_add(tree.library().len() as u64)
 }
 
-// Asks so many questions, and counts those that are answered by yes.
-fn count_yes(tree: &Tree, questions: u32) -> u64 {
+// Asks so many questions about at most so many classes, and counts those that are answered by yes.
+fn count_yes(tree: &Tree, questions: u32, most: usize) -> u64 {
     let mut yes: u64 = 0;
     for question in 0..questions {
-        yes = yes.wrapping_add(answer(tree, question as usize) as u64);
+        yes = yes.wrapping_add(answer(tree, question as usize, most) as u64);
     }
     yes
 }
 
-// Whether a class of the folder is below another, of three kinds in turn: that of a sixteenth of its number, any class,
-// and one of the interfaces, which are the last in byte order.
-fn answer(tree: &Tree, question: usize) -> bool {
+// Whether a class of the folder, one of at most so many that are equally far apart, is below another, of three kinds in
+// turn: that of a sixteenth of its number, any of these classes, and one of the interfaces, which are the last in byte
+// order.
+fn answer(tree: &Tree, question: usize, most: usize) -> bool {
     let count = tree.folder().len();
-    if count == 0 {
+    let among = count.min(most);
+    if among == 0 {
         return false;
     }
-    let low = question.wrapping_mul(7919) % count;
+    let apart = count / among;
+    let low = (question.wrapping_mul(7919) % among).wrapping_mul(apart);
     let high = match question % 3 {
         0 => low / 16,
-        1 => question.wrapping_mul(31) % count,
+        1 => (question.wrapping_mul(31) % among).wrapping_mul(apart),
         _ => count.saturating_sub(1 + question % INTERFACES),
     };
     let (low, high) = (Place::Folder(low), Place::Folder(high));

@@ -4,6 +4,7 @@ use crate::shape::{CLASS, MemberShape, OBJECT, Shape};
 use class_model::Text;
 use class_tree::{Place, Tree, is_sub};
 use std::alloc::Global;
+use std::process::Abort;
 use std::test::Fail;
 
 // Two classes below each other and interfaces of which one has another twice above it.
@@ -66,11 +67,19 @@ const ARRAYS: [Question; 22] = [
 #[test]
 fn which_type_is_below_which(rt: HostRuntime) -> Result<(), Fail> {
     let tree = tree_of(rt.alloc(), FOLDER)?;
-    for table in [CLASSES.as_slice(), &ARRAYS] {
-        for (low, high, wanted) in table {
-            let told = is_below(rt.alloc(), &tree, low, high)?;
-            assert!(rt; told == *wanted, "at {low} and {high}");
-        }
+    compare(&rt, &tree, &CLASSES)?;
+    compare(&rt, &tree, &ARRAYS)
+}
+
+// Compares what is answered to each question.
+fn compare(
+    rt: &(impl Abort + AllocGlobal),
+    tree: &Tree,
+    questions: &[Question],
+) -> Result<(), Fail> {
+    for (low, high, wanted) in questions {
+        let told = is_below(rt.alloc(), tree, low, high)?;
+        assert!(rt; told == *wanted, "at {low} and {high}");
     }
     Ok(())
 }
@@ -114,38 +123,42 @@ fn push_name(names: &mut String, name: &Text) -> Result<(), Fail> {
     Ok(())
 }
 
+// Classes, and the names of their superclasses.
+const SUPERCLASSES: [(&str, &str); 4] = [
+    ("java/lang/Object", "java/lang/Object "),
+    ("C", "C B A java/lang/Object "),
+    ("J", "J java/lang/Object "),
+    ("Z", ""),
+];
+
 #[test]
 fn superclasses_of_a_class(rt: HostRuntime) -> Result<(), Fail> {
     let tree = tree_of(rt.alloc(), FOLDER)?;
-    let table = [
-        ("java/lang/Object", "java/lang/Object "),
-        ("C", "C B A java/lang/Object "),
-        ("J", "J java/lang/Object "),
-        ("Z", ""),
-    ];
-    for (name, wanted) in &table {
-        let names = superclass_names(rt.alloc(), &tree, name)?;
-        assert_eq!(rt; names.as_str(), *wanted);
+    for (name, wanted) in &SUPERCLASSES {
+        let told = superclass_names(rt.alloc(), &tree, name)?;
+        assert!(rt; told.as_str() == *wanted, "{told} above {name}");
     }
     Ok(())
 }
 
+// Classes, and the names of their superinterfaces.
+const SUPERINTERFACES: [(&str, &str); 8] = [
+    ("A", "I "),
+    ("B", "I "),
+    ("C", "J I K "),
+    ("D", ""),
+    ("E", "K I J "),
+    ("I", ""),
+    ("J", "I K "),
+    ("java/lang/String", ""),
+];
+
 #[test]
 fn superinterfaces_of_a_class(rt: HostRuntime) -> Result<(), Fail> {
     let tree = tree_of(rt.alloc(), FOLDER)?;
-    let table = [
-        ("A", "I "),
-        ("B", "I "),
-        ("C", "J I K "),
-        ("D", ""),
-        ("E", "K I J "),
-        ("I", ""),
-        ("J", "I K "),
-        ("java/lang/String", ""),
-    ];
-    for (name, wanted) in &table {
-        let names = interface_names(rt.alloc(), &tree, name)?;
-        assert_eq!(rt; names.as_str(), *wanted);
+    for (name, wanted) in &SUPERINTERFACES {
+        let told = interface_names(rt.alloc(), &tree, name)?;
+        assert!(rt; told.as_str() == *wanted, "{told} above {name}");
     }
     Ok(())
 }
@@ -176,27 +189,29 @@ fn many_diamonds(rt: HostRuntime) -> Result<(), Fail> {
     assert!(rt; is_below(rt.alloc(), &tree, "A", "D0")?);
     assert!(rt; !is_below(rt.alloc(), &tree, "L60", "R60")?);
     let names = interface_names(rt.alloc(), &tree, "A")?;
-    assert_eq!(rt; names.as_str().split(' ').count(), 182);
+    assert!(rt; names.as_str().split(' ').count() == 182);
     assert!(rt; names.as_str().starts_with("D60 L60 D59 L59 "));
     assert!(rt; names.as_str().ends_with(" R58 R59 R60 "));
     Ok(())
 }
 
+// Names, and the places of their classes.
+const PLACES: [(&str, Option<Place>); 7] = [
+    ("A", Some(Place::Folder(0))),
+    ("C", Some(Place::Folder(2))),
+    ("K", Some(Place::Folder(7))),
+    ("java/io/Serializable", Some(Place::Library(0))),
+    ("java/lang/AbstractMethodError", Some(Place::Library(1))),
+    ("Z", None),
+    ("", None),
+];
+
 #[test]
 fn where_classes_stand(rt: HostRuntime) -> Result<(), Fail> {
     let tree = tree_of(rt.alloc(), FOLDER)?;
-    let table = [
-        ("A", Some(Place::Folder(0))),
-        ("C", Some(Place::Folder(2))),
-        ("K", Some(Place::Folder(7))),
-        ("java/io/Serializable", Some(Place::Library(0))),
-        ("java/lang/AbstractMethodError", Some(Place::Library(1))),
-        ("Z", None),
-        ("", None),
-    ];
-    for (name, wanted) in &table {
+    for (name, wanted) in &PLACES {
         let text = Text::of_bytes(rt.alloc(), name.as_bytes())?;
-        assert_eq!(rt; tree.place(&text), *wanted);
+        assert!(rt; tree.place(&text) == *wanted, "the place of {name}");
     }
     Ok(())
 }

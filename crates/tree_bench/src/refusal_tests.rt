@@ -1,10 +1,23 @@
 use crate::declared::{Declared, Side, add_all, answer, input_of};
 use crate::input::Input;
 use std::alloc::Global;
+use std::process::Abort;
 use std::test::Fail;
 
 // A folder, what there is beside the usual library, and what building answers.
 type Case = (&'static str, &'static str, &'static str);
+
+// Compares what building answers of the folder and the library of each case.
+fn compare(rt: &(impl Abort + AllocGlobal), cases: &[Case]) -> Result<(), Fail> {
+    for (folder, library, wanted) in cases {
+        let told = answer_to(rt.alloc(), folder, library)?;
+        assert!(rt;
+            told.as_str() == *wanted,
+            "{told} of {folder} and {library}"
+        );
+    }
+    Ok(())
+}
 
 // What building answers of a folder and a library.
 fn answer_to(alloc: Global, folder: &str, library: &str) -> Result<String, Fail> {
@@ -91,24 +104,12 @@ const KIND_OF_SUPER: [Case; 8] = [
 
 #[test]
 fn each_rule_is_told(rt: HostRuntime) -> Result<(), Fail> {
-    let tables = [
-        DUPLICATE.as_slice(),
-        &MISSING,
-        &LIBRARY_LEANS,
-        &CIRCLE,
-        &FINAL_SUPER,
-        &KIND_OF_SUPER,
-    ];
-    for table in tables {
-        for (folder, library, wanted) in table {
-            let told = answer_to(rt.alloc(), folder, library)?;
-            assert!(rt;
-                told.as_str() == *wanted,
-                "{told} of {folder} and {library}"
-            );
-        }
-    }
-    Ok(())
+    compare(&rt, &DUPLICATE)?;
+    compare(&rt, &MISSING)?;
+    compare(&rt, &LIBRARY_LEANS)?;
+    compare(&rt, &CIRCLE)?;
+    compare(&rt, &FINAL_SUPER)?;
+    compare(&rt, &KIND_OF_SUPER)
 }
 
 // Two faults: in one class, in two of which the first in byte order is told, and in folder and library.
@@ -144,14 +145,7 @@ const TWO_FAULTS: [Case; 19] = [
 
 #[test]
 fn the_first_of_two_faults_is_told(rt: HostRuntime) -> Result<(), Fail> {
-    for (folder, library, wanted) in &TWO_FAULTS {
-        let told = answer_to(rt.alloc(), folder, library)?;
-        assert!(rt;
-            told.as_str() == *wanted,
-            "{told} of {folder} and {library}"
-        );
-    }
-    Ok(())
+    compare(&rt, &TWO_FAULTS)
 }
 
 // What building answers of an empty folder and a library that is no more than this.

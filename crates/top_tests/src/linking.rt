@@ -1,60 +1,53 @@
 //! Folders that are not linked with their library.
-use super::samples::SampleMember::{Field, Method, Nothing};
-use super::samples::{CLASS_A, CLASS_P, CLASS_T, Sample, TWO_METHODS, joined, sample_bytes};
-use super::support::{COMMAND, code, empty_host, empty_host_failing, host_with_library, outcome};
-use crate::Status;
+use crate::samples::SampleMember::{Field, Method, Nothing};
+use crate::samples::{
+    CLASS_A, CLASS_P, CLASS_T, Sample, TWO_METHODS, joined, sample_bytes, with_byte,
+};
+use crate::support::{
+    COMMAND, empty_host, empty_host_failing, ends_and_prints, has_code, has_faults, has_file,
+    has_no_file, host_with_library, tells, tells_and_prints,
+};
 use class_model::{Member, Text};
 use class_tree::LinkRule;
 use host_tree::{HostCall, MemoryHost};
+use pea_top::Status;
 use std::alloc::Global;
 use std::test::Fail;
 
 #[test]
 fn a_class_needs_its_superclass(rt: HostRuntime) -> Result<(), Fail> {
-    let alloc = rt.alloc();
-    let mut host = empty_host(alloc)?;
-    host.put(alloc, "in", "A.class", &CLASS_A)?;
-    assert_eq!(rt; code(alloc, &mut host)?, 4);
-    assert_eq!(rt;
-        host.printed(),
-        b"refused 4 Unlinked A - - Missing\n".as_slice()
-    );
-    assert!(rt; host.file("out", "A.class").is_none());
+    let mut host = empty_host(rt.alloc())?;
+    host.put(rt.alloc(), "in", "A.class", &CLASS_A)?;
+    let line = "refused 4 Unlinked A - - Missing\n";
+    ends_and_prints(&rt, COMMAND, &mut host, 4, line)?;
+    has_no_file(&rt, &host, "out", "A.class");
     Ok(())
 }
 
 #[test]
 fn a_method_needs_the_classes_that_it_names(rt: HostRuntime) -> Result<(), Fail> {
-    let alloc = rt.alloc();
-    let mut host = host_with_library(alloc)?;
-    host.put(alloc, "in", "T.class", &joined(alloc, &CLASS_T)?)?;
-    assert_eq!(rt; code(alloc, &mut host)?, 4);
-    assert_eq!(rt;
-        host.printed(),
-        b"refused 4 Unlinked T f (I)I Missing\n".as_slice()
-    );
-    assert!(rt; host.file("out", "T.class").is_none());
+    let mut host = host_with_library(rt.alloc())?;
+    host.put(rt.alloc(), "in", "T.class", &joined(rt.alloc(), &CLASS_T)?)?;
+    let line = "refused 4 Unlinked T f (I)I Missing\n";
+    ends_and_prints(&rt, COMMAND, &mut host, 4, line)?;
+    has_no_file(&rt, &host, "out", "T.class");
     // a class of the library is as good as one of the folder
-    host.put(alloc, "lib", "P.class", &joined(alloc, &CLASS_P)?)?;
-    assert_eq!(rt; outcome(alloc, COMMAND, &mut host)?.as_str(), "Done");
-    assert!(rt; host.file("out", "P.class").is_none());
+    host.put(rt.alloc(), "lib", "P.class", &joined(rt.alloc(), &CLASS_P)?)?;
+    tells(&rt, COMMAND, &mut host, "Done")?;
+    has_no_file(&rt, &host, "out", "P.class");
     Ok(())
 }
 
 #[test]
 fn an_unlinked_folder_leaves_the_output_as_it_was(rt: HostRuntime) -> Result<(), Fail> {
-    let alloc = rt.alloc();
-    let mut host = empty_host(alloc)?;
-    host.put(alloc, "in", "A.class", &CLASS_A)?;
-    host.put(alloc, "in", "0.txt", b"first")?;
-    host.put(alloc, "out", "A.class", b"old")?;
-    assert_eq!(rt;
-        outcome(alloc, COMMAND, &mut host)?.as_str(),
-        "Unlinked 'A' '' '' Missing"
-    );
-    assert_eq!(rt; host.file("out", "A.class"), Some(b"old".as_slice()));
-    assert!(rt; host.file("out", "0.txt").is_none());
-    assert_eq!(rt; host.file("in", "A.class"), Some(CLASS_A.as_slice()));
+    let mut host = empty_host(rt.alloc())?;
+    host.put(rt.alloc(), "in", "A.class", &CLASS_A)?;
+    host.put(rt.alloc(), "in", "0.txt", b"first")?;
+    host.put(rt.alloc(), "out", "A.class", b"old")?;
+    tells(&rt, COMMAND, &mut host, "Unlinked 'A' '' '' Missing")?;
+    has_file(&rt, &host, "out", "A.class", b"old");
+    has_no_file(&rt, &host, "out", "0.txt");
+    has_file(&rt, &host, "in", "A.class", &CLASS_A);
     Ok(())
 }
 
@@ -174,14 +167,12 @@ fn put_samples(
 
 #[test]
 fn each_problem_has_its_line(rt: HostRuntime) -> Result<(), Fail> {
-    let alloc = rt.alloc();
-    for (folder, library, line) in CASES {
-        let mut host = host_with_library(alloc)?;
-        put_samples(alloc, &mut host, "in", folder)?;
-        put_samples(alloc, &mut host, "lib", library)?;
-        assert_eq!(rt; code(alloc, &mut host)?, 4, "{line}");
-        assert_eq!(rt; host.printed(), line.as_bytes());
-        assert!(rt; host.file("out", "A.class").is_none(), "{line}");
+    for (folder, library, line) in &CASES {
+        let mut host = host_with_library(rt.alloc())?;
+        put_samples(rt.alloc(), &mut host, "in", folder)?;
+        put_samples(rt.alloc(), &mut host, "lib", library)?;
+        ends_and_prints(&rt, COMMAND, &mut host, 4, line)?;
+        has_no_file(&rt, &host, "out", "A.class");
     }
     Ok(())
 }
@@ -191,42 +182,40 @@ const CALL_AT: usize = 225;
 
 #[test]
 fn a_call_of_another_form_is_refused(rt: HostRuntime) -> Result<(), Fail> {
-    let alloc = rt.alloc();
-    let mut host = host_with_library(alloc)?;
-    let mut caller = joined(alloc, &CLASS_T)?;
-    assert_eq!(rt; caller.get(CALL_AT).copied(), Some(0xB6));
-    if let Some(opcode) = caller.get_mut(CALL_AT) {
-        *opcode = 0xB8;
-    }
-    host.put(alloc, "in", "T.class", &caller)?;
-    host.put(alloc, "in", "P.class", &joined(alloc, &CLASS_P)?)?;
-    assert_eq!(rt;
-        outcome(alloc, COMMAND, &mut host)?.as_str(),
-        "Unlinked 'T' 'f' '(I)I' WrongForm"
-    );
-    assert_eq!(rt;
-        host.printed(),
-        b"refused 4 Unlinked T f (I)I WrongForm\n".as_slice()
-    );
-    Ok(())
+    let mut host = host_with_library(rt.alloc())?;
+    let caller = joined(rt.alloc(), &CLASS_T)?;
+    assert!(rt; caller.get(CALL_AT).copied() == Some(0xB6));
+    let caller = with_byte(rt.alloc(), &caller, CALL_AT, 0xB8)?;
+    host.put(rt.alloc(), "in", "T.class", &caller)?;
+    host.put(rt.alloc(), "in", "P.class", &joined(rt.alloc(), &CLASS_P)?)?;
+    let status = "Unlinked 'T' 'f' '(I)I' WrongForm";
+    let line = "refused 4 Unlinked T f (I)I WrongForm\n";
+    tells_and_prints(&rt, COMMAND, &mut host, status, line)
 }
 
 #[test]
 fn a_failed_print_of_the_line_changes_no_status(rt: HostRuntime) -> Result<(), Fail> {
-    let alloc = rt.alloc();
     // the calls are two lists, the read of the input's file, and the print
-    let mut host = empty_host_failing(alloc, &[3])?;
-    host.put(alloc, "in", "A.class", &TWO_METHODS)?;
-    assert_eq!(rt; code(alloc, &mut host)?, 4);
-    assert_eq!(rt; host.faults(HostCall::Print), 1);
-    assert!(rt; host.printed().is_empty());
+    let mut host = empty_host_failing(rt.alloc(), &[3])?;
+    host.put(rt.alloc(), "in", "A.class", &TWO_METHODS)?;
+    ends_and_prints(&rt, COMMAND, &mut host, 4, "")?;
+    has_faults(&rt, &host, HostCall::Print, 1);
     Ok(())
 }
 
 #[test]
 fn each_status_that_names_no_file_has_its_code(rt: HostRuntime) -> Result<(), Fail> {
-    let alloc = rt.alloc();
-    let unlinked = Status::Unlinked {
+    has_code(&rt, &Status::Done, 0);
+    has_code(&rt, &Status::Usage, 1);
+    has_code(&rt, &unlinked(rt.alloc())?, 4);
+    has_code(&rt, &Status::HostFault(HostCall::Print), 6);
+    has_code(&rt, &Status::NoMemory, 9);
+    Ok(())
+}
+
+/// The status of a class whose superclass is missing.
+fn unlinked(alloc: Global) -> Result<Status, Fail> {
+    Ok(Status::Unlinked {
         class: Text::of_bytes(alloc, b"A")?,
         member: Member {
             flags: 0,
@@ -234,11 +223,5 @@ fn each_status_that_names_no_file_has_its_code(rt: HostRuntime) -> Result<(), Fa
             desc: Text::of_bytes(alloc, b"")?,
         },
         rule: LinkRule::Missing,
-    };
-    assert_eq!(rt; Status::Done.code(), 0);
-    assert_eq!(rt; Status::Usage.code(), 1);
-    assert_eq!(rt; unlinked.code(), 4);
-    assert_eq!(rt; Status::HostFault(HostCall::Print).code(), 6);
-    assert_eq!(rt; Status::NoMemory.code(), 9);
-    Ok(())
+    })
 }

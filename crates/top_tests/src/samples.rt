@@ -5,22 +5,28 @@ use std::alloc::Global;
 use std::test::Fail;
 
 /// The class `A`, without members.
-pub(super) const CLASS_A: [u8; 53] = [
+pub(crate) const CLASS_A: [u8; 53] = [
     0xCA, 0xFE, 0xBA, 0xBE, 0, 0, 0, 0x34, 0, 5, 7, 0, 2, 1, 0, 1, b'A', 7, 0, 4, 1, 0, 16, b'j',
     b'a', b'v', b'a', b'/', b'l', b'a', b'n', b'g', b'/', b'O', b'b', b'j', b'e', b'c', b't', 0,
     0x21, 0, 1, 0, 3, 0, 0, 0, 0, 0, 0, 0, 0,
 ];
 
 /// The place of the letter in `CLASS_A` that is its name.
-pub(super) const NAME_AT: usize = 16;
+pub(crate) const NAME_AT: usize = 16;
 
 /// The class `A` at a length, cut or with zeros behind it, with a byte at an index.
-pub(super) type Changed = (usize, usize, u8);
+pub(crate) type Changed = (usize, usize, u8);
 
 /// The bytes of such a class.
-pub(super) fn changed(alloc: Global, (length, at, byte): Changed) -> Result<Vec<u8>, Fail> {
+pub(crate) fn changed(alloc: Global, (length, at, byte): Changed) -> Result<Vec<u8>, Fail> {
     let mut bytes = Vec::from_slice(alloc, &CLASS_A)?;
     bytes.resize(length, 0)?;
+    with_byte(alloc, &bytes, at, byte)
+}
+
+/// The same bytes with another byte at an index.
+pub(crate) fn with_byte(alloc: Global, bytes: &[u8], at: usize, byte: u8) -> Result<Vec<u8>, Fail> {
+    let mut bytes = Vec::from_slice(alloc, bytes)?;
     if let Some(place) = bytes.get_mut(at) {
         *place = byte;
     }
@@ -28,7 +34,7 @@ pub(super) fn changed(alloc: Global, (length, at, byte): Changed) -> Result<Vec<
 }
 
 /// Puts such a file into a root.
-pub(super) fn put_changed(
+pub(crate) fn put_changed(
     alloc: Global,
     host: &mut MemoryHost,
     root: &str,
@@ -41,7 +47,7 @@ pub(super) fn put_changed(
 }
 
 /// The abstract class `A` with the abstract methods `a` and `b`, which take and return nothing.
-pub(super) const TWO_METHODS: [u8; 83] = [
+pub(crate) const TWO_METHODS: [u8; 83] = [
     0xCA, 0xFE, 0xBA, 0xBE, 0, 0, 0, 0x34, 0, 8, 7, 0, 2, 1, 0, 1, b'A', 7, 0, 4, 1, 0, 16, b'j',
     b'a', b'v', b'a', b'/', b'l', b'a', b'n', b'g', b'/', b'O', b'b', b'j', b'e', b'c', b't', 1, 0,
     1, b'a', 1, 0, 1, b'b', 1, 0, 3, b'(', b')', b'V', 4, 0x21, 0, 1, 0, 3, 0, 0, 0, 0, 0, 2, 4, 1,
@@ -50,7 +56,7 @@ pub(super) const TWO_METHODS: [u8; 83] = [
 
 /// The class `T` with a default constructor and the method `static int f(int a)`, which makes `new P(a, 2)` and adds
 /// its `x` and what its `y()` gives.
-pub(super) const CLASS_T: [&[u8]; 37] = [
+pub(crate) const CLASS_T: [&[u8]; 37] = [
     b"\xCA\xFE\xBA\xBE\0\0\0\x34",
     // the pool, from index 1 on
     b"\0\x19",
@@ -98,7 +104,7 @@ pub(super) const CLASS_T: [&[u8]; 37] = [
 ];
 
 /// The class `P` with the fields `int x` and `int y`, a constructor that sets both, and the method `int y()`.
-pub(super) const CLASS_P: [&[u8]; 33] = [
+pub(crate) const CLASS_P: [&[u8]; 33] = [
     b"\xCA\xFE\xBA\xBE\0\0\0\x34",
     // the pool, from index 1 on
     b"\0\x13",
@@ -141,7 +147,7 @@ pub(super) const CLASS_P: [&[u8]; 33] = [
 ];
 
 /// The bytes of parts, one behind the other.
-pub(super) fn joined(alloc: Global, parts: &[&[u8]]) -> Result<Vec<u8>, Fail> {
+pub(crate) fn joined(alloc: Global, parts: &[&[u8]]) -> Result<Vec<u8>, Fail> {
     let mut bytes = Vec::new(alloc);
     for part in parts {
         bytes.extend_from_slice(part)?;
@@ -151,18 +157,18 @@ pub(super) fn joined(alloc: Global, parts: &[&[u8]]) -> Result<Vec<u8>, Fail> {
 
 /// A class of version 52 with one member at most: its flags, its name, that of its superclass (the empty one where it has
 /// none), and the member.
-pub(super) type Sample = (u16, &'static [u8], &'static [u8], SampleMember);
+pub(crate) type Sample = (u16, &'static [u8], &'static [u8], SampleMember);
 
 /// A member without attributes: flags, name and descriptor.
 #[derive(Clone, Copy)]
-pub(super) enum SampleMember {
+pub(crate) enum SampleMember {
     Nothing,
     Field(u16, &'static [u8], &'static [u8]),
     Method(u16, &'static [u8], &'static [u8]),
 }
 
 /// The bytes of such a class.
-pub(super) fn sample_bytes(
+pub(crate) fn sample_bytes(
     alloc: Global,
     (flags, name, super_name, member): Sample,
 ) -> Result<Vec<u8>, Fail> {
@@ -195,10 +201,10 @@ pub(super) fn sample_bytes(
 }
 
 /// A static method that takes and returns nothing: its name and its code.
-pub(super) type SampleCode = (&'static [u8], &'static [u8]);
+pub(crate) type SampleCode = (&'static [u8], &'static [u8]);
 
 /// The bytes of a class of version 52 with such methods, whose stack and locals have two entries.
-pub(super) fn class_with_code(
+pub(crate) fn class_with_code(
     alloc: Global,
     name: &[u8],
     methods: &[SampleCode],

@@ -11,7 +11,7 @@ use std::test::Fail;
 use work_gen::base_library;
 
 /// Puts the class files of the base library into a root, each under the name of its class.
-pub(super) fn put_base_library(
+pub(crate) fn put_base_library(
     alloc: Global,
     host: &mut MemoryHost,
     root: &str,
@@ -20,7 +20,7 @@ pub(super) fn put_base_library(
 }
 
 /// Puts the first class files of the base library into a root.
-pub(super) fn put_first(
+pub(crate) fn put_first(
     alloc: Global,
     host: &mut MemoryHost,
     root: &str,

@@ -1,5 +1,6 @@
 //! The words of a call.
-use super::support::{empty_host, outcome, put_three, whole};
+use crate::support::{empty_host, has_whole, put_three, tells_and_prints};
+use std::process::Abort;
 use std::test::Fail;
 
 /// Words, cut at spaces, that spell the command from `in` to `out`.
@@ -65,44 +66,40 @@ const WRONG: [&str; 36] = [
 
 #[test]
 fn words_in_each_order_are_a_command(rt: HostRuntime) -> Result<(), Fail> {
-    let alloc = rt.alloc();
-    for line in RIGHT {
-        let mut host = empty_host(alloc)?;
-        put_three(alloc, &mut host)?;
-        assert_eq!(rt; outcome(alloc, line, &mut host)?.as_str(), "Done", "{line}");
-        assert!(rt; whole(&host) == (true, true, true), "{line}");
-        let printed = b"done files=3 classes=0 rewritten=0 kept=0\n".as_slice();
-        assert_eq!(rt; host.printed(), printed, "{line}");
+    let printed = "done files=3 classes=0 rewritten=0 kept=0\n";
+    for line in &RIGHT {
+        answers(&rt, line, "Done", "abc", printed)?;
     }
     Ok(())
 }
 
 #[test]
 fn words_in_each_order_verify(rt: HostRuntime) -> Result<(), Fail> {
-    let alloc = rt.alloc();
-    for line in VERIFYING {
-        let mut host = empty_host(alloc)?;
-        put_three(alloc, &mut host)?;
-        assert_eq!(rt; outcome(alloc, line, &mut host)?.as_str(), "Done", "{line}");
-        assert!(rt; whole(&host) == (false, false, false), "{line}");
-        assert_eq!(rt; host.printed(), b"verified 0 0\n".as_slice(), "{line}");
+    for line in &VERIFYING {
+        answers(&rt, line, "Done", "", "verified 0 0\n")?;
     }
     Ok(())
 }
 
 #[test]
 fn other_words_are_refused(rt: HostRuntime) -> Result<(), Fail> {
-    let alloc = rt.alloc();
-    for line in WRONG {
-        let mut host = empty_host(alloc)?;
-        put_three(alloc, &mut host)?;
-        assert_eq!(rt;
-            outcome(alloc, line, &mut host)?.as_str(),
-            "Usage",
-            "{line}"
-        );
-        assert!(rt; whole(&host) == (false, false, false), "{line}");
-        assert_eq!(rt; host.printed(), b"refused 1 Usage\n".as_slice(), "{line}");
+    for line in &WRONG {
+        answers(&rt, line, "Usage", "", "refused 1 Usage\n")?;
     }
+    Ok(())
+}
+
+/// Checks what a call with these words answers for three files, which of them it writes, and what it prints.
+fn answers(
+    rt: &(impl Abort + AllocGlobal),
+    line: &str,
+    status: &str,
+    files: &str,
+    printed: &str,
+) -> Result<(), Fail> {
+    let mut host = empty_host(rt.alloc())?;
+    put_three(rt.alloc(), &mut host)?;
+    tells_and_prints(rt, line, &mut host, status, printed)?;
+    has_whole(rt, &host, files);
     Ok(())
 }

@@ -1,9 +1,12 @@
 //! Files of the library: which are read, and which are refused.
-use super::base_library::put_base_library;
-use super::samples::{CLASS_A, Changed, NAME_AT, put_changed};
-use super::support::{
-    COMMAND, code, empty_host, empty_host_failing, host_with_library, outcome, put_three, whole,
+use crate::base_library::put_base_library;
+use crate::samples::{CLASS_A, Changed, NAME_AT, put_changed, with_byte};
+use crate::support::{
+    COMMAND, empty_host, empty_host_failing, ends_and_prints, has_no_file, has_whole,
+    host_with_library, put_three, tells,
 };
+use host_tree::MemoryHost;
+use std::process::Abort;
 use std::test::Fail;
 
 /// Changes of a class file of the library, the code of the status that each has, and the line.
@@ -50,41 +53,38 @@ const CHANGED: [(Changed, u8, &str); 14] = [
 
 #[test]
 fn a_class_file_of_the_library_is_read_by_its_header(rt: HostRuntime) -> Result<(), Fail> {
-    let alloc = rt.alloc();
-    for (change, wanted, line) in CHANGED {
-        let mut host = host_with_library(alloc)?;
-        put_changed(alloc, &mut host, "in", "B.class", (53, NAME_AT, b'B'))?;
-        put_changed(alloc, &mut host, "lib", "q/A.class", change)?;
-        assert_eq!(rt; code(alloc, &mut host)?, wanted, "{line}");
-        assert_eq!(rt; host.printed(), line.as_bytes());
-        assert_eq!(rt;
-            host.file("out", "B.class").is_some(),
-            wanted == 0,
-            "{line}"
-        );
-        assert!(rt; host.file("out", "q/A.class").is_none(), "{line}");
+    for (change, code, line) in &CHANGED {
+        let mut host = host_with_library(rt.alloc())?;
+        put_changed(rt.alloc(), &mut host, "in", "B.class", (53, NAME_AT, b'B'))?;
+        put_changed(rt.alloc(), &mut host, "lib", "q/A.class", *change)?;
+        ends_and_prints(&rt, COMMAND, &mut host, *code, line)?;
+        is_written(&rt, &host, "B.class", *code == 0);
+        is_written(&rt, &host, "q/A.class", false);
     }
     Ok(())
 }
 
+/// Checks whether a file is in the output.
+fn is_written(rt: &impl Abort, host: &MemoryHost, name: &str, wanted: bool) {
+    let told = host.file("out", name).is_some();
+    assert!(rt; told == wanted, "{told} for {name}");
+}
+
+/// Versions, major and minor, and the status: 45.3 and 51.255 are read, and 52.3 is not.
+const VERSIONS: [(u8, u8, &str); 3] = [
+    (45, 3, "Done"),
+    (51, 255, "Done"),
+    (52, 3, "Version A.class 52 3"),
+];
+
 #[test]
 fn a_version_has_a_major_and_a_minor_number(rt: HostRuntime) -> Result<(), Fail> {
-    let alloc = rt.alloc();
-    // 45.3 and 51.255 are read, and 52.3 is not
-    for (major, minor, status) in [
-        (45, 3, "Done"),
-        (51, 255, "Done"),
-        (52, 3, "Version A.class 52 3"),
-    ] {
-        let mut host = host_with_library(alloc)?;
-        let mut bytes = Vec::from_slice(alloc, &CLASS_A)?;
-        for (at, byte) in [(5, minor), (7, major)] {
-            if let Some(place) = bytes.get_mut(at) {
-                *place = byte;
-            }
-        }
-        host.put(alloc, "lib", "A.class", &bytes)?;
-        assert_eq!(rt; outcome(alloc, COMMAND, &mut host)?.as_str(), status);
+    for (major, minor, status) in &VERSIONS {
+        let mut host = host_with_library(rt.alloc())?;
+        let bytes = with_byte(rt.alloc(), &CLASS_A, 5, *minor)?;
+        let bytes = with_byte(rt.alloc(), &bytes, 7, *major)?;
+        host.put(rt.alloc(), "lib", "A.class", &bytes)?;
+        tells(&rt, COMMAND, &mut host, status)?;
     }
     Ok(())
 }
@@ -130,58 +130,57 @@ const TWICE_REFUSED: [(Refused, Refused, &str); 6] = [
 fn the_first_class_file_of_both_folders_that_is_refused_is_told(
     rt: HostRuntime,
 ) -> Result<(), Fail> {
-    let alloc = rt.alloc();
-    for (one, other, status) in TWICE_REFUSED {
-        let mut host = host_with_library(alloc)?;
-        for (root, name, change) in [one, other] {
-            put_changed(alloc, &mut host, root, name, change)?;
-        }
-        assert_eq!(rt; outcome(alloc, COMMAND, &mut host)?.as_str(), status);
+    for (one, other, status) in &TWICE_REFUSED {
+        let mut host = host_with_library(rt.alloc())?;
+        put_changed(rt.alloc(), &mut host, one.0, one.1, one.2)?;
+        put_changed(rt.alloc(), &mut host, other.0, other.1, other.2)?;
+        tells(&rt, COMMAND, &mut host, status)?;
     }
     Ok(())
 }
 
 #[test]
 fn a_refused_class_file_of_the_library_comes_before_linking(rt: HostRuntime) -> Result<(), Fail> {
-    let alloc = rt.alloc();
-    let mut host = empty_host(alloc)?;
-    host.put(alloc, "in", "A.class", &CLASS_A)?;
-    host.put(alloc, "lib", "Z.class", b"no class file")?;
-    assert_eq!(rt;
-        outcome(alloc, COMMAND, &mut host)?.as_str(),
-        "Malformed Z.class 0 Magic"
-    );
-    assert!(rt; host.file("out", "A.class").is_none());
+    let mut host = empty_host(rt.alloc())?;
+    host.put(rt.alloc(), "in", "A.class", &CLASS_A)?;
+    host.put(rt.alloc(), "lib", "Z.class", b"no class file")?;
+    tells(&rt, COMMAND, &mut host, "Malformed Z.class 0 Magic")?;
+    has_no_file(&rt, &host, "out", "A.class");
     Ok(())
 }
 
+/// Names of files that are no class files.
+const OTHER_NAMES: [&str; 4] = ["A.class.txt", "A.Class", "A.clas", "class"];
+
 #[test]
 fn other_files_of_the_library_are_not_read(rt: HostRuntime) -> Result<(), Fail> {
-    let alloc = rt.alloc();
     // the calls are two lists and the print
-    for (number, status) in [(2, "HostFault(Print)"), (3, "Done")] {
-        let mut host = empty_host_failing(alloc, &[number])?;
-        for name in ["A.class.txt", "A.Class", "A.clas", "class"] {
-            host.put(alloc, "lib", name, b"no class file")?;
-        }
-        assert_eq!(rt; outcome(alloc, COMMAND, &mut host)?.as_str(), status);
-        assert!(rt; host.file("out", "class").is_none());
+    other_files_with_call(&rt, 2, "HostFault(Print)")?;
+    other_files_with_call(&rt, 3, "Done")
+}
+
+/// Checks the status where the library has other files and one call fails.
+fn other_files_with_call(
+    rt: &(impl Abort + AllocGlobal),
+    number: u64,
+    status: &str,
+) -> Result<(), Fail> {
+    let mut host = empty_host_failing(rt.alloc(), &[number])?;
+    for name in &OTHER_NAMES {
+        host.put(rt.alloc(), "lib", name, b"no class file")?;
     }
+    tells(rt, COMMAND, &mut host, status)?;
+    has_no_file(rt, &host, "out", "class");
     Ok(())
 }
 
 #[test]
 fn the_library_may_be_the_input(rt: HostRuntime) -> Result<(), Fail> {
-    let alloc = rt.alloc();
     let line = "optimise in out --lib in";
-    let mut host = empty_host(alloc)?;
-    put_three(alloc, &mut host)?;
-    assert_eq!(rt; outcome(alloc, line, &mut host)?.as_str(), "Done");
-    assert!(rt; whole(&host) == (true, true, true));
-    put_base_library(alloc, &mut host, "in")?;
-    assert_eq!(rt;
-        outcome(alloc, line, &mut host)?.as_str(),
-        "Unlinked 'L' '' '' Duplicate"
-    );
-    Ok(())
+    let mut host = empty_host(rt.alloc())?;
+    put_three(rt.alloc(), &mut host)?;
+    tells(&rt, line, &mut host, "Done")?;
+    has_whole(&rt, &host, "abc");
+    put_base_library(rt.alloc(), &mut host, "in")?;
+    tells(&rt, line, &mut host, "Unlinked 'L' '' '' Duplicate")
 }
