@@ -7,6 +7,7 @@ use class_notation::Input;
 use class_tree::{Place, Tree};
 use member_link::check_links;
 use std::alloc::Global;
+use std::process::Abort;
 use std::test::Fail;
 use type_rules::TypedFolder;
 use verify_folder::{verify_all, verify_method};
@@ -102,19 +103,36 @@ const FOLDERS: [(&str, &str); 22] = [
     ),
 ];
 
+// A point, and a method that makes one in front of a division: the handler reads the point, which each frame has.
+const DIVIDED: &str =
+    "public P Object / field - x I / field - y I / method - <init> (II)V, aload_0, invokespecial java/lang/Object <init> ()V, aload_0, iload_1, putfield P x I, aload_0, iload_2, putfield P y I / method - y ()I, aload_0, getfield P y I, ireturn, open | public T Object / method public <init> ()V, aload_0, invokespecial java/lang/Object <init> ()V / method static t (I)I, new P, dup, iload_0, iconst_1, invokespecial P <init> (II)V, astore_1, iload_0, bipush 7, if_icmpne 0 6, bipush 7, ireturn, bipush 10, iload_0, idiv, istore_2, aload_1, invokestatic L use (Ljava/lang/Object;)V, iload_2, ireturn, astore_3, aload_1, getfield P x I, ireturn, open, handler 20 30 31 java/lang/ArithmeticException, full 20 int P :, full 10 int P : java/lang/ArithmeticException";
+
+const USES: &str = "public L Object / method public+static+native use (Ljava/lang/Object;)V";
+
 #[test]
 fn folders(rt: HostRuntime) -> Result<(), Fail> {
     for (folder, wanted) in &FOLDERS {
-        let tree = Input::of(rt.alloc(), folder, "")?.build(rt.alloc())?;
-        check_links(rt.alloc(), &tree)?;
-        let told = match verify_all(rt.alloc(), &tree) {
-            Ok(typed) => text_of_typed(rt.alloc(), &tree, &typed)?,
-            Err(fault) => text_of_failure(rt.alloc(), &fault)?,
-        };
-        assert!(rt; told.as_str() == *wanted, "{told} for {folder}");
-        let same = text_of_each(rt.alloc(), &tree)?;
-        assert!(rt; same == told, "{same} one by one, and {told} of {folder}");
+        compare_folder(&rt, folder, "", wanted)?;
     }
+    compare_folder(&rt, DIVIDED, USES, "P 10 4 ; T 4 24 ;")
+}
+
+// Compares what verifying a folder answers, at once and method by method.
+fn compare_folder(
+    rt: &(impl Abort + AllocGlobal),
+    folder: &str,
+    library: &str,
+    wanted: &str,
+) -> Result<(), Fail> {
+    let tree = Input::of(rt.alloc(), folder, library)?.build(rt.alloc())?;
+    check_links(rt.alloc(), &tree)?;
+    let told = match verify_all(rt.alloc(), &tree) {
+        Ok(typed) => text_of_typed(rt.alloc(), &tree, &typed)?,
+        Err(fault) => text_of_failure(rt.alloc(), &fault)?,
+    };
+    assert!(rt; told.as_str() == wanted, "{told} for {folder}");
+    let same = text_of_each(rt.alloc(), &tree)?;
+    assert!(rt; same == told, "{same} one by one, and {told} of {folder}");
     Ok(())
 }
 
