@@ -7,12 +7,8 @@
 # and fails where a want is not met.
 set -eu
 cd "$(dirname "$0")/.."
-root=$PWD
-pea=$PWD/bin/pea
 . bench/measures.sh
-if [ -w /dev/shm ]; then work=$(mktemp -d -p /dev/shm); else work=$(mktemp -d); fi
-trap 'rm -rf "$work"' EXIT
-cd "$work"
+in_memory
 mkdir one in none
 if ! said=$(bash "$root/scripts/jdk-library.sh" lib); then
     echo "class files: skipped, since there is no library: $said"
@@ -41,8 +37,6 @@ copy_as() {
     find "in/copy$1" -type f -exec env LC_ALL=C \
         sed -i "s#depot/#$(printf 'd%04d' "$1")/#g; s#survey/#$(printf 's%05d' "$1")/#g" {} +
 }
-
-ratio() { awk "BEGIN { printf \"%.2f\", $1 / $2 }"; }
 
 # measure TIMES: of so many times the copies, sets bytes, read_ms, pea_ms, copy_ms and peak_kb
 measure() {

@@ -1,16 +1,12 @@
 #!/usr/bin/env bash
 # Copies a folder of 20,000 plain class files, linked with the library of the first example, and 200 MB of other files, against
-# cp -r of the same folder in the same run, with a warm cache. Prints times, their ratio, and the peak memory of the program. The
-# folders stand in memory (/dev/shm) where the machine has it, since a disk's own noise is larger than both
-# times. The two take turns, and the least time of each counts.
+# cp -r of the same folder in the same run, with a warm cache. The folders stand in memory (/dev/shm) where the machine has it,
+# since a disk's own noise is larger than both times. The two take turns, and the least time of each counts. Prints what is wanted
+# and what came, and fails where a want is not met.
 set -eu
 cd "$(dirname "$0")/.."
-root=$PWD
-pea=$PWD/bin/pea
-runs=${RUNS:-5}
-if [ -w /dev/shm ]; then work=$(mktemp -d -p /dev/shm); else work=$(mktemp -d); fi
-trap 'rm -rf "$work"' EXIT
-cd "$work"
+. bench/measures.sh
+in_memory
 mkdir -p in/classes in/files
 cp -r "$root/examples/first/lib" lib
 
@@ -34,8 +30,6 @@ milliseconds() {
     echo $(((end - start) / 1000000))
 }
 
-least() { if [ "$1" -lt "$2" ]; then echo "$1"; else echo "$2"; fi; }
-
 copy_ms=999999
 pea_ms=999999
 for _ in $(seq 1 "$runs"); do
@@ -46,5 +40,7 @@ diff -r in out
 rm -rf out
 peak_kb=$(/usr/bin/time -f %M "$pea" optimise in out --lib lib 2>&1 >/dev/null)
 echo "input: $bytes bytes, 20,000 class files and 200 other files"
-echo "cp -r: $copy_ms ms; pea: $pea_ms ms; ratio $(awk "BEGIN { printf \"%.2f\", $pea_ms / $copy_ms }") (at most 3 is wanted)"
-echo "peak memory: $peak_kb kB; $(awk "BEGIN { printf \"%.2f\", $peak_kb * 1024 / $bytes }") times the input (at most $(awk "BEGIN { printf \"%.2f\", (3 * $bytes + 64 * 1048576) / $bytes }") is wanted)"
+echo "cp -r $copy_ms ms, pea $pea_ms ms; peak memory $peak_kb kB"
+wanted "time $(ratio "$pea_ms" "$copy_ms") times cp -r (at most 3 is wanted)" "$pea_ms <= 3 * $copy_ms"
+wanted "memory $(ratio "$peak_kb * 1024" "$bytes") times the input (at most 3 and 64 MB is wanted)" "$peak_kb * 1024 <= 3 * $bytes + 64 * 1048576"
+exit "$failed"

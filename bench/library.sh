@@ -6,12 +6,8 @@
 # is not met.
 set -eu
 cd "$(dirname "$0")/.."
-root=$PWD
-pea=$PWD/bin/pea
 . bench/measures.sh
-if [ -w /dev/shm ]; then work=$(mktemp -d -p /dev/shm); else work=$(mktemp -d); fi
-trap 'rm -rf "$work"' EXIT
-cd "$work"
+in_memory
 mkdir in
 if ! said=$(bash "$root/scripts/jdk-library.sh" lib); then
     echo "library: skipped, since $said"

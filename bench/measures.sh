@@ -1,7 +1,19 @@
-# Words for the scripts of this folder, which source it: wants that are met or not, and times of a program that times itself.
+# Words for the scripts of this folder, which source it at the top of the repository: wants that are met or not, and times of a program that times itself.
 
 runs=${RUNS:-5}
 failed=0
+root=$PWD
+pea=$PWD/bin/pea
+
+# in_memory: makes the folder $work, which goes at the end, and enters it; it stands in memory (/dev/shm) where the machine has it
+in_memory() {
+    if [ -w /dev/shm ]; then work=$(mktemp -d -p /dev/shm); else work=$(mktemp -d); fi
+    trap 'rm -rf "$work"' EXIT
+    cd "$work"
+}
+
+# ratio ONE OTHER: one number, or what awk makes of it, by another
+ratio() { awk "BEGIN { printf \"%.2f\", $1 / $2 }"; }
 
 # wanted TEXT CONDITION: prints whether the condition, in awk's words, holds
 wanted() {

@@ -1,10 +1,10 @@
 #!/usr/bin/env bash
 # Builds the hierarchy of generated class files: of 5,000, 10,000 and 20,000 classes, which is to grow in proportion beyond
-# reading them; asks a million questions of each, over all classes, which are not to take more where there are more classes; and
-# builds a chain of 40,000 classes, which is to take about the time of 40,000 others. Prints what is wanted and what came, the
-# least time of some runs each, and fails where a want is not met. What the work is, counted instructions tell: they are the
-# same at each run. Times are printed beside them, since where classes outgrow the processor's caches each touch of one takes
-# longer; without valgrind, times alone are judged, by limits that leave room for that.
+# reading them; asks a million questions of each, about a thousand classes spread over it, which are not to take more where there
+# are more classes; and builds a chain of 40,000 classes, which is to take about the time of 40,000 others. A million questions
+# about all classes touch more memory where there are more classes, so that their time tells how far these outgrow the
+# processor's caches: it is printed, and of these the instructions are judged, which are the same at each run. Prints what is
+# wanted and what came, the least time of some runs each, and fails where a want is not met.
 set -eu
 cd "$(dirname "$0")/.."
 . bench/measures.sh
@@ -17,48 +17,43 @@ instructions() {
         awk '/Collected/ { print $NF }'
 }
 
-# growth ONE OTHER: how many times the first the other is, each at least 1
-growth() { awk "BEGIN { one = $1 < 1 ? 1 : $1; printf \"%.2f\", $2 / one }"; }
+# growth ONE OTHER: how many times the first the other is
+growth() { ratio "$2" "($1 < 1 ? 1 : $1)"; }
 
-if command -v valgrind >/dev/null; then
-    counted=yes
-else
-    counted=
-    echo "skipped: instructions are not counted, since valgrind is not there"
-fi
+# beyond WORD COUNT TIMES: the time of these words beyond that of no times
+beyond() { echo $(($(measure "$1" "$2" "$3") - $(measure "$1" "$2" 0))); }
+
+# counted WORD COUNT TIMES: the instructions of these words beyond those of no times
+counted() { echo $(($(instructions "$1" "$2" "$3") - $(instructions "$1" "$2" 0))); }
 
 builds=20
 questions=1000000
-asked_counted=20000
-first=
+asked=20000
+first_few_ms=
 for times in 1 2 4; do
     count=$((5000 * times))
-    read_ms=$(measure read "$count" "$builds")
-    build_ms=$(($(measure build "$count" "$builds") - read_ms))
-    ask_ms=$(($(measure ask "$count" "$questions") - $(measure ask "$count" 0)))
-    if [ -n "$counted" ]; then
-        build=$(($(instructions build "$count" 1) - $(instructions read "$count" 1)))
-        ask=$((($(instructions ask "$count" "$asked_counted") - $(instructions ask "$count" 0)) / asked_counted))
-    fi
-    if [ -z "$first" ]; then
-        first=yes
+    build_ms=$(($(measure build "$count" "$builds") - $(measure read "$count" "$builds")))
+    few_ms=$(beyond few "$count" "$questions")
+    all_ms=$(beyond ask "$count" "$questions")
+    if [ -z "$first_few_ms" ]; then
         first_build_ms=$build_ms
-        first_ask_ms=$ask_ms
-        first_build=${build-}
-        first_ask=${ask-}
+        first_few_ms=$few_ms
     fi
-    echo "$count classes, $builds times: read in $read_ms ms, built in $build_ms ms; $questions questions in $ask_ms ms"
-    built_ms=$(growth "$first_build_ms" "$build_ms")
-    asked_ms=$(growth "$first_ask_ms" "$ask_ms")
-    if [ -n "$counted" ]; then
-        echo "  $((build / count)) instructions a class that is built, $ask a question; in time $built_ms and $asked_ms times the first"
-        built=$(growth "$first_build" "$build")
-        asked=$(growth "$first_ask" "$ask")
-        wanted "building takes $built times the first's instructions (in proportion: $times; a tenth more is let pass)" "$built <= $times * 1.1"
-        wanted "a question takes $asked times the first's instructions (a tenth more is let pass)" "$asked <= 1.1"
+    echo "$count classes: built in $build_ms ms, $builds times; $questions questions about 1,000 of them in $few_ms ms, about all in $all_ms ms"
+    wanted "building takes $(growth "$first_build_ms" "$build_ms") times the first's time (in proportion: $times; half as much again is let pass)" \
+        "$build_ms <= $times * 1.5 * $first_build_ms"
+    wanted "questions take $(growth "$first_few_ms" "$few_ms") times the first's time (a quarter more is let pass)" "$few_ms <= 1.25 * $first_few_ms"
+    if command -v valgrind >/dev/null; then
+        build=$((($(instructions build "$count" 1) - $(instructions read "$count" 1)) / count))
+        ask=$(($(counted ask "$count" "$asked") / asked))
+        if [ "$times" = 1 ]; then
+            first_build=$build
+            first_ask=$ask
+        fi
+        wanted "$build instructions a class that is built, the first $first_build (a tenth more is let pass)" "$build <= 1.1 * $first_build"
+        wanted "$ask instructions a question about all, the first $first_ask (a tenth more is let pass)" "$ask <= 1.1 * $first_ask"
     else
-        wanted "building takes $built_ms times the first's time (in proportion: $times; half as much again is let pass)" "$built_ms <= $times * 1.5"
-        wanted "questions take $asked_ms times the first's time (twice is let pass)" "$asked_ms <= 2"
+        echo "  skipped: instructions are not counted, since valgrind is missing"
     fi
 done
 

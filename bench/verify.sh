@@ -6,14 +6,8 @@
 # wanted and what came, and fails where a want is not met.
 set -eu
 cd "$(dirname "$0")/.."
-root=$PWD
-pea=$PWD/bin/pea
 . bench/measures.sh
-if [ -w /dev/shm ]; then work=$(mktemp -d -p /dev/shm); else work=$(mktemp -d); fi
-trap 'rm -rf "$work"' EXIT
-cd "$work"
-
-ratio() { awk "BEGIN { printf \"%.2f\", $1 / $2 }"; }
+in_memory
 
 # peak FOLDER LIBRARY: the most memory of verifying a folder, in kB
 peak() { /usr/bin/time -f %M "$pea" verify "$1" --lib "$2" 2>&1 >/dev/null; }
@@ -40,7 +34,7 @@ many_classes() {
     mkdir one none in loads
     for release in 7 8; do bash "$root/scripts/compile-java.sh" "$release" one; done
     copies=$((2000 / $(find one -name '*.class' | wc -l) + 1))
-    if command -v javac >/dev/null; then javac -d loads "$root/bench/LoadClasses.java"; fi
+    if command -v javac >/dev/null; then javac -d loads "$root"/scripts/java/{LoadClasses,FolderLoader}.java; fi
     local library_ms library_kb
     library_ms=$(verify_ms none lib)
     library_kb=$(peak none lib)

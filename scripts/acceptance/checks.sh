@@ -31,6 +31,21 @@ check() {
     fi
 }
 
+# compile_java RELEASE WHAT: compiles the sources of a release into the input of a fresh folder, and keeps the status; where no
+# javac here knows the release, this is skipped, and false
+compile_java() {
+    local said
+    fresh
+    said=$(bash "$root/scripts/compile-java.sh" "$1" in)
+    compiled=$?
+    if [ "$compiled" = 2 ]; then
+        skipped "$2 $1" "$said"
+        return 1
+    elif [ "$compiled" != 0 ]; then
+        printf '%s\n' "$said"
+    fi
+}
+
 skipped() { echo "skipped: $1, since $2"; }
 
 same() { diff -r "$1" "$2" >/dev/null; }

@@ -3,15 +3,10 @@
 
 # damaged_java RELEASE COUNT: checks so many methods of the sources of a release
 damaged_java() {
-    local release=$1 count=$2 said compiled line number file place before after jvm both=0 linking=0
-    fresh
-    said=$(bash "$root/scripts/compile-java.sh" "$release" in)
-    compiled=$?
-    if [ "$compiled" = 2 ]; then
-        skipped "damaged Java $release" "$said"
-        return
-    fi
-    java -Xverify:all "$root/scripts/acceptance/Damage.java" in damaged "$count" >"$work/damaged" 2>"$work/said"
+    local release=$1 count=$2 number file place before after jvm both=0 linking=0
+    compile_java "$release" "damaged Java" || return 0
+    javac -d tools "$root"/scripts/java/{Damage,FolderLoader}.java
+    java -Xverify:all -cp tools Damage in damaged "$count" >"$work/damaged" 2>"$work/said"
     while IFS=$'\t' read -r number file place before after jvm; do
         run verify "damaged/$number" --lib "$jdk/java.base"
         if { [ "$status" = 0 ] && [ "$jvm" = yes ]; } || { [ "$status" != 0 ] && [ "$jvm" != yes ]; }; then

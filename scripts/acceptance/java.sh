@@ -5,16 +5,8 @@ methods() { find "$1" -name '*.class' -print0 | xargs -0 javap -p | grep -cE '^ 
 
 # compiled_java RELEASE: checks the sources of a release
 compiled_java() {
-    local said compiled files
-    fresh
-    said=$(bash "$root/scripts/compile-java.sh" "$1" in)
-    compiled=$?
-    if [ "$compiled" = 2 ]; then
-        skipped "compiled Java $1" "$said"
-        return
-    elif [ "$compiled" != 0 ]; then
-        printf '%s\n' "$said"
-    fi
+    local files
+    compile_java "$1" "compiled Java" || return 0
     files=$(class_files in)
     run optimise in out --lib "$jdk"
     check "Java $1, $files class files, byte for byte" "$compiled" \
@@ -35,5 +27,44 @@ for release in 7 8; do
         skipped "compiled Java $release" "$no_jdk"
     else
         compiled_java "$release"
+    fi
+done
+
+# A method that makes a point in front of a division, whose handler reads it, beside the base library.
+divided() {
+    fresh
+    mkdir src
+    cat >src/T.java <<'JAVA'
+class P {
+    int x;
+    int y;
+    P(int a, int b) { x = a; y = b; }
+    int y() { return y; }
+}
+
+class T {
+    static int t(int d) {
+        P p = new P(d, 1);
+        if (d == 7) return 7;
+        try {
+            int q = 10 / d;
+            L.use(p);
+            return q;
+        } catch (ArithmeticException e) {
+            return p.x;
+        }
+    }
+}
+JAVA
+    javac --release "$1" -Xlint:-options -cp lib -d in src/T.java >/dev/null 2>&1
+    run verify in --lib lib
+    check "Java $1, a point that a handler reads" 0 "verified 2 4" true
+}
+
+for release in 7 8; do
+    if ! command -v javac >/dev/null; then
+        skipped "Java $release, a point that a handler reads" "javac is missing"
+    else
+        divided "$release"
     fi
 done

@@ -58,33 +58,11 @@ final class Damage {
 
     /** Whether the JVM links the class of a file: reading its methods links it, without running it. */
     private static String answer(Path folder, Path file) {
-        String path = file.toString();
-        String name = path.substring(0, path.length() - ".class".length()).replace('/', '.');
         try {
-            new Loader(folder).loadClass(name).getDeclaredMethods();
+            new FolderLoader(folder).link(file);
             return "yes";
         } catch (Throwable thrown) {
             return thrown.getClass().getSimpleName();
-        }
-    }
-
-    /** Loads the classes of a folder itself, and all others as the JVM does. */
-    private static final class Loader extends ClassLoader {
-        private final Path folder;
-
-        Loader(Path folder) {
-            super(ClassLoader.getPlatformClassLoader());
-            this.folder = folder;
-        }
-
-        @Override
-        protected Class<?> findClass(String name) throws ClassNotFoundException {
-            try {
-                byte[] bytes = Files.readAllBytes(folder.resolve(name.replace('.', '/') + ".class"));
-                return defineClass(name, bytes, 0, bytes.length);
-            } catch (IOException absent) {
-                throw new ClassNotFoundException(name, absent);
-            }
         }
     }
 
