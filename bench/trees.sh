@@ -42,7 +42,7 @@ for times in 1 2 4; do
     echo "$count classes: built in $build_ms ms, $builds times; $questions questions about 1,000 of them in $few_ms ms, about all in $all_ms ms"
     wanted "building takes $(growth "$first_build_ms" "$build_ms") times the first's time (in proportion: $times; half as much again is let pass)" \
         "$build_ms <= $times * 1.5 * $first_build_ms"
-    wanted "questions take $(growth "$first_few_ms" "$few_ms") times the first's time (a quarter more is let pass)" "$few_ms <= 1.25 * $first_few_ms"
+    wanted "questions take $(growth "$first_few_ms" "$few_ms") times the first's time (half as much again is let pass)" "$few_ms <= 1.5 * $first_few_ms"
     if command -v valgrind >/dev/null; then
         build=$((($(instructions build "$count" 1) - $(instructions read "$count" 1)) / count))
         ask=$(($(counted ask "$count" "$asked") / asked))
