@@ -3,8 +3,9 @@
 # reading them; asks a million questions of each, about a thousand classes spread over it, which are not to take more where there
 # are more classes; and builds a chain of 40,000 classes, which is to take about the time of 40,000 others. A million questions
 # about all classes touch more memory where there are more classes, so that their time tells how far these outgrow the
-# processor's caches: it is printed, and of these the instructions are judged, which are the same at each run. Prints what is
-# wanted and what came, the least time of some runs each, and fails where a want is not met.
+# processor's caches: it is printed, and of these the instructions are judged, which are the same at each run. The sizes take
+# turns, so that other work on the machine falls on all of them, and the least time of each counts. Prints what is wanted and
+# what came, and fails where a want is not met.
 set -eu
 cd "$(dirname "$0")/.."
 . bench/measures.sh
@@ -20,21 +21,41 @@ instructions() {
 # growth ONE OTHER: how many times the first the other is
 growth() { ratio "$2" "($1 < 1 ? 1 : $1)"; }
 
-# beyond WORD COUNT TIMES: the time of these words beyond that of no times
-beyond() { echo $(($(measure "$1" "$2" "$3") - $(measure "$1" "$2" 0))); }
-
 # counted WORD COUNT TIMES: the instructions of these words beyond those of no times
 counted() { echo $(($(instructions "$1" "$2" "$3") - $(instructions "$1" "$2" 0))); }
 
+runs=${RUNS:-9}
 builds=20
 questions=1000000
 asked=20000
+sizes="5000 10000 20000"
+
+declare -A least_ms
+# turn WORDS..: one run of these words, whose time counts if it is the least yet
+turn() { least_ms[$*]=$(least "${least_ms[$*]:-999999}" "$(processor_ms "$bench" "$@")"); }
+
+for _ in $(seq 1 "$runs"); do
+    for count in $sizes; do
+        turn read "$count" "$builds"
+        turn build "$count" "$builds"
+        for word in few ask; do
+            turn "$word" "$count" 0
+            turn "$word" "$count" "$questions"
+        done
+    done
+    turn chain 40000 "$builds"
+    turn build 40000 "$builds"
+done
+
+# beyond WORD COUNT: the time of the questions of this word
+beyond() { echo $((least_ms[$1 $2 $questions] - least_ms[$1 $2 0])); }
+
 first_few_ms=
-for times in 1 2 4; do
-    count=$((5000 * times))
-    build_ms=$(($(measure build "$count" "$builds") - $(measure read "$count" "$builds")))
-    few_ms=$(beyond few "$count" "$questions")
-    all_ms=$(beyond ask "$count" "$questions")
+for count in $sizes; do
+    times=$((count / 5000))
+    build_ms=$((least_ms[build $count $builds] - least_ms[read $count $builds]))
+    few_ms=$(beyond few "$count")
+    all_ms=$(beyond ask "$count")
     if [ -z "$first_few_ms" ]; then
         first_build_ms=$build_ms
         first_few_ms=$few_ms
@@ -57,8 +78,8 @@ for times in 1 2 4; do
     fi
 done
 
-chain_ms=$(measure chain 40000 "$builds")
-tree_ms=$(measure build 40000 "$builds")
+chain_ms=${least_ms[chain 40000 $builds]}
+tree_ms=${least_ms[build 40000 $builds]}
 slower=$(growth "$tree_ms" "$chain_ms")
 echo "40000 classes in a chain, $builds times: read and built in $chain_ms ms; 40000 others in $tree_ms ms"
 wanted "the chain $slower times the others (at most twice is wanted)" "$slower <= 2"
