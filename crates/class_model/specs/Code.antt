@@ -3,14 +3,14 @@
 use Rattle.std.specs.Prelude.{◌≡◌, ◌⊎◌, ◌==◌, ◌||◌, ◌+◌, ◌<◌, ◌≤◌, ℕ, Bool, List, [], ◌∷◌, ◌++◌, length, map, replicate, codes, Option, Some, None, Result, Ok, Err, IfSome, IsSome, IsTrue, IsFalse, if◌then◌else◌}
 use Rattle.std.specs.List.{list_all}
 use Rattle.class_model.specs.Checks.{Check, check, Fault, fault, asked_of, asked_if, ◌>>=◌}
-use Rattle.class_model.specs.Cutting.{Rest, Cut, bytes_at, u2_at, u4_at, counted_at}
+use Rattle.class_model.specs.Cutting.{Rest, Cut, whole, bytes_at, u2_at, u4_at, counted_at}
 use Rattle.class_model.specs.Descriptors.{SpellsDescriptor, field_type_text, IsArrayType, IsElementType, parameter_units, kind_of}
-use Rattle.class_model.specs.Frames.{Setting, table_at, filled}
+use Rattle.class_model.specs.Frames.{Setting, stack_map_table_at, filled}
 use Rattle.class_model.specs.Instructions.{targets, is_start}
 use Rattle.class_model.specs.Members.{has, STATIC, is_text}
 use Rattle.class_model.specs.Names.{init}
 use Rattle.class_model.specs.Pool.{Constants, constant_at}
-use Rattle.class_model.specs.PoolChecks.{utf8_at, class_at, descriptor_at, IsClassAt}
+use Rattle.class_model.specs.PoolChecks.{utf8_at, class_at, descriptor_at, IsClassAt, IsFieldConstant, IsMethodConstant, IsInterfaceConstant}
 use Rattle.class_model.specs.Spelling.{inner_bytes}
 use Rattle.class_model.specs.declared.class_file.CodePart.{CodePart}
 use Rattle.class_model.specs.declared.class_file.Handler.{Handler}
@@ -58,10 +58,6 @@ part_at rest = do
   Ok (record { max_stack = stack.0; max_locals = locals.0; code = code.0; handlers = handlers.0; attrs = attrs.0 }, attrs.1)
 
 -- the content of a Code attribute cut into its parts, if they fill it
-abbrev pub whole : Cut CodePart → Option CodePart
-whole (Ok part) = if length part.1.bytes == 0 then Some part.0 else None
-whole (Err f) = None
-
 abbrev pub code_part : List ℕ → Option CodePart
 code_part content = whole (part_at (record { at = 0; bytes = content }))
 
@@ -82,21 +78,9 @@ IsLoadable2 (Some (consts.Long number)) = Unit {0}
 IsLoadable2 (Some (consts.Double bits)) = Unit {0}
 IsLoadable2 other = ⊥
 
-abbrev pub IsFieldConstant : Option Const → Type 0
-IsFieldConstant (Some (consts.Fieldref class member)) = Unit {0}
-IsFieldConstant other = ⊥
-
 abbrev pub IsDynamicConstant : Option Const → Type 0
 IsDynamicConstant (Some (consts.InvokeDynamic bootstrap member)) = Unit {0}
 IsDynamicConstant other = ⊥
-
-abbrev pub IsMethodConstant : Option Const → Type 0
-IsMethodConstant (Some (consts.Methodref class member)) = Unit {0}
-IsMethodConstant other = ⊥
-
-abbrev pub IsInterfaceConstant : Option Const → Type 0
-IsInterfaceConstant (Some (consts.InterfaceMethodref class member)) = Unit {0}
-IsInterfaceConstant other = ⊥
 
 -- the name and descriptor of an interface's method
 abbrev pub member_index : Option Const → Option ℕ
@@ -198,7 +182,7 @@ inner_is_named pool name attr = is_text name (utf8_at pool attr.name)
 abbrev pub table_fault : ℕ → Fault → Fault
 table_fault at f = if f.at == 0 then fault at f.rule else fault (at + 6 + f.at) f.rule
 
-abbrev in_table : {X : Type 0} → ℕ → Result X Fault → Result X Fault
+abbrev pub in_table : {X : Type 0} → ℕ → Result X Fault → Result X Fault
 in_table at (Ok x) = Ok x
 in_table at (Err f) = Err (table_fault at f)
 
@@ -208,7 +192,7 @@ inners_checks s entry had at [] = []
 inners_checks s entry had at (attr ∷ attrs) =
     check at rules.Index (IsSome (utf8_at s.pool attr.name))
     ∷ asked_if (inner_is_named s.pool stack_map_table attr)
-    (check at rules.Twice (IsFalse had) ∷ asked_of (in_table at (table_at s entry attr.bytes)) (λ frames. []))
+    (check at rules.Twice (IsFalse had) ∷ asked_of (in_table at (stack_map_table_at s entry attr.bytes)) (λ frames. []))
     ++ inners_checks s entry (had || inner_is_named s.pool stack_map_table attr) (at + length (inner_bytes attr)) attrs
 
 -- ---- the entry frame (4.10.1.6)

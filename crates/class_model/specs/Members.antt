@@ -152,7 +152,7 @@ field_attr_checks pool field before at attr =
     (check at rules.Twice (IsFalse (has_named pool constant_value before))
     ∷ check at rules.Constant (IsConstantValue pool (utf8_at pool field.desc) (content_of attr)) ∷ [])
 
-abbrev field_signature : Field → Signature
+abbrev pub field_signature : Field → Signature
 field_signature field = record { name = field.name; desc = field.desc }
 
 -- a field at a place, behind fields of these names

@@ -2,7 +2,7 @@
 use Rattle.std.specs.Prelude.{◌==◌, ◌&&◌, ◌||◌, not, ◌+◌, ◌*◌, ◌≤◌, nat_lt, ℕ, Bool, false, List, [], ◌∷◌, ◌++◌, length, codes, Option, Some, None, Result, Ok, Err, IfSome, IsSome, IsTrue, IsFalse, if◌then◌else◌}
 use Rattle.class_model.specs.Checks.{Check, check, Fault, fault, asked_of, asked_if, ◌>>=◌}
 use Rattle.class_model.specs.Code.{code_part, jump_checks, operand_checks, handlers_checks, inners_checks, entry_frame}
-use Rattle.class_model.specs.Cutting.{Rest, Cut, u2_at, counted_at}
+use Rattle.class_model.specs.Cutting.{Rest, Cut, whole, u2_at, counted_at}
 use Rattle.class_model.specs.Descriptors.{SpellsDescriptor, parameter_units, parameters_of}
 use Rattle.class_model.specs.Frames.{Setting}
 use Rattle.class_model.specs.Instructions.{decoded}
@@ -126,7 +126,7 @@ method_attr_checks home method before at attr =
 
 -- ---- methods
 
-abbrev method_signature : Method → Signature
+abbrev pub method_signature : Method → Signature
 method_signature method = record { name = method.name; desc = method.desc }
 
 -- a method that is neither abstract nor native has code, and one that is has none
@@ -159,10 +159,6 @@ bootstrap_at rest = do
   arguments ← counted_at u2_at handle.1
   Ok (record { handle = handle.0; arguments = arguments.0 }, arguments.1)
 
-abbrev whole : Cut (List Bootstrap) → Option (List Bootstrap)
-whole (Ok methods) = if length methods.1.bytes == 0 then Some methods.0 else None
-whole (Err f) = None
-
 -- the content of a BootstrapMethods attribute, if its counts fill it
 abbrev pub bootstraps : List ℕ → Option (List Bootstrap)
 bootstraps content = whole (counted_at bootstrap_at (record { at = 0; bytes = content }))
@@ -194,9 +190,9 @@ bootstraps_checks pool at (b ∷ others) =
     ∷ arguments_checks pool (at + 4) b.arguments
     ++ bootstraps_checks pool (at + 4 + 2 * length b.arguments) others
 
-abbrev pub table_checks : Constants → ℕ → Option (List Bootstrap) → List Check
-table_checks pool at None = check at rules.Attribute ⊥ ∷ []
-table_checks pool at (Some methods) = bootstraps_checks pool (at + 8) methods
+abbrev pub bootstrap_table_checks : Constants → ℕ → Option (List Bootstrap) → List Check
+bootstrap_table_checks pool at None = check at rules.Attribute ⊥ ∷ []
+bootstrap_table_checks pool at (Some methods) = bootstraps_checks pool (at + 8) methods
 
 abbrev pub bootstrap_methods : List ℕ
 bootstrap_methods = codes "BootstrapMethods"
@@ -210,7 +206,7 @@ abbrev pub class_attr_checks : Constants → List Attr → ℕ → Attr → List
 class_attr_checks pool before at attr =
     attr_name_check pool at attr
     ∷ asked_if (is_named pool bootstrap_methods attr)
-    (check at rules.Twice (IsFalse (has_named pool bootstrap_methods before)) ∷ table_checks pool at (bootstraps (raw_content attr)))
+    (check at rules.Twice (IsFalse (has_named pool bootstrap_methods before)) ∷ bootstrap_table_checks pool at (bootstraps (raw_content attr)))
 
 -- how many bootstrap methods the attributes of a class have
 abbrev pub bootstrap_count : Constants → List Attr → ℕ

@@ -146,17 +146,17 @@ dynamic_checks at pool member =
     ∷ []
 
 -- what a method handle of a kind refers to (4.4.8)
-abbrev pub IsField : Option Const → Type 0
-IsField (Some (Fieldref class member)) = Unit {0}
-IsField other = ⊥
+abbrev pub IsFieldConstant : Option Const → Type 0
+IsFieldConstant (Some (Fieldref class member)) = Unit {0}
+IsFieldConstant other = ⊥
 
-abbrev pub IsMethod : Option Const → Type 0
-IsMethod (Some (Methodref class member)) = Unit {0}
-IsMethod other = ⊥
+abbrev pub IsMethodConstant : Option Const → Type 0
+IsMethodConstant (Some (Methodref class member)) = Unit {0}
+IsMethodConstant other = ⊥
 
-abbrev pub IsInterfaceMethod : Option Const → Type 0
-IsInterfaceMethod (Some (InterfaceMethodref class member)) = Unit {0}
-IsInterfaceMethod other = ⊥
+abbrev pub IsInterfaceConstant : Option Const → Type 0
+IsInterfaceConstant (Some (InterfaceMethodref class member)) = Unit {0}
+IsInterfaceConstant other = ⊥
 
 abbrev pub member_of : Const → Option ℕ
 member_of (Fieldref class member) = Some member
@@ -168,8 +168,8 @@ member_of other = None
 abbrev pub referred_name : Constants → ℕ → Option (List ℕ)
 referred_name pool index = option_and_then (name_at pool) (option_and_then member_of (constant_at pool index))
 
-abbrev pub IsMethodOf : ℕ → Option Const → Type 0
-IsMethodOf major constant = IsMethod constant ⊎ ((major ≡ 52) × IsInterfaceMethod constant)
+abbrev pub IsMethodConstantOf : ℕ → Option Const → Type 0
+IsMethodConstantOf major constant = IsMethodConstant constant ⊎ ((major ≡ 52) × IsInterfaceConstant constant)
 
 -- Kinds 1 to 4 name a field, 5 and 8 a method, 6 and 7 a method that in version 52 may be an interface's, and 9
 -- an interface's method. Kind 8 names an instance initialiser, and 5, 6, 7 and 9 do not.
@@ -177,11 +177,11 @@ abbrev pub RefersWell : ℕ → Constants → ℕ → ℕ → Type 0
 RefersWell major pool kind reference =
     let constant = constant_at pool reference in
     let name = referred_name pool reference in
-    ((1 ≤ kind) × (kind ≤ 4) × IsField constant)
-    ⊎ (((kind ≡ 5) × IsMethod constant × IfSome name (λ n. n ≢ init))
-    ⊎ (((6 ≤ kind) × (kind ≤ 7) × IsMethodOf major constant × IfSome name (λ n. n ≢ init))
-    ⊎ (((kind ≡ 8) × IsMethod constant × IfSome name (λ n. n ≡ init))
-    ⊎ ((kind ≡ 9) × IsInterfaceMethod constant × IfSome name (λ n. n ≢ init)))))
+    ((1 ≤ kind) × (kind ≤ 4) × IsFieldConstant constant)
+    ⊎ (((kind ≡ 5) × IsMethodConstant constant × IfSome name (λ n. n ≢ init))
+    ⊎ (((6 ≤ kind) × (kind ≤ 7) × IsMethodConstantOf major constant × IfSome name (λ n. n ≢ init))
+    ⊎ (((kind ≡ 8) × IsMethodConstant constant × IfSome name (λ n. n ≡ init))
+    ⊎ ((kind ≡ 9) × IsInterfaceConstant constant × IfSome name (λ n. n ≢ init)))))
 
 -- a method handle (4.4.8)
 abbrev pub handle_checks : ℕ → ℕ → Constants → ℕ → ℕ → List Check
