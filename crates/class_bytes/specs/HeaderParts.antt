@@ -7,7 +7,7 @@ use Rattle.class_model.specs.Members.{class_name_checks, super_checks, interface
 use Rattle.class_model.specs.Methods.{IsDescriptorOf}
 use Rattle.class_model.specs.Names.{IsMethodName, IsFieldName}
 use Rattle.class_model.specs.Pool.{Constants}
-use Rattle.class_model.specs.PoolChecks.{utf8_at, class_at, IsFieldDescriptor, InitIsVoid}
+use Rattle.class_model.specs.PoolChecks.{utf8_at, class_at, text_or_empty, IsFieldDescriptor, InitIsVoid}
 use Rattle.class_model.specs.declared.class_file.ClassFile.{ClassFile}
 use Rattle.class_model.specs.declared.class_file.Field.{Field}
 use Rattle.class_model.specs.declared.class_file.Method.{Method}
@@ -125,17 +125,13 @@ cut_header_checks pool at head =
 
 -- ---- what is kept
 
-abbrev pub or_empty : Option (List ℕ) → List ℕ
-or_empty None = []
-or_empty (Some text) = text
-
 -- the name of the class at an index
 abbrev pub class_name_in : Constants → ℕ → List ℕ
-class_name_in pool index = or_empty (class_at pool index)
+class_name_in pool index = text_or_empty (class_at pool index)
 
 -- a member, with its name and its descriptor
 abbrev pub member_in : Constants → MemberHead → Member
-member_in pool member = record { flags = member.flags; name = or_empty (utf8_at pool member.name); desc = or_empty (utf8_at pool member.desc) }
+member_in pool member = record { flags = member.flags; name = text_or_empty (utf8_at pool member.name); desc = text_or_empty (utf8_at pool member.desc) }
 
 abbrev pub header_in : Constants → CutHeader → Header
 header_in pool head = record {

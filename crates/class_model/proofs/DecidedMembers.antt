@@ -4,8 +4,8 @@ use Rattle.std.specs.Prelude.{codes}
 use Rattle.std.proofs.lemmas.Bool.{cases_eq}
 use Rattle.class_model.specs.Checks.{Check}
 use Rattle.class_model.specs.Instructions.{u2_in}
-use Rattle.class_model.specs.Members.{Signature, has, STATIC, is_named, attrs_checks, attr_name, class_name_checks, super_checks, interfaces_checks, constant_value, IsConstantOf, IsConstantValue, field_attr_checks, field_checks}
-use Rattle.class_model.specs.Methods.{Home, code, code_content, method_attr_checks, method_checks, Bootstrap, IsHandle, IsArgument, arguments_checks, bootstraps_checks, bootstrap_table_checks, bootstrap_methods, raw_content, bootstraps, class_attr_checks}
+use Rattle.class_model.specs.Members.{Signature, has, STATIC, is_named, attrs_checks, attr_name, class_name_checks, super_checks, interfaces_checks, constant_value, IsConstantOf, IsConstantValue, field_attr_checks, field_checks, raw_content}
+use Rattle.class_model.specs.Methods.{Home, code, code_content, method_attr_checks, method_checks, Bootstrap, IsHandle, IsArgument, arguments_checks, bootstraps_checks, bootstrap_table_checks, bootstrap_methods, bootstraps, class_attr_checks}
 use Rattle.class_model.specs.Pool.{Constants, constant_at}
 use Rattle.class_model.specs.PoolChecks.{utf8_at, class_at}
 use Rattle.class_model.specs.Spelling.{attr_bytes}

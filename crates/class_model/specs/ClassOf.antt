@@ -20,20 +20,23 @@ use Rattle.class_model.specs.declared.pool.Const.TheVariants.{InvokeDynamic}
 
 -- ---- members, one after the other from a place on
 
+-- fields (4.5), behind those of these names
 abbrev pub fields_checks : Constants → ℕ → List Signature → ℕ → List Field → List Check
 fields_checks pool flags before at [] = []
 fields_checks pool flags before at (field ∷ fields) =
     field_checks pool flags before at field
     ++ fields_checks pool flags (before ++ field_signature field ∷ []) (at + length (field_bytes field)) fields
 
+-- methods (4.6), behind those of these names
 abbrev pub methods_checks : Home → List Signature → ℕ → List Method → List Check
 methods_checks home before at [] = []
 methods_checks home before at (method ∷ methods) =
     method_checks home before at method
     ++ methods_checks home (before ++ method_signature method ∷ []) (at + length (method_bytes method)) methods
 
--- ---- invokedynamic constants name bootstrap methods (4.4.10)
+-- ---- the pool and the bootstrap methods
 
+-- each InvokeDynamic constant names one of so many bootstrap methods (4.4.10)
 abbrev pub bootstrap_index_checks : ℕ → ℕ → Constants → List Check
 bootstrap_index_checks count at [] = []
 bootstrap_index_checks count at (None ∷ entries) = bootstrap_index_checks count at entries
@@ -72,6 +75,7 @@ entered_attr pool attr = if is_named pool code attr then of_content attr (code_c
   of_content (Raw name bytes) (Some part) = Code name part
   of_content attr other = attr
 
+-- a method with its Code cut into parts
 abbrev pub entered_method : Constants → Method → Method
 entered_method pool method = record method { attrs = map (entered_attr pool) method.attrs }
 

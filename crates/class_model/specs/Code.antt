@@ -32,6 +32,7 @@ use Rattle.class_model.specs.declared.pool.Const.TheVariants as consts
 
 -- ---- the structure
 
+-- an entry of the exception table
 abbrev pub handler_at : Rest → Cut Handler
 handler_at rest = do
   start ← u2_at rest
@@ -40,6 +41,7 @@ handler_at rest = do
   type ← u2_at at.1
   Ok (record { start = start.0; end = end.0; at = at.0; catch_type = type.0 }, type.1)
 
+-- an attribute of a code
 abbrev pub inner_at : Rest → Cut InnerAttr
 inner_at rest = do
   name ← u2_at rest
@@ -47,6 +49,7 @@ inner_at rest = do
   content ← bytes_at len.0 len.1
   Ok (record { name = name.0; bytes = content.0 }, content.1)
 
+-- the items of the content, in their order
 abbrev pub part_at : Rest → Cut CodePart
 part_at rest = do
   stack ← u2_at rest
@@ -63,7 +66,7 @@ code_part content = whole (part_at (record { at = 0; bytes = content }))
 
 -- ---- operands that ask the pool or the locals (4.9.1)
 
--- the kinds of constants that an instruction may name, in a class file of this major version
+-- the constants that ldc and ldc_w may name (6.5.ldc)
 abbrev pub IsLoadable : Option Const → Type 0
 IsLoadable (Some (consts.Integer number)) = Unit {0}
 IsLoadable (Some (consts.Float bits)) = Unit {0}
@@ -73,20 +76,23 @@ IsLoadable (Some (consts.MethodHandle kind reference)) = Unit {0}
 IsLoadable (Some (consts.MethodType descriptor)) = Unit {0}
 IsLoadable other = ⊥
 
+-- the constants that ldc2_w may name (6.5.ldc2_w)
 abbrev pub IsLoadable2 : Option Const → Type 0
 IsLoadable2 (Some (consts.Long number)) = Unit {0}
 IsLoadable2 (Some (consts.Double bits)) = Unit {0}
 IsLoadable2 other = ⊥
 
+-- the constants that invokedynamic may name (6.5.invokedynamic)
 abbrev pub IsDynamicConstant : Option Const → Type 0
 IsDynamicConstant (Some (consts.InvokeDynamic bootstrap member)) = Unit {0}
 IsDynamicConstant other = ⊥
 
--- the name and descriptor of an interface's method
+-- the index of the name and descriptor of an interface's method
 abbrev pub member_index : Option Const → Option ℕ
 member_index (Some (consts.InterfaceMethodref class member)) = Some member
 member_index other = None
 
+-- the descriptor of that member
 abbrev pub units_behind : Constants → Option ℕ → Option (List ℕ)
 units_behind pool None = None
 units_behind pool (Some member) = descriptor_at pool member
@@ -123,6 +129,7 @@ FitsLocal max_locals kinds.Long local = local + 2 ≤ max_locals
 FitsLocal max_locals kinds.Double local = local + 2 ≤ max_locals
 FitsLocal max_locals kind local = local + 1 ≤ max_locals
 
+-- the operands of an instruction, in a class file of this major version
 abbrev pub OperandFits : Constants → ℕ → ℕ → Instr → Type 0
 OperandFits pool major max_locals (Ldc index) = IsLoadable (constant_at pool index)
 OperandFits pool major max_locals (Ldc2 index) = IsLoadable2 (constant_at pool index)
@@ -150,6 +157,7 @@ jump_checks start code [] = []
 jump_checks start code (p ∷ others) =
     check (start + p.at) rules.Jump (IsTrue (list_all (is_start code) (targets p.instr))) ∷ jump_checks start code others
 
+-- the operands of each instruction fit
 abbrev pub operand_checks : ℕ → Constants → ℕ → ℕ → List Placed → List Check
 operand_checks start pool major max_locals [] = []
 operand_checks start pool major max_locals (p ∷ others) =
@@ -163,6 +171,7 @@ pub record IsRange (code : List Placed) (len : ℕ) (handler : Handler) : Type 0
   pub end : IsTrue (is_start code handler.end || (handler.end == len))
   pub at : IsTrue (is_start code handler.at)
 
+-- the exception table, from the place of its first entry on
 abbrev pub handlers_checks : Constants → List Placed → ℕ → ℕ → List Handler → List Check
 handlers_checks pool code len at [] = []
 handlers_checks pool code len at (handler ∷ handlers) =
@@ -172,9 +181,11 @@ handlers_checks pool code len at (handler ∷ handlers) =
 
 -- ---- its attributes
 
+-- the name of the attribute (4.7.4)
 abbrev pub stack_map_table : List ℕ
 stack_map_table = codes "StackMapTable"
 
+-- the attribute has this name
 abbrev pub inner_is_named : Constants → List ℕ → InnerAttr → Bool
 inner_is_named pool name attr = is_text name (utf8_at pool attr.name)
 
@@ -182,6 +193,7 @@ inner_is_named pool name attr = is_text name (utf8_at pool attr.name)
 abbrev pub table_fault : ℕ → Fault → Fault
 table_fault at f = if f.at == 0 then fault at f.rule else fault (at + 6 + f.at) f.rule
 
+-- what a table that stands at a place gives, its fault at its place in the file
 abbrev pub in_table : {X : Type 0} → ℕ → Result X Fault → Result X Fault
 in_table at (Ok x) = Ok x
 in_table at (Err f) = Err (table_fault at f)
@@ -215,6 +227,7 @@ this_type flags name class = if has flags STATIC then [] else (if is_text init (
   of_class (Some class) = types.Object class ∷ []
   of_class None = types.Top ∷ []
 
+-- the frame that the code of a method of these flags, name, class and parameters begins with
 abbrev pub entry_frame : ℕ → List ℕ → Option (List ℕ) → List FieldType → ℕ → Frame
 entry_frame flags name class params max_locals =
     record { locals = filled max_locals (this_type flags name class ++ map verification_type params); stack = [] }

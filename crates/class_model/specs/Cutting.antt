@@ -52,6 +52,7 @@ number_at w rest = do
   item ← bytes_at (byte_len w) rest
   Ok (from_be_bytes w item.0, item.1)
 
+-- an item of one byte, of two, and of four
 abbrev pub u1_at : Rest → Cut ℕ
 u1_at rest = do
   item ← bytes_at 1 rest
@@ -131,6 +132,7 @@ pool_at major rest = do
 
 -- ---- members and attributes
 
+-- an attribute, by its name, length and content (4.7)
 abbrev pub attr_at : Rest → Cut Attr
 attr_at rest = do
   name ← u2_at rest
@@ -138,6 +140,7 @@ attr_at rest = do
   content ← bytes_at len.0 len.1
   Ok (Raw name.0 content.0, content.1)
 
+-- a field (4.5), and a method (4.6)
 abbrev pub field_at : Rest → Cut Field
 field_at rest = do
   flags ← u2_at rest

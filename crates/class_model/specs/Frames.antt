@@ -25,7 +25,7 @@ pub record Setting : Type 0 where
 
 -- ---- units and entries
 
--- a type that takes two units
+-- a type that takes two units (2.6.1)
 abbrev pub is_wide : VType → Bool
 is_wide Long = true
 is_wide Double = true
@@ -37,6 +37,7 @@ units Long = Long ∷ Top ∷ []
 units Double = Double ∷ Top ∷ []
 units other = other ∷ []
 
+-- those of entries one after the other
 abbrev pub units_of_entries : List VType → List VType
 units_of_entries entries = flat_map units entries
 
@@ -50,6 +51,7 @@ filled max_locals entries = units_of_entries entries ++ replicate (max_locals - 
 
 -- ---- verification types (4.7.4)
 
+-- the instruction is a new
 abbrev pub is_new : Instr → Bool
 is_new (New class) = true
 is_new other = false
@@ -58,14 +60,16 @@ is_new other = false
 abbrev pub is_new_at : List Placed → ℕ → Bool
 is_new_at code at = list_any (λ p. (p.at == at) && is_new p.instr) code
 
+-- an object of the class of this name, if its index names one
 abbrev pub object_of : ℕ → Rest → Option (List ℕ) → Cut VType
 object_of frame rest (Some name) = Ok (Object name, rest)
 object_of frame rest None = Err (fault frame rules.FrameType)
 
--- an entry of a frame at a place: bytes that are missing are Attribute at 0, the table's own place
+-- bytes that are missing: Attribute at 0, the table's own place
 abbrev pub missing : Fault
 missing = fault 0 rules.Attribute
 
+-- a verification type by its tag, in a frame at a place
 abbrev pub verification_type_at : Setting → ℕ → Rest → Cut VType
 verification_type_at s frame rest =
     let tag = u1_in rest.bytes 0 in
@@ -83,6 +87,7 @@ verification_type_at s frame rest =
     else (if tag == 7 then object_of frame (behind 3 rest) (class_at s.pool operand)
     else (if is_new_at s.code operand then Ok (Uninit operand, behind 3 rest) else Err (fault frame rules.FrameType))))))))))))
 
+-- so many verification types, one after the other
 unfoldable pub verification_types_at : Setting → ℕ → ℕ → Rest → Cut (List VType)
 verification_types_at s frame zero rest = Ok ([], rest)
 verification_types_at s frame (suc count) rest = do
@@ -102,6 +107,7 @@ pub record Stated : Type 0 where
   pub delta : ℕ
   pub entries : Entries
 
+-- a frame of these entries behind an offset delta
 abbrev pub stated_frame : ℕ → List VType → List VType → Stated
 stated_frame delta locals stack = record { delta = delta; entries = record { locals = locals; stack = stack } }
 
@@ -157,24 +163,26 @@ frames_at s (suc count) from locals rest = do
   others ← frames_at s count (from + first.0.delta + 1) first.0.entries.locals first.1
   Ok (placed ∷ others.0, others.1)
 
--- the entries that list local units: without the second units of longs and doubles
+-- the entries that list local units (4.7.4): without the second units of longs and doubles
 unfoldable pub entries_of_units : List VType → List VType
 entries_of_units [] = []
 entries_of_units (t ∷ []) = t ∷ []
 entries_of_units (t ∷ u ∷ types) = if is_wide t then t ∷ entries_of_units types else t ∷ entries_of_units (u ∷ types)
 
--- all frames of a table; the entry's locals are listed up to the last that is not Top
 abbrev pub is_top : VType → Bool
 is_top Top = true
 is_top other = false
 
+-- the types from the first on that is not Top
 abbrev pub without_tops : List VType → List VType
 without_tops [] = []
 without_tops (t ∷ types) = if is_top t then without_tops types else t ∷ types
 
+-- the entries that list a frame's locals, up to the last that is not Top
 abbrev pub listed : Frame → List VType
 listed entry = entries_of_units (reverse (without_tops (reverse entry.locals)))
 
+-- all frames of a table, which fill its content; the first stands behind the frame that the code begins with
 abbrev pub stack_map_table_at : Setting → Frame → List ℕ → Result (List PlacedFrame) Fault
 stack_map_table_at s entry content = do
   count ← table_u2_at (record { at = 0; bytes = content })

@@ -10,7 +10,7 @@ use Rattle.class_model.specs.Methods.{IsDescriptorOf}
 use Rattle.class_model.specs.ModifiedUtf8.{IsModifiedUtf8}
 use Rattle.class_model.specs.Names.{IsMethodName, IsFieldName}
 use Rattle.class_model.specs.Pool.{Constants}
-use Rattle.class_model.specs.PoolChecks.{utf8_at, class_at, IsFieldDescriptor, InitIsVoid}
+use Rattle.class_model.specs.PoolChecks.{utf8_at, class_at, text_or_empty, IsFieldDescriptor, InitIsVoid}
 use Rattle.class_model.specs.Spelling.{constant_bytes, entry_bytes, field_bytes, method_bytes}
 use Rattle.class_model.specs.declared.class_file.ClassFile.{ClassFile}
 use Rattle.class_model.specs.declared.class_file.Field.{Field}
@@ -63,34 +63,20 @@ header_checks c =
 
 -- ---- what is kept
 
-abbrev text_or_empty : Constants → ℕ → List ℕ
-text_or_empty pool index = or_empty (utf8_at pool index) where
-  or_empty : Option (List ℕ) → List ℕ
-  or_empty None = []
-  or_empty (Some text) = text
-
-abbrev class_name_or_empty : Constants → ℕ → List ℕ
-class_name_or_empty pool index = or_empty (class_at pool index) where
-  or_empty : Option (List ℕ) → List ℕ
-  or_empty None = []
-  or_empty (Some text) = text
-
-abbrev super_name : Constants → ℕ → Option (List ℕ)
-super_name pool index = class_at pool index
-
+-- a field, and a method, by its name and descriptor
 abbrev field_member : Constants → Field → Member
-field_member pool field = record { flags = field.flags; name = text_or_empty pool field.name; desc = text_or_empty pool field.desc }
+field_member pool field = record { flags = field.flags; name = text_or_empty (utf8_at pool field.name); desc = text_or_empty (utf8_at pool field.desc) }
 
 abbrev method_member : Constants → Method → Member
-method_member pool method = record { flags = method.flags; name = text_or_empty pool method.name; desc = text_or_empty pool method.desc }
+method_member pool method = record { flags = method.flags; name = text_or_empty (utf8_at pool method.name); desc = text_or_empty (utf8_at pool method.desc) }
 
 -- the header of a class file
 abbrev pub header_of : ClassFile → Header
 header_of c = record {
-  name = class_name_or_empty c.pool c.this_class;
+  name = text_or_empty (class_at c.pool c.this_class);
   flags = c.flags;
-  super_name = super_name c.pool c.super_class;
-  interfaces = map (class_name_or_empty c.pool) c.interfaces;
+  super_name = class_at c.pool c.super_class;
+  interfaces = map (λ index. text_or_empty (class_at c.pool index)) c.interfaces;
   fields = map (field_member c.pool) c.fields;
   methods = map (method_member c.pool) c.methods;
 }

@@ -62,6 +62,8 @@ abbrev double_bits : ℕ → ℕ
 double_bits zero = 0
 double_bits (suc n) = 0x3FF0000000000000
 
+-- The forms of all opcodes. jsr, jsr_w and ret have none: 4.9.1 forbids the first two from version 51 on, and this
+-- project's profile all three.
 abbrev pub rows : List OpcodeRow
 rows =
     row 0 0 (λ o. Alone Nop)
@@ -235,6 +237,7 @@ abbrev pub wide_operands : ℕ → List ℕ → Option Operands → Read
 wide_operands at bytes (Some (U2 makes)) = sized at bytes 4 (makes (u2_in bytes 2))
 wide_operands at bytes other = if u1_in bytes 1 == 132 then sized at bytes 6 (Iinc (u2_in bytes 2) (s2_in bytes 4)) else Err (fault at rules.Opcode)
 
+-- an instruction behind a wide, with the wide
 abbrev pub wide_at : ℕ → List ℕ → Read
 wide_at at bytes = if nat_lt (length bytes) 2 then Err (fault at rules.Operand) else wide_operands at bytes (operands_in wide_rows (u1_in bytes 1))
 
@@ -243,11 +246,12 @@ abbrev pub is_array_code : Instr → Bool
 is_array_code (NewArray code) = nat_le 4 code && nat_le code 11
 is_array_code other = true
 
--- multianewarray makes at least one dimension
+-- multianewarray makes at least one dimension (6.5.multianewarray)
 abbrev pub has_dimensions : Instr → Bool
 has_dimensions (NewMulti class dimensions) = nat_lt 0 dimensions
 has_dimensions other = true
 
+-- the instruction of an opcode with these operands, whose bytes begin with the opcode
 abbrev pub with_operands : ℕ → List ℕ → Option Operands → Read
 with_operands at bytes None = Err (fault at rules.Opcode)
 with_operands at bytes (Some (Alone instr)) = Ok (instr, 1)
