@@ -4,8 +4,7 @@ use Rattle.std.specs.List.{flat_map}
 use Rattle.class_model.specs.Answers.{Answers, Gives, Takes, Tells}
 use Rattle.class_model.specs.Checks.{Check, Fault, fault, AllHold, IsFirstFault, asked_of}
 use Rattle.class_model.specs.Cutting.{Rest, Version, version_at, pool_at, class_file_at, uncut}
-use Rattle.class_model.specs.Header.{HeaderOf, IsLibraryVersion}
-use Rattle.class_model.specs.Header as headers
+use Rattle.class_model.specs.Header.{HeaderOf, IsLibraryVersion, header_checks}
 use Rattle.class_model.specs.Pool.{Constants}
 use Rattle.class_model.specs.Spelling.{u2, entry_bytes, pool_bytes, class_bytes}
 use Rattle.class_model.specs.declared.class_file.ClassFile.{ClassFile}
@@ -34,7 +33,7 @@ head_refused bytes after (faults.Version major minor) cut = absurd cut
 
 module _ (bytes : List ℕ) (version : Version) (rest : Rest) (begins : version_at (uncut bytes) ≡ Ok (version, rest)) (is : IsLibraryVersion version) where
   cut_refused : (f : Fault) → class_file_at version rest ≡ Err f → FirstHeaderFault bytes f
-  cut_refused f cut = behind version rest f begins is (subst (λ (r : Result ClassFile Fault). IsFirstFault (asked_of r headers.header_checks) f) (sym cut) (inl ((λ x. x), refl)))
+  cut_refused f cut = behind version rest f begins is (subst (λ (r : Result ClassFile Fault). IsFirstFault (asked_of r header_checks) f) (sym cut) (inl ((λ x. x), refl)))
 
   -- in the pool
   pub pool_refused : (after : Rest) (e : ClassFault) → Takes {X = Constants} (pool_at version.major rest) after (Err e) → IsHeaderReadOf bytes (Err e)
@@ -70,13 +69,13 @@ module _ (bytes : List ℕ) (version : Version) (rest : Rest) (begins : version_
       abbrev asked : List Check
       asked = texts_checks 10 pool ++ cut_header_checks pool (flags_at pool) head
 
-      same_asked : asked ≡ headers.header_checks of.class
+      same_asked : asked ≡ header_checks of.class
       same_asked = asked_of_parts pool head of.class of.pool_is of.head_is
 
       refused : (e : ClassFault) → Tells asked (λ (header : Header). header ≡ header_in pool head) (Err e) → IsHeaderReadOf bytes (Err e)
       refused (faults.Malformed at rule) told =
-          let first : IsFirstFault (headers.header_checks of.class) (fault at rule) = subst (λ (checks : List Check). IsFirstFault checks (fault at rule)) same_asked told in
-          behind version rest (fault at rule) begins is (subst (λ (r : Result ClassFile Fault). IsFirstFault (asked_of r headers.header_checks) (fault at rule)) (sym is_cut) first)
+          let first : IsFirstFault (header_checks of.class) (fault at rule) = subst (λ (checks : List Check). IsFirstFault checks (fault at rule)) same_asked told in
+          behind version rest (fault at rule) begins is (subst (λ (r : Result ClassFile Fault). IsFirstFault (asked_of r header_checks) (fault at rule)) (sym is_cut) first)
       refused faults.NoMemory told = tt
       refused (faults.Version major minor) told = absurd told
 

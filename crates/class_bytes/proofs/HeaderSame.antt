@@ -4,8 +4,7 @@ use Rattle.std.specs.Prelude.{IfSome, IsSome}
 use Rattle.std.specs.List.{flat_map}
 use Rattle.std.proofs.lemmas.Simd.{map-map}
 use Rattle.class_model.specs.Checks.{Check, check}
-use Rattle.class_model.specs.Header as headers
-use Rattle.class_model.specs.Header.{texts_checks}
+use Rattle.class_model.specs.Header.{texts_checks, header_checks, header_of}
 use Rattle.class_model.specs.Members.{class_name_checks, super_checks, interfaces_checks}
 use Rattle.class_model.specs.Methods.{IsDescriptorOf}
 use Rattle.class_model.specs.Names.{IsMethodName, IsFieldName}
@@ -80,7 +79,7 @@ grouped t n s i f m = simp append_assoc
 abbrev pub flags_at : Constants → ℕ
 flags_at pool = 10 + length (flat_map entry_bytes pool)
 
-same_checks : (c : ClassFile) → headers.header_checks c ≡ texts_checks 10 c.pool ++ cut_header_checks c.pool (flags_at c.pool) (cut_header c)
+same_checks : (c : ClassFile) → header_checks c ≡ texts_checks 10 c.pool ++ cut_header_checks c.pool (flags_at c.pool) (cut_header c)
 same_checks c =
     let pool = c.pool in
     let fields = flags_at c.pool + 8 + 2 * length c.interfaces in
@@ -96,13 +95,13 @@ same_checks c =
 
 -- ---- what is kept
 
-same_header : (c : ClassFile) → headers.header_of c ≡ header_in c.pool (cut_header c)
+same_header : (c : ClassFile) → header_of c ≡ header_in c.pool (cut_header c)
 same_header c = rw (map-map (member_in c.pool) field_head c.fields, map-map (member_in c.pool) method_head c.methods) refl
 
 -- ---- a class file of a pool and of a header that was cut
 
-pub asked_of_parts : (pool : Constants) (head : CutHeader) (c : ClassFile) → c.pool ≡ pool → head ≡ cut_header c → texts_checks 10 pool ++ cut_header_checks pool (flags_at pool) head ≡ headers.header_checks c
+pub asked_of_parts : (pool : Constants) (head : CutHeader) (c : ClassFile) → c.pool ≡ pool → head ≡ cut_header c → texts_checks 10 pool ++ cut_header_checks pool (flags_at pool) head ≡ header_checks c
 asked_of_parts pool head c pool_is head_is = rw (head_is, ← pool_is) (sym (same_checks c))
 
-pub kept_of_parts : (pool : Constants) (head : CutHeader) (c : ClassFile) → c.pool ≡ pool → head ≡ cut_header c → header_in pool head ≡ headers.header_of c
+pub kept_of_parts : (pool : Constants) (head : CutHeader) (c : ClassFile) → c.pool ≡ pool → head ≡ cut_header c → header_in pool head ≡ header_of c
 kept_of_parts pool head c pool_is head_is = rw (head_is, ← pool_is) (sym (same_header c))

@@ -6,8 +6,7 @@ use Rattle.class_model.specs.Checks.{Check, check, Fault, fault, asked_of, AllHo
 use Rattle.class_model.specs.Code.{jump_checks, operand_checks, handlers_checks, inners_checks}
 use Rattle.class_model.specs.Frames.{Setting}
 use Rattle.class_model.specs.Instructions.{decoded}
-use Rattle.class_model.specs.Methods as methods
-use Rattle.class_model.specs.Methods.{units_at_call, instructions_checks, part_checks}
+use Rattle.class_model.specs.Methods.{units_at_call, instructions_checks, part_checks, entry_of}
 use Rattle.class_model.specs.PoolChecks.{utf8_at}
 use Rattle.class_model.specs.declared.class_file.CodePart.{CodePart}
 use Rattle.class_model.specs.declared.class_file.Handler.{Handler}
@@ -98,7 +97,7 @@ module _ (home : Home) (method : CutMember) (cut : CutPart) (at : ℕ) where
   abbrev its_inners : List Placed → List Check
   its_inners instrs =
       let s : Setting = record { pool = home.pool.now; max_locals = part.max_locals; max_stack = part.max_stack; code = instrs } in
-      inners_checks s (methods.entry_of (home_seen home) (method_of method) part) false (begin + length part.code + 2 + 8 * length part.handlers + 2) part.attrs
+      inners_checks s (entry_of (home_seen home) (method_of method) part) false (begin + length part.code + 2 + 8 * length part.handlers + 2) part.attrs
 
   abbrev behind : List Placed → List Check
   behind instrs = its_operands instrs ++ (its_handlers instrs ++ its_inners instrs)

@@ -5,7 +5,7 @@ use Rattle.class_model.specs.Checks.{Check, check, Fault, fault, asked_of, asked
 use Rattle.class_model.specs.Code.{IsRange, jump_checks, operand_checks, handlers_checks, inners_checks, inner_is_named, stack_map_table, in_table}
 use Rattle.class_model.specs.Frames.{Setting, stack_map_table_at}
 use Rattle.class_model.specs.Instructions.{decoded}
-use Rattle.class_model.specs.Methods as methods
+use Rattle.class_model.specs.Methods.{entry_of}
 use Rattle.class_model.specs.Pool.{Constants}
 use Rattle.class_model.specs.PoolChecks.{utf8_at, IsClassAt}
 use Rattle.class_model.specs.Spelling.{inner_bytes}
@@ -57,7 +57,7 @@ abbrev pub setting_of_code : MethodCode → Setting
 setting_of_code code = record { pool = code.home.now.pool.now; max_locals = code.part.now.max_locals; max_stack = code.part.now.max_stack; code = code.instrs.now }
 
 abbrev pub entry_frame_of : MethodCode → Frame
-entry_frame_of code = methods.entry_of (home_seen code.home.now) (method_of code.method.now) (part_of code.part.now)
+entry_frame_of code = entry_of (home_seen code.home.now) (method_of code.method.now) (part_of code.part.now)
 
 -- its operands, its exception table and its attributes; the code begins at the place
 abbrev pub parts_checks : MethodCode → ℕ → List Check
