@@ -51,7 +51,7 @@ pub record TableStart (entry : Frame) (bytes : List ℕ) (count : ℕ) (start : 
   pub from : start.from ≡ 0
   pub locals : start.locals ≡ listed entry
 
-pub table_start : (entry : Frame) (bytes : List ℕ) (count : ℕ) (first start : Standing) → first ≡ record { from = 0; locals = listed entry; rest = start bytes } → table_u2_at first.rest ≡ Ok (count, start.rest) → start.locals ≡ first.locals → start.from ≡ first.from → TableStart entry bytes count start
+pub table_start : (entry : Frame) (bytes : List ℕ) (count : ℕ) (first start : Standing) → first ≡ record { from = 0; locals = listed entry; rest = uncut bytes } → table_u2_at first.rest ≡ Ok (count, start.rest) → start.locals ≡ first.locals → start.from ≡ first.from → TableStart entry bytes count start
 table_start entry bytes count first start is counted locals from = record {
   counted = subst (λ (w : Standing). table_u2_at w.rest ≡ Ok (count, start.rest)) is counted;
   from = from ∙ ap (λ (w : Standing). w.from) is;
