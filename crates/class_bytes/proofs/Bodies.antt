@@ -1,12 +1,12 @@
 -- The class file behind its version is its pool and what stands behind that.
 use Rattle.std.proofs.Common.{◌≡◌, Ok, refl, ◌∙◌}
 use Rattle.class_model.specs.Checks.{◌>>=◌}
-use Rattle.class_model.specs.Cutting.{Rest, Version, pool_at, class_at}
+use Rattle.class_model.specs.Cutting.{Rest, Version, pool_at, class_file_at}
 use Rattle.class_model.specs.Pool.{Constants}
 use Rattle.class_bytes.specs.Parts.{body_at}
 
-in_two : (version : Version) (rest : Rest) → class_at version rest ≡ (pool_at version.major rest >>= λ pool. body_at version pool.0 pool.1)
+in_two : (version : Version) (rest : Rest) → class_file_at version rest ≡ (pool_at version.major rest >>= λ pool. body_at version pool.0 pool.1)
 in_two version rest = refl
 
-pub behind_pool : (version : Version) (rest : Rest) (pool : Constants) (after : Rest) → pool_at version.major rest ≡ Ok (pool, after) → class_at version rest ≡ body_at version pool after
+pub behind_pool : (version : Version) (rest : Rest) (pool : Constants) (after : Rest) → pool_at version.major rest ≡ Ok (pool, after) → class_file_at version rest ≡ body_at version pool after
 behind_pool version rest pool after cut = in_two version rest ∙ rw cut refl

@@ -7,7 +7,7 @@ use Rattle.std.proofs.lemmas.Bool.Decides.{same_from_decides}
 use Rattle.class_model.specs.Answers.{Tells}
 use Rattle.class_model.specs.Checks.{Check, check}
 use Rattle.class_model.specs.Members.{is_text, is_named, has_named, attr_name_check}
-use Rattle.class_model.specs.Methods.{bootstraps, bootstrap_methods, table_checks, class_attr_checks, bootstrap_count}
+use Rattle.class_model.specs.Methods.{bootstraps, bootstrap_methods, bootstrap_table_checks, class_attr_checks, bootstrap_count}
 use Rattle.class_model.specs.Pool.{Constants}
 use Rattle.class_model.specs.declared.class_file.Attr.{Attr}
 use Rattle.class_model.specs.declared.fault.ClassFault.{ClassFault}
@@ -77,7 +77,7 @@ module _ (pool : Constants) (before : List Attr) (at : ℕ) (attr : CutAttr) (na
   twice_check = check at rules.Twice (IsFalse (has_named pool bootstrap_methods before))
 
   abbrev table : List Check
-  table = table_checks pool at (bootstraps attr.content.now)
+  table = bootstrap_table_checks pool at (bootstraps attr.content.now)
 
   in_parts : class_attr_checks pool before at (attr_of attr) ≡ name_check ∷ twice_check ∷ table
   in_parts = rw named refl

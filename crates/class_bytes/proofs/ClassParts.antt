@@ -3,7 +3,7 @@ use Rattle.std.proofs.Common.{◌≡◌, ◌+◌, ◌*◌, ℕ, List, [], ◌∷
 use Rattle.std.specs.List.{flat_map}
 use Rattle.class_model.specs.Answers.{Tells}
 use Rattle.class_model.specs.Checks.{Check, check, AllHold, IsFirstFault, fault}
-use Rattle.class_model.specs.ClassOf.{class_checks, fields_checks, methods_checks, dynamic_checks}
+use Rattle.class_model.specs.ClassOf.{class_file_checks, fields_checks, methods_checks, bootstrap_index_checks}
 use Rattle.class_model.specs.Members.{fits_class, class_name_checks, super_checks, interfaces_checks, attrs_checks}
 use Rattle.class_model.specs.Methods.{Home, class_attr_checks, bootstrap_count}
 use Rattle.class_model.specs.PoolChecks.{class_at, entries_checks}
@@ -69,11 +69,11 @@ abbrev pub flags_at : ClassFile → ℕ
 flags_at c = 10 + length (flat_map entry_bytes c.pool)
 
 pub three_parts : (c : ClassFile)
-    → class_checks c ≡ entries_checks c.major c.pool 10 c.pool ++ (behind_checks (flags_at c) c ++ dynamic_checks (bootstrap_count c.pool c.attrs) 10 c.pool)
+    → class_file_checks c ≡ entries_checks c.major c.pool 10 c.pool ++ (behind_checks (flags_at c) c ++ bootstrap_index_checks (bootstrap_count c.pool c.attrs) 10 c.pool)
 three_parts c =
     grouped (entries_checks c.major c.pool 10 c.pool) (check (flags_at c) rules.Flags (IsTrue (fits_class c.flags)) ∷ []) (class_name_checks c.pool (flags_at c + 2) c.this_class)
     (super_checks c.pool (flags_at c + 4) c.super_class) (interfaces_checks c.pool (flags_at c + 8) c.interfaces) (fields_part (flags_at c) c) (methods_part (flags_at c) c)
-    (attrs_part (flags_at c) c) (dynamic_checks (bootstrap_count c.pool c.attrs) 10 c.pool)
+    (attrs_part (flags_at c) c) (bootstrap_index_checks (bootstrap_count c.pool c.attrs) 10 c.pool)
 
 -- a fault is the first of equal checks, whatever a value would have been
 pub same_fault : {X Y : Type 0} (checks others : List Check) (Is : X → Type 0) (Other : Y → Type 0) (e : ClassFault) → checks ≡ others → Tells checks Is (Err e) → Tells others Other (Err e)
@@ -89,22 +89,22 @@ module _ (c : ClassFile) where
   behind = behind_checks (flags_at c) c
 
   abbrev dynamics : List Check
-  dynamics = dynamic_checks (bootstrap_count c.pool c.attrs) 10 c.pool
+  dynamics = bootstrap_index_checks (bootstrap_count c.pool c.attrs) 10 c.pool
 
-  pub entries_stop : {X Y : Type 0} (Is : X → Type 0) (Other : Y → Type 0) (e : ClassFault) → Tells (entries_checks c.major c.pool 10 c.pool) Is (Err e) → Tells (class_checks c) Other (Err e)
-  entries_stop Is Other e told = same_fault (entries ++ (behind ++ dynamics)) (class_checks c) Other Other e (sym (three_parts c)) (stops entries (behind ++ dynamics) Is Other e told)
+  pub entries_stop : {X Y : Type 0} (Is : X → Type 0) (Other : Y → Type 0) (e : ClassFault) → Tells (entries_checks c.major c.pool 10 c.pool) Is (Err e) → Tells (class_file_checks c) Other (Err e)
+  entries_stop Is Other e told = same_fault (entries ++ (behind ++ dynamics)) (class_file_checks c) Other Other e (sym (three_parts c)) (stops entries (behind ++ dynamics) Is Other e told)
 
   module _ (hold : AllHold (entries_checks c.major c.pool 10 c.pool)) where
-    pub behind_stops : {X Y : Type 0} (Is : X → Type 0) (Other : Y → Type 0) (e : ClassFault) → Tells (behind_checks (flags_at c) c) Is (Err e) → Tells (class_checks c) Other (Err e)
+    pub behind_stops : {X Y : Type 0} (Is : X → Type 0) (Other : Y → Type 0) (e : ClassFault) → Tells (behind_checks (flags_at c) c) Is (Err e) → Tells (class_file_checks c) Other (Err e)
     behind_stops Is Other e told =
-        same_fault (entries ++ (behind ++ dynamics)) (class_checks c) Other Other e (sym (three_parts c))
+        same_fault (entries ++ (behind ++ dynamics)) (class_file_checks c) Other Other e (sym (three_parts c))
         (goes_on entries (behind ++ dynamics) Other (Err e) hold (stops behind dynamics Is Other e told))
 
     module _ (too : AllHold (behind_checks (flags_at c) c)) where
-      pub dynamics_stop : {X Y : Type 0} (Is : X → Type 0) (Other : Y → Type 0) (e : ClassFault) → Tells (dynamic_checks (bootstrap_count c.pool c.attrs) 10 c.pool) Is (Err e) → Tells (class_checks c) Other (Err e)
+      pub dynamics_stop : {X Y : Type 0} (Is : X → Type 0) (Other : Y → Type 0) (e : ClassFault) → Tells (bootstrap_index_checks (bootstrap_count c.pool c.attrs) 10 c.pool) Is (Err e) → Tells (class_file_checks c) Other (Err e)
       dynamics_stop Is Other e told =
-          same_fault (entries ++ (behind ++ dynamics)) (class_checks c) Other Other e (sym (three_parts c))
+          same_fault (entries ++ (behind ++ dynamics)) (class_file_checks c) Other Other e (sym (three_parts c))
           (goes_on entries (behind ++ dynamics) Other (Err e) hold (goes_on behind dynamics Other (Err e) too (same_fault dynamics dynamics Is Other e refl told)))
 
-      pub all_told : AllHold (dynamic_checks (bootstrap_count c.pool c.attrs) 10 c.pool) → AllHold (class_checks c)
+      pub all_told : AllHold (bootstrap_index_checks (bootstrap_count c.pool c.attrs) 10 c.pool) → AllHold (class_file_checks c)
       all_told last = subst AllHold (sym (three_parts c)) (both_hold entries (behind ++ dynamics) hold (both_hold behind dynamics too last))

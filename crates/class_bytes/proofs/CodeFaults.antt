@@ -6,13 +6,13 @@ use Rattle.std.proofs.lemmas.Bool.{lt-ltb}
 use Rattle.std.proofs.lemmas.List.{length-drop}
 use Rattle.class_model.specs.Checks.{Fault, fault, asked_of, AllHold, IsFirstFault, ◌>>=◌}
 use Rattle.class_model.specs.Code.{jump_checks}
-use Rattle.class_model.specs.Instructions.{Read, Operands, Alone, U1, U2, S1, S2, U1S1, U2U1, U2U1Zero, U2ZeroZero, Jump2, Jump4, TableSwitch, LookupSwitch, Wide, rows, wide_rows, operands_in, with_operands, wide_operands, table_at, lookup_at, instr_at, instrs_at, decoded, sized, sized_if, u1_in, u4_in, s4_in, pad_of, span, keys_increase, pairs_in}
+use Rattle.class_model.specs.Instructions.{Read, Operands, Alone, U1, U2, S1, S2, U1S1, U2U1, U2U1Zero, U2ZeroZero, Jump2, Jump4, TableSwitch, LookupSwitch, Wide, rows, wide_rows, operands_in, with_operands, wide_operands, table_switch_at, lookup_switch_at, instr_at, instrs_at, decoded, sized, sized_if, u1_in, u4_in, s4_in, pad_of, span, keys_increase, pairs_in}
 use Rattle.class_model.specs.declared.fault.FileRule.{FileRule}
 use Rattle.class_model.specs.declared.fault.FileRule.TheVariants as rules
 use Rattle.class_model.specs.declared.instr.Instr.{Instr}
 use Rattle.class_model.specs.declared.instr.Placed.{Placed}
 use Rattle.class_bytes.specs.CodeParts.{at_place, decoded_checks}
-use Rattle.code_bytes.specs.Decoding.{code_checks}
+use Rattle.code_bytes.specs.Decoding.{decoding_checks}
 
 -- ---- an instruction that is refused is so at its offset
 
@@ -34,7 +34,7 @@ sized_fails at bytes len instr = refused_if at (ltb (length bytes) len) _ (Ok (i
 sized_if_fails : (allowed : Bool) (at : ℕ) (bytes : List ℕ) (len : ℕ) (instr : Instr) → FailsAt at (sized_if allowed at bytes len instr)
 sized_if_fails allowed at bytes len instr = refused_if at (ltb (length bytes) len) _ _ (read_if at allowed _ (Ok (instr, len)) tt)
 
-table_fails : (at : ℕ) (bytes : List ℕ) → FailsAt at (table_at at bytes)
+table_fails : (at : ℕ) (bytes : List ℕ) → FailsAt at (table_switch_at at bytes)
 table_fails at bytes =
     let start = 1 + pad_of at in
     let low = s4_in bytes (start + 4) in
@@ -42,7 +42,7 @@ table_fails at bytes =
     let end = start + 12 + 4 * span low high in
     refused_if at (ltb (length bytes) (start + 12)) _ _ (refused_if at (int_lt high low) _ _ (refused_if at (ltb (length bytes) end) _ (Ok (_, end)) tt))
 
-lookup_fails : (at : ℕ) (bytes : List ℕ) → FailsAt at (lookup_at at bytes)
+lookup_fails : (at : ℕ) (bytes : List ℕ) → FailsAt at (lookup_switch_at at bytes)
 lookup_fails at bytes =
     let start = 1 + pad_of at in
     let count = u4_in bytes (start + 4) in
@@ -146,18 +146,18 @@ all_placed start (Ok instrs) all = jumps_hold start instrs instrs all
 all_placed start (Err g) all = absurd all.0
 
 -- the length fits, so the fault is another
-behind_len : (code : List ℕ) (f : Fault) → 0 < length code → length code < 65536 → IsFirstFault (code_checks code) f → IsFirstFault (asked_of (decoded code) (λ instrs. jump_checks 0 instrs instrs)) f
+behind_len : (code : List ℕ) (f : Fault) → 0 < length code → length code < 65536 → IsFirstFault (decoding_checks code) f → IsFirstFault (asked_of (decoded code) (λ instrs. jump_checks 0 instrs instrs)) f
 behind_len code f some few (inl here) = absurd (here.0 (both_true _ _ (lt-ltb 0 (length code) some) (lt-ltb (length code) 65536 few))) where
   both_true : (a b : Bool) → a ≡ true → b ≡ true → IsTrue (a && b)
   both_true true b p q = q
   both_true false b p q = p
 behind_len code f some few (inr later) = later.1
 
-pub code_fault_below : (code : List ℕ) (f : Fault) → 0 < length code → length code < 65536 → IsFirstFault (code_checks code) f → f.at < length code
+pub code_fault_below : (code : List ℕ) (f : Fault) → 0 < length code → length code < 65536 → IsFirstFault (decoding_checks code) f → f.at < length code
 code_fault_below code f some few first = fault_below (length code) (decoded code) f (decoded_below code) (behind_len code f some few first)
 
-pub code_fault_placed : (start : ℕ) (code : List ℕ) (f : Fault) → 0 < length code → length code < 65536 → IsFirstFault (code_checks code) f → IsFirstFault (decoded_checks start code) (fault (start + f.at) f.rule)
+pub code_fault_placed : (start : ℕ) (code : List ℕ) (f : Fault) → 0 < length code → length code < 65536 → IsFirstFault (decoding_checks code) f → IsFirstFault (decoded_checks start code) (fault (start + f.at) f.rule)
 code_fault_placed start code f some few first = fault_placed start (decoded code) f (behind_len code f some few first)
 
-pub code_holds : (start : ℕ) (code : List ℕ) → AllHold (code_checks code) → AllHold (decoded_checks start code)
+pub code_holds : (start : ℕ) (code : List ℕ) → AllHold (decoding_checks code) → AllHold (decoded_checks start code)
 code_holds start code all = all_placed start (decoded code) all.1

@@ -4,8 +4,7 @@ use Rattle.std.specs.Int.{Width, w16, w32, byte_len, from_be_bytes}
 use Rattle.std.specs.List.{AllByRecursion}
 use Rattle.std.proofs.lemmas.Bool.{ltb-false}
 use Rattle.class_model.specs.Checks.{Fault, fault, ◌>>=◌}
-use Rattle.class_model.specs.ClassOf.{start}
-use Rattle.class_model.specs.Cutting.{IsBytes, Rest, Version, Cut, behind, bytes_at, number_at, u2_at, u4_at, many_at, counted_at, version_at}
+use Rattle.class_model.specs.Cutting.{IsBytes, Rest, Version, Cut, behind, bytes_at, number_at, u2_at, u4_at, many_at, counted_at, version_at, uncut}
 use Rattle.class_model.specs.Spelling.{magic}
 use Rattle.class_model.specs.declared.fault.FileRule.TheVariants as rules
 use Rattle.class_bytes.proofs.Steps.{bind_ok, done, same_done, guard_false, guard_true}
@@ -119,9 +118,9 @@ counted_kept keeps = record {
 
 -- ---- what is left behind the version
 
-pub version_left : (bytes : List ℕ) (x : Version × Rest) → IsBytes bytes → version_at (start bytes) ≡ Ok x → IsBytes x.1.bytes
+pub version_left : (bytes : List ℕ) (x : Version × Rest) → IsBytes bytes → version_at (uncut bytes) ≡ Ok x → IsBytes x.1.bytes
 version_left bytes x is e =
-    let whole : AreBytes (start bytes) = record { bytes = is } in
+    let whole : AreBytes (uncut bytes) = record { bytes = is } in
     let first = step u4_kept whole _ x e in
     let magical = bind_ok _ _ x first.goes_on in
     let g = guard_true (first.got.0 == magic) (fault 0 rules.Magic) first.got.1 magical.0 magical.1 in

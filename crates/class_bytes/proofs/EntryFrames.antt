@@ -9,7 +9,7 @@ use Rattle.class_model.specs.Frames.{units, units_of_entries, filled, listed}
 use Rattle.class_model.specs.Members.{has, STATIC, is_text}
 use Rattle.class_model.specs.Methods.{Home, entry_of}
 use Rattle.class_model.specs.Names.{init}
-use Rattle.class_model.specs.PoolChecks.{utf8_at}
+use Rattle.class_model.specs.PoolChecks.{utf8_at, text_or_empty}
 use Rattle.class_model.specs.declared.class_file.CodePart.{CodePart}
 use Rattle.class_model.specs.declared.class_file.Method.{Method}
 use Rattle.class_model.specs.declared.descriptor.FieldType.{FieldType}
@@ -41,12 +41,8 @@ this_units false true class = refl
 this_units false false (Some class) = refl
 this_units false false None = refl
 
-abbrev or_empty : Option (List ℕ) → List ℕ
-or_empty None = []
-or_empty (Some text) = text
-
 frame_is : (flags : ℕ) (name class : Option (List ℕ)) (params : List FieldType) (max_locals : ℕ)
-    → entry_frame flags (or_empty name) class params max_locals ≡ frame_of (filled max_locals (this_entries flags name class ++ map verification_type params))
+    → entry_frame flags (text_or_empty name) class params max_locals ≡ frame_of (filled max_locals (this_entries flags name class ++ map verification_type params))
 frame_is flags None None params max_locals = elim (cases_Bool (has flags STATIC)) [ inl e ↦ rw e refl | inr e ↦ rw e refl ]
 frame_is flags None (Some class) params max_locals = elim (cases_Bool (has flags STATIC)) [ inl e ↦ rw e refl | inr e ↦ rw e refl ]
 frame_is flags (Some name) None params max_locals = elim (cases_Bool (has flags STATIC)) [
@@ -74,4 +70,4 @@ entry_lists home method text locals there are part =
     ap (λ (of : List VType). listed (frame_of of)) parts
     ∙ sym (tops (part.max_locals - length (units_of_entries (this ++ map verification_type params))) (units_of_entries (this ++ map verification_type params)))
     ∙ sym (ap listed (frame_is method.flags name home.name params part.max_locals))
-    ∙ ap (λ (of : Option (List ℕ)). listed (entry_frame method.flags (or_empty name) home.name (parameters_of (or_empty of)) part.max_locals)) (sym there)
+    ∙ ap (λ (of : Option (List ℕ)). listed (entry_frame method.flags (text_or_empty name) home.name (parameters_of (text_or_empty of)) part.max_locals)) (sym there)

@@ -3,8 +3,7 @@ use Rattle.std.proofs.Common.{◌≡◌, ℕ, ◌+◌, List, [], ◌∷◌, leng
 use Rattle.std.specs.Prelude.{IfSome, IsSome, IsTrue, IsFalse}
 use Rattle.class_model.specs.Answers.{Tells}
 use Rattle.class_model.specs.Checks.{Check, check, AllHold}
-use Rattle.class_model.specs.ClassOf.{field_signature}
-use Rattle.class_model.specs.Members.{Signature, fits_field, stands_before, attrs_checks, field_attr_checks, field_checks}
+use Rattle.class_model.specs.Members.{Signature, fits_field, stands_before, attrs_checks, field_attr_checks, field_checks, field_signature}
 use Rattle.class_model.specs.Names.{IsFieldName}
 use Rattle.class_model.specs.Pool.{Constants}
 use Rattle.class_model.specs.PoolChecks.{utf8_at, IsFieldDescriptor}

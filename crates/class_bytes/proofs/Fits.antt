@@ -3,9 +3,9 @@ use Rattle.std.proofs.Common.{◌≡◌, ◌≤◌, ◌==◌, ℕ, Bool, true, f
 use Rattle.std.proofs.lemmas.List.{length-map}
 use Rattle.std.specs.List.{AllByRecursion}
 use Rattle.class_model.specs.Checks.{fault}
-use Rattle.class_model.specs.ClassOf.{start, entered, entered_attr, entered_method}
+use Rattle.class_model.specs.ClassOf.{entered, entered_attr, entered_method}
 use Rattle.class_model.specs.Code.{handler_at, inner_at, part_at, code_part}
-use Rattle.class_model.specs.Cutting.{IsBytes, Rest, Version, attr_at, field_at, method_at}
+use Rattle.class_model.specs.Cutting.{IsBytes, Rest, Version, attr_at, field_at, method_at, uncut}
 use Rattle.class_model.specs.Members.{is_named}
 use Rattle.class_model.specs.Methods.{code}
 use Rattle.class_model.specs.Pool.{Constants}
@@ -115,8 +115,8 @@ part_kept = record {
 
 code_fits : (bytes : List ℕ) (part : CodePart) → FitsContent bytes → IsBytes bytes → code_part bytes ≡ Some part → FitsPart part
 code_fits bytes part fits is e =
-    let cut = whole_some (part_at (start bytes)) part e in
-    let lists = subst FitsLists cut.3 (part_kept.kept (start bytes) cut.0 (record { bytes = is }) cut.1).0 in
+    let cut = whole_some (part_at (uncut bytes)) part e in
+    let lists = subst FitsLists cut.3 (part_kept.kept (uncut bytes) cut.0 (record { bytes = is }) cut.1).0 in
     let filled = part_fills bytes part e in
     record {
       content = omega (arith, fits, filled, part_len part);

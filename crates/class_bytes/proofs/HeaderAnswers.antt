@@ -9,7 +9,7 @@ use Rattle.class_model.specs.declared.fault.ClassFault.{ClassFault}
 use Rattle.class_model.specs.declared.fault.ClassFault.TheVariants.{Malformed, Version, NoMemory}
 use Rattle.class_model.specs.declared.header.Header.{Header}
 use Rattle.class_model.specs.declared.header.Member.{Member}
-use Rattle.class_bytes.specs.HeaderParts.{members_checks, members_len, header_checks, name_at, member_of, header_of}
+use Rattle.class_bytes.specs.HeaderParts.{members_checks, members_len, cut_header_checks, class_name_in, member_in, header_in}
 use Rattle.class_bytes.specs.declared.header_checks.MemberKind.{MemberKind}
 use Rattle.class_bytes.specs.declared.header_checks.MemberKind.TheVariants as kinds
 use Rattle.class_bytes.specs.declared.header_cutting.CutHeader.{CutHeader}
@@ -18,7 +18,7 @@ use Rattle.class_bytes.proofs.Asking.{both_hold, goes_on, stops}
 use Rattle.class_bytes.proofs.HeaderMembers.{AreOwn}
 
 abbrev AreNames : Constants → List ℕ → List (List ℕ) → Type 0
-AreNames pool indices names = names ≡ map (name_at pool) indices
+AreNames pool indices names = names ≡ map (class_name_in pool) indices
 
 -- a refusal is one whatever is wanted of the value
 refusal : {X Y : Type 0} (checks : List Check) (Is : X → Type 0) (Other : Y → Type 0) (e : ClassFault) → Tells checks Is (Err e) → Tells checks Other (Err e)
@@ -58,38 +58,38 @@ module _ (pool : Constants) (at : ℕ) (head : CutHeader) where
   methods = members_checks kinds.Method pool methods_at head.methods
 
   abbrev IsHeader : Header → Type 0
-  IsHeader header = header ≡ header_of pool head
+  IsHeader header = header ≡ header_in pool head
 
   module _ (name : AllHold names) (super : AllHold supers) where
-    behind : (e : ClassFault) → Tells (interfaces ++ (fields ++ methods)) IsHeader (Err e) → Tells (header_checks pool at head) IsHeader (Err e)
+    behind : (e : ClassFault) → Tells (interfaces ++ (fields ++ methods)) IsHeader (Err e) → Tells (cut_header_checks pool at head) IsHeader (Err e)
     behind e told = goes_on names (supers ++ (interfaces ++ (fields ++ methods))) IsHeader (Err e) name (goes_on supers (interfaces ++ (fields ++ methods)) IsHeader (Err e) super told)
 
     -- a part is refused
-    pub interfaces_refused : (e : ClassFault) (indices : List ℕ) → indices ≡ head.interfaces → Tells (interfaces_checks pool (at + 8) indices) (AreNames pool indices) (Err e) → Tells (header_checks pool at head) IsHeader (Err e)
+    pub interfaces_refused : (e : ClassFault) (indices : List ℕ) → indices ≡ head.interfaces → Tells (interfaces_checks pool (at + 8) indices) (AreNames pool indices) (Err e) → Tells (cut_header_checks pool at head) IsHeader (Err e)
     interfaces_refused e indices same told =
         behind e (stops interfaces (fields ++ methods) (AreNames pool head.interfaces) IsHeader e (subst (λ (xs : List ℕ). Tells (interfaces_checks pool (at + 8) xs) (AreNames pool xs) (Err e)) same told))
 
     module _ (interface : AllHold interfaces) where
       pub fields_refused : (e : ClassFault) (start : ℕ) (members : List MemberHead) → start ≡ fields_at → members ≡ head.fields
-          → RefusesMembers kinds.Field pool e start members → Tells (header_checks pool at head) IsHeader (Err e)
+          → RefusesMembers kinds.Field pool e start members → Tells (cut_header_checks pool at head) IsHeader (Err e)
       fields_refused e start members place same told =
           let here = same_members kinds.Field pool e start fields_at members head.fields place same told in
           behind e (goes_on interfaces (fields ++ methods) IsHeader (Err e) interface (stops fields methods (AreOwn pool head.fields (fields_at + members_len head.fields)) IsHeader e here))
 
       pub methods_refused : AllHold fields → (e : ClassFault) (start : ℕ) (members : List MemberHead) → start ≡ methods_at → members ≡ head.methods
-          → RefusesMembers kinds.Method pool e start members → Tells (header_checks pool at head) IsHeader (Err e)
+          → RefusesMembers kinds.Method pool e start members → Tells (cut_header_checks pool at head) IsHeader (Err e)
       methods_refused field e start members place same told =
           let here = same_members kinds.Method pool e start methods_at members head.methods place same told in
           let end = methods_at + members_len head.methods in
           behind e (goes_on interfaces (fields ++ methods) IsHeader (Err e) interface (goes_on fields methods IsHeader (Err e) field (refusal methods (AreOwn pool head.methods end) IsHeader e here)))
 
       -- every part holds
-      pub all_hold : AllHold fields → AllHold methods → AllHold (header_checks pool at head)
+      pub all_hold : AllHold fields → AllHold methods → AllHold (cut_header_checks pool at head)
       all_hold field method =
           both_hold names (supers ++ (interfaces ++ (fields ++ methods))) name
           (both_hold supers (interfaces ++ (fields ++ methods)) super (both_hold interfaces (fields ++ methods) interface (both_hold fields methods field method)))
 
   pub is_header : (name : List ℕ) (super : Option (List ℕ)) (all : List (List ℕ)) (own others : List Member) → class_at pool head.this_class ≡ Some name → super ≡ class_at pool head.super_class
-      → all ≡ map (name_at pool) head.interfaces → own ≡ map (member_of pool) head.fields → others ≡ map (member_of pool) head.methods
+      → all ≡ map (class_name_in pool) head.interfaces → own ≡ map (member_in pool) head.fields → others ≡ map (member_in pool) head.methods
       → IsHeader (record { name = name; flags = head.flags; super_name = super; interfaces = all; fields = own; methods = others })
   is_header name super all own others named above called one other = rw (named, above, called, one, other) refl

@@ -3,10 +3,8 @@ use Rattle.std.proofs.Common.{◌≡◌, ◌+◌, ◌≤◌, ℕ, List, ◌++◌
 use Rattle.std.specs.List.{flat_map}
 use Rattle.class_model.specs.Answers.{Answers, Gives, Takes, Tells}
 use Rattle.class_model.specs.Checks.{Check, Fault, fault, AllHold, IsFirstFault, asked_of}
-use Rattle.class_model.specs.ClassOf.{start}
-use Rattle.class_model.specs.Cutting.{Rest, Version, version_at, pool_at, class_at}
-use Rattle.class_model.specs.Header.{HeaderOf, IsLibraryVersion}
-use Rattle.class_model.specs.Header as headers
+use Rattle.class_model.specs.Cutting.{Rest, Version, version_at, pool_at, class_file_at, uncut}
+use Rattle.class_model.specs.Header.{HeaderOf, IsLibraryVersion, header_checks}
 use Rattle.class_model.specs.Pool.{Constants}
 use Rattle.class_model.specs.Spelling.{u2, entry_bytes, pool_bytes, class_bytes}
 use Rattle.class_model.specs.declared.class_file.ClassFile.{ClassFile}
@@ -14,7 +12,7 @@ use Rattle.class_model.specs.declared.fault.ClassFault.{ClassFault}
 use Rattle.class_model.specs.declared.fault.ClassFault.TheVariants as faults
 use Rattle.class_model.specs.declared.header.Header.{Header}
 use Rattle.class_model.specs.Header.{texts_checks}
-use Rattle.class_bytes.specs.HeaderParts.{cut_header_at, cut_header, header_len, header_checks, header_of}
+use Rattle.class_bytes.specs.HeaderParts.{cut_header_at, cut_header, header_len, cut_header_checks, header_in}
 use Rattle.class_bytes.specs.Reading.{FirstHeaderFault, in_head, behind, IsHeaderReadOf}
 use Rattle.class_bytes.specs.declared.header_cutting.CutHeader.{CutHeader}
 use Rattle.class_bytes.proofs.Asking.{both_hold, goes_on, stops}
@@ -28,19 +26,19 @@ pub flags_place : (pool : Constants) (rest after : Rest) → rest.at ≡ 8 → a
 flags_place pool rest after eight ends = omega (arith, eight, ends, length-append (u2 (length pool)) (flat_map entry_bytes pool))
 
 -- in the magic and version
-pub head_refused : (bytes : List ℕ) (after : Rest) (e : ClassFault) → Takes {X = Version} (version_at (start bytes)) after (Err e) → IsHeaderReadOf bytes (Err e)
+pub head_refused : (bytes : List ℕ) (after : Rest) (e : ClassFault) → Takes {X = Version} (version_at (uncut bytes)) after (Err e) → IsHeaderReadOf bytes (Err e)
 head_refused bytes after (faults.Malformed at rule) cut = in_head (fault at rule) cut
 head_refused bytes after faults.NoMemory cut = tt
 head_refused bytes after (faults.Version major minor) cut = absurd cut
 
-module _ (bytes : List ℕ) (version : Version) (rest : Rest) (begins : version_at (start bytes) ≡ Ok (version, rest)) (is : IsLibraryVersion version) where
-  cut_refused : (f : Fault) → class_at version rest ≡ Err f → FirstHeaderFault bytes f
-  cut_refused f cut = behind version rest f begins is (subst (λ (r : Result ClassFile Fault). IsFirstFault (asked_of r headers.header_checks) f) (sym cut) (inl ((λ x. x), refl)))
+module _ (bytes : List ℕ) (version : Version) (rest : Rest) (begins : version_at (uncut bytes) ≡ Ok (version, rest)) (is : IsLibraryVersion version) where
+  cut_refused : (f : Fault) → class_file_at version rest ≡ Err f → FirstHeaderFault bytes f
+  cut_refused f cut = behind version rest f begins is (subst (λ (r : Result ClassFile Fault). IsFirstFault (asked_of r header_checks) f) (sym cut) (inl ((λ x. x), refl)))
 
   -- in the pool
   pub pool_refused : (after : Rest) (e : ClassFault) → Takes {X = Constants} (pool_at version.major rest) after (Err e) → IsHeaderReadOf bytes (Err e)
   pool_refused after (faults.Malformed at rule) cut = cut_refused (fault at rule) (no_class (fault at rule) cut) where
-    no_class : (f : Fault) → pool_at version.major rest ≡ Err f → class_at version rest ≡ Err f
+    no_class : (f : Fault) → pool_at version.major rest ≡ Err f → class_file_at version rest ≡ Err f
     no_class f none = rw none refl
   pool_refused after faults.NoMemory cut = tt
   pool_refused after (faults.Version major minor) cut = absurd cut
@@ -57,7 +55,7 @@ module _ (bytes : List ℕ) (version : Version) (rest : Rest) (begins : version_
       pub of : Whole version pool after head
       of = whole version pool after head all
 
-      pub is_cut : class_at version rest ≡ Ok of.class
+      pub is_cut : class_file_at version rest ≡ Ok of.class
       unfolding of
       is_cut = behind_pool version rest pool after cut ∙ of.cut
 
@@ -69,28 +67,28 @@ module _ (bytes : List ℕ) (version : Version) (rest : Rest) (begins : version_
           omega (arith, ap length spelled, class_len of.class, header_within of.class, entries, len)
 
       abbrev asked : List Check
-      asked = texts_checks 10 pool ++ header_checks pool (flags_at pool) head
+      asked = texts_checks 10 pool ++ cut_header_checks pool (flags_at pool) head
 
-      same_asked : asked ≡ headers.header_checks of.class
+      same_asked : asked ≡ header_checks of.class
       same_asked = asked_of_parts pool head of.class of.pool_is of.head_is
 
-      refused : (e : ClassFault) → Tells asked (λ (header : Header). header ≡ header_of pool head) (Err e) → IsHeaderReadOf bytes (Err e)
+      refused : (e : ClassFault) → Tells asked (λ (header : Header). header ≡ header_in pool head) (Err e) → IsHeaderReadOf bytes (Err e)
       refused (faults.Malformed at rule) told =
-          let first : IsFirstFault (headers.header_checks of.class) (fault at rule) = subst (λ (checks : List Check). IsFirstFault checks (fault at rule)) same_asked told in
-          behind version rest (fault at rule) begins is (subst (λ (r : Result ClassFile Fault). IsFirstFault (asked_of r headers.header_checks) (fault at rule)) (sym is_cut) first)
+          let first : IsFirstFault (header_checks of.class) (fault at rule) = subst (λ (checks : List Check). IsFirstFault checks (fault at rule)) same_asked told in
+          behind version rest (fault at rule) begins is (subst (λ (r : Result ClassFile Fault). IsFirstFault (asked_of r header_checks) (fault at rule)) (sym is_cut) first)
       refused faults.NoMemory told = tt
       refused (faults.Version major minor) told = absurd told
 
       abbrev IsHeader : Header → Type 0
-      IsHeader header = header ≡ header_of pool head
+      IsHeader header = header ≡ header_in pool head
 
       -- in a text
       pub text_refused : (e : ClassFault) → Answers {X = Unit {0}} (texts_checks 10 pool) (Err e) → IsHeaderReadOf bytes (Err e)
-      text_refused e told = refused e (stops (texts_checks 10 pool) (header_checks pool (flags_at pool) head) (λ (done : Unit {0}). Unit {0}) IsHeader e told)
+      text_refused e told = refused e (stops (texts_checks 10 pool) (cut_header_checks pool (flags_at pool) head) (λ (done : Unit {0}). Unit {0}) IsHeader e told)
 
       -- behind the texts
-      pub told : AllHold (texts_checks 10 pool) → (result : Result Header ClassFault) → Tells (header_checks pool (flags_at pool) head) IsHeader result → IsHeaderReadOf bytes result
-      told texts (Err e) tells = refused e (goes_on (texts_checks 10 pool) (header_checks pool (flags_at pool) head) IsHeader (Err e) texts tells)
+      pub told : AllHold (texts_checks 10 pool) → (result : Result Header ClassFault) → Tells (cut_header_checks pool (flags_at pool) head) IsHeader result → IsHeaderReadOf bytes result
+      told texts (Err e) tells = refused e (goes_on (texts_checks 10 pool) (cut_header_checks pool (flags_at pool) head) IsHeader (Err e) texts tells)
       told texts (Ok header) tells = record {
         version = version;
         rest = rest;
@@ -98,6 +96,6 @@ module _ (bytes : List ℕ) (version : Version) (rest : Rest) (begins : version_
         is_read = is;
         cut = of.class;
         is_cut = is_cut;
-        holds = subst AllHold same_asked (both_hold (texts_checks 10 pool) (header_checks pool (flags_at pool) head) texts tells.0);
+        holds = subst AllHold same_asked (both_hold (texts_checks 10 pool) (cut_header_checks pool (flags_at pool) head) texts tells.0);
         is = tells.1 ∙ kept_of_parts pool head of.class of.pool_is of.head_is;
       }

@@ -5,7 +5,7 @@ use Rattle.class_model.specs.Checks.{Check}
 use Rattle.class_model.specs.Pool.{Constants}
 use Rattle.class_model.specs.declared.fault.ClassFault.{ClassFault}
 use Rattle.class_model.specs.declared.header.Member.{Member}
-use Rattle.class_bytes.specs.HeaderParts.{member_of, member_checks, members_checks, members_len}
+use Rattle.class_bytes.specs.HeaderParts.{member_in, member_checks, members_checks, members_len}
 use Rattle.class_bytes.specs.declared.header_checks.MemberKind.{MemberKind}
 use Rattle.class_bytes.specs.declared.header_cutting.MemberHead.{MemberHead}
 use Rattle.class_bytes.proofs.Asking.{Remain, refused}
@@ -22,10 +22,10 @@ next_within members index other within place end ends room =
 
 -- what is kept of a member, and of members up to a place
 abbrev IsOwn : Constants → MemberHead → Member → Type 0
-IsOwn pool member own = own ≡ member_of pool member
+IsOwn pool member own = own ≡ member_in pool member
 
 abbrev pub AreOwn : Constants → List MemberHead → ℕ → List Member × ℕ → Type 0
-AreOwn pool members end own = (own.0 ≡ map (member_of pool) members) × (own.1 ≡ end)
+AreOwn pool members end own = (own.0 ≡ map (member_in pool) members) × (own.1 ≡ end)
 
 -- the next member is refused
 pub next_refused : (kind : MemberKind) (pool : Constants) (members : List MemberHead) (index : ℕ) (other : MemberHead) → index < length members

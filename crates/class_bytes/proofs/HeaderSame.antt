@@ -4,8 +4,7 @@ use Rattle.std.specs.Prelude.{IfSome, IsSome}
 use Rattle.std.specs.List.{flat_map}
 use Rattle.std.proofs.lemmas.Simd.{map-map}
 use Rattle.class_model.specs.Checks.{Check, check}
-use Rattle.class_model.specs.Header as headers
-use Rattle.class_model.specs.Header.{texts_checks}
+use Rattle.class_model.specs.Header.{texts_checks, header_checks, header_of}
 use Rattle.class_model.specs.Members.{class_name_checks, super_checks, interfaces_checks}
 use Rattle.class_model.specs.Methods.{IsDescriptorOf}
 use Rattle.class_model.specs.Names.{IsMethodName, IsFieldName}
@@ -16,7 +15,7 @@ use Rattle.class_model.specs.declared.class_file.ClassFile.{ClassFile}
 use Rattle.class_model.specs.declared.class_file.Field.{Field}
 use Rattle.class_model.specs.declared.class_file.Method.{Method}
 use Rattle.class_model.specs.declared.fault.FileRule.TheVariants as rules
-use Rattle.class_bytes.specs.HeaderParts.{field_head, method_head, cut_header, field_checks, method_checks, members_checks, members_len, header_len, header_checks, member_of, header_of}
+use Rattle.class_bytes.specs.HeaderParts.{field_head, method_head, cut_header, field_head_checks, method_head_checks, members_checks, members_len, header_len, cut_header_checks, member_in, header_in}
 use Rattle.class_bytes.specs.Parts.{attrs_len, fields_len, methods_len, behind_len}
 use Rattle.class_bytes.specs.declared.header_checks.MemberKind.TheVariants as kinds
 use Rattle.class_bytes.specs.declared.header_cutting.CutHeader.{CutHeader}
@@ -65,13 +64,13 @@ all_methods pool at (method ∷ methods) =
 same_fields : (pool : Constants) (at : ℕ) (fields : List Field) → all_fields pool at fields ≡ members_checks kinds.Field pool at (map field_head fields)
 same_fields pool at [] = refl
 same_fields pool at (field ∷ fields) =
-    ap (λ (others : List Check). field_checks pool at (field_head field) ++ others)
+    ap (λ (others : List Check). field_head_checks pool at (field_head field) ++ others)
     (ap (λ (n : ℕ). all_fields pool (at + n) fields) (field_len field) ∙ same_fields pool (at + (8 + attrs_len field.attrs)) fields)
 
 same_methods : (pool : Constants) (at : ℕ) (methods : List Method) → all_methods pool at methods ≡ members_checks kinds.Method pool at (map method_head methods)
 same_methods pool at [] = refl
 same_methods pool at (method ∷ methods) =
-    ap (λ (others : List Check). method_checks pool at (method_head method) ++ others)
+    ap (λ (others : List Check). method_head_checks pool at (method_head method) ++ others)
     (ap (λ (n : ℕ). all_methods pool (at + n) methods) (method_len method) ∙ same_methods pool (at + (8 + attrs_len method.attrs)) methods)
 
 grouped : (t n s i f m : List Check) → t ++ n ++ s ++ i ++ f ++ m ≡ t ++ (n ++ (s ++ (i ++ (f ++ m))))
@@ -80,7 +79,7 @@ grouped t n s i f m = simp append_assoc
 abbrev pub flags_at : Constants → ℕ
 flags_at pool = 10 + length (flat_map entry_bytes pool)
 
-same_checks : (c : ClassFile) → headers.header_checks c ≡ texts_checks 10 c.pool ++ header_checks c.pool (flags_at c.pool) (cut_header c)
+same_checks : (c : ClassFile) → header_checks c ≡ texts_checks 10 c.pool ++ cut_header_checks c.pool (flags_at c.pool) (cut_header c)
 same_checks c =
     let pool = c.pool in
     let fields = flags_at c.pool + 8 + 2 * length c.interfaces in
@@ -96,13 +95,13 @@ same_checks c =
 
 -- ---- what is kept
 
-same_header : (c : ClassFile) → headers.header_of c ≡ header_of c.pool (cut_header c)
-same_header c = rw (map-map (member_of c.pool) field_head c.fields, map-map (member_of c.pool) method_head c.methods) refl
+same_header : (c : ClassFile) → header_of c ≡ header_in c.pool (cut_header c)
+same_header c = rw (map-map (member_in c.pool) field_head c.fields, map-map (member_in c.pool) method_head c.methods) refl
 
 -- ---- a class file of a pool and of a header that was cut
 
-pub asked_of_parts : (pool : Constants) (head : CutHeader) (c : ClassFile) → c.pool ≡ pool → head ≡ cut_header c → texts_checks 10 pool ++ header_checks pool (flags_at pool) head ≡ headers.header_checks c
+pub asked_of_parts : (pool : Constants) (head : CutHeader) (c : ClassFile) → c.pool ≡ pool → head ≡ cut_header c → texts_checks 10 pool ++ cut_header_checks pool (flags_at pool) head ≡ header_checks c
 asked_of_parts pool head c pool_is head_is = rw (head_is, ← pool_is) (sym (same_checks c))
 
-pub kept_of_parts : (pool : Constants) (head : CutHeader) (c : ClassFile) → c.pool ≡ pool → head ≡ cut_header c → header_of pool head ≡ headers.header_of c
+pub kept_of_parts : (pool : Constants) (head : CutHeader) (c : ClassFile) → c.pool ≡ pool → head ≡ cut_header c → header_in pool head ≡ header_of c
 kept_of_parts pool head c pool_is head_is = rw (head_is, ← pool_is) (sym (same_header c))

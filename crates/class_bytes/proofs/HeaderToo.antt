@@ -3,14 +3,13 @@ use Rattle.std.proofs.Common.{◌≡◌, ◌+◌, ◌*◌, ℕ, List, [], ◌∷
 use Rattle.std.specs.List.{flat_map}
 use Rattle.std.proofs.lemmas.Simd.{map-map}
 use Rattle.class_model.specs.Checks.{Check, check, AllHold}
-use Rattle.class_model.specs.ClassOf.{ClassOf, IsRead, field_signature, method_signature, fields_checks, methods_checks, dynamic_checks, class_checks, entered, entered_method}
+use Rattle.class_model.specs.ClassOf.{ClassOf, IsReadVersion, fields_checks, methods_checks, bootstrap_index_checks, class_file_checks, entered, entered_method}
 use Rattle.class_model.specs.Cutting.{Version}
 use Rattle.class_model.specs.Header.{HeaderOf, IsLibraryVersion, texts_checks, header_checks, header_of}
-use Rattle.class_model.specs.Members.{Signature, fits_class, class_name_checks, super_checks, interfaces_checks, field_checks, attrs_checks}
-use Rattle.class_model.specs.Methods.{Home, method_checks, class_attr_checks, bootstrap_count}
+use Rattle.class_model.specs.Members.{Signature, fits_class, class_name_checks, super_checks, interfaces_checks, field_checks, attrs_checks, field_signature}
+use Rattle.class_model.specs.Methods.{Home, method_checks, class_attr_checks, bootstrap_count, method_signature}
 use Rattle.class_model.specs.Pool.{Constants}
-use Rattle.class_model.specs.PoolChecks as pools
-use Rattle.class_model.specs.PoolChecks.{constant_checks, entries_checks}
+use Rattle.class_model.specs.PoolChecks.{class_at, constant_checks, entries_checks}
 use Rattle.class_model.specs.Spelling.{constant_bytes, entry_bytes, field_bytes, method_bytes}
 use Rattle.class_model.specs.declared.class_file.ClassFile.{ClassFile}
 use Rattle.class_model.specs.declared.class_file.Field.{Field}
@@ -18,7 +17,7 @@ use Rattle.class_model.specs.declared.class_file.Method.{Method}
 use Rattle.class_model.specs.declared.fault.FileRule.TheVariants as rules
 use Rattle.class_model.specs.declared.header.Member.{Member}
 use Rattle.class_model.specs.declared.pool.Const.TheVariants.{Utf8}
-use Rattle.class_bytes.specs.HeaderParts.{method_head, member_of}
+use Rattle.class_bytes.specs.HeaderParts.{method_head, member_in}
 use Rattle.class_bytes.proofs.Asking.{both_hold, first_holds, others_hold}
 use Rattle.class_bytes.proofs.HeaderSame.{all_fields, all_methods}
 use Rattle.class_bytes.proofs.PoolAlone.{IsAlone, pool_alone}
@@ -87,18 +86,18 @@ record Holds (c : ClassFile) : Type 0 where
   entries : AllHold (entries_checks c.major c.pool 10 c.pool)
   header : AllHold (header_checks c)
 
-class_holds : (c : ClassFile) → AllHold (class_checks c) → Holds c
+class_holds : (c : ClassFile) → AllHold (class_file_checks c) → Holds c
 class_holds c all =
     let pool = c.pool in
     let flags = 10 + length (flat_map entry_bytes pool) in
     let fields = flags + 8 + 2 * length c.interfaces in
     let methods = fields + 2 + length (flat_map field_bytes c.fields) in
     let attrs = methods + 2 + length (flat_map method_bytes c.methods) in
-    let home : Home = record { pool = pool; major = c.major; flags = c.flags; name = pools.class_at pool c.this_class } in
+    let home : Home = record { pool = pool; major = c.major; flags = c.flags; name = class_at pool c.this_class } in
     let names = class_name_checks pool (flags + 2) c.this_class in
     let supers = super_checks pool (flags + 4) c.super_class in
     let interfaces = interfaces_checks pool (flags + 8) c.interfaces in
-    let asked = parts (entries_checks c.major pool 10 pool) (check flags rules.Flags (IsTrue (fits_class c.flags)) ∷ []) names supers interfaces (fields_checks pool c.flags [] (fields + 2) c.fields) (methods_checks home [] (methods + 2) c.methods) (attrs_checks (class_attr_checks pool) [] (attrs + 2) c.attrs) (dynamic_checks (bootstrap_count pool c.attrs) 10 pool) all in
+    let asked = parts (entries_checks c.major pool 10 pool) (check flags rules.Flags (IsTrue (fits_class c.flags)) ∷ []) names supers interfaces (fields_checks pool c.flags [] (fields + 2) c.fields) (methods_checks home [] (methods + 2) c.methods) (attrs_checks (class_attr_checks pool) [] (attrs + 2) c.attrs) (bootstrap_index_checks (bootstrap_count pool c.attrs) 10 pool) all in
     let texts = texts_checks 10 pool in
     let own = all_fields pool (fields + 2) c.fields in
     let others = all_methods pool (methods + 2) c.methods in
@@ -113,14 +112,14 @@ class_holds c all =
 -- ---- the whole
 
 -- the versions that are read are a library's
-library_version : (version : Version) → IsRead version → IsLibraryVersion version
+library_version : (version : Version) → IsReadVersion version → IsLibraryVersion version
 library_version version (inl is) = inl (omega (arith, is), omega (arith, is))
 library_version version (inr (inl is)) = inl (omega (arith, is), omega (arith, is))
 library_version version (inr (inr is)) = inr is
 
 -- where code is entered, the header is the same
 header_entered : (c : ClassFile) → header_of (entered c) ≡ header_of c
-header_entered c = ap (λ (methods : List Member). record (header_of c) { methods = methods }) (map-map (λ (method : Method). member_of c.pool (method_head method)) (entered_method c.pool) c.methods)
+header_entered c = ap (λ (methods : List Member). record (header_of c) { methods = methods }) (map-map (λ (method : Method). member_in c.pool (method_head method)) (entered_method c.pool) c.methods)
 
 pub is_library_file : (bytes : List ℕ) (class : ClassFile) → ClassOf bytes class → HeaderOf bytes (header_of class)
 is_library_file bytes class is = record {

@@ -5,8 +5,8 @@ use Rattle.std.specs.List.{flat_map}
 use Rattle.std.proofs.lemmas.Bool.{ltb-false, eqb-true}
 use Rattle.std.proofs.lemmas.List.{length-take}
 use Rattle.class_model.specs.Checks.{fault}
-use Rattle.class_model.specs.Code.{handler_at, inner_at, part_at, whole, code_part}
-use Rattle.class_model.specs.Cutting.{Rest, Cut, behind, bytes_at, number_at, u2_at, u4_at, many_at, counted_at}
+use Rattle.class_model.specs.Code.{handler_at, inner_at, part_at, code_part}
+use Rattle.class_model.specs.Cutting.{Rest, Cut, behind, bytes_at, number_at, u2_at, u4_at, many_at, counted_at, whole}
 use Rattle.class_model.specs.Spelling.{u2, u4, handler_bytes, inner_bytes, code_part_bytes}
 use Rattle.class_model.specs.declared.class_file.CodePart.{CodePart}
 use Rattle.class_model.specs.declared.class_file.Handler.{Handler}

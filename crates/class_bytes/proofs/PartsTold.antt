@@ -6,8 +6,7 @@ use Rattle.class_model.specs.Checks.{Check, check, Fault, fault, asked_of, AllHo
 use Rattle.class_model.specs.Code.{jump_checks, operand_checks, handlers_checks, inners_checks}
 use Rattle.class_model.specs.Frames.{Setting}
 use Rattle.class_model.specs.Instructions.{decoded}
-use Rattle.class_model.specs.Methods as methods
-use Rattle.class_model.specs.Methods.{units_at_call, instructions_checks, part_checks}
+use Rattle.class_model.specs.Methods.{units_at_call, instructions_checks, part_checks, entry_of}
 use Rattle.class_model.specs.PoolChecks.{utf8_at}
 use Rattle.class_model.specs.declared.class_file.CodePart.{CodePart}
 use Rattle.class_model.specs.declared.class_file.Handler.{Handler}
@@ -15,8 +14,8 @@ use Rattle.class_model.specs.declared.fault.ClassFault.{ClassFault}
 use Rattle.class_model.specs.declared.fault.ClassFault.TheVariants.{Malformed, Version, NoMemory}
 use Rattle.class_model.specs.declared.fault.FileRule.TheVariants as rules
 use Rattle.class_model.specs.declared.instr.Placed.{Placed}
-use Rattle.class_bytes.specs.CodeParts.{at_place, decoded_checks, setting_of, entry_of, parts_checks}
-use Rattle.class_bytes.specs.Cut.{home_of, method_of, part_of}
+use Rattle.class_bytes.specs.CodeParts.{at_place, decoded_checks, setting_of_code, entry_frame_of, parts_checks}
+use Rattle.class_bytes.specs.Cut.{home_seen, method_of, part_of}
 use Rattle.class_bytes.specs.declared.cut.CutMember.{CutMember}
 use Rattle.class_bytes.specs.declared.cut.CutPart.{CutPart}
 use Rattle.class_bytes.specs.declared.home.Home.{Home}
@@ -45,7 +44,7 @@ module _ (code : MethodCode) (start : ℕ) where
   handlers = handlers_of code.part.now.handlers
 
   abbrev inners : List Check
-  inners = inners_checks (setting_of code) (entry_of code) false (table + 8 * length code.part.now.handlers + 2) (part_of code.part.now).attrs
+  inners = inners_checks (setting_of_code code) (entry_frame_of code) false (table + 8 * length code.part.now.handlers + 2) (part_of code.part.now).attrs
 
   pub operands_refused : (instrs : List Placed) → instrs ≡ code.instrs.now → (e : ClassFault) → TellsDone (operands_of instrs) (Err e) → TellsDone (parts_checks code start) (Err e)
   operands_refused instrs are e told =
@@ -77,7 +76,7 @@ module _ (home : Home) (method : CutMember) (cut : CutPart) (at : ℕ) where
   begin = at + 14
 
   abbrev whole : List Check
-  whole = part_checks (home_of home) (method_of method) at part
+  whole = part_checks (home_seen home) (method_of method) at part
 
   abbrev front : List Check
   front =
@@ -86,7 +85,7 @@ module _ (home : Home) (method : CutMember) (cut : CutPart) (at : ℕ) where
       ∷ []
 
   asks : List Placed → List Check
-  asks instrs = instructions_checks (home_of home) (method_of method) at part instrs
+  asks instrs = instructions_checks (home_seen home) (method_of method) at part instrs
 
   -- behind the jumps
   abbrev its_operands : List Placed → List Check
@@ -98,7 +97,7 @@ module _ (home : Home) (method : CutMember) (cut : CutPart) (at : ℕ) where
   abbrev its_inners : List Placed → List Check
   its_inners instrs =
       let s : Setting = record { pool = home.pool.now; max_locals = part.max_locals; max_stack = part.max_stack; code = instrs } in
-      inners_checks s (methods.entry_of (home_of home) (method_of method) part) false (begin + length part.code + 2 + 8 * length part.handlers + 2) part.attrs
+      inners_checks s (entry_of (home_seen home) (method_of method) part) false (begin + length part.code + 2 + 8 * length part.handlers + 2) part.attrs
 
   abbrev behind : List Placed → List Check
   behind instrs = its_operands instrs ++ (its_handlers instrs ++ its_inners instrs)

@@ -3,8 +3,8 @@ use Rattle.std.proofs.Common.{◌≡◌, ◌+◌, ℕ, zero, suc, Bool, true, fa
 use Rattle.std.specs.Int.{Width, w16, w32, w64, byte_len, from_be_bytes, cast_signed}
 use Rattle.std.proofs.lemmas.List.{drop-drop}
 use Rattle.class_model.specs.Checks.{Fault, fault, AllHold, ◌>>=◌}
-use Rattle.class_model.specs.ClassOf.{ClassOf, start}
-use Rattle.class_model.specs.Cutting.{Rest, Version, Cut, behind, bytes_at, number_at, u1_at, u2_at, u4_at, u2_pair_at, is_tag, fields_at, entries_at, pool_at, version_at}
+use Rattle.class_model.specs.ClassOf.{ClassOf}
+use Rattle.class_model.specs.Cutting.{Rest, Version, Cut, behind, bytes_at, number_at, u1_at, u2_at, u4_at, u2_pair_at, is_tag, fields_at, entries_at, pool_at, version_at, uncut}
 use Rattle.class_model.specs.Pool.{Constants, entries_of}
 use Rattle.class_model.specs.PoolChecks.{RefersWell, constant_checks, entries_checks}
 use Rattle.class_model.specs.Spelling.{magic, constant_bytes}
@@ -188,9 +188,9 @@ number_behind w rest x e =
     let g = guard_false (ltb (length rest.bytes) count) (fault rest.at rules.Short) (take count rest.bytes, behind count rest) item.0 item.1 in
     ap (λ (z : ℕ × Rest). z.1) (sym (same_done (from_be_bytes w item.0.0, item.0.1) x item.2)) ∙ ap (λ (z : List ℕ × Rest). z.1) (sym g.1)
 
-behind_version : (bytes : List ℕ) (x : Version × Rest) → version_at (start bytes) ≡ Ok x → x.1 ≡ rest_at bytes 8
+behind_version : (bytes : List ℕ) (x : Version × Rest) → version_at (uncut bytes) ≡ Ok x → x.1 ≡ rest_at bytes 8
 behind_version bytes x e =
-    let first = bind_ok (u4_at (start bytes)) _ x e in
+    let first = bind_ok (u4_at (uncut bytes)) _ x e in
     let magical = bind_ok (cond (first.0.0 == magic) (Ok first.0.1) (Err (fault 0 rules.Magic))) _ x first.2 in
     let g = guard_true (first.0.0 == magic) (fault 0 rules.Magic) first.0.1 magical.0 magical.1 in
     let minor = bind_ok (u2_at magical.0) _ x magical.2 in
@@ -200,7 +200,7 @@ behind_version bytes x e =
     ap (λ (z : Version × Rest). z.1) (sym (same_done made x major.2))
     ∙ number_behind w16 minor.0.1 major.0 major.1
     ∙ ap (behind 2) (number_behind w16 magical.0 minor.0 minor.1)
-    ∙ ap (λ (r : Rest). behind 2 (behind 2 r)) (sym g.1 ∙ number_behind w32 (start bytes) first.0 first.1)
+    ∙ ap (λ (r : Rest). behind 2 (behind 2 r)) (sym g.1 ∙ number_behind w32 (uncut bytes) first.0 first.1)
     ∙ ap place (drop-drop 2 2 (drop 4 bytes) ∙ drop-drop 4 4 bytes)
 
 -- ---- the pool

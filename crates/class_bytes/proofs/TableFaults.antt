@@ -6,7 +6,7 @@ use Rattle.std.proofs.lemmas.List.{length-drop}
 use Rattle.class_model.specs.Checks.{Fault, fault, AllHold, IsFirstFault, ◌>>=◌}
 use Rattle.class_model.specs.Code.{table_fault}
 use Rattle.class_model.specs.Cutting.{Rest, Cut, behind}
-use Rattle.class_model.specs.Frames.{Setting, Stated, is_new_at, missing, depth, filled, entry_at, entries_at, frame_at, frames_at, listed, table_at}
+use Rattle.class_model.specs.Frames.{Setting, Stated, is_new_at, missing, depth, filled, verification_type_at, verification_types_at, frame_at, frames_at, listed, stack_map_table_at}
 use Rattle.class_model.specs.Instructions.{u1_in, u2_in, is_start}
 use Rattle.class_model.specs.PoolChecks.{class_at}
 use Rattle.class_model.specs.declared.fault.FileRule.TheVariants as rules
@@ -81,7 +81,7 @@ unfolding object_in
 object_within end frame rest (Some name) here inside = got end (Object name) rest inside
 object_within end frame rest None here inside = fault_within end (fault frame rules.FrameType) here
 
-entry_within : (s : Setting) (end frame : ℕ) (rest : Rest) → frame ≤ end → Inside end rest → Within end (entry_at s frame rest)
+entry_within : (s : Setting) (end frame : ℕ) (rest : Rest) → frame ≤ end → Inside end rest → Within end (verification_type_at s frame rest)
 unfolding object_in
 entry_within s end frame rest here inside =
     refused end (ltb (length rest.bytes) 1) missing _ (none_missing end) (λ some.
@@ -95,24 +95,24 @@ entry_within s end frame rest here inside =
     either end (tag == 7) _ _ (object_within end frame (behind 3 rest) (class_at s.pool (u2_in rest.bytes 1)) here three)
     (either end (is_new_at s.code (u2_in rest.bytes 1)) _ _ (got end (Uninit (u2_in rest.bytes 1)) (behind 3 rest) three) bad)))))))))))
 
-entries_within : (s : Setting) (end frame count : ℕ) (rest : Rest) → frame ≤ end → Inside end rest → Within end (entries_at s frame count rest)
-unfolding entries_at
+entries_within : (s : Setting) (end frame count : ℕ) (rest : Rest) → frame ≤ end → Inside end rest → Within end (verification_types_at s frame count rest)
+unfolding verification_types_at
 entries_within s end frame zero rest here inside = got end [] rest inside
 entries_within s end frame (suc count) rest here inside =
-    next_part end (entry_at s frame rest) _ (entry_within s end frame rest here inside) (λ first left.
-    next_part end (entries_at s frame count first.1) _ (entries_within s end frame count first.1 here left) (λ others last. got end _ _ last))
+    next_part end (verification_type_at s frame rest) _ (entry_within s end frame rest here inside) (λ first left.
+    next_part end (verification_types_at s frame count first.1) _ (entries_within s end frame count first.1 here left) (λ others last. got end _ _ last))
 
 -- ---- frames
 
 full_within : (s : Setting) (end frame : ℕ) (rest : Rest) (makes : ℕ → List VType → List VType → Stated) → frame ≤ end → Inside end rest
-    → Within end (number_in rest >>= λ delta. number_in delta.1 >>= λ locals. entries_at s frame locals.0 locals.1 >>= λ local_types.
-    number_in local_types.1 >>= λ stack. entries_at s frame stack.0 stack.1 >>= λ stack_types. Ok (makes delta.0 local_types.0 stack_types.0, stack_types.1))
+    → Within end (number_in rest >>= λ delta. number_in delta.1 >>= λ locals. verification_types_at s frame locals.0 locals.1 >>= λ local_types.
+    number_in local_types.1 >>= λ stack. verification_types_at s frame stack.0 stack.1 >>= λ stack_types. Ok (makes delta.0 local_types.0 stack_types.0, stack_types.1))
 full_within s end frame rest makes here inside =
     next_part end (number_in rest) _ (number_within end rest inside) (λ delta a.
     next_part end (number_in delta.1) _ (number_within end delta.1 a) (λ locals b.
-    next_part end (entries_at s frame locals.0 locals.1) _ (entries_within s end frame locals.0 locals.1 here b) (λ local_types c.
+    next_part end (verification_types_at s frame locals.0 locals.1) _ (entries_within s end frame locals.0 locals.1 here b) (λ local_types c.
     next_part end (number_in local_types.1) _ (number_within end local_types.1 c) (λ stack d.
-    next_part end (entries_at s frame stack.0 stack.1) _ (entries_within s end frame stack.0 stack.1 here d) (λ stack_types e. got end _ _ e)))))
+    next_part end (verification_types_at s frame stack.0 stack.1) _ (entries_within s end frame stack.0 stack.1 here d) (λ stack_types e. got end _ _ e)))))
 
 frame_within : (s : Setting) (end : ℕ) (locals : List VType) (rest : Rest) → Inside end rest → Within end (frame_at s locals rest)
 unfolding number_in
@@ -120,19 +120,19 @@ frame_within s end locals rest inside =
     let here : rest.at ≤ end = omega arith in
     refused end (ltb (length rest.bytes) 1) missing _ (none_missing end) (λ some.
     let in_it : Inside end (behind 1 rest) = behind_inside end 1 rest inside some in
-    let item : (at : Rest) → Inside end at → Within end (entry_at s rest.at at) = λ at. entry_within s end rest.at at here in
+    let item : (at : Rest) → Inside end at → Within end (verification_type_at s rest.at at) = λ at. entry_within s end rest.at at here in
     let front : Rest = behind 1 rest in
     let bad : Within {X = Stated} end (Err (fault rest.at rules.FrameKind)) = fault_within end (fault rest.at rules.FrameKind) here in
     let number = number_within end front in_it in
     let kind = u1_in rest.bytes 0 in
     either end (nat_le kind 63) _ _ (got end _ _ in_it)
-    (either end (nat_le kind 127) _ _ (next_part end (entry_at s rest.at front) _ (item front in_it) (λ entry left. got end _ _ left))
+    (either end (nat_le kind 127) _ _ (next_part end (verification_type_at s rest.at front) _ (item front in_it) (λ entry left. got end _ _ left))
     (either end (nat_le kind 246) _ _ bad
-    (either end (kind == 247) _ _ (next_part end (number_in front) _ number (λ delta a. next_part end (entry_at s rest.at delta.1) _ (item delta.1 a) (λ entry left. got end _ _ left)))
+    (either end (kind == 247) _ _ (next_part end (number_in front) _ number (λ delta a. next_part end (verification_type_at s rest.at delta.1) _ (item delta.1 a) (λ entry left. got end _ _ left)))
     (either end (nat_le kind 250) _ _ (either end (nat_lt (length locals) (251 - kind)) _ _ bad (next_part end (number_in front) _ number (λ delta a. got end _ _ a)))
     (either end (kind == 251) _ _ (next_part end (number_in front) _ number (λ delta a. got end _ _ a))
     (either end (nat_le kind 254) _ _ (next_part end (number_in front) _ number (λ delta a.
-    next_part end (entries_at s rest.at (kind - 251) delta.1) _ (entries_within s end rest.at (kind - 251) delta.1 here a) (λ more left. got end _ _ left)))
+    next_part end (verification_types_at s rest.at (kind - 251) delta.1) _ (entries_within s end rest.at (kind - 251) delta.1 here a) (λ more left. got end _ _ left)))
     (full_within s end rest.at front _ here in_it))))))))
 
 -- ---- the table
@@ -170,7 +170,7 @@ table_from : Setting → List VType → List ℕ → Result (List PlacedFrame) F
 table_from s locals content =
     number_in (record { at = 0; bytes = content }) >>= λ count. frames_at s count.0 0 locals count.1 >>= λ frames. (if length frames.1.bytes == 0 then Ok frames.0 else Err missing)
 
-table_is : (s : Setting) (entry : Frame) (content : List ℕ) → table_at s entry content ≡ table_from s (listed entry) content
+table_is : (s : Setting) (entry : Frame) (content : List ℕ) → stack_map_table_at s entry content ≡ table_from s (listed entry) content
 unfolding table_from number_in
 table_is s entry content = refl
 
@@ -183,11 +183,11 @@ table_fails s locals content =
     last_part end (number_in start) _ (number_within end start inside) (λ count a.
     last_part end (frames_at s count.0 0 locals count.1) _ (frames_within s end count.0 0 locals count.1 a) (λ frames b. either_step end _ _ _ (step_done end _) (step_fails end missing (none_missing end))))
 
-pub table_fault_inside : (s : Setting) (entry : Frame) (content : List ℕ) (f : Fault) → table_at s entry content ≡ Err f → f.at ≤ length content
+pub table_fault_inside : (s : Setting) (entry : Frame) (content : List ℕ) (f : Fault) → stack_map_table_at s entry content ≡ Err f → f.at ≤ length content
 table_fault_inside s entry content f is = (table_fails s (listed entry) content).err f (sym (table_is s entry content) ∙ is)
 
 -- it asks of the entry frame what that lists
-same_table : (s : Setting) (one other : Frame) (content : List ℕ) → listed one ≡ listed other → table_at s one content ≡ table_at s other content
+same_table : (s : Setting) (one other : Frame) (content : List ℕ) → listed one ≡ listed other → stack_map_table_at s one content ≡ stack_map_table_at s other content
 same_table s one other content same = table_is s one content ∙ ap (λ (locals : List VType). table_from s locals content) same ∙ sym (table_is s other content)
 
 -- ---- in the file
@@ -195,13 +195,13 @@ same_table s one other content same = table_is s one content ∙ ap (λ (locals 
 fault_placed : (at : ℕ) (f : Fault) → fault (if f.at == 0 then at else at + 6 + f.at) f.rule ≡ table_fault at f
 fault_placed at f = elim (cases_Bool (eqb f.at 0)) [ inl e ↦ rw e refl | inr e ↦ rw e refl ]
 
-pub table_fault_placed : (s : Setting) (entry : Frame) (content : List ℕ) (at : ℕ) (f : Fault) (other : Frame) → listed other ≡ listed entry → table_at s other content ≡ Err f
+pub table_fault_placed : (s : Setting) (entry : Frame) (content : List ℕ) (at : ℕ) (f : Fault) (other : Frame) → listed other ≡ listed entry → stack_map_table_at s other content ≡ Err f
     → IsFirstFault (table_checks s entry at content) (fault (if f.at == 0 then at else at + 6 + f.at) f.rule)
 table_fault_placed s entry content at f other same is =
-    let here : table_at s entry content ≡ Err f = sym (same_table s other entry content same) ∙ is in
+    let here : stack_map_table_at s entry content ≡ Err f = sym (same_table s other entry content same) ∙ is in
     rw (here, fault_placed at f) (inl ((λ none. none), refl))
 
-pub table_holds : (s : Setting) (entry : Frame) (content : List ℕ) (at : ℕ) (other : Frame) → listed other ≡ listed entry → (frames : List PlacedFrame) → table_at s other content ≡ Ok frames → AllHold (table_checks s entry at content)
+pub table_holds : (s : Setting) (entry : Frame) (content : List ℕ) (at : ℕ) (other : Frame) → listed other ≡ listed entry → (frames : List PlacedFrame) → stack_map_table_at s other content ≡ Ok frames → AllHold (table_checks s entry at content)
 table_holds s entry content at other same frames is =
-    let here : table_at s entry content ≡ Ok frames = sym (same_table s other entry content same) ∙ is in
+    let here : stack_map_table_at s entry content ≡ Ok frames = sym (same_table s other entry content same) ∙ is in
     rw here tt

@@ -3,8 +3,8 @@ use Rattle.std.proofs.Common.{◌≡◌, ◌+◌, ◌*◌, ℕ, List, [], ◌∷
 use Rattle.std.specs.List.{flat_map}
 use Rattle.class_model.specs.Answers.{Gives, Takes, Tells}
 use Rattle.class_model.specs.Checks.{Fault, fault, AllHold, IsFirstFault, asked_of}
-use Rattle.class_model.specs.ClassOf.{ClassOf, FirstFault, in_head, behind, IsRead, start, class_checks, entered}
-use Rattle.class_model.specs.Cutting.{Rest, Version, version_at, pool_at, class_at}
+use Rattle.class_model.specs.ClassOf.{ClassOf, FirstFault, in_head, behind, IsReadVersion, class_file_checks, entered}
+use Rattle.class_model.specs.Cutting.{Rest, Version, version_at, pool_at, class_file_at, uncut}
 use Rattle.class_model.specs.Pool.{Constants}
 use Rattle.class_model.specs.Spelling.{u2, u4, u2s, magic, entry_bytes, pool_bytes, field_bytes, method_bytes, attr_bytes, attrs_bytes, class_bytes}
 use Rattle.class_model.specs.declared.class_file.ClassFile.{ClassFile}
@@ -17,19 +17,19 @@ use Rattle.class_bytes.proofs.Bodies.{behind_pool}
 -- ---- refusals
 
 -- in the magic and version
-pub head_refused : (bytes : List ℕ) (after : Rest) (e : ClassFault) → Takes {X = Version} (version_at (start bytes)) after (Err e) → IsReadOf bytes (Err e)
+pub head_refused : (bytes : List ℕ) (after : Rest) (e : ClassFault) → Takes {X = Version} (version_at (uncut bytes)) after (Err e) → IsReadOf bytes (Err e)
 head_refused bytes after (faults.Malformed at rule) cut = in_head (fault at rule) cut
 head_refused bytes after faults.NoMemory cut = tt
 head_refused bytes after (faults.Version major minor) cut = absurd cut
 
-module _ (bytes : List ℕ) (version : Version) (rest : Rest) (head : version_at (start bytes) ≡ Ok (version, rest)) (is : IsRead version) where
-  cut_refused : (f : Fault) → class_at version rest ≡ Err f → FirstFault bytes f
-  cut_refused f cut = behind version rest f head is (subst (λ (r : Result ClassFile Fault). IsFirstFault (asked_of r class_checks) f) (sym cut) (inl ((λ x. x), refl)))
+module _ (bytes : List ℕ) (version : Version) (rest : Rest) (head : version_at (uncut bytes) ≡ Ok (version, rest)) (is : IsReadVersion version) where
+  cut_refused : (f : Fault) → class_file_at version rest ≡ Err f → FirstFault bytes f
+  cut_refused f cut = behind version rest f head is (subst (λ (r : Result ClassFile Fault). IsFirstFault (asked_of r class_file_checks) f) (sym cut) (inl ((λ x. x), refl)))
 
   -- in the pool
   pub pool_refused : (after : Rest) (e : ClassFault) → Takes {X = Constants} (pool_at version.major rest) after (Err e) → IsReadOf bytes (Err e)
   pool_refused after (faults.Malformed at rule) cut = cut_refused (fault at rule) (no_class (fault at rule) cut) where
-    no_class : (f : Fault) → pool_at version.major rest ≡ Err f → class_at version rest ≡ Err f
+    no_class : (f : Fault) → pool_at version.major rest ≡ Err f → class_file_at version rest ≡ Err f
     no_class f none = rw none refl
   pool_refused after faults.NoMemory cut = tt
   pool_refused after (faults.Version major minor) cut = absurd cut
@@ -42,17 +42,17 @@ module _ (bytes : List ℕ) (version : Version) (rest : Rest) (head : version_at
     body_refused (faults.Version major minor) none = absurd none
 
     module _ (class : ClassFile) (whole : body_at version pool after ≡ Ok class) where
-      pub is_cut : class_at version rest ≡ Ok class
+      pub is_cut : class_file_at version rest ≡ Ok class
       is_cut = behind_pool version rest pool after cut ∙ whole
 
       -- in a check
-      pub check_refused : {X : Type 0} (Is : X → Type 0) (e : ClassFault) → Tells (class_checks class) Is (Err e) → IsReadOf bytes (Err e)
+      pub check_refused : {X : Type 0} (Is : X → Type 0) (e : ClassFault) → Tells (class_file_checks class) Is (Err e) → IsReadOf bytes (Err e)
       check_refused Is (faults.Malformed at rule) told =
-          behind version rest (fault at rule) head is (subst (λ (r : Result ClassFile Fault). IsFirstFault (asked_of r class_checks) (fault at rule)) (sym is_cut) told)
+          behind version rest (fault at rule) head is (subst (λ (r : Result ClassFile Fault). IsFirstFault (asked_of r class_file_checks) (fault at rule)) (sym is_cut) told)
       check_refused Is faults.NoMemory told = tt
       check_refused Is (faults.Version major minor) told = absurd told
 
-      pub is_class : AllHold (class_checks class) → (read : ClassFile) → read ≡ entered class → ClassOf bytes read
+      pub is_class : AllHold (class_file_checks class) → (read : ClassFile) → read ≡ entered class → ClassOf bytes read
       is_class holds read same = record { version = version; rest = rest; head = head; is_read = is; cut = class; is_cut = is_cut; holds = holds; is = same }
 
 -- ---- places

@@ -2,10 +2,10 @@
 use Rattle.std.specs.Prelude.{◌≡◌, ◌⊎◌, ◌+◌, ◌*◌, ℕ, Bool, false, List, [], ◌∷◌, ◌++◌, length, Result, Ok, Err, IsSome, IsFalse}
 use Rattle.std.specs.List.{flat_map}
 use Rattle.class_model.specs.Checks.{Check, check, Fault, fault, asked_of, asked_if}
-use Rattle.class_model.specs.Code.{IsRange, jump_checks, operand_checks, handlers_checks, inners_checks, inner_is_named, stack_map_table, table_fault}
-use Rattle.class_model.specs.Frames.{Setting, table_at}
+use Rattle.class_model.specs.Code.{IsRange, jump_checks, operand_checks, handlers_checks, inners_checks, inner_is_named, stack_map_table, in_table}
+use Rattle.class_model.specs.Frames.{Setting, stack_map_table_at}
 use Rattle.class_model.specs.Instructions.{decoded}
-use Rattle.class_model.specs.Methods as methods
+use Rattle.class_model.specs.Methods.{entry_of}
 use Rattle.class_model.specs.Pool.{Constants}
 use Rattle.class_model.specs.PoolChecks.{utf8_at, IsClassAt}
 use Rattle.class_model.specs.Spelling.{inner_bytes}
@@ -14,9 +14,8 @@ use Rattle.class_model.specs.declared.class_file.Handler.{Handler}
 use Rattle.class_model.specs.declared.class_file.InnerAttr.{InnerAttr}
 use Rattle.class_model.specs.declared.fault.FileRule.TheVariants as rules
 use Rattle.class_model.specs.declared.frame.Frame.{Frame}
-use Rattle.class_model.specs.declared.frame.PlacedFrame.{PlacedFrame}
 use Rattle.class_model.specs.declared.instr.Placed.{Placed}
-use Rattle.class_bytes.specs.Cut.{home_of, method_of, part_of}
+use Rattle.class_bytes.specs.Cut.{home_seen, method_of, part_of}
 use Rattle.class_bytes.specs.declared.method_code.MethodCode.{MethodCode}
 
 -- how many bytes the attributes of a code take without their count
@@ -43,12 +42,8 @@ handler_checks pool code len at handler =
     ∷ []
 
 -- the content of a StackMapTable, whose attribute stands at the place
-abbrev pub in_table : ℕ → Result (List PlacedFrame) Fault → Result (List PlacedFrame) Fault
-in_table at (Ok frames) = Ok frames
-in_table at (Err f) = Err (table_fault at f)
-
 abbrev pub table_checks : Setting → Frame → ℕ → List ℕ → List Check
-table_checks s entry at content = asked_of (in_table at (table_at s entry content)) (λ frames. [])
+table_checks s entry at content = asked_of (in_table at (stack_map_table_at s entry content)) (λ frames. [])
 
 -- an attribute of a code, behind a StackMapTable or not
 abbrev pub inner_checks : Setting → Frame → Bool → ℕ → InnerAttr → List Check
@@ -58,11 +53,11 @@ inner_checks s entry had at attr =
 
 -- ---- a code whose instructions are read
 
-abbrev pub setting_of : MethodCode → Setting
-setting_of code = record { pool = code.home.now.pool.now; max_locals = code.part.now.max_locals; max_stack = code.part.now.max_stack; code = code.instrs.now }
+abbrev pub setting_of_code : MethodCode → Setting
+setting_of_code code = record { pool = code.home.now.pool.now; max_locals = code.part.now.max_locals; max_stack = code.part.now.max_stack; code = code.instrs.now }
 
-abbrev pub entry_of : MethodCode → Frame
-entry_of code = methods.entry_of (home_of code.home.now) (method_of code.method.now) (part_of code.part.now)
+abbrev pub entry_frame_of : MethodCode → Frame
+entry_frame_of code = entry_of (home_seen code.home.now) (method_of code.method.now) (part_of code.part.now)
 
 -- its operands, its exception table and its attributes; the code begins at the place
 abbrev pub parts_checks : MethodCode → ℕ → List Check
@@ -71,4 +66,4 @@ parts_checks code start =
     let table = start + length part.code + 2 in
     operand_checks start code.home.now.pool.now code.home.now.major part.max_locals code.instrs.now
     ++ (handlers_checks code.home.now.pool.now code.instrs.now (length part.code) table part.handlers
-    ++ inners_checks (setting_of code) (entry_of code) false (table + 8 * length part.handlers + 2) part.attrs)
+    ++ inners_checks (setting_of_code code) (entry_frame_of code) false (table + 8 * length part.handlers + 2) part.attrs)

@@ -78,5 +78,5 @@ class_of pool body = record {
 }
 
 -- the class that a method stands in
-abbrev pub home_of : Home → methods.Home
-home_of home = record { pool = home.pool.now; major = home.major; flags = home.flags; name = option_copied home.name }
+abbrev pub home_seen : Home → methods.Home
+home_seen home = record { pool = home.pool.now; major = home.major; flags = home.flags; name = option_copied home.name }

@@ -7,7 +7,7 @@ use Rattle.class_model.specs.Members.{class_name_checks, super_checks, interface
 use Rattle.class_model.specs.Methods.{IsDescriptorOf}
 use Rattle.class_model.specs.Names.{IsMethodName, IsFieldName}
 use Rattle.class_model.specs.Pool.{Constants}
-use Rattle.class_model.specs.PoolChecks.{utf8_at, class_at, IsFieldDescriptor, InitIsVoid}
+use Rattle.class_model.specs.PoolChecks.{utf8_at, class_at, text_or_empty, IsFieldDescriptor, InitIsVoid}
 use Rattle.class_model.specs.declared.class_file.ClassFile.{ClassFile}
 use Rattle.class_model.specs.declared.class_file.Field.{Field}
 use Rattle.class_model.specs.declared.class_file.Method.{Method}
@@ -79,16 +79,16 @@ cut_header c = record {
 -- ---- checks, each part from its place on
 
 -- the name and the descriptor of a field, and of a method
-abbrev pub field_checks : Constants → ℕ → MemberHead → List Check
-field_checks pool at field =
+abbrev pub field_head_checks : Constants → ℕ → MemberHead → List Check
+field_head_checks pool at field =
     check (at + 2) rules.Index (IsSome (utf8_at pool field.name))
     ∷ check (at + 2) rules.Name (IfSome (utf8_at pool field.name) IsFieldName)
     ∷ check (at + 4) rules.Index (IsSome (utf8_at pool field.desc))
     ∷ check (at + 4) rules.Descriptor (IfSome (utf8_at pool field.desc) IsFieldDescriptor)
     ∷ []
 
-abbrev pub method_checks : Constants → ℕ → MemberHead → List Check
-method_checks pool at method =
+abbrev pub method_head_checks : Constants → ℕ → MemberHead → List Check
+method_head_checks pool at method =
     check (at + 2) rules.Index (IsSome (utf8_at pool method.name))
     ∷ check (at + 2) rules.Name (IfSome (utf8_at pool method.name) (λ name. IsMethodName name × InitIsVoid name (utf8_at pool method.desc)))
     ∷ check (at + 4) rules.Index (IsSome (utf8_at pool method.desc))
@@ -96,8 +96,8 @@ method_checks pool at method =
     ∷ []
 
 abbrev pub member_checks : MemberKind → Constants → ℕ → MemberHead → List Check
-member_checks kinds.Field pool at member = field_checks pool at member
-member_checks kinds.Method pool at member = method_checks pool at member
+member_checks kinds.Field pool at member = field_head_checks pool at member
+member_checks kinds.Method pool at member = method_head_checks pool at member
 
 -- members one after the other, and how many bytes they take
 abbrev pub members_checks : MemberKind → Constants → ℕ → List MemberHead → List Check
@@ -113,8 +113,8 @@ abbrev pub header_len : CutHeader → ℕ
 header_len head = 8 + 2 * length head.interfaces + (2 + members_len head.fields) + (2 + members_len head.methods)
 
 -- all of these, the flags of the class at the place
-abbrev pub header_checks : Constants → ℕ → CutHeader → List Check
-header_checks pool at head =
+abbrev pub cut_header_checks : Constants → ℕ → CutHeader → List Check
+cut_header_checks pool at head =
     let fields = at + 8 + 2 * length head.interfaces in
     let methods = fields + 2 + members_len head.fields in
     class_name_checks pool (at + 2) head.this_class
@@ -125,24 +125,20 @@ header_checks pool at head =
 
 -- ---- what is kept
 
-abbrev pub or_empty : Option (List ℕ) → List ℕ
-or_empty None = []
-or_empty (Some text) = text
-
 -- the name of the class at an index
-abbrev pub name_at : Constants → ℕ → List ℕ
-name_at pool index = or_empty (class_at pool index)
+abbrev pub class_name_in : Constants → ℕ → List ℕ
+class_name_in pool index = text_or_empty (class_at pool index)
 
 -- a member, with its name and its descriptor
-abbrev pub member_of : Constants → MemberHead → Member
-member_of pool member = record { flags = member.flags; name = or_empty (utf8_at pool member.name); desc = or_empty (utf8_at pool member.desc) }
+abbrev pub member_in : Constants → MemberHead → Member
+member_in pool member = record { flags = member.flags; name = text_or_empty (utf8_at pool member.name); desc = text_or_empty (utf8_at pool member.desc) }
 
-abbrev pub header_of : Constants → CutHeader → Header
-header_of pool head = record {
-  name = name_at pool head.this_class;
+abbrev pub header_in : Constants → CutHeader → Header
+header_in pool head = record {
+  name = class_name_in pool head.this_class;
   flags = head.flags;
   super_name = class_at pool head.super_class;
-  interfaces = map (name_at pool) head.interfaces;
-  fields = map (member_of pool) head.fields;
-  methods = map (member_of pool) head.methods;
+  interfaces = map (class_name_in pool) head.interfaces;
+  fields = map (member_in pool) head.fields;
+  methods = map (member_in pool) head.methods;
 }

@@ -4,7 +4,7 @@ ghost use Rattle.std.specs.Option.{option_map};
 ghost use Rattle.class_model.specs.Answers.{Takes, Tells};
 ghost use Rattle.class_model.specs.Cutting.{u2_at, counted_at};
 ghost use Rattle.class_model.specs.Members.{has_named, attrs_checks};
-ghost use Rattle.class_model.specs.Methods.{IsHandle, IsArgument, bootstrap_at, bootstraps, bootstrap_methods, arguments_checks, bootstraps_checks, table_checks, class_attr_checks, bootstrap_count};
+ghost use Rattle.class_model.specs.Methods.{IsHandle, IsArgument, bootstrap_at, bootstraps, bootstrap_methods, arguments_checks, bootstraps_checks, bootstrap_table_checks, class_attr_checks, bootstrap_count};
 ghost use Rattle.class_model.specs.Pool.{constant_at};
 ghost use Rattle.class_model.specs.declared.class_file.Attr.{Attr};
 ghost use Rattle.class_bytes.specs.Bootstraps.{bootstrap_of, bootstraps_of, bootstraps_len, bootstrap_checks, own_count, CountsMethods};
@@ -64,7 +64,7 @@ fn check_class_attr(
 // bootstrap methods it has.
 fn check_table(alloc: Global, pool: &Pool, content: &[u8], at: u64) -> Result<usize, ClassFault>
     requires { at + 6 + length content.now < 2 ^ 64 }
-    ensures { Tells (table_checks pool.now at (bootstraps content.now)) (CountsMethods (bootstraps content.now)) result }
+    ensures { Tells (bootstrap_table_checks pool.now at (bootstraps content.now)) (CountsMethods (bootstraps content.now)) result }
 {
     let Some(methods) = cut_table(alloc, content)? else {
         return Err(ClassFault::Malformed {

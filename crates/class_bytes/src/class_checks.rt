@@ -3,7 +3,7 @@
 ghost use Rattle.std.specs.Prelude.{◌≡◌, ◌+◌, ◌<◌, ◌^◌, length};
 ghost use Rattle.std.specs.List.{flat_map};
 ghost use Rattle.class_model.specs.Answers.{Tells};
-ghost use Rattle.class_model.specs.ClassOf.{class_checks};
+ghost use Rattle.class_model.specs.ClassOf.{class_file_checks};
 ghost use Rattle.class_model.specs.Methods.{bootstrap_count};
 ghost use Rattle.class_model.specs.Spelling.{entry_bytes};
 ghost use Rattle.class_bytes.specs.Cut.{attrs_of, class_of};
@@ -34,7 +34,7 @@ pub(crate) fn check_class(
 ) -> Result<Pool, ClassFault>
     requires place { flags_at ≡ 10 + length (flat_map entry_bytes raw.now) }
     requires room { flags_at + behind_len (class_of raw.now body.now) < 2 ^ 63 }
-    ensures { Tells (class_checks (class_of raw.now body.now)) (λ pool. pool ≡ raw.now) result }
+    ensures { Tells (class_file_checks (class_of raw.now body.now)) (λ pool. pool ≡ raw.now) result }
 {
     raw.check(body.version.major, CONSTANTS_AT)?;
     let pool = raw.to_pool(alloc)?;

@@ -6,7 +6,7 @@ ghost use Rattle.class_model.specs.Instructions.{decoded};
 ghost use Rattle.class_model.specs.Methods.{part_checks, content_checks, units_at_call, IsDescriptorOf};
 ghost use Rattle.class_model.specs.PoolChecks.{utf8_at};
 ghost use Rattle.class_bytes.specs.CodeParts.{parts_len, decoded_checks, parts_checks};
-ghost use Rattle.class_bytes.specs.Cut.{home_of, method_of, part_of};
+ghost use Rattle.class_bytes.specs.Cut.{home_seen, method_of, part_of};
 
 use crate::checks::ask;
 use crate::code_cutting::code_part;
@@ -33,7 +33,7 @@ pub(crate) fn check_code(
     requires fits { at + 6 + length content.now < 2 ^ 63 }
     requires descriptor { IfSome (utf8_at home.now.pool.now method.now.desc) (IsDescriptorOf method.now.flags) }
     requires there { IsSome (utf8_at home.now.pool.now method.now.desc) }
-    ensures { Tells (content_checks (home_of home.now) (method_of method.now) at (code_part content.now)) (λ done. Unit {0}) result }
+    ensures { Tells (content_checks (home_seen home.now) (method_of method.now) at (code_part content.now)) (λ done. Unit {0}) result }
 {
     match code_part(alloc, content)? {
         Some(part) => check_part(alloc, home, method, &part, at),
@@ -55,7 +55,7 @@ fn check_part(
     requires fits { at + 14 + parts_len (part_of part.now) < 2 ^ 63 }
     requires descriptor { IfSome (utf8_at home.now.pool.now method.now.desc) (IsDescriptorOf method.now.flags) }
     requires there { IsSome (utf8_at home.now.pool.now method.now.desc) }
-    ensures { Tells (part_checks (home_of home.now) (method_of method.now) at (part_of part.now)) (λ done. Unit {0}) result }
+    ensures { Tells (part_checks (home_seen home.now) (method_of method.now) at (part_of part.now)) (λ done. Unit {0}) result }
 {
     ask(fits_len(part.code), at + 10, FileRule::CodeLength)?;
     ask(

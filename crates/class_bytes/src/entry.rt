@@ -5,7 +5,7 @@ ghost use Rattle.class_model.specs.Methods as methods;
 ghost use Rattle.class_model.specs.Methods.{IsDescriptorOf};
 ghost use Rattle.class_model.specs.PoolChecks.{utf8_at};
 ghost use Rattle.class_model.specs.declared.class_file.CodePart.{CodePart};
-ghost use Rattle.class_bytes.specs.Cut.{home_of, method_of};
+ghost use Rattle.class_bytes.specs.Cut.{home_seen, method_of};
 
 use crate::cut::CutMember;
 use crate::home::Home;
@@ -22,7 +22,7 @@ pub(crate) fn entry_frame(
 ) -> Result<Frame, NoMemory>
     requires descriptor { IfSome (utf8_at home.now.pool.now method.now.desc) (IsDescriptorOf method.now.flags) }
     requires there { IsSome (utf8_at home.now.pool.now method.now.desc) }
-    ensures { IfOk result (λ frame. (part : CodePart) → listed frame ≡ listed (methods.entry_of (home_of home.now) (method_of method.now) part)) }
+    ensures { IfOk result (λ frame. (part : CodePart) → listed frame ≡ listed (methods.entry_of (home_seen home.now) (method_of method.now) part)) }
 {
     let Some(desc) = home.pool.utf8(method.desc) else {
         unreachable!()

@@ -1,8 +1,8 @@
 //! The fields of a class file (JVM Specification SE 8, 4.5, 4.7.2).
 ghost use Rattle.std.specs.Prelude.{◌≡◌, [], ◌+◌, ◌<◌, ◌^◌, ◌↔◌, Some, IsTrue, List, length};
 ghost use Rattle.class_model.specs.Answers.{Tells};
-ghost use Rattle.class_model.specs.ClassOf.{fields_checks, field_signature};
-ghost use Rattle.class_model.specs.Members.{Signature, constant_value, has_named, is_named, stands_before, attrs_checks, field_attr_checks, field_checks, IsConstantOf, IsConstantValue};
+ghost use Rattle.class_model.specs.ClassOf.{fields_checks};
+ghost use Rattle.class_model.specs.Members.{Signature, constant_value, has_named, is_named, stands_before, attrs_checks, field_attr_checks, field_checks, IsConstantOf, IsConstantValue, field_signature};
 ghost use Rattle.class_model.specs.Members as members;
 ghost use Rattle.class_model.specs.PoolChecks.{utf8_at};
 ghost use Rattle.class_model.specs.Spelling.{field_bytes};

@@ -4,7 +4,7 @@ ghost use Rattle.class_model.specs.Answers.{Tells};
 ghost use Rattle.class_model.specs.Code.{inners_checks, inner_is_named, stack_map_table};
 ghost use Rattle.class_model.specs.Methods.{IsDescriptorOf};
 ghost use Rattle.class_model.specs.PoolChecks.{utf8_at};
-ghost use Rattle.class_bytes.specs.CodeParts.{inners_len, inner_checks, table_checks, setting_of, entry_of};
+ghost use Rattle.class_bytes.specs.CodeParts.{inners_len, inner_checks, table_checks, setting_of_code, entry_frame_of};
 ghost use Rattle.class_bytes.specs.Cut.{inner_of, inners_of};
 
 use crate::checks::{ask, ask_text};
@@ -21,7 +21,7 @@ pub(crate) fn check_inners(alloc: Global, code: &MethodCode<'_>, at: u64) -> Res
     requires fits { at + inners_len (inners_of code.now.part.now.attrs) < 2 ^ 64 }
     requires descriptor { IfSome (utf8_at code.now.home.now.pool.now code.now.method.now.desc) (IsDescriptorOf code.now.method.now.flags) }
     requires there { IsSome (utf8_at code.now.home.now.pool.now code.now.method.now.desc) }
-    ensures { Tells (inners_checks (setting_of code.now) (entry_of code.now) false at (inners_of code.now.part.now.attrs)) (λ done. Unit {0}) result }
+    ensures { Tells (inners_checks (setting_of_code code.now) (entry_frame_of code.now) false at (inners_of code.now.part.now.attrs)) (λ done. Unit {0}) result }
 {
     let mut place = at;
     let mut has_table = false;
@@ -44,7 +44,7 @@ fn check_inner(
     requires fits { at + 6 + length attr.now.content.now < 2 ^ 64 }
     requires descriptor { IfSome (utf8_at code.now.home.now.pool.now code.now.method.now.desc) (IsDescriptorOf code.now.method.now.flags) }
     requires there { IsSome (utf8_at code.now.home.now.pool.now code.now.method.now.desc) }
-    ensures { Tells (inner_checks (setting_of code.now) (entry_of code.now) has_table at (inner_of attr.now))
+    ensures { Tells (inner_checks (setting_of_code code.now) (entry_frame_of code.now) has_table at (inner_of attr.now))
         (λ is_table. is_table ≡ inner_is_named code.now.home.now.pool.now stack_map_table (inner_of attr.now)) result }
 {
     let name = ask_text(code.home.pool, attr.name, at)?;
@@ -66,7 +66,7 @@ fn check_table(
     requires fits { at + 6 + length content.now < 2 ^ 64 }
     requires descriptor { IfSome (utf8_at code.now.home.now.pool.now code.now.method.now.desc) (IsDescriptorOf code.now.method.now.flags) }
     requires there { IsSome (utf8_at code.now.home.now.pool.now code.now.method.now.desc) }
-    ensures { Tells (table_checks (setting_of code.now) (entry_of code.now) at content.now) (λ done. Unit {0}) result }
+    ensures { Tells (table_checks (setting_of_code code.now) (entry_frame_of code.now) at content.now) (λ done. Unit {0}) result }
 {
     let entry = entry_frame(alloc, code.home, code.method)?;
     let part = code.part;

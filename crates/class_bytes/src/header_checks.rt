@@ -8,7 +8,7 @@ ghost use Rattle.class_model.specs.ModifiedUtf8.{IsText};
 ghost use Rattle.class_model.specs.PoolChecks.{utf8_at, class_at};
 ghost use Rattle.class_model.specs.declared.fault.FileRule.TheVariants as rules;
 ghost use Rattle.pool_bytes.specs.Texts.{HasTexts};
-ghost use Rattle.class_bytes.specs.HeaderParts.{field_checks, method_checks, member_checks, members_checks, members_len, header_len, header_checks, name_at, member_of, header_of};
+ghost use Rattle.class_bytes.specs.HeaderParts.{field_head_checks, method_head_checks, member_checks, members_checks, members_len, header_len, cut_header_checks, class_name_in, member_in, header_in};
 ghost use Rattle.class_bytes.specs.Shapes.{IsShape};
 
 use crate::checks::ask;
@@ -32,7 +32,7 @@ pub(crate) fn own_header(
     requires texts { HasTexts pool.now }
     requires none { class_at pool.now 0 ≡ None }
     requires room { at + header_len head.now < 2 ^ 64 }
-    ensures { Tells (header_checks pool.now at head.now) (λ header. header ≡ header_of pool.now head.now) result }
+    ensures { Tells (cut_header_checks pool.now at head.now) (λ header. header ≡ header_in pool.now head.now) result }
 {
     let name = own_class_name(alloc, pool, head.this_class, at + 2)?;
     let super_name = own_super(alloc, pool, head.super_class, at + 4)?;
@@ -116,7 +116,7 @@ fn own_interfaces(
 ) -> Result<TextList, ClassFault>
     requires texts { HasTexts pool.now }
     requires room { at + 2 * length indices.now < 2 ^ 64 }
-    ensures { Tells (interfaces_checks pool.now at indices.now) (λ names. names ≡ map (name_at pool.now) indices.now) result }
+    ensures { Tells (interfaces_checks pool.now at indices.now) (λ names. names ≡ map (class_name_in pool.now) indices.now) result }
 {
     let mut names = ListOf::new(alloc);
     let mut place = at;
@@ -150,7 +150,7 @@ fn own_members(
     requires texts { HasTexts pool.now }
     requires room { at + members_len members.now < 2 ^ 64 }
     ensures { Tells (members_checks kind pool.now at members.now)
-        (λ own. (own.0 ≡ map (member_of pool.now) members.now) × (own.1 ≡ at + members_len members.now)) result }
+        (λ own. (own.0 ≡ map (member_in pool.now) members.now) × (own.1 ≡ at + members_len members.now)) result }
 {
     let mut all = ListOf::new(alloc);
     let mut place = at;
@@ -171,7 +171,7 @@ fn own_member(
 ) -> Result<Member, ClassFault>
     requires texts { HasTexts pool.now }
     requires room { at + 8 < 2 ^ 64 }
-    ensures { Tells (member_checks kind pool.now at member.now) (λ own. own ≡ member_of pool.now member.now) result }
+    ensures { Tells (member_checks kind pool.now at member.now) (λ own. own ≡ member_in pool.now member.now) result }
 {
     let (name, desc) = match kind {
         MemberKind::Field => check_field(pool, member, at)?,
@@ -192,7 +192,7 @@ fn check_field<'a>(
 ) -> Result<(&'a [u8], &'a [u8]), ClassFault>
     requires texts { HasTexts pool.now }
     requires room { at + 8 < 2 ^ 64 }
-    ensures { Tells (field_checks pool.now at field.now)
+    ensures { Tells (field_head_checks pool.now at field.now)
         (λ lent. (utf8_at pool.now field.now.name ≡ Some lent.0.now) × IsText lent.0.now × (utf8_at pool.now field.now.desc ≡ Some lent.1.now) × IsText lent.1.now) result }
 {
     let name = ask_text(pool, field.name, at + 2)?;
@@ -210,7 +210,7 @@ fn check_method<'a>(
 ) -> Result<(&'a [u8], &'a [u8]), ClassFault>
     requires texts { HasTexts pool.now }
     requires room { at + 8 < 2 ^ 64 }
-    ensures { Tells (method_checks pool.now at method.now)
+    ensures { Tells (method_head_checks pool.now at method.now)
         (λ lent. (utf8_at pool.now method.now.name ≡ Some lent.0.now) × IsText lent.0.now × (utf8_at pool.now method.now.desc ≡ Some lent.1.now) × IsText lent.1.now) result }
 {
     let shape = shape_at(pool, method.desc);

@@ -1,16 +1,16 @@
 //! The methods of a class file (JVM Specification SE 8, 4.6).
 ghost use Rattle.std.specs.Prelude.{◌≡◌, [], ◌+◌, ◌<◌, ◌^◌, ◌↔◌, ◌&&◌, not, nat_lt, ℕ, List, Option, Some, length, codes, IfSome, IsSome, IsTrue};
 ghost use Rattle.class_model.specs.Answers.{Tells};
-ghost use Rattle.class_model.specs.ClassOf.{methods_checks, method_signature};
+ghost use Rattle.class_model.specs.ClassOf.{methods_checks};
 ghost use Rattle.class_model.specs.Members.{Signature, STATIC, ABSTRACT, NATIVE, INTERFACE, has_named, is_named, is_text, stands_before, attrs_checks};
 ghost use Rattle.class_model.specs.Members as members;
-ghost use Rattle.class_model.specs.Methods.{IsDescriptorOf, code, method_attr_checks, method_checks};
+ghost use Rattle.class_model.specs.Methods.{IsDescriptorOf, code, method_attr_checks, method_checks, method_signature};
 ghost use Rattle.class_model.specs.Methods as methods;
 ghost use Rattle.class_model.specs.Names.{IsMethodName};
 ghost use Rattle.class_model.specs.PoolChecks.{utf8_at, InitIsVoid};
 ghost use Rattle.class_model.specs.Spelling.{method_bytes};
 ghost use Rattle.class_model.specs.declared.class_file.Attr.{Attr};
-ghost use Rattle.class_bytes.specs.Cut.{attr_of, attrs_of, home_of, method_of, methods_of};
+ghost use Rattle.class_bytes.specs.Cut.{attr_of, attrs_of, home_seen, method_of, methods_of};
 ghost use Rattle.class_bytes.specs.MethodParts.{signature_checks};
 ghost use Rattle.class_bytes.specs.Parts.{attrs_len, methods_len};
 ghost use Rattle.class_bytes.specs.Shapes.{IsShape};
@@ -38,7 +38,7 @@ pub(crate) fn check_methods(
     at: u64,
 ) -> Result<u64, ClassFault>
     requires { at + methods_len (methods_of methods.now) < 2 ^ 63 }
-    ensures { Tells (methods_checks (home_of home.now) [] at (methods_of methods.now)) (λ end. end ≡ at + methods_len (methods_of methods.now)) result }
+    ensures { Tells (methods_checks (home_seen home.now) [] at (methods_of methods.now)) (λ end. end ≡ at + methods_len (methods_of methods.now)) result }
 {
     let mut signatures = Signatures::new(alloc);
     let mut place = at;
@@ -60,7 +60,7 @@ fn check_method(
 ) -> Result<u64, ClassFault>
     requires { at + length (method_bytes (method_of method.now)) < 2 ^ 63 }
     ensures { (before : List Signature) → is_again ≡ stands_before home.now.pool.now before (method_signature (method_of method.now))
-        → Tells (method_checks (home_of home.now) before at (method_of method.now)) (λ end. end ≡ at + length (method_bytes (method_of method.now))) result }
+        → Tells (method_checks (home_seen home.now) before at (method_of method.now)) (λ end. end ≡ at + length (method_bytes (method_of method.now))) result }
 {
     let has_code = has_code(home.pool, method);
     let lacks_code = has(method.flags, ACC_ABSTRACT) || has(method.flags, ACC_NATIVE);
@@ -89,7 +89,7 @@ const NO_PARAMETERS: &[u8] = b"()V";
 // Whether the flags of a method fit each other and those of its class (4.6).
 fn fits_method(home: &Home<'_>, method: &CutMember<'_>, has_code: bool) -> bool
     requires { has_code ≡ has_named home.now.pool.now code (attrs_of method.now.attrs) }
-    ensures { result ≡ methods.fits_method (home_of home.now) (method_of method.now) }
+    ensures { result ≡ methods.fits_method (home_seen home.now) (method_of method.now) }
 {
     let is_init = is_text(home.pool, INIT, method.name);
     let fits_name = if is_text(home.pool, CLINIT, method.name) {
@@ -185,7 +185,7 @@ fn check_method_attrs(
     requires fits { at + attrs_len (attrs_of method.now.attrs) < 2 ^ 63 }
     requires descriptor { IfSome (utf8_at home.now.pool.now method.now.desc) (IsDescriptorOf method.now.flags) }
     requires there { IsSome (utf8_at home.now.pool.now method.now.desc) }
-    ensures { Tells (attrs_checks (method_attr_checks (home_of home.now) (method_of method.now)) [] at (attrs_of method.now.attrs)) (λ end. end ≡ at + attrs_len (attrs_of method.now.attrs)) result }
+    ensures { Tells (attrs_checks (method_attr_checks (home_seen home.now) (method_of method.now)) [] at (attrs_of method.now.attrs)) (λ end. end ≡ at + attrs_len (attrs_of method.now.attrs)) result }
 {
     let mut place = at;
     let mut has_code = false;
@@ -210,7 +210,7 @@ fn check_method_attr(
     requires descriptor { IfSome (utf8_at home.now.pool.now method.now.desc) (IsDescriptorOf method.now.flags) }
     requires there { IsSome (utf8_at home.now.pool.now method.now.desc) }
     ensures { (before : List Attr) → has_code ≡ has_named home.now.pool.now code before
-        → Tells (method_attr_checks (home_of home.now) (method_of method.now) before at (attr_of attr.now)) (λ is_code. is_code ≡ is_named home.now.pool.now code (attr_of attr.now)) result }
+        → Tells (method_attr_checks (home_seen home.now) (method_of method.now) before at (attr_of attr.now)) (λ is_code. is_code ≡ is_named home.now.pool.now code (attr_of attr.now)) result }
 {
     let name = ask_text(home.pool, attr.name, at)?;
     let is_code = name.bytes() == CODE;

@@ -1,6 +1,6 @@
 //! Reading a class file.
 ghost use Rattle.std.specs.Prelude.{◌≡◌, ◌↔◌, IfOk, IsTrue};
-ghost use Rattle.class_model.specs.ClassOf.{IsRead};
+ghost use Rattle.class_model.specs.ClassOf.{IsReadVersion};
 ghost use Rattle.class_model.specs.Spelling.{class_bytes};
 ghost use Rattle.class_bytes.specs.Counts.{FitsCounts};
 ghost use Rattle.class_bytes.specs.Cut.{version_of};
@@ -49,7 +49,7 @@ pub fn read_class(alloc: Global, bytes: &[u8]) -> Result<ClassFile, ClassFault>
 
 // Whether class files of a version are read: 50, 51 and 52.0.
 fn is_read(version: Version) -> bool
-    ensures { IsTrue result ↔ IsRead (version_of version) }
+    ensures { IsTrue result ↔ IsReadVersion (version_of version) }
 {
     matches!(version.major, 50 | 51) || version.major == 52 && version.minor == 0
 }

@@ -4,9 +4,9 @@ use Rattle.std.specs.List.{flat_map}
 use Rattle.std.proofs.lemmas.Bool.{eqb-true}
 use Rattle.std.proofs.lemmas.List.{append-nil, nil_from_length, length-map}
 use Rattle.class_model.specs.Checks.{fault}
-use Rattle.class_model.specs.ClassOf.{start, entered, entered_attr, entered_method, ClassOf}
-use Rattle.class_model.specs.Code.{handler_at, inner_at, part_at, whole, code_part}
-use Rattle.class_model.specs.Cutting.{IsBytes, Rest, Cut, Version, attr_at, field_at, method_at, version_at, class_at}
+use Rattle.class_model.specs.ClassOf.{entered, entered_attr, entered_method, ClassOf}
+use Rattle.class_model.specs.Code.{handler_at, inner_at, part_at, code_part}
+use Rattle.class_model.specs.Cutting.{IsBytes, Rest, Cut, Version, attr_at, field_at, method_at, version_at, class_file_at, uncut, whole}
 use Rattle.class_model.specs.Members.{is_named}
 use Rattle.class_model.specs.Methods.{code}
 use Rattle.class_model.specs.Pool.{Constants}
@@ -88,7 +88,7 @@ part_spelled = record {
 }
 
 -- a text that was taken to the end
-takes_all : (bytes text : List ℕ) (after : Rest) → Takes (start bytes) text after → eqb (length after.bytes) 0 ≡ true → bytes ≡ text
+takes_all : (bytes text : List ℕ) (after : Rest) → Takes (uncut bytes) text after → eqb (length after.bytes) 0 ≡ true → bytes ≡ text
 takes_all bytes text after takes none = takes.parts ∙ ap (λ (t : List ℕ). text ++ t) (nil_from_length after.bytes (eqb-true _ _ none)) ∙ append-nil text
 
 -- a content that was cut to its end
@@ -101,8 +101,8 @@ whole_some (Err f) part e = absurd cc
 
 code_is_spelled : (bytes : List ℕ) (part : CodePart) → IsBytes bytes → code_part bytes ≡ Some part → code_part_bytes part ≡ bytes
 code_is_spelled bytes part fits e =
-    let w = whole_some (part_at (start bytes)) part e in
-    let took = part_spelled.takes (start bytes) w.0 fits w.1 in
+    let w = whole_some (part_at (uncut bytes)) part e in
+    let took = part_spelled.takes (uncut bytes) w.0 fits w.1 in
     ap code_part_bytes (sym w.3) ∙ sym (takes_all bytes (code_part_bytes w.0.0) w.0.1 took.0 w.2)
 
 -- ---- code is entered
@@ -173,7 +173,7 @@ version_spelled = record {
       made version_bytes Always rest (record { minor = minor.got.0; major = major.got.0 }, major.got.1) x major.takes tt major.goes_on;
 }
 
-cut_is_spelled : (bytes : List ℕ) (version : Version) (rest : Rest) (class : ClassFile) → Takes (start bytes) (version_bytes version) rest → class_at version rest ≡ Ok class → bytes ≡ class_bytes class
+cut_is_spelled : (bytes : List ℕ) (version : Version) (rest : Rest) (class : ClassFile) → Takes (uncut bytes) (version_bytes version) rest → class_file_at version rest ≡ Ok class → bytes ≡ class_bytes class
 cut_is_spelled bytes version rest class so_far e =
     let pool = step (pool_spelled version.major) so_far _ class e in
     let flags = step u2_spelled pool.takes _ class pool.goes_on in
@@ -188,12 +188,12 @@ cut_is_spelled bytes version rest class so_far e =
 
 pub spelled : (bytes : List ℕ) (class : ClassFile) → IsBytes bytes → ClassOf bytes class → bytes ≡ class_bytes class
 spelled bytes class fits c =
-    let head = version_spelled.takes (start bytes) (c.version, c.rest) fits c.head in
+    let head = version_spelled.takes (uncut bytes) (c.version, c.rest) fits c.head in
     let cut = cut_is_spelled bytes c.version c.rest c.cut head.0 c.is_cut in
     cut ∙ sym (entered_kept c.cut (subst IsBytes cut fits)) ∙ ap class_bytes (sym c.is)
 
 -- a class file that was cut, and where its version ends
-pub cut_spelled : (bytes : List ℕ) (version : Version) (rest : Rest) (class : ClassFile) → IsBytes bytes → version_at (start bytes) ≡ Ok (version, rest) → class_at version rest ≡ Ok class → (bytes ≡ class_bytes class) × (rest.at ≡ 8)
+pub cut_spelled : (bytes : List ℕ) (version : Version) (rest : Rest) (class : ClassFile) → IsBytes bytes → version_at (uncut bytes) ≡ Ok (version, rest) → class_file_at version rest ≡ Ok class → (bytes ≡ class_bytes class) × (rest.at ≡ 8)
 cut_spelled bytes version rest class fits head cut =
-    let took = version_spelled.takes (start bytes) (version, rest) fits head in
+    let took = version_spelled.takes (uncut bytes) (version, rest) fits head in
     (cut_is_spelled bytes version rest class took.0 cut, took.0.place)

@@ -1,8 +1,8 @@
 -- Bytes are one class file or have one first fault, or neither.
 use Rattle.std.proofs.Common.{◌≡◌, ◌⊎◌, inl, inr, ℕ, List, [], ◌∷◌, Result, Ok, Err, refl, sym, ap, subst, ◌∙◌}
 use Rattle.class_model.specs.Checks.{Check, Fault, AllHold, IsFirstFault, asked_of}
-use Rattle.class_model.specs.Cutting.{Rest, Cut, Version, version_at, class_at}
-use Rattle.class_model.specs.ClassOf.{start, checks_behind, class_checks, entered, IsRead, ClassOf, IsOtherVersion, FirstFault}
+use Rattle.class_model.specs.Cutting.{Rest, Cut, Version, version_at, class_file_at, uncut}
+use Rattle.class_model.specs.ClassOf.{checks_behind, class_file_checks, entered, IsReadVersion, ClassOf, IsOtherVersion, FirstFault}
 use Rattle.class_model.specs.ClassOf.FirstFault.{in_head, behind}
 use Rattle.class_model.specs.declared.class_file.ClassFile.{ClassFile}
 
@@ -25,11 +25,11 @@ all_or_fault (c ∷ checks) f h (inr b) = all_or_fault checks f h.1 b.1
 record Behind (bytes : List ℕ) (f : Fault) : Type 0 where
   pub version : Version
   pub rest : Rest
-  pub head : version_at (start bytes) ≡ Ok (version, rest)
-  pub is_read : IsRead version
+  pub head : version_at (uncut bytes) ≡ Ok (version, rest)
+  pub is_read : IsReadVersion version
   pub first : IsFirstFault (checks_behind version rest) f
 
-fault_form : (bytes : List ℕ) (f : Fault) → FirstFault bytes f → (version_at (start bytes) ≡ Err f) ⊎ Behind bytes f
+fault_form : (bytes : List ℕ) (f : Fault) → FirstFault bytes f → (version_at (uncut bytes) ≡ Err f) ⊎ Behind bytes f
 fault_form bytes _ (in_head f e) = inl e
 fault_form bytes _ (behind version rest f head is_read first) = inr (record { version = version; rest = rest; head = head; is_read = is_read; first = first })
 
@@ -49,51 +49,51 @@ one_error r f g e d = cc
 
 one_behind : (bytes : List ℕ) (one other : Fault) → Behind bytes one → Behind bytes other → one ≡ other
 one_behind bytes one other a b =
-    let same = one_head (version_at (start bytes)) a.version b.version a.rest b.rest a.head b.head in
+    let same = one_head (version_at (uncut bytes)) a.version b.version a.rest b.rest a.head b.head in
     one_fault (checks_behind a.version a.rest) one other a.first (rw (same.0, same.1) b.first)
 
 pub one_first_fault : (bytes : List ℕ) (one other : Fault) → FirstFault bytes one → FirstFault bytes other → one ≡ other
 one_first_fault bytes one other p q =
     elim (fault_form bytes one p) [
       | inl a ↦ elim (fault_form bytes other q) [
-        | inl b ↦ one_error (version_at (start bytes)) one other a b
-        | inr b ↦ absurd (head_or_fault (version_at (start bytes)) (b.version, b.rest) one b.head a)
+        | inl b ↦ one_error (version_at (uncut bytes)) one other a b
+        | inr b ↦ absurd (head_or_fault (version_at (uncut bytes)) (b.version, b.rest) one b.head a)
       ]
       | inr a ↦ elim (fault_form bytes other q) [
-        | inl b ↦ absurd (head_or_fault (version_at (start bytes)) (a.version, a.rest) other a.head b)
+        | inl b ↦ absurd (head_or_fault (version_at (uncut bytes)) (a.version, a.rest) other a.head b)
         | inr b ↦ one_behind bytes one other a b
       ]
     ]
 
 -- ---- a class file has no fault
 
-asked_checks : (r : Result ClassFile Fault) (cut : ClassFile) → r ≡ Ok cut → asked_of r class_checks ≡ class_checks cut
+asked_checks : (r : Result ClassFile Fault) (cut : ClassFile) → r ≡ Ok cut → asked_of r class_file_checks ≡ class_file_checks cut
 asked_checks r cut e = rw e refl
 
 cut_or_fault : (bytes : List ℕ) (class : ClassFile) (f : Fault) → ClassOf bytes class → ¬ Behind bytes f
 cut_or_fault bytes class f c b =
-    let same = one_head (version_at (start bytes)) c.version b.version c.rest b.rest c.head b.head in
+    let same = one_head (version_at (uncut bytes)) c.version b.version c.rest b.rest c.head b.head in
     let first : IsFirstFault (checks_behind c.version c.rest) f = rw (same.0, same.1) b.first in
-    all_or_fault (class_checks c.cut) f c.holds (subst (λ (checks : List Check). IsFirstFault checks f) (asked_checks (class_at c.version c.rest) c.cut c.is_cut) first)
+    all_or_fault (class_file_checks c.cut) f c.holds (subst (λ (checks : List Check). IsFirstFault checks f) (asked_checks (class_file_at c.version c.rest) c.cut c.is_cut) first)
 
 pub no_fault : (bytes : List ℕ) (class : ClassFile) (f : Fault) → ClassOf bytes class → ¬ FirstFault bytes f
 no_fault bytes class f c p =
     elim (fault_form bytes f p) [
-      | inl a ↦ head_or_fault (version_at (start bytes)) (c.version, c.rest) f c.head a
+      | inl a ↦ head_or_fault (version_at (uncut bytes)) (c.version, c.rest) f c.head a
       | inr b ↦ cut_or_fault bytes class f c b
     ]
 
 -- ---- another version
 
-not_read : (bytes : List ℕ) (version : Version) → IsOtherVersion bytes version → (read : Version) (rest : Rest) → version_at (start bytes) ≡ Ok (read, rest) → ¬ IsRead read
+not_read : (bytes : List ℕ) (version : Version) → IsOtherVersion bytes version → (read : Version) (rest : Rest) → version_at (uncut bytes) ≡ Ok (read, rest) → ¬ IsReadVersion read
 not_read bytes version o read rest head is_read =
-    let same = one_head (version_at (start bytes)) version read o.rest rest o.head head in
+    let same = one_head (version_at (uncut bytes)) version read o.rest rest o.head head in
     o.other (rw same.0 is_read)
 
 fault_of_other : (bytes : List ℕ) (version : Version) (f : Fault) → IsOtherVersion bytes version → ¬ FirstFault bytes f
 fault_of_other bytes version f o p =
     elim (fault_form bytes f p) [
-      | inl a ↦ head_or_fault (version_at (start bytes)) (version, o.rest) f o.head a
+      | inl a ↦ head_or_fault (version_at (uncut bytes)) (version, o.rest) f o.head a
       | inr b ↦ not_read bytes version o b.version b.rest b.head b.is_read
     ]
 
@@ -107,6 +107,6 @@ one_cut r a b e d = cc
 
 pub one_class_file : (bytes : List ℕ) (one other : ClassFile) → ClassOf bytes one → ClassOf bytes other → one ≡ other
 one_class_file bytes one other a b =
-    let same = one_head (version_at (start bytes)) a.version b.version a.rest b.rest a.head b.head in
-    let cut = one_cut (class_at a.version a.rest) a.cut b.cut a.is_cut (rw (same.0, same.1) b.is_cut) in
+    let same = one_head (version_at (uncut bytes)) a.version b.version a.rest b.rest a.head b.head in
+    let cut = one_cut (class_file_at a.version a.rest) a.cut b.cut a.is_cut (rw (same.0, same.1) b.is_cut) in
     a.is ∙ ap entered cut ∙ sym b.is

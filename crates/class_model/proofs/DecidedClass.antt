@@ -3,13 +3,13 @@ use Rattle.std.proofs.Common.{◌≡◌, ◌⊎◌, inl, inr, ℕ, ◌+◌, ◌*
 use Rattle.std.specs.List.{flat_map}
 use Rattle.std.proofs.lemmas.Bool.{cases_eq}
 use Rattle.class_model.specs.Checks.{Fault, IsFirstFault, asked_of}
-use Rattle.class_model.specs.ClassOf.{fields_checks, field_signature, methods_checks, method_signature, dynamic_checks, class_checks, entered, IsRead, start, ClassOf, IsOtherVersion, FirstFault}
+use Rattle.class_model.specs.ClassOf.{fields_checks, methods_checks, bootstrap_index_checks, class_file_checks, entered, IsReadVersion, ClassOf, IsOtherVersion, FirstFault}
 use Rattle.class_model.specs.ClassOf.FirstFault.{in_head, behind}
-use Rattle.class_model.specs.Cutting.{Rest, Cut, Version, version_at, class_at}
-use Rattle.class_model.specs.Members.{Signature, field_checks}
-use Rattle.class_model.specs.Methods.{Home, method_checks, class_attr_checks, bootstrap_count}
+use Rattle.class_model.specs.Cutting.{Rest, Cut, Version, version_at, class_file_at, uncut}
+use Rattle.class_model.specs.Members.{Signature, field_checks, field_signature}
+use Rattle.class_model.specs.Methods.{Home, method_checks, class_attr_checks, bootstrap_count, method_signature}
 use Rattle.class_model.specs.Pool.{Constants}
-use Rattle.class_model.specs.PoolChecks.{class_at as class_name_at}
+use Rattle.class_model.specs.PoolChecks.{class_at}
 use Rattle.class_model.specs.Spelling.{constant_bytes, entry_bytes, field_bytes, method_bytes}
 use Rattle.class_model.specs.declared.class_file.ClassFile.{ClassFile}
 use Rattle.class_model.specs.declared.class_file.Field.{Field}
@@ -33,7 +33,7 @@ methods home before at (method ∷ others) =
     decided-append (method_checks home before at method) _ (one_method home before at method)
     (methods home (before ++ method_signature method ∷ []) (at + length (method_bytes method)) others)
 
-dynamics : (count at : ℕ) (pool : Constants) → AllDecided (dynamic_checks count at pool)
+dynamics : (count at : ℕ) (pool : Constants) → AllDecided (bootstrap_index_checks count at pool)
 dynamics count at [] = tt
 dynamics count at (None ∷ others) = dynamics count at others
 dynamics count at (Some (InvokeDynamic bootstrap member) ∷ others) = (less bootstrap count, dynamics count (at + length (constant_bytes (InvokeDynamic bootstrap member))) others)
@@ -41,14 +41,14 @@ dynamics count at (Some constant ∷ others) = dynamics count (at + length (cons
 
 -- ---- the whole
 
-class : (c : ClassFile) → AllDecided (class_checks c)
+class : (c : ClassFile) → AllDecided (class_file_checks c)
 class c =
     let pool = c.pool in
     let flags = 10 + length (flat_map entry_bytes pool) in
     let after_flags = flags + 8 + 2 * length c.interfaces in
     let after_fields = after_flags + 2 + length (flat_map field_bytes c.fields) in
     let attrs = after_fields + 2 + length (flat_map method_bytes c.methods) in
-    let home : Home = record { pool = pool; major = c.major; flags = c.flags; name = class_name_at pool c.this_class } in
+    let home : Home = record { pool = pool; major = c.major; flags = c.flags; name = class_at pool c.this_class } in
     decided-append _ _ (decided-append _ _ (decided-append _ _ (decided-append _ _ (decided-append _ _ (decided-append _ _ (decided-append _ _ (decided-append _ _
     (entries c.major pool 10 pool)
     (is_true _, tt))
@@ -65,27 +65,27 @@ class c =
 abbrev Told : List ℕ → Type 0
 Told bytes = ((class : ClassFile) × ClassOf bytes class) ⊎ (((version : Version) × IsOtherVersion bytes version) ⊎ ((f : Fault) × FirstFault bytes f))
 
-read : (version : Version) → Decision (IsRead version)
+read : (version : Version) → Decision (IsReadVersion version)
 read version = either (cases_eq version.major 50) (either (cases_eq version.major 51) (both (cases_eq version.major 52) (cases_eq version.minor 0)))
 
-module _ (bytes : List ℕ) (version : Version) (rest : Rest) (head : version_at (start bytes) ≡ Ok (version, rest)) where
-  cut_told : IsRead version → (r : Result ClassFile Fault) → class_at version rest ≡ r → Told bytes
-  cut_told is_read (Ok cut) e = elim (settled (class_checks cut) (class cut)) [
+module _ (bytes : List ℕ) (version : Version) (rest : Rest) (head : version_at (uncut bytes) ≡ Ok (version, rest)) where
+  cut_told : IsReadVersion version → (r : Result ClassFile Fault) → class_file_at version rest ≡ r → Told bytes
+  cut_told is_read (Ok cut) e = elim (settled (class_file_checks cut) (class cut)) [
     | inl holds ↦ inl (entered cut, record { version = version; rest = rest; head = head; is_read = is_read; cut = cut; is_cut = e; holds = holds; is = refl })
-    | inr first ↦ inr (inr (first.0, behind version rest first.0 head is_read (subst (λ (r : Result ClassFile Fault). IsFirstFault (asked_of r class_checks) first.0) (sym e) first.1)))
+    | inr first ↦ inr (inr (first.0, behind version rest first.0 head is_read (subst (λ (r : Result ClassFile Fault). IsFirstFault (asked_of r class_file_checks) first.0) (sym e) first.1)))
   ]
   cut_told is_read (Err f) e =
-      inr (inr (f, behind version rest f head is_read (subst (λ (r : Result ClassFile Fault). IsFirstFault (asked_of r class_checks) f) (sym e) (inl (λ h. h, refl)))))
+      inr (inr (f, behind version rest f head is_read (subst (λ (r : Result ClassFile Fault). IsFirstFault (asked_of r class_file_checks) f) (sym e) (inl (λ h. h, refl)))))
 
   version_told : Told bytes
   version_told = elim (read version) [
-    | inl is_read ↦ cut_told is_read (class_at version rest) refl
+    | inl is_read ↦ cut_told is_read (class_file_at version rest) refl
     | inr other ↦ inr (inl (version, record { rest = rest; head = head; other = other }))
   ]
 
-head_told : (bytes : List ℕ) (r : Cut Version) → version_at (start bytes) ≡ r → Told bytes
+head_told : (bytes : List ℕ) (r : Cut Version) → version_at (uncut bytes) ≡ r → Told bytes
 head_told bytes (Ok head) e = version_told bytes head.0 head.1 e
 head_told bytes (Err f) e = inr (inr (f, in_head f e))
 
 pub told : (bytes : List ℕ) → Told bytes
-told bytes = head_told bytes (version_at (start bytes)) refl
+told bytes = head_told bytes (version_at (uncut bytes)) refl

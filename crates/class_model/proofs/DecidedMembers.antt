@@ -4,8 +4,8 @@ use Rattle.std.specs.Prelude.{codes}
 use Rattle.std.proofs.lemmas.Bool.{cases_eq}
 use Rattle.class_model.specs.Checks.{Check}
 use Rattle.class_model.specs.Instructions.{u2_in}
-use Rattle.class_model.specs.Members.{Signature, has, STATIC, is_named, attrs_checks, attr_name, class_name_checks, super_checks, interfaces_checks, constant_value, IsConstantOf, IsConstantValue, field_attr_checks, field_checks}
-use Rattle.class_model.specs.Methods.{Home, code, code_content, method_attr_checks, method_checks, Bootstrap, IsHandle, IsArgument, arguments_checks, bootstraps_checks, table_checks, bootstrap_methods, raw_content, bootstraps, class_attr_checks}
+use Rattle.class_model.specs.Members.{Signature, has, STATIC, is_named, attrs_checks, attr_name, class_name_checks, super_checks, interfaces_checks, constant_value, IsConstantOf, IsConstantValue, field_attr_checks, field_checks, raw_content}
+use Rattle.class_model.specs.Methods.{Home, code, code_content, method_attr_checks, method_checks, Bootstrap, IsHandle, IsArgument, arguments_checks, bootstraps_checks, bootstrap_table_checks, bootstrap_methods, bootstraps, class_attr_checks}
 use Rattle.class_model.specs.Pool.{Constants, constant_at}
 use Rattle.class_model.specs.PoolChecks.{utf8_at, class_at}
 use Rattle.class_model.specs.Spelling.{attr_bytes}
@@ -146,7 +146,7 @@ bootstrap_list pool at (b ∷ others) = (
   decided-append (arguments_checks pool (at + 4) b.arguments) _ (arguments pool (at + 4) b.arguments) (bootstrap_list pool (at + 4 + 2 * length b.arguments) others),
 )
 
-table : (pool : Constants) (at : ℕ) (methods : Option (List Bootstrap)) → AllDecided (table_checks pool at methods)
+table : (pool : Constants) (at : ℕ) (methods : Option (List Bootstrap)) → AllDecided (bootstrap_table_checks pool at methods)
 table pool at None = (inr (λ h. h), tt)
 table pool at (Some methods) = bootstrap_list pool (at + 8) methods
 

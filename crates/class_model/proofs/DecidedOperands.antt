@@ -1,10 +1,10 @@
 -- What an instruction's operands ask of the pool and the locals is decided.
 use Rattle.std.proofs.Common.{◌≡◌, inl, inr, ℕ, ◌+◌, List, length, Option, Some}
 use Rattle.std.proofs.lemmas.Bool.{cases_eq}
-use Rattle.class_model.specs.Code.{IsLoadable, IsLoadable2, IsFieldConstant, IsDynamicConstant, IsMethodConstant, IsInterfaceConstant, CountsArguments, IsCalled, FitsArray, FitsLocal, OperandFits}
+use Rattle.class_model.specs.Code.{IsLoadable, IsLoadable2, IsDynamicConstant, CountsArguments, IsCalled, FitsArray, FitsLocal, OperandFits}
 use Rattle.class_model.specs.Descriptors.{SpellsDescriptor, parameter_units}
 use Rattle.class_model.specs.Pool.{Constants, constant_at}
-use Rattle.class_model.specs.PoolChecks.{class_at}
+use Rattle.class_model.specs.PoolChecks.{class_at, IsFieldConstant, IsMethodConstant, IsInterfaceConstant}
 use Rattle.class_model.specs.declared.descriptor.Descriptor.{Descriptor}
 use Rattle.class_model.specs.declared.descriptor.Kind.{Kind}
 use Rattle.class_model.specs.declared.descriptor.Kind.TheVariants as kinds

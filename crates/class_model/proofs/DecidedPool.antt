@@ -3,7 +3,7 @@ use Rattle.std.proofs.Common.{◌≡◌, ◌≢◌, inl, inr, ℕ, ◌+◌, List
 use Rattle.std.proofs.lemmas.Bool.{cases_eq}
 use Rattle.class_model.specs.Names.{init, clinit, IsMethodName}
 use Rattle.class_model.specs.Pool.{Constants, constant_at}
-use Rattle.class_model.specs.PoolChecks.{utf8_at, name_at, descriptor_at, IsClassAt, IsNameAndTypeAt, InitIsVoid, FitsDescriptor, IsCalledName, fieldref_checks, methodref_checks, IsField, IsMethod, IsInterfaceMethod, IsMethodOf, referred_name, RefersWell, constant_checks, entries_checks}
+use Rattle.class_model.specs.PoolChecks.{utf8_at, name_at, descriptor_at, IsClassAt, IsNameAndTypeAt, InitIsVoid, FitsDescriptor, IsCalledName, fieldref_checks, methodref_checks, IsFieldConstant, IsMethodConstant, IsInterfaceConstant, IsMethodConstantOf, referred_name, RefersWell, constant_checks, entries_checks}
 use Rattle.class_model.specs.Spelling.{constant_bytes}
 use Rattle.class_model.specs.declared.pool.Const.{Const}
 use Rattle.class_model.specs.declared.pool.Const.TheVariants.{Utf8, Integer, Float, Long, Double, Class, String, Fieldref, Methodref, InterfaceMethodref, NameAndType, MethodHandle, MethodType, InvokeDynamic}
@@ -52,19 +52,19 @@ methodref at pool class member = (
 
 -- ---- method handles
 
-is_field : (constant : Option Const) → Decision (IsField constant)
+is_field : (constant : Option Const) → Decision (IsFieldConstant constant)
 is_field (Some (Fieldref class member)) = inl tt
 is_field other = inr (λ h. h)
 
-is_method : (constant : Option Const) → Decision (IsMethod constant)
+is_method : (constant : Option Const) → Decision (IsMethodConstant constant)
 is_method (Some (Methodref class member)) = inl tt
 is_method other = inr (λ h. h)
 
-is_interface_method : (constant : Option Const) → Decision (IsInterfaceMethod constant)
+is_interface_method : (constant : Option Const) → Decision (IsInterfaceConstant constant)
 is_interface_method (Some (InterfaceMethodref class member)) = inl tt
 is_interface_method other = inr (λ h. h)
 
-method_of : (major : ℕ) (constant : Option Const) → Decision (IsMethodOf major constant)
+method_of : (major : ℕ) (constant : Option Const) → Decision (IsMethodConstantOf major constant)
 method_of major constant = either (is_method constant) (both (cases_eq major 52) (is_interface_method constant))
 
 refers_well : (major : ℕ) (pool : Constants) (kind reference : ℕ) → Decision (RefersWell major pool kind reference)

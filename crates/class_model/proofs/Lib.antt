@@ -1,5 +1,6 @@
 pub mod Units
 pub mod TextParts
+pub mod PlainTexts
 pub mod Constants
 pub mod ClassNames
 pub mod DescriptorGrammar

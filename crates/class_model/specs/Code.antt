@@ -3,14 +3,14 @@
 use Rattle.std.specs.Prelude.{◌≡◌, ◌⊎◌, ◌==◌, ◌||◌, ◌+◌, ◌<◌, ◌≤◌, ℕ, Bool, List, [], ◌∷◌, ◌++◌, length, map, replicate, codes, Option, Some, None, Result, Ok, Err, IfSome, IsSome, IsTrue, IsFalse, if◌then◌else◌}
 use Rattle.std.specs.List.{list_all}
 use Rattle.class_model.specs.Checks.{Check, check, Fault, fault, asked_of, asked_if, ◌>>=◌}
-use Rattle.class_model.specs.Cutting.{Rest, Cut, bytes_at, u2_at, u4_at, counted_at}
+use Rattle.class_model.specs.Cutting.{Rest, Cut, whole, bytes_at, u2_at, u4_at, counted_at}
 use Rattle.class_model.specs.Descriptors.{SpellsDescriptor, field_type_text, IsArrayType, IsElementType, parameter_units, kind_of}
-use Rattle.class_model.specs.Frames.{Setting, table_at, filled}
+use Rattle.class_model.specs.Frames.{Setting, stack_map_table_at, filled}
 use Rattle.class_model.specs.Instructions.{targets, is_start}
 use Rattle.class_model.specs.Members.{has, STATIC, is_text}
 use Rattle.class_model.specs.Names.{init}
 use Rattle.class_model.specs.Pool.{Constants, constant_at}
-use Rattle.class_model.specs.PoolChecks.{utf8_at, class_at, descriptor_at, IsClassAt}
+use Rattle.class_model.specs.PoolChecks.{utf8_at, class_at, descriptor_at, IsClassAt, IsFieldConstant, IsMethodConstant, IsInterfaceConstant}
 use Rattle.class_model.specs.Spelling.{inner_bytes}
 use Rattle.class_model.specs.declared.class_file.CodePart.{CodePart}
 use Rattle.class_model.specs.declared.class_file.Handler.{Handler}
@@ -32,6 +32,7 @@ use Rattle.class_model.specs.declared.pool.Const.TheVariants as consts
 
 -- ---- the structure
 
+-- an entry of the exception table
 abbrev pub handler_at : Rest → Cut Handler
 handler_at rest = do
   start ← u2_at rest
@@ -40,6 +41,7 @@ handler_at rest = do
   type ← u2_at at.1
   Ok (record { start = start.0; end = end.0; at = at.0; catch_type = type.0 }, type.1)
 
+-- an attribute of a code
 abbrev pub inner_at : Rest → Cut InnerAttr
 inner_at rest = do
   name ← u2_at rest
@@ -47,6 +49,7 @@ inner_at rest = do
   content ← bytes_at len.0 len.1
   Ok (record { name = name.0; bytes = content.0 }, content.1)
 
+-- the items of the content, in their order
 abbrev pub part_at : Rest → Cut CodePart
 part_at rest = do
   stack ← u2_at rest
@@ -58,16 +61,12 @@ part_at rest = do
   Ok (record { max_stack = stack.0; max_locals = locals.0; code = code.0; handlers = handlers.0; attrs = attrs.0 }, attrs.1)
 
 -- the content of a Code attribute cut into its parts, if they fill it
-abbrev pub whole : Cut CodePart → Option CodePart
-whole (Ok part) = if length part.1.bytes == 0 then Some part.0 else None
-whole (Err f) = None
-
 abbrev pub code_part : List ℕ → Option CodePart
 code_part content = whole (part_at (record { at = 0; bytes = content }))
 
 -- ---- operands that ask the pool or the locals (4.9.1)
 
--- the kinds of constants that an instruction may name, in a class file of this major version
+-- the constants that ldc and ldc_w may name (6.5.ldc)
 abbrev pub IsLoadable : Option Const → Type 0
 IsLoadable (Some (consts.Integer number)) = Unit {0}
 IsLoadable (Some (consts.Float bits)) = Unit {0}
@@ -77,32 +76,23 @@ IsLoadable (Some (consts.MethodHandle kind reference)) = Unit {0}
 IsLoadable (Some (consts.MethodType descriptor)) = Unit {0}
 IsLoadable other = ⊥
 
+-- the constants that ldc2_w may name (6.5.ldc2_w)
 abbrev pub IsLoadable2 : Option Const → Type 0
 IsLoadable2 (Some (consts.Long number)) = Unit {0}
 IsLoadable2 (Some (consts.Double bits)) = Unit {0}
 IsLoadable2 other = ⊥
 
-abbrev pub IsFieldConstant : Option Const → Type 0
-IsFieldConstant (Some (consts.Fieldref class member)) = Unit {0}
-IsFieldConstant other = ⊥
-
+-- the constants that invokedynamic may name (6.5.invokedynamic)
 abbrev pub IsDynamicConstant : Option Const → Type 0
 IsDynamicConstant (Some (consts.InvokeDynamic bootstrap member)) = Unit {0}
 IsDynamicConstant other = ⊥
 
-abbrev pub IsMethodConstant : Option Const → Type 0
-IsMethodConstant (Some (consts.Methodref class member)) = Unit {0}
-IsMethodConstant other = ⊥
-
-abbrev pub IsInterfaceConstant : Option Const → Type 0
-IsInterfaceConstant (Some (consts.InterfaceMethodref class member)) = Unit {0}
-IsInterfaceConstant other = ⊥
-
--- the name and descriptor of an interface's method
+-- the index of the name and descriptor of an interface's method
 abbrev pub member_index : Option Const → Option ℕ
 member_index (Some (consts.InterfaceMethodref class member)) = Some member
 member_index other = None
 
+-- the descriptor of that member
 abbrev pub units_behind : Constants → Option ℕ → Option (List ℕ)
 units_behind pool None = None
 units_behind pool (Some member) = descriptor_at pool member
@@ -139,6 +129,7 @@ FitsLocal max_locals kinds.Long local = local + 2 ≤ max_locals
 FitsLocal max_locals kinds.Double local = local + 2 ≤ max_locals
 FitsLocal max_locals kind local = local + 1 ≤ max_locals
 
+-- the operands of an instruction, in a class file of this major version
 abbrev pub OperandFits : Constants → ℕ → ℕ → Instr → Type 0
 OperandFits pool major max_locals (Ldc index) = IsLoadable (constant_at pool index)
 OperandFits pool major max_locals (Ldc2 index) = IsLoadable2 (constant_at pool index)
@@ -166,6 +157,7 @@ jump_checks start code [] = []
 jump_checks start code (p ∷ others) =
     check (start + p.at) rules.Jump (IsTrue (list_all (is_start code) (targets p.instr))) ∷ jump_checks start code others
 
+-- the operands of each instruction fit
 abbrev pub operand_checks : ℕ → Constants → ℕ → ℕ → List Placed → List Check
 operand_checks start pool major max_locals [] = []
 operand_checks start pool major max_locals (p ∷ others) =
@@ -179,6 +171,7 @@ pub record IsRange (code : List Placed) (len : ℕ) (handler : Handler) : Type 0
   pub end : IsTrue (is_start code handler.end || (handler.end == len))
   pub at : IsTrue (is_start code handler.at)
 
+-- the exception table, from the place of its first entry on
 abbrev pub handlers_checks : Constants → List Placed → ℕ → ℕ → List Handler → List Check
 handlers_checks pool code len at [] = []
 handlers_checks pool code len at (handler ∷ handlers) =
@@ -188,9 +181,11 @@ handlers_checks pool code len at (handler ∷ handlers) =
 
 -- ---- its attributes
 
+-- the name of the attribute (4.7.4)
 abbrev pub stack_map_table : List ℕ
 stack_map_table = codes "StackMapTable"
 
+-- the attribute has this name
 abbrev pub inner_is_named : Constants → List ℕ → InnerAttr → Bool
 inner_is_named pool name attr = is_text name (utf8_at pool attr.name)
 
@@ -198,7 +193,8 @@ inner_is_named pool name attr = is_text name (utf8_at pool attr.name)
 abbrev pub table_fault : ℕ → Fault → Fault
 table_fault at f = if f.at == 0 then fault at f.rule else fault (at + 6 + f.at) f.rule
 
-abbrev in_table : {X : Type 0} → ℕ → Result X Fault → Result X Fault
+-- what a table that stands at a place gives, its fault at its place in the file
+abbrev pub in_table : {X : Type 0} → ℕ → Result X Fault → Result X Fault
 in_table at (Ok x) = Ok x
 in_table at (Err f) = Err (table_fault at f)
 
@@ -208,7 +204,7 @@ inners_checks s entry had at [] = []
 inners_checks s entry had at (attr ∷ attrs) =
     check at rules.Index (IsSome (utf8_at s.pool attr.name))
     ∷ asked_if (inner_is_named s.pool stack_map_table attr)
-    (check at rules.Twice (IsFalse had) ∷ asked_of (in_table at (table_at s entry attr.bytes)) (λ frames. []))
+    (check at rules.Twice (IsFalse had) ∷ asked_of (in_table at (stack_map_table_at s entry attr.bytes)) (λ frames. []))
     ++ inners_checks s entry (had || inner_is_named s.pool stack_map_table attr) (at + length (inner_bytes attr)) attrs
 
 -- ---- the entry frame (4.10.1.6)
@@ -231,6 +227,7 @@ this_type flags name class = if has flags STATIC then [] else (if is_text init (
   of_class (Some class) = types.Object class ∷ []
   of_class None = types.Top ∷ []
 
+-- the frame that the code of a method of these flags, name, class and parameters begins with
 abbrev pub entry_frame : ℕ → List ℕ → Option (List ℕ) → List FieldType → ℕ → Frame
 entry_frame flags name class params max_locals =
     record { locals = filled max_locals (this_type flags name class ++ map verification_type params); stack = [] }

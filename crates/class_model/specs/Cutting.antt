@@ -1,7 +1,7 @@
 -- The bytes of a class file cut into its items, from left to right (JVM Specification SE 8, 4.1, 4.4 to
 -- 4.7). Attributes are cut by name, length and content; the inside of Code is cut apart. The first item
 -- that needs more bytes than there are is Short at its first byte.
-use Rattle.std.specs.Prelude.{◌==◌, ◌&&◌, ◌||◌, ◌+◌, ◌<◌, nat_lt, nat_le, not, ℕ, zero, suc, Bool, List, [], ◌∷◌, ◌++◌, length, take, drop, None, Result, Ok, Err, if◌then◌else◌}
+use Rattle.std.specs.Prelude.{◌==◌, ◌&&◌, ◌||◌, ◌+◌, ◌<◌, nat_lt, nat_le, not, ℕ, zero, suc, Bool, List, [], ◌∷◌, ◌++◌, length, take, drop, Option, Some, None, Result, Ok, Err, if◌then◌else◌}
 use Rattle.std.specs.List.{AllByRecursion}
 use Rattle.std.specs.Int.{Width, w16, w32, w64, byte_len, from_be_bytes, cast_signed}
 use Rattle.class_model.specs.Checks.{Fault, fault, ◌>>=◌}
@@ -25,9 +25,18 @@ pub record Rest : Type 0 where
   pub at : ℕ
   pub bytes : List ℕ
 
+-- bytes of which nothing is cut
+abbrev pub uncut : List ℕ → Rest
+uncut bytes = record { at = 0; bytes = bytes }
+
 -- an item and what is left behind it
 abbrev pub Cut : Type 0 → Type 0
 Cut X = Result (X × Rest) Fault
+
+-- what was cut, if it took all bytes
+abbrev pub whole : {X : Type 0} → Cut X → Option X
+whole (Ok part) = if length part.1.bytes == 0 then Some part.0 else None
+whole (Err f) = None
 
 -- the rest without its first bytes
 abbrev pub behind : ℕ → Rest → Rest
@@ -43,6 +52,7 @@ number_at w rest = do
   item ← bytes_at (byte_len w) rest
   Ok (from_be_bytes w item.0, item.1)
 
+-- an item of one byte, of two, and of four
 abbrev pub u1_at : Rest → Cut ℕ
 u1_at rest = do
   item ← bytes_at 1 rest
@@ -122,6 +132,7 @@ pool_at major rest = do
 
 -- ---- members and attributes
 
+-- an attribute, by its name, length and content (4.7)
 abbrev pub attr_at : Rest → Cut Attr
 attr_at rest = do
   name ← u2_at rest
@@ -129,6 +140,7 @@ attr_at rest = do
   content ← bytes_at len.0 len.1
   Ok (Raw name.0 content.0, content.1)
 
+-- a field (4.5), and a method (4.6)
 abbrev pub field_at : Rest → Cut Field
 field_at rest = do
   flags ← u2_at rest
@@ -162,8 +174,8 @@ version_at rest = do
   Ok (record { minor = minor.0; major = major.0 }, major.1)
 
 -- the class file from behind its version to its last byte; its attributes are not looked into
-abbrev pub class_at : Version → Rest → Result ClassFile Fault
-class_at version rest = do
+abbrev pub class_file_at : Version → Rest → Result ClassFile Fault
+class_file_at version rest = do
   pool ← pool_at version.major rest
   flags ← u2_at pool.1
   this ← u2_at flags.1

@@ -124,6 +124,7 @@ abbrev pub element_len : List ℕ → ℕ
 element_len [] = 0
 element_len (first ∷ rest) = if first == 76 then length (take_while (λ b. not (b == 59)) rest) + 2 else 1
 
+-- how many bytes the field type at the front takes
 abbrev pub type_len : List ℕ → ℕ
 type_len bytes = brackets bytes + element_len (drop (brackets bytes) bytes)
 

@@ -4,14 +4,13 @@
 use Rattle.std.specs.Prelude.{◌≡◌, ◌⊎◌, ◌+◌, ◌*◌, ◌≤◌, ℕ, List, [], ◌∷◌, ◌++◌, length, map, Option, Some, None, Ok, IfSome, IsSome}
 use Rattle.std.specs.List.{flat_map}
 use Rattle.class_model.specs.Checks.{Check, check, AllHold, asked_of}
-use Rattle.class_model.specs.Cutting.{Rest, Version, version_at, class_at}
+use Rattle.class_model.specs.Cutting.{Rest, Version, uncut, version_at, class_file_at}
 use Rattle.class_model.specs.Members.{class_name_checks, super_checks, interfaces_checks}
 use Rattle.class_model.specs.Methods.{IsDescriptorOf}
 use Rattle.class_model.specs.ModifiedUtf8.{IsModifiedUtf8}
 use Rattle.class_model.specs.Names.{IsMethodName, IsFieldName}
 use Rattle.class_model.specs.Pool.{Constants}
-use Rattle.class_model.specs.PoolChecks as pools
-use Rattle.class_model.specs.PoolChecks.{utf8_at, IsFieldDescriptor, InitIsVoid}
+use Rattle.class_model.specs.PoolChecks.{utf8_at, class_at, text_or_empty, IsFieldDescriptor, InitIsVoid}
 use Rattle.class_model.specs.Spelling.{constant_bytes, entry_bytes, field_bytes, method_bytes}
 use Rattle.class_model.specs.declared.class_file.ClassFile.{ClassFile}
 use Rattle.class_model.specs.declared.class_file.Field.{Field}
@@ -29,24 +28,24 @@ texts_checks at (Some (Utf8 text) ∷ entries) = check at rules.Text (IsModified
 texts_checks at (Some constant ∷ entries) = texts_checks (at + length (constant_bytes constant)) entries
 
 -- the name and the descriptor of a field
-abbrev fields_checks : Constants → ℕ → List Field → List Check
-fields_checks pool at [] = []
-fields_checks pool at (field ∷ fields) =
+abbrev field_name_checks : Constants → ℕ → List Field → List Check
+field_name_checks pool at [] = []
+field_name_checks pool at (field ∷ fields) =
     check (at + 2) rules.Index (IsSome (utf8_at pool field.name))
     ∷ check (at + 2) rules.Name (IfSome (utf8_at pool field.name) IsFieldName)
     ∷ check (at + 4) rules.Index (IsSome (utf8_at pool field.desc))
     ∷ check (at + 4) rules.Descriptor (IfSome (utf8_at pool field.desc) IsFieldDescriptor)
-    ∷ fields_checks pool (at + length (field_bytes field)) fields
+    ∷ field_name_checks pool (at + length (field_bytes field)) fields
 
 -- the name and the descriptor of a method
-abbrev methods_checks : Constants → ℕ → List Method → List Check
-methods_checks pool at [] = []
-methods_checks pool at (method ∷ methods) =
+abbrev method_name_checks : Constants → ℕ → List Method → List Check
+method_name_checks pool at [] = []
+method_name_checks pool at (method ∷ methods) =
     check (at + 2) rules.Index (IsSome (utf8_at pool method.name))
     ∷ check (at + 2) rules.Name (IfSome (utf8_at pool method.name) (λ name. IsMethodName name × InitIsVoid name (utf8_at pool method.desc)))
     ∷ check (at + 4) rules.Index (IsSome (utf8_at pool method.desc))
     ∷ check (at + 4) rules.Descriptor (IfSome (utf8_at pool method.desc) (IsDescriptorOf method.flags))
-    ∷ methods_checks pool (at + length (method_bytes method)) methods
+    ∷ method_name_checks pool (at + length (method_bytes method)) methods
 
 -- what is asked of a library's class file that was cut out of bytes
 abbrev pub header_checks : ClassFile → List Check
@@ -59,39 +58,25 @@ header_checks c =
     ++ class_name_checks pool (flags + 2) c.this_class
     ++ super_checks pool (flags + 4) c.super_class
     ++ interfaces_checks pool (flags + 8) c.interfaces
-    ++ fields_checks pool (fields + 2) c.fields
-    ++ methods_checks pool (methods + 2) c.methods
+    ++ field_name_checks pool (fields + 2) c.fields
+    ++ method_name_checks pool (methods + 2) c.methods
 
 -- ---- what is kept
 
-abbrev text_at : Constants → ℕ → List ℕ
-text_at pool index = or_empty (utf8_at pool index) where
-  or_empty : Option (List ℕ) → List ℕ
-  or_empty None = []
-  or_empty (Some text) = text
-
-abbrev name_at : Constants → ℕ → List ℕ
-name_at pool index = or_empty (pools.class_at pool index) where
-  or_empty : Option (List ℕ) → List ℕ
-  or_empty None = []
-  or_empty (Some text) = text
-
-abbrev super_name : Constants → ℕ → Option (List ℕ)
-super_name pool index = pools.class_at pool index
-
+-- a field, and a method, by its name and descriptor
 abbrev field_member : Constants → Field → Member
-field_member pool field = record { flags = field.flags; name = text_at pool field.name; desc = text_at pool field.desc }
+field_member pool field = record { flags = field.flags; name = text_or_empty (utf8_at pool field.name); desc = text_or_empty (utf8_at pool field.desc) }
 
 abbrev method_member : Constants → Method → Member
-method_member pool method = record { flags = method.flags; name = text_at pool method.name; desc = text_at pool method.desc }
+method_member pool method = record { flags = method.flags; name = text_or_empty (utf8_at pool method.name); desc = text_or_empty (utf8_at pool method.desc) }
 
 -- the header of a class file
 abbrev pub header_of : ClassFile → Header
 header_of c = record {
-  name = name_at c.pool c.this_class;
+  name = text_or_empty (class_at c.pool c.this_class);
   flags = c.flags;
-  super_name = super_name c.pool c.super_class;
-  interfaces = map (name_at c.pool) c.interfaces;
+  super_name = class_at c.pool c.super_class;
+  interfaces = map (λ index. text_or_empty (class_at c.pool index)) c.interfaces;
   fields = map (field_member c.pool) c.fields;
   methods = map (method_member c.pool) c.methods;
 }
@@ -100,20 +85,17 @@ header_of c = record {
 abbrev pub IsLibraryVersion : Version → Type 0
 IsLibraryVersion v = ((45 ≤ v.major) × (v.major ≤ 51)) ⊎ ((v.major ≡ 52) × (v.minor ≡ 0))
 
-abbrev start : List ℕ → Rest
-start bytes = record { at = 0; bytes = bytes }
-
 -- The bytes are those of a class file with this header.
 pub record HeaderOf (bytes : List ℕ) (header : Header) : Type 0 where
   pub version : Version
   pub rest : Rest
-  pub head : version_at (start bytes) ≡ Ok (version, rest)
+  pub head : version_at (uncut bytes) ≡ Ok (version, rest)
   pub is_read : IsLibraryVersion version
   pub cut : ClassFile
-  pub is_cut : class_at version rest ≡ Ok cut
+  pub is_cut : class_file_at version rest ≡ Ok cut
   pub holds : AllHold (header_checks cut)
   pub is : header ≡ header_of cut
 
 -- what is asked of the bytes behind a version that is read
-abbrev pub library_checks : Version → Rest → List Check
-library_checks version rest = asked_of (class_at version rest) header_checks
+abbrev pub library_file_checks : Version → Rest → List Check
+library_file_checks version rest = asked_of (class_file_at version rest) header_checks

@@ -36,12 +36,12 @@ pub data Operands : Type 0 where
   Wide : Operands
 
 -- the opcodes from low to high, and what stands behind each
-pub record Row : Type 0 where
+pub record OpcodeRow : Type 0 where
   pub low : ℕ
   pub high : ℕ
   pub operands : ℕ → Operands
 
-abbrev row : ℕ → ℕ → (ℕ → Operands) → Row
+abbrev row : ℕ → ℕ → (ℕ → Operands) → OpcodeRow
 row low high operands = record { low = low; high = high; operands = operands }
 
 -- int, long, float, double and reference, as the opcodes of loads, stores and returns count them
@@ -62,7 +62,9 @@ abbrev double_bits : ℕ → ℕ
 double_bits zero = 0
 double_bits (suc n) = 0x3FF0000000000000
 
-abbrev pub rows : List Row
+-- The forms of all opcodes. jsr, jsr_w and ret have none: 4.9.1 forbids the first two from version 51 on, and this
+-- project's profile all three.
+abbrev pub rows : List OpcodeRow
 rows =
     row 0 0 (λ o. Alone Nop)
     ∷ row 1 1 (λ o. Alone (Const imms.Null))
@@ -134,12 +136,12 @@ rows =
     ∷ []
 
 -- what stands behind an opcode in rows, if it has a form there
-abbrev pub operands_in : List Row → ℕ → Option Operands
+abbrev pub operands_in : List OpcodeRow → ℕ → Option Operands
 operands_in [] opcode = None
 operands_in (r ∷ others) opcode = if nat_le r.low opcode && nat_le opcode r.high then Some (r.operands opcode) else operands_in others opcode
 
 -- behind a wide: the loads and stores with two bytes, and iinc with two and two (6.5.wide)
-abbrev pub wide_rows : List Row
+abbrev pub wide_rows : List OpcodeRow
 wide_rows =
     row 21 25 (λ o. U2 (Load (kind_at (o - 21))))
     ∷ row 54 58 (λ o. U2 (Store (kind_at (o - 54))))
@@ -208,8 +210,8 @@ abbrev pub span : ℤ → ℤ → ℕ
 span low high = (cast_unsigned w32 high + 2 ^ 32 - cast_unsigned w32 low) % 2 ^ 32 + 1
 
 -- tableswitch (6.5.tableswitch): pad, default, low, high, and a target for each key
-abbrev pub table_at : ℕ → List ℕ → Read
-table_at at bytes =
+abbrev pub table_switch_at : ℕ → List ℕ → Read
+table_switch_at at bytes =
     let start = 1 + pad_of at in
     let low = s4_in bytes (start + 4) in
     let high = s4_in bytes (start + 8) in
@@ -220,8 +222,8 @@ table_at at bytes =
     else Ok (Table low (target_of at (s4_in bytes start)) (targets_in at bytes (start + 12) count), start + 12 + 4 * count)))
 
 -- lookupswitch (6.5.lookupswitch): pad, default, a count that is not negative, and keys that increase
-abbrev pub lookup_at : ℕ → List ℕ → Read
-lookup_at at bytes =
+abbrev pub lookup_switch_at : ℕ → List ℕ → Read
+lookup_switch_at at bytes =
     let start = 1 + pad_of at in
     let count = u4_in bytes (start + 4) in
     if nat_lt (length bytes) (start + 8) then Err (fault at rules.Operand)
@@ -235,6 +237,7 @@ abbrev pub wide_operands : ℕ → List ℕ → Option Operands → Read
 wide_operands at bytes (Some (U2 makes)) = sized at bytes 4 (makes (u2_in bytes 2))
 wide_operands at bytes other = if u1_in bytes 1 == 132 then sized at bytes 6 (Iinc (u2_in bytes 2) (s2_in bytes 4)) else Err (fault at rules.Opcode)
 
+-- an instruction behind a wide, with the wide
 abbrev pub wide_at : ℕ → List ℕ → Read
 wide_at at bytes = if nat_lt (length bytes) 2 then Err (fault at rules.Operand) else wide_operands at bytes (operands_in wide_rows (u1_in bytes 1))
 
@@ -243,11 +246,12 @@ abbrev pub is_array_code : Instr → Bool
 is_array_code (NewArray code) = nat_le 4 code && nat_le code 11
 is_array_code other = true
 
--- multianewarray makes at least one dimension
+-- multianewarray makes at least one dimension (6.5.multianewarray)
 abbrev pub has_dimensions : Instr → Bool
 has_dimensions (NewMulti class dimensions) = nat_lt 0 dimensions
 has_dimensions other = true
 
+-- the instruction of an opcode with these operands, whose bytes begin with the opcode
 abbrev pub with_operands : ℕ → List ℕ → Option Operands → Read
 with_operands at bytes None = Err (fault at rules.Opcode)
 with_operands at bytes (Some (Alone instr)) = Ok (instr, 1)
@@ -261,8 +265,8 @@ with_operands at bytes (Some (U2U1Zero makes)) = sized_if (u1_in bytes 4 == 0) a
 with_operands at bytes (Some (U2ZeroZero makes)) = sized_if (u2_in bytes 3 == 0) at bytes 5 (makes (u2_in bytes 1))
 with_operands at bytes (Some (Jump2 makes)) = sized at bytes 3 (makes (target_of at (s2_in bytes 1)))
 with_operands at bytes (Some (Jump4 makes)) = sized at bytes 5 (makes (target_of at (s4_in bytes 1)))
-with_operands at bytes (Some TableSwitch) = table_at at bytes
-with_operands at bytes (Some LookupSwitch) = lookup_at at bytes
+with_operands at bytes (Some TableSwitch) = table_switch_at at bytes
+with_operands at bytes (Some LookupSwitch) = lookup_switch_at at bytes
 with_operands at bytes (Some Wide) = wide_at at bytes
 
 -- The instruction at an offset of a code, whose bytes from there on these are: the first of them is its

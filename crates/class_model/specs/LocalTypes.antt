@@ -1,4 +1,4 @@
--- The types of local units, as they are kept in parts.
+-- The types of local units (JVM Specification SE 8, 2.6.1), as they are kept in parts.
 use Rattle.std.specs.Prelude.{◌≡◌, ◌≢◌, ◌≤◌, ◌/◌, ◌%◌, ℕ, List, [], get_or, map}
 use Rattle.std.specs.List.{range_with_len}
 use Rattle.class_model.specs.declared.frame.VType.{VType}

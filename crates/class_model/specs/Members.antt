@@ -18,6 +18,7 @@ use Rattle.class_model.specs.declared.pool.Const.TheVariants as consts
 
 -- ---- flags (4.1, 4.5, 4.6)
 
+-- a flag is set
 abbrev pub has : ℕ → ℕ → Bool
 has flags mask = not (bit_and flags mask == 0)
 
@@ -77,10 +78,11 @@ attr_name (Code name part) = name
 abbrev pub is_named : Constants → List ℕ → Attr → Bool
 is_named pool name attr = is_text name (utf8_at pool (attr_name attr))
 
+-- one of the attributes has this name
 abbrev pub has_named : Constants → List ℕ → List Attr → Bool
 has_named pool name attrs = list_any (is_named pool name) attrs
 
--- a member's name and descriptor
+-- the indices of a member's name and descriptor
 pub record Signature : Type 0 where
   pub name : ℕ
   pub desc : ℕ
@@ -117,12 +119,14 @@ class_name_checks pool at index =
 abbrev pub super_checks : Constants → ℕ → ℕ → List Check
 super_checks pool at index = asked_if (not (index == 0)) (class_name_checks pool at index)
 
+-- the direct superinterfaces, from the place of the first on
 abbrev pub interfaces_checks : Constants → ℕ → List ℕ → List Check
 interfaces_checks pool at [] = []
 interfaces_checks pool at (index ∷ indices) = class_name_checks pool at index ++ interfaces_checks pool (at + 2) indices
 
 -- ---- fields (4.5, 4.7.2)
 
+-- the name of the attribute
 abbrev pub constant_value : List ℕ
 constant_value = codes "ConstantValue"
 
@@ -140,9 +144,10 @@ pub record IsConstantValue (pool : Constants) (descriptor : Option (List ℕ)) (
   pub two_bytes : length content ≡ 2
   pub constant : IfSome descriptor (λ text. IsConstantOf text (constant_at pool (u2_in content 0)))
 
-abbrev content_of : Attr → List ℕ
-content_of (Raw name bytes) = bytes
-content_of (Code name part) = []
+-- the content of an attribute that is not cut into the parts of a Code
+abbrev pub raw_content : Attr → List ℕ
+raw_content (Raw name bytes) = bytes
+raw_content (Code name part) = []
 
 -- an attribute of a field: the ConstantValue of one that is static stands once and fits
 abbrev pub field_attr_checks : Constants → Field → List Attr → ℕ → Attr → List Check
@@ -150,9 +155,10 @@ field_attr_checks pool field before at attr =
     attr_name_check pool at attr
     ∷ asked_if (has field.flags STATIC && is_named pool constant_value attr)
     (check at rules.Twice (IsFalse (has_named pool constant_value before))
-    ∷ check at rules.Constant (IsConstantValue pool (utf8_at pool field.desc) (content_of attr)) ∷ [])
+    ∷ check at rules.Constant (IsConstantValue pool (utf8_at pool field.desc) (raw_content attr)) ∷ [])
 
-abbrev field_signature : Field → Signature
+-- the indices of a field's name and descriptor
+abbrev pub field_signature : Field → Signature
 field_signature field = record { name = field.name; desc = field.desc }
 
 -- a field at a place, behind fields of these names

@@ -2,14 +2,14 @@
 use Rattle.std.specs.Prelude.{◌==◌, ◌&&◌, ◌||◌, not, ◌+◌, ◌*◌, ◌≤◌, nat_lt, ℕ, Bool, false, List, [], ◌∷◌, ◌++◌, length, codes, Option, Some, None, Result, Ok, Err, IfSome, IsSome, IsTrue, IsFalse, if◌then◌else◌}
 use Rattle.class_model.specs.Checks.{Check, check, Fault, fault, asked_of, asked_if, ◌>>=◌}
 use Rattle.class_model.specs.Code.{code_part, jump_checks, operand_checks, handlers_checks, inners_checks, entry_frame}
-use Rattle.class_model.specs.Cutting.{Rest, Cut, u2_at, counted_at}
+use Rattle.class_model.specs.Cutting.{Rest, Cut, whole, u2_at, counted_at}
 use Rattle.class_model.specs.Descriptors.{SpellsDescriptor, parameter_units, parameters_of}
 use Rattle.class_model.specs.Frames.{Setting}
 use Rattle.class_model.specs.Instructions.{decoded}
-use Rattle.class_model.specs.Members.{Signature, has, STATIC, NATIVE, INTERFACE, ABSTRACT, one_visibility, is_text, is_named, has_named, stands_before, attrs_checks, attr_name_check}
+use Rattle.class_model.specs.Members.{Signature, has, STATIC, NATIVE, INTERFACE, ABSTRACT, one_visibility, is_text, is_named, has_named, stands_before, attrs_checks, attr_name_check, raw_content}
 use Rattle.class_model.specs.Names.{init, clinit, IsMethodName}
 use Rattle.class_model.specs.Pool.{Constants, constant_at}
-use Rattle.class_model.specs.PoolChecks.{utf8_at, InitIsVoid}
+use Rattle.class_model.specs.PoolChecks.{utf8_at, text_or_empty, InitIsVoid}
 use Rattle.class_model.specs.declared.class_file.Attr.{Attr}
 use Rattle.class_model.specs.declared.class_file.Attr.TheVariants.{Raw, Code}
 use Rattle.class_model.specs.declared.class_file.CodePart.{CodePart}
@@ -28,6 +28,7 @@ pub record Home : Type 0 where
   pub flags : ℕ
   pub name : Option (List ℕ)
 
+-- the name of the attribute (4.7.3)
 abbrev pub code : List ℕ
 code = codes "Code"
 
@@ -50,6 +51,7 @@ abbrev fits_other : Home → Method → Bool
 fits_other home method =
     not (nat_lt home.major 52 && has home.flags INTERFACE && has_code home method) && not (has method.flags STATIC && has method.flags ABSTRACT)
 
+-- the flags of a method: what is asked of each, and of an initialiser (2.9)
 abbrev pub fits_method : Home → Method → Bool
 fits_method home method =
     let name = utf8_at home.pool method.name in
@@ -63,6 +65,7 @@ fits_method home method =
 abbrev pub this_units : ℕ → ℕ
 this_units flags = if has flags STATIC then 0 else 1
 
+-- the text is the descriptor of a method with these flags (4.3.3)
 pub record IsDescriptorOf (flags : ℕ) (text : List ℕ) : Type 0 where
   pub descriptor : Descriptor
   pub spelled : SpellsDescriptor text descriptor
@@ -78,10 +81,6 @@ units_at_call flags text = parameter_units (parameters_of text) + this_units fla
 abbrev placed_at : {X : Type 0} → ℕ → Result X Fault → Result X Fault
 placed_at start (Ok x) = Ok x
 placed_at start (Err f) = Err (fault (start + f.at) f.rule)
-
-abbrev text_or_empty : Option (List ℕ) → List ℕ
-text_or_empty None = []
-text_or_empty (Some text) = text
 
 -- the frame that a method's code begins with
 abbrev pub entry_of : Home → Method → CodePart → Frame
@@ -113,6 +112,7 @@ abbrev pub content_checks : Home → Method → ℕ → Option CodePart → List
 content_checks home method at None = check at rules.Attribute ⊥ ∷ []
 content_checks home method at (Some part) = part_checks home method at part
 
+-- the parts of a Code attribute, if its content has them
 abbrev pub code_content : Attr → Option CodePart
 code_content (Raw name bytes) = code_part bytes
 code_content (Code name part) = Some part
@@ -126,7 +126,8 @@ method_attr_checks home method before at attr =
 
 -- ---- methods
 
-abbrev method_signature : Method → Signature
+-- the indices of a method's name and descriptor
+abbrev pub method_signature : Method → Signature
 method_signature method = record { name = method.name; desc = method.desc }
 
 -- a method that is neither abstract nor native has code, and one that is has none
@@ -153,20 +154,18 @@ pub record Bootstrap : Type 0 where
   pub handle : ℕ
   pub arguments : List ℕ
 
+-- an entry of BootstrapMethods
 abbrev pub bootstrap_at : Rest → Cut Bootstrap
 bootstrap_at rest = do
   handle ← u2_at rest
   arguments ← counted_at u2_at handle.1
   Ok (record { handle = handle.0; arguments = arguments.0 }, arguments.1)
 
-abbrev whole : Cut (List Bootstrap) → Option (List Bootstrap)
-whole (Ok methods) = if length methods.1.bytes == 0 then Some methods.0 else None
-whole (Err f) = None
-
 -- the content of a BootstrapMethods attribute, if its counts fill it
 abbrev pub bootstraps : List ℕ → Option (List Bootstrap)
 bootstraps content = whole (counted_at bootstrap_at (record { at = 0; bytes = content }))
 
+-- a constant that is a method handle
 abbrev pub IsHandle : Option Const → Type 0
 IsHandle (Some (consts.MethodHandle kind reference)) = Unit {0}
 IsHandle other = ⊥
@@ -183,10 +182,12 @@ IsArgument (Some (consts.MethodHandle kind reference)) = Unit {0}
 IsArgument (Some (consts.MethodType descriptor)) = Unit {0}
 IsArgument other = ⊥
 
+-- the arguments of a bootstrap method, from the place of the first on
 abbrev pub arguments_checks : Constants → ℕ → List ℕ → List Check
 arguments_checks pool at [] = []
 arguments_checks pool at (index ∷ indices) = check at rules.Index (IsArgument (constant_at pool index)) ∷ arguments_checks pool (at + 2) indices
 
+-- bootstrap methods, from the place of the first on
 abbrev pub bootstraps_checks : Constants → ℕ → List Bootstrap → List Check
 bootstraps_checks pool at [] = []
 bootstraps_checks pool at (b ∷ others) =
@@ -194,23 +195,21 @@ bootstraps_checks pool at (b ∷ others) =
     ∷ arguments_checks pool (at + 4) b.arguments
     ++ bootstraps_checks pool (at + 4 + 2 * length b.arguments) others
 
-abbrev pub table_checks : Constants → ℕ → Option (List Bootstrap) → List Check
-table_checks pool at None = check at rules.Attribute ⊥ ∷ []
-table_checks pool at (Some methods) = bootstraps_checks pool (at + 8) methods
+-- the content of a BootstrapMethods attribute at a place
+abbrev pub bootstrap_table_checks : Constants → ℕ → Option (List Bootstrap) → List Check
+bootstrap_table_checks pool at None = check at rules.Attribute ⊥ ∷ []
+bootstrap_table_checks pool at (Some methods) = bootstraps_checks pool (at + 8) methods
 
+-- the name of the attribute
 abbrev pub bootstrap_methods : List ℕ
 bootstrap_methods = codes "BootstrapMethods"
-
-abbrev pub raw_content : Attr → List ℕ
-raw_content (Raw name bytes) = bytes
-raw_content (Code name part) = []
 
 -- an attribute of the class: BootstrapMethods stands once, and its counts and indices fit
 abbrev pub class_attr_checks : Constants → List Attr → ℕ → Attr → List Check
 class_attr_checks pool before at attr =
     attr_name_check pool at attr
     ∷ asked_if (is_named pool bootstrap_methods attr)
-    (check at rules.Twice (IsFalse (has_named pool bootstrap_methods before)) ∷ table_checks pool at (bootstraps (raw_content attr)))
+    (check at rules.Twice (IsFalse (has_named pool bootstrap_methods before)) ∷ bootstrap_table_checks pool at (bootstraps (raw_content attr)))
 
 -- how many bootstrap methods the attributes of a class have
 abbrev pub bootstrap_count : Constants → List Attr → ℕ

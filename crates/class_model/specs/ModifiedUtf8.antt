@@ -1,6 +1,6 @@
 -- Modified UTF-8, in which a Utf8 constant spells its text (JVM Specification SE 8, 4.4.7).
-use Rattle.std.specs.Prelude.{◌≡◌, ℕ, ◌+◌, ◌/◌, ◌%◌, ◌^◌, ◌<◌, ◌≤◌, List, [], ◌∷◌, length, ◌&&◌, nat_lt, if◌then◌else◌}
-use Rattle.std.specs.List.{flat_map, AllByRecursion}
+use Rattle.std.specs.Prelude.{◌≡◌, ℕ, ◌+◌, ◌/◌, ◌%◌, ◌^◌, ◌<◌, ◌≤◌, List, [], ◌∷◌, length, ◌&&◌, nat_lt, nat_le, Bool, if◌then◌else◌}
+use Rattle.std.specs.List.{flat_map, list_all, AllByRecursion}
 
 -- A UTF-16 code unit is a number of sixteen bits; surrogates are spelled as any other.
 abbrev pub IsCodeUnit : ℕ → Type 0
@@ -23,3 +23,11 @@ pub record IsModifiedUtf8 (bytes : List ℕ) : Type 0 where
 pub record IsText (bytes : List ℕ) : Type 0 where
   pub spelling : IsModifiedUtf8 bytes
   pub len : length bytes ≤ 65535
+
+-- a byte from 1 to 7F, which spells a code unit by itself
+abbrev pub is_plain : ℕ → Bool
+is_plain byte = nat_lt 0 byte && nat_lt byte 0x80
+
+-- such bytes alone, and no more than a text has
+abbrev pub is_plain_text : List ℕ → Bool
+is_plain_text bytes = list_all is_plain bytes && nat_le (length bytes) 65535

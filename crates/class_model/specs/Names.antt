@@ -9,6 +9,7 @@ pub record IsNameByte (byte : ℕ) : Type 0 where
   pub no_semicolon : byte ≢ 59
   pub no_bracket : byte ≢ 91
 
+-- An unqualified name is one such byte or more.
 pub record IsUnqualifiedName (name : List ℕ) : Type 0 where
   pub some : name ≢ []
   pub bytes : AllByRecursion IsNameByte name
@@ -32,6 +33,7 @@ init = codes "<init>"
 abbrev pub clinit : List ℕ
 clinit = codes "<clinit>"
 
+-- the name of a method that is no initialiser
 pub record IsPlainMethodName (name : List ℕ) : Type 0 where
   pub unqualified : IsUnqualifiedName name
   pub no_angles : AllByRecursion IsNoAngle name

@@ -18,14 +18,17 @@ use Rattle.class_model.specs.declared.pool.Const.TheVariants.{Utf8, Integer, Flo
 
 -- ---- what indices name
 
+-- the text of a Utf8 constant (4.4.7)
 abbrev pub text_of : Const → Option (List ℕ)
 text_of (Utf8 text) = Some text
 text_of other = None
 
+-- the index of the name of a Class constant (4.4.1)
 abbrev pub class_name_of : Const → Option ℕ
 class_name_of (Class name) = Some name
 class_name_of other = None
 
+-- the indices of a NameAndType constant (4.4.6)
 abbrev pub name_and_type_of : Const → Option (ℕ × ℕ)
 name_and_type_of (NameAndType name descriptor) = Some (name, descriptor)
 name_and_type_of other = None
@@ -57,6 +60,11 @@ name_at pool index = option_and_then (λ n. utf8_at pool n.0) (option_and_then n
 abbrev pub descriptor_at : Constants → ℕ → Option (List ℕ)
 descriptor_at pool index = option_and_then (λ n. utf8_at pool n.1) (option_and_then name_and_type_of (constant_at pool index))
 
+-- a text, empty where an index names none
+abbrev pub text_or_empty : Option (List ℕ) → List ℕ
+text_or_empty None = []
+text_or_empty (Some text) = text
+
 -- ---- sorts of descriptors
 
 -- A descriptor is asked of the bytes; whether they are a text is asked of the Utf8 constant itself.
@@ -64,18 +72,20 @@ abbrev pub IsTypeName : FieldType → Type 0
 IsTypeName (Named name) = IsReferenceName name
 IsTypeName other = Unit {0}
 
+-- the bytes of a field descriptor (4.3.2)
 pub record IsFieldDescriptor (text : List ℕ) : Type 0 where
   pub type : FieldType
   pub named : IsTypeName type
   pub spelled : text ≡ field_type_text type
 
--- the bytes of a method descriptor
+-- the bytes of a method descriptor (4.3.3)
 pub record BytesSpell (text : List ℕ) (descriptor : Descriptor) : Type 0 where
   pub params : AllByRecursion IsTypeName descriptor.params
   pub units : parameter_units descriptor.params ≤ 255
   pub result : IfSome descriptor.result IsTypeName
   pub spelled : text ≡ descriptor_text descriptor
 
+-- bytes of a method descriptor
 abbrev pub IsMethodDescriptor : List ℕ → Type 0
 IsMethodDescriptor text = (descriptor : Descriptor) × BytesSpell text descriptor
 
@@ -145,19 +155,20 @@ dynamic_checks at pool member =
     ∷ check at rules.Descriptor (IfSome (descriptor_at pool member) IsMethodDescriptor)
     ∷ []
 
--- what a method handle of a kind refers to (4.4.8)
-abbrev pub IsField : Option Const → Type 0
-IsField (Some (Fieldref class member)) = Unit {0}
-IsField other = ⊥
+-- a constant that refers to a field, a method of a class, or a method of an interface (4.4.2)
+abbrev pub IsFieldConstant : Option Const → Type 0
+IsFieldConstant (Some (Fieldref class member)) = Unit {0}
+IsFieldConstant other = ⊥
 
-abbrev pub IsMethod : Option Const → Type 0
-IsMethod (Some (Methodref class member)) = Unit {0}
-IsMethod other = ⊥
+abbrev pub IsMethodConstant : Option Const → Type 0
+IsMethodConstant (Some (Methodref class member)) = Unit {0}
+IsMethodConstant other = ⊥
 
-abbrev pub IsInterfaceMethod : Option Const → Type 0
-IsInterfaceMethod (Some (InterfaceMethodref class member)) = Unit {0}
-IsInterfaceMethod other = ⊥
+abbrev pub IsInterfaceConstant : Option Const → Type 0
+IsInterfaceConstant (Some (InterfaceMethodref class member)) = Unit {0}
+IsInterfaceConstant other = ⊥
 
+-- the index of the name and descriptor of what a constant refers to
 abbrev pub member_of : Const → Option ℕ
 member_of (Fieldref class member) = Some member
 member_of (Methodref class member) = Some member
@@ -168,20 +179,21 @@ member_of other = None
 abbrev pub referred_name : Constants → ℕ → Option (List ℕ)
 referred_name pool index = option_and_then (name_at pool) (option_and_then member_of (constant_at pool index))
 
-abbrev pub IsMethodOf : ℕ → Option Const → Type 0
-IsMethodOf major constant = IsMethod constant ⊎ ((major ≡ 52) × IsInterfaceMethod constant)
+-- a method that a static or special call names, in a class file of this major version
+abbrev pub IsMethodConstantOf : ℕ → Option Const → Type 0
+IsMethodConstantOf major constant = IsMethodConstant constant ⊎ ((major ≡ 52) × IsInterfaceConstant constant)
 
--- Kinds 1 to 4 name a field, 5 and 8 a method, 6 and 7 a method that in version 52 may be an interface's, and 9
--- an interface's method. Kind 8 names an instance initialiser, and 5, 6, 7 and 9 do not.
+-- What a method handle of a kind refers to (4.4.8): kinds 1 to 4 name a field, 5 and 8 a method, 6 and 7 a method
+-- that in version 52 may be an interface's, and 9 an interface's method. Kind 8 names an instance initialiser, and 5, 6, 7 and 9 do not.
 abbrev pub RefersWell : ℕ → Constants → ℕ → ℕ → Type 0
 RefersWell major pool kind reference =
     let constant = constant_at pool reference in
     let name = referred_name pool reference in
-    ((1 ≤ kind) × (kind ≤ 4) × IsField constant)
-    ⊎ (((kind ≡ 5) × IsMethod constant × IfSome name (λ n. n ≢ init))
-    ⊎ (((6 ≤ kind) × (kind ≤ 7) × IsMethodOf major constant × IfSome name (λ n. n ≢ init))
-    ⊎ (((kind ≡ 8) × IsMethod constant × IfSome name (λ n. n ≡ init))
-    ⊎ ((kind ≡ 9) × IsInterfaceMethod constant × IfSome name (λ n. n ≢ init)))))
+    ((1 ≤ kind) × (kind ≤ 4) × IsFieldConstant constant)
+    ⊎ (((kind ≡ 5) × IsMethodConstant constant × IfSome name (λ n. n ≢ init))
+    ⊎ (((6 ≤ kind) × (kind ≤ 7) × IsMethodConstantOf major constant × IfSome name (λ n. n ≢ init))
+    ⊎ (((kind ≡ 8) × IsMethodConstant constant × IfSome name (λ n. n ≡ init))
+    ⊎ ((kind ≡ 9) × IsInterfaceConstant constant × IfSome name (λ n. n ≢ init)))))
 
 -- a method handle (4.4.8)
 abbrev pub handle_checks : ℕ → ℕ → Constants → ℕ → ℕ → List Check

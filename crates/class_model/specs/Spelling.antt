@@ -57,6 +57,7 @@ pool_bytes pool = u2 (length pool) ++ flat_map entry_bytes pool
 abbrev pub raw_bytes : ℕ → List ℕ → List ℕ
 raw_bytes name content = u2 name ++ (u4 (length content) ++ content)
 
+-- an attribute of a code
 abbrev pub inner_bytes : InnerAttr → List ℕ
 inner_bytes attr = raw_bytes attr.name attr.bytes
 
@@ -71,6 +72,7 @@ code_part_bytes part =
     ++ (u2 (length part.handlers) ++ flat_map handler_bytes part.handlers)
     ++ (u2 (length part.attrs) ++ flat_map inner_bytes part.attrs)
 
+-- an attribute of a class, a field or a method, and all of one with their count
 abbrev pub attr_bytes : Attr → List ℕ
 attr_bytes (Raw name bytes) = raw_bytes name bytes
 attr_bytes (Code name part) = raw_bytes name (code_part_bytes part)

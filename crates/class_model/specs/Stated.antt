@@ -2,7 +2,7 @@
 use Rattle.std.specs.Prelude.{◌==◌, ℕ, List, [], ◌∷◌, Option, Some, None, Result, Ok, Err, if◌then◌else◌}
 use Rattle.class_model.specs.Checks.{Fault}
 use Rattle.class_model.specs.Code.{inner_is_named, stack_map_table}
-use Rattle.class_model.specs.Frames.{table_at}
+use Rattle.class_model.specs.Frames.{stack_map_table_at}
 use Rattle.class_model.specs.Instructions.{decoded}
 use Rattle.class_model.specs.Methods.{Home, entry_of}
 use Rattle.class_model.specs.declared.class_file.CodePart.{CodePart}
@@ -14,7 +14,7 @@ use Rattle.class_model.specs.declared.instr.Placed.{Placed}
 
 -- those that an attribute of the code of these instructions states
 abbrev pub stated_frames : Home → Method → CodePart → Result (List Placed) Fault → InnerAttr → Result (List PlacedFrame) Fault
-stated_frames home method part (Ok instrs) attr = table_at (record { pool = home.pool; max_locals = part.max_locals; max_stack = part.max_stack; code = instrs }) (entry_of home method part) attr.bytes
+stated_frames home method part (Ok instrs) attr = stack_map_table_at (record { pool = home.pool; max_locals = part.max_locals; max_stack = part.max_stack; code = instrs }) (entry_of home method part) attr.bytes
 stated_frames home method part (Err fault) attr = Ok []
 
 -- what cannot be read states no frames

@@ -1,8 +1,8 @@
 //! Laws: functions that do nothing, whose contracts say what always holds.
 ghost use Rattle.std.specs.Prelude.{◌≡◌, ◌⊎◌, ◌+◌, ◌++◌, ℕ, List, length, Ok};
 ghost use Rattle.class_model.specs.Checks.{Fault};
-ghost use Rattle.class_model.specs.ClassOf.{ClassOf, FirstFault, IsOtherVersion, start};
-ghost use Rattle.class_model.specs.Cutting.{IsBytes, Rest, Version, version_at, class_at, pool_at};
+ghost use Rattle.class_model.specs.ClassOf.{ClassOf, FirstFault, IsOtherVersion};
+ghost use Rattle.class_model.specs.Cutting.{IsBytes, Rest, Version, version_at, class_file_at, pool_at, uncut};
 ghost use Rattle.class_model.specs.Descriptors.{SpellsFieldType, SpellsDescriptor, parameters_of};
 ghost use Rattle.class_model.specs.Instructions.{IsSpelling};
 ghost use Rattle.class_model.specs.ModifiedUtf8.{IsText};
@@ -72,7 +72,7 @@ pub fn a_cut_pool_is_spelled()
 
 /// A class file that was cut out of bytes is spelled by them, and its pool begins at the eighth.
 pub fn a_cut_class_is_spelled()
-    ensures { (bytes : List ℕ) (version : Version) (rest : Rest) (class : ClassFile) → IsBytes bytes → version_at (start bytes) ≡ Ok (version, rest) → class_at version rest ≡ Ok class
+    ensures { (bytes : List ℕ) (version : Version) (rest : Rest) (class : ClassFile) → IsBytes bytes → version_at (uncut bytes) ≡ Ok (version, rest) → class_file_at version rest ≡ Ok class
         → (bytes ≡ class_bytes class) × (rest.at ≡ 8) }
 {}
 

@@ -5,7 +5,7 @@ ghost use Rattle.std.specs.Hash as fed;
 ghost use Rattle.std.specs.Cmp.Rules.{comparing, hashing};
 ghost use Rattle.std.specs.Cmp.Lexicographic.{pointwise};
 ghost use Rattle.std.proofs.Common.{rules};
-ghost use Rattle.class_model.specs.ModifiedUtf8.{IsText, IsModifiedUtf8, IsCodeUnit, unit_bytes};
+ghost use Rattle.class_model.specs.ModifiedUtf8.{IsText, IsModifiedUtf8, IsCodeUnit, unit_bytes, is_plain_text};
 ghost use Rattle.class_model.specs.declared.text.TextFault.TheVariants.{NoMemory as no_memory};
 
 use crate::memory::NoMemory;
@@ -95,6 +95,14 @@ impl Text {
     {
         let bytes = RcSlice::from_slice(alloc, bytes)?;
         Ok(Text { bytes })
+    }
+
+    /// The text of bytes from 1 to 7F, which it copies: each of them spells a code unit by itself (4.4.7).
+    pub fn of_plain(alloc: Global, bytes: &[u8]) -> Result<Text, NoMemory>
+        requires { IsTrue (is_plain_text bytes.now) }
+        ensures { IfOk result (λ text. text ≡ bytes.now) }
+    {
+        Text::of_text(alloc, bytes)
     }
 
     /// The bytes of the text.

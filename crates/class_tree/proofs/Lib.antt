@@ -1,5 +1,6 @@
 pub mod FirstPlaces
 pub mod Places
+pub mod PlainNames
 pub mod Searches
 pub mod HeaderParts
 pub mod FirstClasses
@@ -20,7 +21,6 @@ pub mod FoundConstants
 pub mod HierarchyChecks
 pub mod LibraryNames
 pub mod LinkChecks
-pub mod PlainTexts
 pub mod SuperNumbers
 pub mod MemberIndexes
 pub mod Climbing

@@ -2,7 +2,7 @@
 use Rattle.std.proofs.Common.{◌≡◌, ◌≢◌, ◌+◌, ◌*◌, ℕ, zero, suc, List, [], ◌∷◌, ◌++◌, length, map, slice_get, Option, Some, None, IsSome, IfSome, IsTrue, refl, sym, ◌∙◌, subst}
 use Rattle.std.specs.List.{AllByRecursion, flat_map, join_with_byte}
 use Rattle.class_model.specs.Checks as checks
-use Rattle.class_model.specs.ClassOf.{ClassOf, fields_checks, methods_checks, dynamic_checks}
+use Rattle.class_model.specs.ClassOf.{ClassOf, fields_checks, methods_checks, bootstrap_index_checks}
 use Rattle.class_model.specs.Header.{header_of}
 use Rattle.class_model.specs.Members.{fits_class, class_name_checks, super_checks, interfaces_checks, attrs_checks}
 use Rattle.class_model.specs.Methods.{Home, class_attr_checks, bootstrap_count}
@@ -70,7 +70,7 @@ class_file_name bytes class is =
     let methods = fields + 2 + length (flat_map field_bytes c.fields) in
     let attrs = methods + 2 + length (flat_map method_bytes c.methods) in
     let home : Home = record { pool = pool; major = c.major; flags = c.flags; name = class_at pool c.this_class } in
-    let named = third_of_nine (entries_checks c.major pool 10 pool) (checks.check flags rules.Flags (IsTrue (fits_class c.flags)) ∷ []) (class_name_checks pool (flags + 2) c.this_class) (super_checks pool (flags + 4) c.super_class) (interfaces_checks pool (flags + 8) c.interfaces) (fields_checks pool c.flags [] (fields + 2) c.fields) (methods_checks home [] (methods + 2) c.methods) (attrs_checks (class_attr_checks pool) [] (attrs + 2) c.attrs) (dynamic_checks (bootstrap_count pool c.attrs) 10 pool) is.holds in
+    let named = third_of_nine (entries_checks c.major pool 10 pool) (checks.check flags rules.Flags (IsTrue (fits_class c.flags)) ∷ []) (class_name_checks pool (flags + 2) c.this_class) (super_checks pool (flags + 4) c.super_class) (interfaces_checks pool (flags + 8) c.interfaces) (fields_checks pool c.flags [] (fields + 2) c.fields) (methods_checks home [] (methods + 2) c.methods) (attrs_checks (class_attr_checks pool) [] (attrs + 2) c.attrs) (bootstrap_index_checks (bootstrap_count pool c.attrs) 10 pool) is.holds in
     subst (λ (c : ClassFile). IsClassName (header_of c).name) (sym is.is) (name_is_class_name c (flags + 2) named)
 
 library_name : (header : Header) → IsLibraryClass header → IsClassName header.name

@@ -89,8 +89,8 @@ is_method_type (MethodType descriptor) = true
 is_method_type other = false
 
 -- where a constant of the folder passes the test, a class is there
-abbrev pub constant_checks : (Const → Bool) → Name → Classes → List Check
-constant_checks test name classes =
+abbrev pub needed_class_checks : (Const → Bool) → Name → Classes → List Check
+needed_class_checks test name classes =
     asked_if (list_any (has_constant test) classes.folder) (check name rules.Missing (IsThere (headers_of classes) name) ∷ [])
 
 abbrev pub base_checks : Classes → List Check
@@ -100,8 +100,8 @@ base_checks classes =
     ++ (check object rules.NoMember (IfSome (class_named headers object) HasOneConstructor) ∷ [])
     ++ asked_each (λ name. check name rules.KindOfSuper (IsBelow headers name throwable) ∷ []) machine_throwables
     ++ asked_each (λ name. check name rules.KindOfSuper (IfSome (class_named headers name) (λ header. IsTrue (is_interface header))) ∷ []) (serializable ∷ cloneable ∷ [])
-    ++ constant_checks is_method_handle method_handle classes
-    ++ constant_checks is_method_type method_type classes
+    ++ needed_class_checks is_method_handle method_handle classes
+    ++ needed_class_checks is_method_type method_type classes
 
 -- ---- the whole
 

@@ -3,7 +3,7 @@ ghost use Rattle.std.specs.Prelude.{◌≡◌, ◌↔◌, ◌⊎◌, ◌||◌, f
 ghost use Rattle.std.specs.List.{list_any};
 ghost use Rattle.std.specs.Option.{option_copied, option_map_or};
 ghost use Rattle.class_model.specs.Header.{header_of};
-ghost use Rattle.class_model.specs.ModifiedUtf8.{IsText};
+ghost use Rattle.class_model.specs.ModifiedUtf8.{is_plain_text};
 ghost use Rattle.class_model.specs.Names.{init};
 ghost use Rattle.class_model.specs.Pool.{constant_at};
 ghost use Rattle.class_tree.specs.Answers.{Answers};
@@ -315,7 +315,7 @@ fn check_need(
     name: &[u8],
 ) -> Result<(), LinkFault>
     requires in_order { IsInOrder headers.now }
-    requires text { IsText name.now }
+    requires plain { IsTrue (is_plain_text name.now) }
     ensures { Answers (asked_if is_needed (check name.now rules.Missing (IsThere headers.now name.now) ∷ [])) result }
 {
     if !is_needed {

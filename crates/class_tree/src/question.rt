@@ -1,6 +1,6 @@
 //! One question of linking.
 ghost use Rattle.std.specs.Prelude.{◌≡◌, [], ◌∷◌, IfOk, IsTrue};
-ghost use Rattle.class_model.specs.ModifiedUtf8.{IsText};
+ghost use Rattle.class_model.specs.ModifiedUtf8.{is_plain_text};
 ghost use Rattle.class_tree.specs.Answers.{Answers};
 ghost use Rattle.class_tree.specs.Problems.{check};
 ghost use Rattle.class_tree.specs.Problems as problems;
@@ -25,20 +25,20 @@ pub fn ask(alloc: Global, holds: bool, class: &Text, rule: LinkRule) -> Result<(
     })
 }
 
-/// Asks that a test holds of the class of this name.
+/// Asks that a test holds of the class of this name, whose bytes are plain.
 pub(crate) fn ask_named(
     alloc: Global,
     holds: bool,
     name: &[u8],
     rule: LinkRule,
 ) -> Result<(), LinkFault>
-    requires { IsText name.now }
+    requires { IsTrue (is_plain_text name.now) }
     ensures { Answers (check name.now rule (IsTrue holds) ∷ []) result }
 {
     if holds {
         return Ok(());
     }
-    let class = Text::of_text(alloc, name)?;
+    let class = Text::of_plain(alloc, name)?;
     ask(alloc, holds, &class, rule)
 }
 
@@ -46,7 +46,7 @@ pub(crate) fn ask_named(
 fn itself(alloc: Global) -> Result<Member, NoMemory>
     ensures { IfOk result (λ member. member ≡ problems.itself) }
 {
-    let name = Text::of_text(alloc, &[])?;
+    let name = Text::of_plain(alloc, &[])?;
     let desc = name.copy()?;
     Ok(Member {
         flags: 0,

@@ -9,7 +9,7 @@ use Rattle.class_model.specs.Frames.{units, units_of_entries, filled}
 use Rattle.class_model.specs.Members.{has, STATIC, is_text}
 use Rattle.class_model.specs.Methods.{Home, entry_of}
 use Rattle.class_model.specs.Names.{init}
-use Rattle.class_model.specs.PoolChecks.{utf8_at}
+use Rattle.class_model.specs.PoolChecks.{utf8_at, text_or_empty}
 use Rattle.class_model.specs.declared.class_file.CodePart.{CodePart}
 use Rattle.class_model.specs.declared.class_file.Method.{Method}
 use Rattle.class_model.specs.declared.descriptor.FieldType.{FieldType}
@@ -32,15 +32,11 @@ this_units false true class = refl
 this_units false false (Some class) = refl
 this_units false false None = refl
 
-abbrev or_empty : Option (List ℕ) → List ℕ
-or_empty None = []
-or_empty (Some text) = text
-
 abbrev pub frame_of : List VType → Frame
 frame_of locals = record { locals = locals; stack = [] }
 
 frame_is : (flags : ℕ) (name class : Option (List ℕ)) (params : List FieldType) (max_locals : ℕ)
-    → entry_frame flags (or_empty name) class params max_locals ≡ frame_of (filled max_locals (this_entries flags name class ++ map verification_type params))
+    → entry_frame flags (text_or_empty name) class params max_locals ≡ frame_of (filled max_locals (this_entries flags name class ++ map verification_type params))
 frame_is flags None None params max_locals = elim (cases_Bool (has flags STATIC)) [ inl e ↦ rw e refl | inr e ↦ rw e refl ]
 frame_is flags None (Some class) params max_locals = elim (cases_Bool (has flags STATIC)) [ inl e ↦ rw e refl | inr e ↦ rw e refl ]
 frame_is flags (Some name) None params max_locals = elim (cases_Bool (has flags STATIC)) [
@@ -67,7 +63,7 @@ entry_is home method part text locals there are =
     ∙ sym (flat_map-append units this (map verification_type params)) in
     ap (λ (of : List VType). frame_of (with_tops part.max_locals of)) parts
     ∙ sym (frame_is method.flags name home.name params part.max_locals)
-    ∙ ap (λ (of : Option (List ℕ)). entry_frame method.flags (or_empty name) home.name (parameters_of (or_empty of)) part.max_locals) (sym there)
+    ∙ ap (λ (of : Option (List ℕ)). entry_frame method.flags (text_or_empty name) home.name (parameters_of (text_or_empty of)) part.max_locals) (sym there)
 
 -- the parameters before an index, and no more
 pub all_params : (this locals : List VType) (params : List FieldType) (index : ℕ) → length params ≤ index → locals ≡ this ++ units_of_entries (map verification_type (take index params))

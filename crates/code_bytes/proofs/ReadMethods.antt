@@ -3,16 +3,15 @@
 use Rattle.std.proofs.Common.{◌≡◌, ◌+◌, ◌*◌, ◌==◌, ◌||◌, ℕ, zero, suc, Bool, true, false, cond, List, [], ◌∷◌, ◌++◌, length, map, Option, Some, None, Result, Ok, Err, IsTrue, IsFalse, refl, sym, subst, inl, inr}
 use Rattle.std.specs.List.{AllByRecursion, flat_map}
 use Rattle.class_model.specs.Checks.{Check, Fault, fault, check, AllHold, IsFirstFault, asked_of, asked_if, ◌>>=◌}
-use Rattle.class_model.specs.ClassOf.{ClassOf, method_signature, fields_checks, methods_checks, dynamic_checks, entered_attr, entered_method}
+use Rattle.class_model.specs.ClassOf.{ClassOf, fields_checks, methods_checks, bootstrap_index_checks, entered_attr, entered_method}
 use Rattle.class_model.specs.Code.{OperandFits, code_part, jump_checks, operand_checks, handlers_checks, inners_checks, inner_is_named, stack_map_table, table_fault}
-use Rattle.class_model.specs.Cutting.{Rest, Version, Cut, bytes_at, u2_at, u4_at, many_at, counted_at, pool_at, attr_at, field_at, method_at, class_at}
-use Rattle.class_model.specs.Frames.{Setting, table_at}
+use Rattle.class_model.specs.Cutting.{Rest, Version, Cut, bytes_at, u2_at, u4_at, many_at, counted_at, pool_at, attr_at, field_at, method_at, class_file_at}
+use Rattle.class_model.specs.Frames.{Setting, stack_map_table_at}
 use Rattle.class_model.specs.Instructions.{decoded}
 use Rattle.class_model.specs.Members.{Signature, fits_class, is_named, has_named, class_name_checks, super_checks, interfaces_checks, attrs_checks}
-use Rattle.class_model.specs.Methods.{Home, code, entry_of, instructions_checks, part_checks, content_checks, method_attr_checks, method_checks, class_attr_checks, bootstrap_count}
+use Rattle.class_model.specs.Methods.{Home, code, entry_of, instructions_checks, part_checks, content_checks, method_attr_checks, method_checks, class_attr_checks, bootstrap_count, method_signature}
 use Rattle.class_model.specs.Pool.{Constants}
-use Rattle.class_model.specs.PoolChecks as pools
-use Rattle.class_model.specs.PoolChecks.{entries_checks}
+use Rattle.class_model.specs.PoolChecks.{class_at, entries_checks}
 use Rattle.class_model.specs.Spelling.{inner_bytes, attr_bytes, entry_bytes, field_bytes, method_bytes}
 use Rattle.class_model.specs.Stated.{stated_frames}
 use Rattle.class_model.specs.declared.class_file.Attr.{Attr}
@@ -25,7 +24,7 @@ use Rattle.class_model.specs.declared.fault.FileRule.TheVariants as rules
 use Rattle.class_model.specs.declared.frame.Frame.{Frame}
 use Rattle.class_model.specs.declared.frame.PlacedFrame.{PlacedFrame}
 use Rattle.class_model.specs.declared.instr.Placed.{Placed}
-use Rattle.code_bytes.specs.Decoding.{code_checks}
+use Rattle.code_bytes.specs.Decoding.{decoding_checks}
 use Rattle.code_bytes.specs.Codes.{HasInstrs, HasOperands, HaveOperands, HaveFrames, IsReadMethod, HasReadMethods, HasReadOperands, HasReadFrames}
 
 -- ---- checks that hold
@@ -124,7 +123,7 @@ method_cut = record {
       subst (λ (y : Method × Rest). AreRaw y.0) (same_done (method, attrs.0.1) x attrs.2) ((counted_cut attr_cut).each desc.0.1 attrs.0 attrs.1);
 }
 
-class_cut : (version : Version) (rest : Rest) (class : ClassFile) → class_at version rest ≡ Ok class → AllByRecursion AreRaw class.methods
+class_cut : (version : Version) (rest : Rest) (class : ClassFile) → class_file_at version rest ≡ Ok class → AllByRecursion AreRaw class.methods
 class_cut version rest class e =
     let pool = bind_ok (pool_at version.major rest) _ class e in
     let flags = bind_ok (u2_at pool.0.1) _ class pool.2 in
@@ -171,18 +170,18 @@ table_is_read at (Err f) h = absurd h.0
 
 -- each StackMapTable among the attributes of a code can be read
 abbrev IsReadTable : Setting → Frame → InnerAttr → Type 0
-IsReadTable s entry attr = IsTrue (inner_is_named s.pool stack_map_table attr) → ((frames : List PlacedFrame) × (table_at s entry attr.bytes ≡ Ok frames))
+IsReadTable s entry attr = IsTrue (inner_is_named s.pool stack_map_table attr) → ((frames : List PlacedFrame) × (stack_map_table_at s entry attr.bytes ≡ Ok frames))
 
 tables_are_read : (s : Setting) (entry : Frame) (had : Bool) (at : ℕ) (attrs : List InnerAttr) → AllHold (inners_checks s entry had at attrs) → AllByRecursion (IsReadTable s entry) attrs
 tables_are_read s entry had at [] h = tt
 tables_are_read s entry had at (attr ∷ attrs) h =
     let named = inner_is_named s.pool stack_map_table attr in
-    let table = check at rules.Twice (IsFalse had) ∷ asked_of (in_table at (table_at s entry attr.bytes)) (λ frames. []) in
+    let table = check at rules.Twice (IsFalse had) ∷ asked_of (in_table at (stack_map_table_at s entry attr.bytes)) (λ frames. []) in
     let others = inners_checks s entry (had || named) (at + length (inner_bytes attr)) attrs in
     (by named (front (asked_if named table) others h.1), tables_are_read s entry (had || named) (at + length (inner_bytes attr)) attrs (back (asked_if named table) others h.1))
   where
-    by : (named : Bool) → AllHold (asked_if named (check at rules.Twice (IsFalse had) ∷ asked_of (in_table at (table_at s entry attr.bytes)) (λ frames. []))) → IsTrue named → (frames : List PlacedFrame) × (table_at s entry attr.bytes ≡ Ok frames)
-    by true asked is = table_is_read at (table_at s entry attr.bytes) asked.1
+    by : (named : Bool) → AllHold (asked_if named (check at rules.Twice (IsFalse had) ∷ asked_of (in_table at (stack_map_table_at s entry attr.bytes)) (λ frames. []))) → IsTrue named → (frames : List PlacedFrame) × (stack_map_table_at s entry attr.bytes ≡ Ok frames)
+    by true asked is = table_is_read at (stack_map_table_at s entry attr.bytes) asked.1
     by false asked is = absurd cc
 
 abbrev HaveTables : Home → Method → CodePart → Result (List Placed) Fault → Type 0
@@ -190,7 +189,7 @@ HaveTables home method part read = AllByRecursion (λ attr. IsTrue (inner_is_nam
 
 -- what is known of the parts of a code
 record IsReadPart (home : Home) (method : Method) (part : CodePart) : Type 0 where
-  instrs : AllHold (code_checks part.code)
+  instrs : AllHold (decoding_checks part.code)
   operands : HaveOperands home.pool home.major part.max_locals (decoded part.code)
   frames : HaveTables home method part (decoded part.code)
 
@@ -309,7 +308,7 @@ class_is_read bytes class is =
     let fields = flags + 8 + 2 * length c.interfaces in
     let methods = fields + 2 + length (flat_map field_bytes c.fields) in
     let attrs = methods + 2 + length (flat_map method_bytes c.methods) in
-    let home : Home = record { pool = pool; major = c.major; flags = c.flags; name = pools.class_at pool c.this_class } in
-    let hold = seventh_of_nine (entries_checks c.major pool 10 pool) (check flags rules.Flags (IsTrue (fits_class c.flags)) ∷ []) (class_name_checks pool (flags + 2) c.this_class) (super_checks pool (flags + 4) c.super_class) (interfaces_checks pool (flags + 8) c.interfaces) (fields_checks pool c.flags [] (fields + 2) c.fields) (methods_checks home [] (methods + 2) c.methods) (attrs_checks (class_attr_checks pool) [] (attrs + 2) c.attrs) (dynamic_checks (bootstrap_count pool c.attrs) 10 pool) is.holds in
+    let home : Home = record { pool = pool; major = c.major; flags = c.flags; name = class_at pool c.this_class } in
+    let hold = seventh_of_nine (entries_checks c.major pool 10 pool) (check flags rules.Flags (IsTrue (fits_class c.flags)) ∷ []) (class_name_checks pool (flags + 2) c.this_class) (super_checks pool (flags + 4) c.super_class) (interfaces_checks pool (flags + 8) c.interfaces) (fields_checks pool c.flags [] (fields + 2) c.fields) (methods_checks home [] (methods + 2) c.methods) (attrs_checks (class_attr_checks pool) [] (attrs + 2) c.attrs) (bootstrap_index_checks (bootstrap_count pool c.attrs) 10 pool) is.holds in
     let are = methods_are_read home [] (methods + 2) c.methods (class_cut is.version is.rest c is.is_cut) hold in
     subst IsReadClass (sym is.is) (record { read = are.read; operands = are.operands; frames = are.frames })

@@ -6,7 +6,7 @@ use Rattle.std.specs.List.{flat_map, AllByRecursion}
 use Rattle.std.proofs.lemmas.Bool.{leb-false}
 use Rattle.class_model.specs.Cutting.{IsBytes}
 use Rattle.class_model.specs.Spelling.{u4}
-use Rattle.class_model.specs.Instructions.{u4_in, targets_in, pairs_in, table_at, lookup_at, pad_of, span, keys_increase}
+use Rattle.class_model.specs.Instructions.{u4_in, targets_in, pairs_in, table_switch_at, lookup_switch_at, pad_of, span, keys_increase}
 use Rattle.class_model.specs.declared.instr.Pair.{Pair}
 use Rattle.class_model.specs.declared.instr.Instr.{Instr}
 use Rattle.class_model.specs.declared.instr.Instr.TheVariants.{Table, Lookup}
@@ -107,7 +107,7 @@ lookup_by_is at bytes other count pairs instr len e =
     let parts = ok_parts (Lookup (to_of at other) pairs, 1 + pad_of at + 8 + 8 * count) (instr, len) _ refl ordered.1 in
     record { few = leb-false (2 ^ 31) count few.0; ordered = ordered.0; instr_is = parts.0; len_is = parts.1 }
 
-pub reads_table : (at opcode : ℕ) (tail : List ℕ) (instr : Instr) → IsBytes tail → table_at at (opcode ∷ tail) ≡ Ok (instr, suc (length tail)) → ReadsTable at tail instr
+pub reads_table : (at opcode : ℕ) (tail : List ℕ) (instr : Instr) → IsBytes tail → table_switch_at at (opcode ∷ tail) ≡ Ok (instr, suc (length tail)) → ReadsTable at tail instr
 unfolding u4_of
 reads_table at opcode tail instr small e =
     let pad = pad_of at in
@@ -150,7 +150,7 @@ reads_table at opcode tail instr small e =
       instr_is = by.instr_is ∙ ap (Table (s4 low) (to_of at other)) to.made;
     }
 
-pub reads_lookup : (at opcode : ℕ) (tail : List ℕ) (instr : Instr) → IsBytes tail → lookup_at at (opcode ∷ tail) ≡ Ok (instr, suc (length tail)) → ReadsLookup at tail instr
+pub reads_lookup : (at opcode : ℕ) (tail : List ℕ) (instr : Instr) → IsBytes tail → lookup_switch_at at (opcode ∷ tail) ≡ Ok (instr, suc (length tail)) → ReadsLookup at tail instr
 unfolding u4_of
 reads_lookup at opcode tail instr small e =
     let pad = pad_of at in

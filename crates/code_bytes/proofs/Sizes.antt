@@ -4,7 +4,7 @@ use Rattle.std.specs.Prelude.{int_lt}
 use Rattle.std.proofs.lemmas.Bool.{ltb-false}
 use Rattle.class_model.specs.Answers.{Gives}
 use Rattle.class_model.specs.Checks.{Fault, fault}
-use Rattle.class_model.specs.Instructions.{Read, Operands, Alone, U1, U2, S1, S2, U1S1, U2U1, U2U1Zero, U2ZeroZero, Jump2, Jump4, TableSwitch, LookupSwitch, Wide, rows, wide_rows, operands_in, with_operands, wide_operands, table_at, lookup_at, instr_at, sized, sized_if, u1_in, u4_in, s4_in, pad_of, span, keys_increase, pairs_in}
+use Rattle.class_model.specs.Instructions.{Read, Operands, Alone, U1, U2, S1, S2, U1S1, U2U1, U2U1Zero, U2ZeroZero, Jump2, Jump4, TableSwitch, LookupSwitch, Wide, rows, wide_rows, operands_in, with_operands, wide_operands, table_switch_at, lookup_switch_at, instr_at, sized, sized_if, u1_in, u4_in, s4_in, pad_of, span, keys_increase, pairs_in}
 use Rattle.class_model.specs.declared.fault.FileRule.TheVariants as rules
 use Rattle.class_model.specs.declared.fault.ClassFault.{ClassFault}
 use Rattle.class_model.specs.declared.instr.Instr.{Instr}
@@ -37,7 +37,7 @@ sized_fits at bytes len instr some = refused_if bytes _ _ _ (λ e. here bytes in
 sized_if_fits : (allowed : Bool) (at : ℕ) (bytes : List ℕ) (len : ℕ) (instr : Instr) → 0 < len → IfRead bytes (sized_if allowed at bytes len instr)
 sized_if_fits allowed at bytes len instr some = refused_if bytes _ _ _ (λ e. read_if bytes allowed _ _ (here bytes instr len some (ltb-false _ _ e)))
 
-table_fits : (at : ℕ) (bytes : List ℕ) → IfRead bytes (table_at at bytes)
+table_fits : (at : ℕ) (bytes : List ℕ) → IfRead bytes (table_switch_at at bytes)
 table_fits at bytes =
     let start = 1 + pad_of at in
     let low = s4_in bytes (start + 4) in
@@ -46,7 +46,7 @@ table_fits at bytes =
     refused_if bytes (ltb (length bytes) (start + 12)) _ _
     (λ e. refused_if bytes (int_lt high low) _ _ (λ d. refused_if bytes (ltb (length bytes) end) _ _ (λ c. here bytes _ end (omega arith) (ltb-false _ _ c))))
 
-lookup_fits : (at : ℕ) (bytes : List ℕ) → IfRead bytes (lookup_at at bytes)
+lookup_fits : (at : ℕ) (bytes : List ℕ) → IfRead bytes (lookup_switch_at at bytes)
 lookup_fits at bytes =
     let start = 1 + pad_of at in
     let count = u4_in bytes (start + 4) in

@@ -7,7 +7,7 @@ use Rattle.class_model.specs.declared.descriptor.Kind.{Kind}
 use Rattle.class_model.specs.declared.descriptor.Kind.TheVariants as kinds
 use Rattle.class_model.specs.declared.instr.Instr.{Instr}
 use Rattle.class_model.specs.declared.instr.Instr.TheVariants.{Nop, Const, Ldc, Ldc2, Load, Store, Iinc, ArrayLoad, ArrayStore, Shuffle, Pure, Divide, FloatAsk, If, If2, IfSame, IfNull, Goto, Table, Lookup, Return, GetStatic, PutStatic, GetField, PutField, Invoke, Dynamic, New, NewArray, NewRefArray, NewMulti, Length, Throw, Cast, InstanceOf, Enter, Leave}
-use Rattle.code_bytes.specs.Encoding.{HasOperands, IsPlace, Reaches, HasSpelling}
+use Rattle.code_bytes.specs.Encoding.{OpcodeTakes, IsPlace, Reaches, HasSpelling}
 use Rattle.code_bytes.specs.Forms.{invoke_bytes, instr_bytes, jump_bytes}
 use Rattle.code_bytes.specs.Numbers.{IsU1, IsU2, HasNumbers}
 use Rattle.code_bytes.proofs.Offsets.{reaches_near}
@@ -16,13 +16,13 @@ use Rattle.code_bytes.proofs.SpelledSwitches.{spells_table, spells_lookup}
 use Rattle.code_bytes.proofs.TableRules.{tests_from, tests_rows, table_rule}
 use Rattle.code_bytes.proofs.WrittenForms.{spells_read}
 
-pub alone : (at opcode : ℕ) (made : Instr) → HasOperands opcode (Alone made) → IsSpelling at made (opcode ∷ [])
+pub alone : (at opcode : ℕ) (made : Instr) → OpcodeTakes opcode (Alone made) → IsSpelling at made (opcode ∷ [])
 alone at opcode made found = spells_read at opcode (Alone made) [] made found (refl, refl)
 
-indexed : (at opcode : ℕ) (makes : ℕ → Instr) (index : ℕ) → HasOperands opcode (U2 makes) → IsU2 index → IsSpelling at (makes index) (opcode ∷ u2 index)
+indexed : (at opcode : ℕ) (makes : ℕ → Instr) (index : ℕ) → OpcodeTakes opcode (U2 makes) → IsU2 index → IsSpelling at (makes index) (opcode ∷ u2 index)
 indexed at opcode makes index found fits = spells_read at opcode (U2 makes) _ _ found (record { number = index; fits = fits; tail_is = refl; instr_is = refl })
 
-reached : (at opcode to : ℕ) (makes : ℕ → Instr) → HasOperands opcode (Jump2 makes) → IsPlace at → IsPlace to → Reaches at to → IsSpelling at (makes to) (jump_bytes opcode at to)
+reached : (at opcode to : ℕ) (makes : ℕ → Instr) → OpcodeTakes opcode (Jump2 makes) → IsPlace at → IsPlace to → Reaches at to → IsSpelling at (makes to) (jump_bytes opcode at to)
 reached at opcode to makes found place to_place reaches = spells_jump at opcode to makes found (omega arith) (reaches_near at to place to_place reaches)
 
 returned : (at : ℕ) (kind : Kind) → IsSpelling at (Return (Some kind)) (instr_bytes at (Return (Some kind)))
@@ -33,7 +33,7 @@ returned at kinds.Float = alone at 174 _ refl
 returned at kinds.Double = alone at 175 _ refl
 returned at kinds.Ref = alone at 176 _ refl
 
-no_interface : (opcode : ℕ) → HasOperands opcode (U2 (λ m. Invoke opcode m 0)) → eqb opcode 185 ≡ false
+no_interface : (opcode : ℕ) → OpcodeTakes opcode (U2 (λ m. Invoke opcode m 0)) → eqb opcode 185 ≡ false
 no_interface opcode found = ne_eqb opcode 185 (λ e. let other = ap (operands_in rows) (sym e) ∙ found in absurd (cc))
 
 -- only an opcode has a count and a byte that is zero
@@ -41,11 +41,11 @@ tests_interface : ℕ → Operands → Bool
 tests_interface opcode (U2U1Zero makes) = eqb opcode 185
 tests_interface opcode operands = true
 
-interface : (opcode : ℕ) (makes : ℕ → ℕ → Instr) → HasOperands opcode (U2U1Zero makes) → opcode ≡ 185
+interface : (opcode : ℕ) (makes : ℕ → ℕ → Instr) → OpcodeTakes opcode (U2U1Zero makes) → opcode ≡ 185
 unfolding tests_interface tests_rows tests_from
 interface opcode makes found = eqb-true opcode 185 (table_rule tests_interface rows refl opcode _ found)
 
-invoked : (at opcode method count : ℕ) → (HasOperands opcode (U2 (λ m. Invoke opcode m 0)) × (count ≡ 0)) ⊎ HasOperands opcode (U2U1Zero (Invoke opcode)) → IsU2 method → IsU1 count → IsSpelling at (Invoke opcode method count) (invoke_bytes opcode method count)
+invoked : (at opcode method count : ℕ) → (OpcodeTakes opcode (U2 (λ m. Invoke opcode m 0)) × (count ≡ 0)) ⊎ OpcodeTakes opcode (U2U1Zero (Invoke opcode)) → IsU2 method → IsU1 count → IsSpelling at (Invoke opcode method count) (invoke_bytes opcode method count)
 invoked at opcode method count (inl (found, none)) method_fits count_fits = rw (no_interface opcode found, none) (indexed at opcode (λ m. Invoke opcode m 0) method found method_fits)
 invoked at opcode method count (inr found) method_fits count_fits =
     rw (interface opcode _ found) (spells_read at 185 (U2U1Zero (Invoke 185)) _ _ refl (record { first = method; second = count; fits = (method_fits, count_fits); tail_is = refl; instr_is = refl }))

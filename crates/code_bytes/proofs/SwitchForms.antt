@@ -7,7 +7,7 @@ use Rattle.std.proofs.lemmas.List.{drop-drop, drop-take, take-take}
 use Rattle.std.proofs.lemmas.Int.{to_z_pos}
 use Rattle.std.proofs.lemmas.Bool.{cases_lt, ltb-false, le-ltb, lt-ltb, lt-leb}
 use Rattle.class_model.specs.Checks.{Fault, fault}
-use Rattle.class_model.specs.Instructions.{Read, table_at, lookup_at, keys_increase, u4_in, s4_in, pad_of, span, target_of, targets_in, pairs_in}
+use Rattle.class_model.specs.Instructions.{Read, table_switch_at, lookup_switch_at, keys_increase, u4_in, s4_in, pad_of, span, target_of, targets_in, pairs_in}
 use Rattle.class_model.specs.declared.fault.FileRule.TheVariants as rules
 use Rattle.class_model.specs.declared.instr.Pair.{Pair}
 use Rattle.class_model.specs.declared.instr.Instr.TheVariants.{Table, Lookup}
@@ -58,7 +58,7 @@ bad at = Err (fault at rules.Operand)
 
 -- what is read where the numbers in front are there
 table_is : (at : ℕ) (bytes : List ℕ) (start other : ℕ) (low high : ℤ) (count : ℕ) → TableHead at bytes start other low high count
-    → table_at at bytes ≡ cond (ltb (length bytes) (start + 12 + 4 * count)) (bad at) (Ok (Table low other (targets_in at bytes (start + 12) count), start + 12 + 4 * count))
+    → table_switch_at at bytes ≡ cond (ltb (length bytes) (start + 12 + 4 * count)) (bad at) (Ok (Table low other (targets_in at bytes (start + 12) count), start + 12 + 4 * count))
 table_is at bytes start other low high count head =
     let o = was_read at bytes (start + 4) (target_of at (s4_in bytes start)) other head.other_is in
     let l = was_read at bytes (start + 4 + 4) (s4_in bytes (start + 4)) low head.low_is in
@@ -66,13 +66,13 @@ table_is at bytes start other low high count head =
     let there : ltb (length bytes) (start + 12) ≡ false = le-ltb _ _ (omega (arith, h.0)) in
     rw (← head.start_is, l.1, h.1, o.1, ← head.count_is, there, head.ordered) refl
 
-pub table_short : (at : ℕ) (bytes : List ℕ) (start other : ℕ) (low high : ℤ) (count : ℕ) → TableHead at bytes start other low high count → length bytes < start + 12 + 4 * count → table_at at bytes ≡ bad at
+pub table_short : (at : ℕ) (bytes : List ℕ) (start other : ℕ) (low high : ℤ) (count : ℕ) → TableHead at bytes start other low high count → length bytes < start + 12 + 4 * count → table_switch_at at bytes ≡ bad at
 table_short at bytes start other low high count head short =
     let test : ltb (length bytes) (start + 12 + 4 * count) ≡ true = lt-ltb _ _ short in
     table_is at bytes start other low high count head ∙ rw test refl
 
 pub table_read : (at : ℕ) (bytes : List ℕ) (start other : ℕ) (low high : ℤ) (count : ℕ) (words : List (List ℕ)) → TableHead at bytes start other low high count → start + 12 + 4 * count ≤ length bytes
-    → words ≡ first_chunks 4 count (drop (start + 12) bytes) → table_at at bytes ≡ Ok (Table low other (map (target_in at) words), start + 12 + 4 * count)
+    → words ≡ first_chunks 4 count (drop (start + 12) bytes) → table_switch_at at bytes ≡ Ok (Table low other (map (target_in at) words), start + 12 + 4 * count)
 table_read at bytes start other low high count words head there are =
     let test : ltb (length bytes) (start + 12 + 4 * count) ≡ false = le-ltb _ _ there in
     let same : map (target_in at) words ≡ targets_in at bytes (start + 12) count = ap (map (target_in at)) are ∙ targets_are at bytes count (start + 12) in
@@ -94,7 +94,7 @@ pub record LookupHead (at : ℕ) (bytes : List ℕ) (start other : ℕ) (number 
   pub parts_are : parts ≡ first_chunks 8 count (drop (start + 8) bytes)
 
 pub lookup_is : (at : ℕ) (bytes : List ℕ) (start other : ℕ) (number : ℤ) (count : ℕ) (parts : List (List ℕ)) → LookupHead at bytes start other number count parts
-    → lookup_at at bytes ≡ cond (keys_increase (map (pair_in at) parts)) (Ok (Lookup other (map (pair_in at) parts), start + 8 + 8 * count)) (bad at)
+    → lookup_switch_at at bytes ≡ cond (keys_increase (map (pair_in at) parts)) (Ok (Lookup other (map (pair_in at) parts), start + 8 + 8 * count)) (bad at)
 lookup_is at bytes start other number count parts head =
     let o = was_read at bytes (start + 4) (target_of at (s4_in bytes start)) other head.other_is in
     let n = was_read at bytes (start + 4 + 4) (s4_in bytes (start + 4)) number head.number_is in

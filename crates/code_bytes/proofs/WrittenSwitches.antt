@@ -6,7 +6,7 @@ use Rattle.std.specs.List.{flat_map, AllByRecursion}
 use Rattle.class_model.specs.Checks.{fault}
 use Rattle.class_model.specs.declared.fault.FileRule.TheVariants as rules
 use Rattle.class_model.specs.Spelling.{u4}
-use Rattle.class_model.specs.Instructions.{TableSwitch, LookupSwitch, Read, u4_in, table_at, lookup_at, targets_in, pairs_in, pad_of, span, keys_increase}
+use Rattle.class_model.specs.Instructions.{TableSwitch, LookupSwitch, Read, u4_in, table_switch_at, lookup_switch_at, targets_in, pairs_in, pad_of, span, keys_increase}
 use Rattle.class_model.specs.declared.instr.Instr.{Instr}
 use Rattle.class_model.specs.declared.instr.Pair.{Pair}
 use Rattle.class_model.specs.declared.instr.Instr.TheVariants.{Table, Lookup}
@@ -46,7 +46,7 @@ table_by at bytes other low high count =
     (cond (ltb (length bytes) (start + 12 + 4 * count)) (Err (fault at rules.Operand))
     (Ok (Table (s4 low) (to_of at other) (targets_in at bytes (start + 12) count), start + 12 + 4 * count))))
 
-pub table_at_is : (at : ℕ) (bytes : List ℕ) (other low high count : ℕ) → u4_in bytes (1 + pad_of at) ≡ other → u4_in bytes (1 + pad_of at + 4) ≡ low → u4_in bytes (1 + pad_of at + 8) ≡ high → span (s4 low) (s4 high) ≡ count → table_at at bytes ≡ table_by at bytes other low high count
+pub table_at_is : (at : ℕ) (bytes : List ℕ) (other low high count : ℕ) → u4_in bytes (1 + pad_of at) ≡ other → u4_in bytes (1 + pad_of at + 4) ≡ low → u4_in bytes (1 + pad_of at + 8) ≡ high → span (s4 low) (s4 high) ≡ count → table_switch_at at bytes ≡ table_by at bytes other low high count
 table_at_is at bytes other low high count is_other is_low is_high is_count =
     let start = 1 + pad_of at in
     let lows = u4_in bytes (start + 4) in
@@ -94,7 +94,7 @@ gives_table at tail instr r opcode rest =
     let is_to = ap (λ b. targets_in at b (start + 12) (length r.offsets)) to_end ∙ targets_behind at r.offsets (front ++ other ++ low ++ high) (start + 12) rest (simp length-append (omega arith)) r.offsets_fit in
     let long : start + 12 + 4 * length r.offsets ≤ length bytes = simp length-append (omega arith) in
     let tail_len : suc (length (r.pads ++ (other ++ (low ++ (high ++ flat_map u4 r.offsets))))) ≡ start + 12 + 4 * length r.offsets = simp length-append (omega arith) in
-    rw (r.tail_is, r.instr_is, tail_len) (ap (table_at at) (table_parts opcode r.other r.low r.high r.pads (flat_map u4 r.offsets) rest)
+    rw (r.tail_is, r.instr_is, tail_len) (ap (table_switch_at at) (table_parts opcode r.other r.low r.high r.pads (flat_map u4 r.offsets) rest)
     ∙ table_at_is at bytes r.other r.low r.high (length r.offsets) is_other is_low is_high r.counted
     ∙ table_by_is at bytes r.other r.low r.high (length r.offsets) _ long r.ordered is_to)
 
@@ -107,7 +107,7 @@ lookup_by at bytes other count pairs =
     (cond (ltb (length bytes) (start + 8 + 8 * count)) (Err (fault at rules.Operand))
     (cond (keys_increase pairs) (Ok (Lookup (to_of at other) pairs, start + 8 + 8 * count)) (Err (fault at rules.Operand)))))
 
-pub lookup_at_is : (at : ℕ) (bytes : List ℕ) (other count : ℕ) (pairs : List Pair) → u4_in bytes (1 + pad_of at) ≡ other → u4_in bytes (1 + pad_of at + 4) ≡ count → pairs_in at bytes (1 + pad_of at + 8) count ≡ pairs → lookup_at at bytes ≡ lookup_by at bytes other count pairs
+pub lookup_at_is : (at : ℕ) (bytes : List ℕ) (other count : ℕ) (pairs : List Pair) → u4_in bytes (1 + pad_of at) ≡ other → u4_in bytes (1 + pad_of at + 4) ≡ count → pairs_in at bytes (1 + pad_of at + 8) count ≡ pairs → lookup_switch_at at bytes ≡ lookup_by at bytes other count pairs
 lookup_at_is at bytes other count pairs is_other is_count is_pairs =
     let start = 1 + pad_of at in
     let counts = u4_in bytes (start + 4) in
@@ -143,6 +143,6 @@ gives_lookup at tail instr r opcode rest =
     let is_pairs = ap (λ b. pairs_in at b (start + 8) many) to_end ∙ pairs_behind at r.entries (front ++ other ++ u4 many) (start + 8) rest (simp length-append (omega arith)) r.entries_fit in
     let long : start + 8 + 8 * many ≤ length bytes = simp length-append (omega arith) in
     let tail_len : suc (length (r.pads ++ (other ++ (u4 many ++ flat_map entry_bytes r.entries)))) ≡ start + 8 + 8 * many = simp length-append (omega arith) in
-    rw (r.tail_is, r.instr_is, tail_len) (ap (lookup_at at) (lookup_parts opcode r.other many r.pads (flat_map entry_bytes r.entries) rest)
+    rw (r.tail_is, r.instr_is, tail_len) (ap (lookup_switch_at at) (lookup_parts opcode r.other many r.pads (flat_map entry_bytes r.entries) rest)
     ∙ lookup_at_is at bytes r.other many _ is_other is_count is_pairs
     ∙ lookup_by_is at bytes r.other many _ long r.few r.ordered)

@@ -14,7 +14,7 @@ use Rattle.class_model.specs.declared.class_file.ClassFile.{ClassFile}
 use Rattle.class_model.specs.declared.class_file.Method.{Method}
 use Rattle.class_model.specs.declared.frame.PlacedFrame.{PlacedFrame}
 use Rattle.class_model.specs.declared.instr.Placed.{Placed}
-use Rattle.code_bytes.specs.Decoding.{code_checks}
+use Rattle.code_bytes.specs.Decoding.{decoding_checks}
 
 -- the class that a method stands in
 abbrev pub home_of : ClassFile → Home
@@ -22,7 +22,7 @@ home_of class = record { pool = class.pool; major = class.major; flags = class.f
 
 -- a code has instructions, and their targets are instructions
 abbrev pub HasInstrs : Attr → Type 0
-HasInstrs (Code name part) = AllHold (code_checks part.code)
+HasInstrs (Code name part) = AllHold (decoding_checks part.code)
 HasInstrs (Raw name bytes) = Unit {0}
 
 -- A method of a class with this pool: its descriptor is there and is one of its flags, and its code has instructions.

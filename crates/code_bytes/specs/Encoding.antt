@@ -12,8 +12,8 @@ use Rattle.class_model.specs.declared.instr.Instr.TheVariants.{Const, ArrayLoad,
 -- ---- which instructions have a spelling
 
 -- the table of instructions has these operands behind an opcode
-abbrev pub HasOperands : ℕ → Operands → Type 0
-HasOperands opcode operands = operands_in rows opcode ≡ Some operands
+abbrev pub OpcodeTakes : ℕ → Operands → Type 0
+OpcodeTakes opcode operands = operands_in rows opcode ≡ Some operands
 
 -- what an instruction without operands, or with a small number, pushes
 abbrev pub IsPushed : Imm → Type 0
@@ -34,20 +34,20 @@ Reaches at to = FitsSigned w16 (pos to -ℤ pos at)
 -- Its opcode, count, code and numbers are of its form, and its targets can be reached.
 abbrev pub FitsForm : ℕ → Instr → Type 0
 FitsForm at (Const value) = IsPushed value
-FitsForm at (ArrayLoad opcode) = HasOperands opcode (Alone (ArrayLoad opcode))
-FitsForm at (ArrayStore opcode) = HasOperands opcode (Alone (ArrayStore opcode))
-FitsForm at (Shuffle opcode) = HasOperands opcode (Alone (Shuffle opcode))
-FitsForm at (Pure opcode) = HasOperands opcode (Alone (Pure opcode))
-FitsForm at (Divide opcode) = HasOperands opcode (Alone (Divide opcode))
-FitsForm at (FloatAsk opcode) = HasOperands opcode (Alone (FloatAsk opcode))
-FitsForm at (If opcode to) = HasOperands opcode (Jump2 (If opcode)) × Reaches at to
-FitsForm at (If2 opcode to) = HasOperands opcode (Jump2 (If2 opcode)) × Reaches at to
-FitsForm at (IfSame opcode to) = HasOperands opcode (Jump2 (IfSame opcode)) × Reaches at to
-FitsForm at (IfNull opcode to) = HasOperands opcode (Jump2 (IfNull opcode)) × Reaches at to
+FitsForm at (ArrayLoad opcode) = OpcodeTakes opcode (Alone (ArrayLoad opcode))
+FitsForm at (ArrayStore opcode) = OpcodeTakes opcode (Alone (ArrayStore opcode))
+FitsForm at (Shuffle opcode) = OpcodeTakes opcode (Alone (Shuffle opcode))
+FitsForm at (Pure opcode) = OpcodeTakes opcode (Alone (Pure opcode))
+FitsForm at (Divide opcode) = OpcodeTakes opcode (Alone (Divide opcode))
+FitsForm at (FloatAsk opcode) = OpcodeTakes opcode (Alone (FloatAsk opcode))
+FitsForm at (If opcode to) = OpcodeTakes opcode (Jump2 (If opcode)) × Reaches at to
+FitsForm at (If2 opcode to) = OpcodeTakes opcode (Jump2 (If2 opcode)) × Reaches at to
+FitsForm at (IfSame opcode to) = OpcodeTakes opcode (Jump2 (IfSame opcode)) × Reaches at to
+FitsForm at (IfNull opcode to) = OpcodeTakes opcode (Jump2 (IfNull opcode)) × Reaches at to
 FitsForm at (Table low other to) = (1 ≤ length to) × (length to ≤ 65535) × FitsSigned w32 (low +ℤ pos (length to - 1))
 FitsForm at (Lookup other pairs) = (length pairs ≤ 65535) × IsTrue (keys_increase pairs)
 FitsForm at (Invoke opcode method count) =
-    (HasOperands opcode (U2 (λ m. Invoke opcode m 0)) × (count ≡ 0)) ⊎ HasOperands opcode (U2U1Zero (Invoke opcode))
+    (OpcodeTakes opcode (U2 (λ m. Invoke opcode m 0)) × (count ≡ 0)) ⊎ OpcodeTakes opcode (U2U1Zero (Invoke opcode))
 FitsForm at (NewArray code) = (4 ≤ code) × (code ≤ 11)
 FitsForm at (NewMulti class dimensions) = 1 ≤ dimensions
 FitsForm at instr = Unit {0}

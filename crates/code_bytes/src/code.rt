@@ -2,7 +2,7 @@
 ghost use Rattle.std.specs.Prelude.{◌≡◌, Ok, IfOk};
 ghost use Rattle.class_model.specs.Checks.{AllHold};
 ghost use Rattle.class_model.specs.Instructions.{decoded};
-ghost use Rattle.code_bytes.specs.Decoding.{code_checks};
+ghost use Rattle.code_bytes.specs.Decoding.{decoding_checks};
 
 use crate::decoding::decode;
 use class_model::{ClassFault, NoMemory, PlacedList};
@@ -10,7 +10,7 @@ use std::alloc::Global;
 
 /// The instructions of a code that was read, by offset.
 pub fn instructions_of(alloc: Global, code: &[u8]) -> Result<PlacedList, NoMemory>
-    requires { AllHold (code_checks code.now) }
+    requires { AllHold (decoding_checks code.now) }
     ensures { IfOk result (λ instrs. decoded code.now ≡ Ok instrs) }
 {
     match decode(alloc, code) {

@@ -2,7 +2,7 @@
 ghost use Rattle.std.specs.Prelude.{◌≡◌, ◌≤◌, Ok, IfOk, length};
 ghost use Rattle.class_model.specs.Answers.{Gives, Tells};
 ghost use Rattle.class_model.specs.Instructions.{CodeOf, decoded};
-ghost use Rattle.code_bytes.specs.Decoding.{code_checks};
+ghost use Rattle.code_bytes.specs.Decoding.{decoding_checks};
 
 use crate::instruction::instr_of;
 use crate::jumps::check_jumps;
@@ -20,7 +20,7 @@ const MAX_LENGTH: usize = 65_535;
 /// `Malformed` at an offset with the first fault: `CodeLength` at 0; then, by offset, `Opcode` and `Operand`;
 /// then, by offset, `Jump`.
 pub fn decode(alloc: Global, code: &[u8]) -> Result<PlacedList, ClassFault>
-    ensures told { Tells (code_checks code.now) (λ instrs. decoded code.now ≡ Ok instrs) result }
+    ensures told { Tells (decoding_checks code.now) (λ instrs. decoded code.now ≡ Ok instrs) result }
     ensures code { IfOk result (CodeOf code.now) }
 {
     if code.is_empty() || code.len() > MAX_LENGTH {

@@ -1,7 +1,7 @@
 //! The two switches (JVM Specification SE 8, 6.5.tableswitch and 6.5.lookupswitch).
 ghost use Rattle.std.specs.Prelude.{◌≡◌, ◌+◌, ◌^◌, ◌≤◌, length, map, IfOk};
 ghost use Rattle.class_model.specs.Answers.{Gives};
-ghost use Rattle.class_model.specs.Instructions.{table_at, lookup_at, pad_of, span, keys_increase};
+ghost use Rattle.class_model.specs.Instructions.{table_switch_at, lookup_switch_at, pad_of, span, keys_increase};
 ghost use Rattle.code_bytes.specs.Operands.{target_in, pair_in};
 
 use crate::instruction::Form;
@@ -11,7 +11,7 @@ use std::alloc::Global;
 
 /// A switch with a target for each key from the lowest to the highest.
 pub(crate) fn table_switch(alloc: Global, source: &Source) -> Result<Form, ClassFault>
-    ensures { Gives (table_at source.now.at source.now.bytes.now) result }
+    ensures { Gives (table_switch_at source.now.at source.now.bytes.now) result }
 {
     let start = first_operand(source.at);
     let other = source.target4(start)?;
@@ -35,7 +35,7 @@ pub(crate) fn table_switch(alloc: Global, source: &Source) -> Result<Form, Class
 
 /// A switch with pairs of a key and a target, whose keys increase.
 pub(crate) fn lookup_switch(alloc: Global, source: &Source) -> Result<Form, ClassFault>
-    ensures { Gives (lookup_at source.now.at source.now.bytes.now) result }
+    ensures { Gives (lookup_switch_at source.now.at source.now.bytes.now) result }
 {
     let start = first_operand(source.at);
     let other = source.target4(start)?;

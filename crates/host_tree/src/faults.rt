@@ -1,7 +1,7 @@
 //! The counts of faults.
-ghost use Rattle.std.specs.Prelude.{◌≡◌};
+ghost use Rattle.std.specs.Prelude.{◌≡◌, ◌+◌, min};
 ghost use Rattle.host_tree.specs.declared.call.HostCall.{HostCall};
-ghost use Rattle.host_tree.specs.Counts.{Rose, CountsOnly};
+ghost use Rattle.host_tree.specs.Counts.{last_count, CountsOnly};
 ghost use Rattle.host_tree.specs.Faults.{count_of};
 
 use crate::call::HostCall;
@@ -40,9 +40,9 @@ impl Faults {
         }
     }
 
-    /// Counts one more fault of a kind.
+    /// Counts one more fault of a kind; a count stands still at its last number.
     pub fn raise(&mut self, call: HostCall)
-        ensures rose { Rose (count_of self.old call) (count_of self.new call) }
+        ensures once { count_of self.new call ≡ min (count_of self.old call + 1) last_count }
         ensures only { CountsOnly call (count_of self.old) (count_of self.new) }
     {
         match call {

@@ -7,7 +7,7 @@ use Rattle.std.specs.Bool.{Decides}
 use Rattle.class_model.specs.declared.frame.VType.{VType}
 use Rattle.map_frames.specs.Change.{AreApart, IsChange}
 use Rattle.map_frames.specs.Choosing.{is_few, keeps_locals, passes, first_passing}
-use Rattle.map_frames.specs.Writing.{Listed, FrameKind, Same, SameItem, SameItemExtended, Chop, SameExtended, Append, Full, frame_kinds, Fits, IsFew, IsFirst}
+use Rattle.map_frames.specs.Writing.{Listed, FrameKind, Same, SameItem, SameItemExtended, Chop, SameExtended, Append, Full, frame_kinds, FitsFrameKind, IsFew, IsFirst}
 use Rattle.map_frames.specs.declared.kinds.Change.{Change}
 
 -- ---- the first of some
@@ -84,7 +84,7 @@ module _ (before : List VType) (frame : Listed) (gone more : List VType) (change
       (none, subst IsFew (sym same) fits.2))
       (Decides-and (length gone == 0) (is_few (length more)) (Decides-none gone) (Decides-few more))
 
-  passes_decides : (kind : FrameKind) → Decides (passes frame.delta (counts gone more frame.stack) kind) (Fits before frame kind)
+  passes_decides : (kind : FrameKind) → Decides (passes frame.delta (counts gone more frame.stack) kind) (FitsFrameKind before frame kind)
   passes_decides Same =
       Decides-like (keeps_locals (counts gone more frame.stack) && (length frame.stack == 0) && leb frame.delta 63) (λ h. (h.0.0, h.0.1, h.1)) (λ h. ((h.0, h.1), h.2))
       (Decides-and (keeps_locals (counts gone more frame.stack) && (length frame.stack == 0)) (leb frame.delta 63)
@@ -99,15 +99,15 @@ module _ (before : List VType) (frame : Listed) (gone more : List VType) (change
   passes_decides Append = Decides-and (length frame.stack == 0) ((length gone == 0) && is_few (length more)) (Decides-none frame.stack) append_decides
   passes_decides Full = (λ e. tt, λ h. refl)
 
-  pub kind_first : IsFirst (Fits before frame) frame_kinds (first_passing (passes frame.delta (counts gone more frame.stack)) frame_kinds)
-  kind_first = first_is (passes frame.delta (counts gone more frame.stack)) (Fits before frame) passes_decides tt (Same ∷ SameItem ∷ SameItemExtended ∷ Chop ∷ SameExtended ∷ Append ∷ [])
+  pub kind_first : IsFirst (FitsFrameKind before frame) frame_kinds (first_passing (passes frame.delta (counts gone more frame.stack)) frame_kinds)
+  kind_first = first_is (passes frame.delta (counts gone more frame.stack)) (FitsFrameKind before frame) passes_decides tt (Same ∷ SameItem ∷ SameItemExtended ∷ Chop ∷ SameExtended ∷ Append ∷ [])
 
-  pub chop_adds_none : Fits before frame Chop → more ≡ []
+  pub chop_adds_none : FitsFrameKind before frame Chop → more ≡ []
   chop_adds_none fits =
       let have = (Decides-and (length more == 0) (is_few (length gone)) (Decides-none more) (Decides-few gone)).0 (chop_decides.1 fits.1) in
       have.0
 
-  pub append_takes_none : Fits before frame Append → gone ≡ []
+  pub append_takes_none : FitsFrameKind before frame Append → gone ≡ []
   append_takes_none fits =
       let have = (Decides-and (length gone == 0) (is_few (length more)) (Decides-none gone) (Decides-few more)).0 (append_decides.1 fits.1) in
       have.0

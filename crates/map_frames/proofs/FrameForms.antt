@@ -5,25 +5,25 @@ use Rattle.std.proofs.lemmas.Bool.Decides.{nat_tests}
 use Rattle.class_model.specs.Answers.{Takes}
 use Rattle.class_model.specs.Checks.{Fault, fault, ◌>>=◌}
 use Rattle.class_model.specs.Cutting.{Rest, Cut, behind}
-use Rattle.class_model.specs.Frames.{Setting, Stated, entry_at, entries_at, frame_at, missing}
+use Rattle.class_model.specs.Frames.{Setting, Stated, verification_type_at, verification_types_at, frame_at, missing, table_u2_at, stated_frame}
 use Rattle.class_model.specs.Instructions.{u1_in}
 use Rattle.class_model.specs.declared.fault.ClassFault.{ClassFault}
 use Rattle.class_model.specs.declared.fault.FileRule.TheVariants as rules
 use Rattle.class_model.specs.declared.frame.VType.{VType}
-use Rattle.map_frames.specs.Steps.{byte_at, number_at, item_at, stated, chop_at, append_at, full_at, Refuses, States}
+use Rattle.map_frames.specs.Steps.{byte_at, item_at, chop_at, append_at, full_frame_at, Refuses, States}
 use Rattle.map_frames.proofs.Faults.{refuses_same, refuses_bind, refuses_takes}
 
 -- the frame of a kind at a place, behind its first byte
 abbrev frame_of : Setting → List VType → ℕ → ℕ → Rest → Cut Stated
 frame_of s locals frame kind inside =
-    cond (nat_le kind 63) (Ok (stated kind locals [], inside))
-    (cond (nat_le kind 127) (entry_at s frame inside >>= λ item. Ok (stated (kind - 64) locals (item.0 ∷ []), item.1))
+    cond (nat_le kind 63) (Ok (stated_frame kind locals [], inside))
+    (cond (nat_le kind 127) (verification_type_at s frame inside >>= λ item. Ok (stated_frame (kind - 64) locals (item.0 ∷ []), item.1))
     (cond (nat_le kind 246) (Err (fault frame rules.FrameKind))
-    (cond (kind == 247) (number_at inside >>= λ delta. entry_at s frame delta.1 >>= λ item. Ok (stated delta.0 locals (item.0 ∷ []), item.1))
+    (cond (kind == 247) (table_u2_at inside >>= λ delta. verification_type_at s frame delta.1 >>= λ item. Ok (stated_frame delta.0 locals (item.0 ∷ []), item.1))
     (cond (nat_le kind 250) (chop_at (251 - kind) locals frame inside)
-    (cond (kind == 251) (number_at inside >>= λ delta. Ok (stated delta.0 locals [], delta.1))
+    (cond (kind == 251) (table_u2_at inside >>= λ delta. Ok (stated_frame delta.0 locals [], delta.1))
     (cond (nat_le kind 254) (append_at s (kind - 251) locals frame inside)
-    (number_at inside >>= λ delta. number_at delta.1 >>= λ locals. entries_at s frame locals.0 locals.1 >>= λ local_types. number_at local_types.1 >>= λ stack. entries_at s frame stack.0 stack.1 >>= λ stack_types. Ok (stated delta.0 local_types.0 stack_types.0, stack_types.1))))))))
+    (table_u2_at inside >>= λ delta. table_u2_at delta.1 >>= λ locals. verification_types_at s frame locals.0 locals.1 >>= λ local_types. table_u2_at local_types.1 >>= λ stack. verification_types_at s frame stack.0 stack.1 >>= λ stack_types. Ok (stated_frame delta.0 local_types.0 stack_types.0, stack_types.1))))))))
 
 abbrev ok : {X : Type 0} → X → Result X Fault
 ok x = Ok x
@@ -53,16 +53,16 @@ bind_ext (Err d) f g same = refl
 
 -- a stack of one entry behind a delta
 abbrev with_item : Setting → List VType → ℕ → ℕ → Rest → Cut Stated
-with_item s locals place delta rest = item_at s place rest >>= λ stack. Ok (stated delta locals stack.0, stack.1)
+with_item s locals place delta rest = item_at s place rest >>= λ stack. Ok (stated_frame delta locals stack.0, stack.1)
 
-item_form : (s : Setting) (locals : List VType) (place delta : ℕ) (rest : Rest) → (entry_at s place rest >>= λ item. Ok (stated delta locals (item.0 ∷ []), item.1)) ≡ with_item s locals place delta rest
-item_form s locals place delta rest = sym (bind_assoc (entry_at s place rest) _ _)
+item_form : (s : Setting) (locals : List VType) (place delta : ℕ) (rest : Rest) → (verification_type_at s place rest >>= λ item. Ok (stated_frame delta locals (item.0 ∷ []), item.1)) ≡ with_item s locals place delta rest
+item_form s locals place delta rest = sym (bind_assoc (verification_type_at s place rest) _ _)
 
-full_form : (s : Setting) (place : ℕ) (inside : Rest) → (number_at inside >>= λ delta. number_at delta.1 >>= λ locals. entries_at s place locals.0 locals.1 >>= λ local_types. number_at local_types.1 >>= λ stack. entries_at s place stack.0 stack.1 >>= λ stack_types. Ok (stated delta.0 local_types.0 stack_types.0, stack_types.1)) ≡ full_at s place inside
+full_form : (s : Setting) (place : ℕ) (inside : Rest) → (table_u2_at inside >>= λ delta. table_u2_at delta.1 >>= λ locals. verification_types_at s place locals.0 locals.1 >>= λ local_types. table_u2_at local_types.1 >>= λ stack. verification_types_at s place stack.0 stack.1 >>= λ stack_types. Ok (stated_frame delta.0 local_types.0 stack_types.0, stack_types.1)) ≡ full_frame_at s place inside
 full_form s place inside =
-    bind_ext (number_at inside) _ _ (λ delta.
-    sym (bind_assoc (number_at delta.1) _ _ ∙ bind_ext (number_at delta.1) _ _ (λ locals.
-    bind_ext (entries_at s place locals.0 locals.1) _ _ (λ local_types. bind_assoc (number_at local_types.1) _ _))))
+    bind_ext (table_u2_at inside) _ _ (λ delta.
+    sym (bind_assoc (table_u2_at delta.1) _ _ ∙ bind_ext (table_u2_at delta.1) _ _ (λ locals.
+    bind_ext (verification_types_at s place locals.0 locals.1) _ _ (λ local_types. bind_assoc (table_u2_at local_types.1) _ _))))
 
 -- what a frame's first byte is, and where it stands
 pub record Begins (rest : Rest) (place kind : ℕ) (inside : Rest) : Type 0 where
@@ -84,20 +84,20 @@ module _ (s : Setting) (locals : List VType) (rest : Rest) (place kind : ℕ) (i
       let item : nat_le kind 127 ≡ true = grind (arith, nat_tests) in
       of_begins ∙ rw (not_same, item) (item_form s locals place (kind - 64) inside)
 
-  pub item_reads : 64 ≤ kind → kind ≤ 127 → (after : Rest) (stack : List VType) → item_at s place inside ≡ Ok (stack, after) → frame_at s locals rest ≡ Ok (stated (kind - 64) locals stack, after)
+  pub item_reads : 64 ≤ kind → kind ≤ 127 → (after : Rest) (stack : List VType) → item_at s place inside ≡ Ok (stack, after) → frame_at s locals rest ≡ Ok (stated_frame (kind - 64) locals stack, after)
   item_reads low high after stack e = item_kind low high ∙ rw e refl
 
   pub item_fails : 64 ≤ kind → kind ≤ 127 → (after : Rest) (f : ClassFault) → Takes (item_at s place inside) after (Err f) → Refuses (frame_at s locals rest) f
   item_fails low high after f h = refuses_same _ _ f (item_kind low high) (refuses_bind _ _ f (refuses_takes _ after f h))
 
   -- the same with a delta of two bytes
-  pub extended_kind : kind ≡ 247 → (delta : ℕ) (behind : Rest) → number_at inside ≡ Ok (delta, behind) → frame_at s locals rest ≡ with_item s locals place delta behind
+  pub extended_kind : kind ≡ 247 → (delta : ℕ) (behind : Rest) → table_u2_at inside ≡ Ok (delta, behind) → frame_at s locals rest ≡ with_item s locals place delta behind
   extended_kind is delta behind e = of_this_kind (λ _. with_item s locals place delta behind) 247 is (rw e (item_form s locals place delta behind))
 
-  pub extended_reads : kind ≡ 247 → (delta : ℕ) (behind after : Rest) (stack : List VType) → number_at inside ≡ Ok (delta, behind) → item_at s place behind ≡ Ok (stack, after) → frame_at s locals rest ≡ Ok (stated delta locals stack, after)
+  pub extended_reads : kind ≡ 247 → (delta : ℕ) (behind after : Rest) (stack : List VType) → table_u2_at inside ≡ Ok (delta, behind) → item_at s place behind ≡ Ok (stack, after) → frame_at s locals rest ≡ Ok (stated_frame delta locals stack, after)
   extended_reads is delta behind after stack d e = extended_kind is delta behind d ∙ rw e refl
 
-  pub extended_fails : kind ≡ 247 → (delta : ℕ) (behind after : Rest) (f : ClassFault) → number_at inside ≡ Ok (delta, behind) → Takes (item_at s place behind) after (Err f) → Refuses (frame_at s locals rest) f
+  pub extended_fails : kind ≡ 247 → (delta : ℕ) (behind after : Rest) (f : ClassFault) → table_u2_at inside ≡ Ok (delta, behind) → Takes (item_at s place behind) after (Err f) → Refuses (frame_at s locals rest) f
   extended_fails is delta behind after f d h = refuses_same _ _ f (extended_kind is delta behind d) (refuses_bind _ _ f (refuses_takes _ after f h))
 
   -- chop
@@ -125,8 +125,8 @@ module _ (s : Setting) (locals : List VType) (rest : Rest) (place kind : ℕ) (i
       ]
 
   -- full
-  pub full_kind : kind ≡ 255 → frame_at s locals rest ≡ full_at s place inside
-  full_kind is = of_this_kind (λ _. full_at s place inside) 255 is (full_form s place inside)
+  pub full_kind : kind ≡ 255 → frame_at s locals rest ≡ full_frame_at s place inside
+  full_kind is = of_this_kind (λ _. full_frame_at s place inside) 255 is (full_form s place inside)
 
 -- a cut that is another states what that states
 pub states_same : (whole part : Cut Stated) (locals : List VType) (after : Rest) (r : Result (ℕ × List VType) ClassFault) → whole ≡ part → States part locals after r → States whole locals after r

@@ -3,14 +3,14 @@ use Rattle.std.proofs.Common.{◌≡◌, ◌==◌, ℕ, suc, ◌+◌, ◌-◌, �
 use Rattle.std.proofs.lemmas.List.{append-nil}
 use Rattle.class_model.specs.Answers.{Gives}
 use Rattle.class_model.specs.Checks.{Fault, ◌>>=◌}
-use Rattle.class_model.specs.Cutting.{Rest, Cut}
-use Rattle.class_model.specs.Frames.{Setting, Stated, frame_at, frames_at, table_at, listed, missing}
+use Rattle.class_model.specs.Cutting.{Rest, Cut, uncut}
+use Rattle.class_model.specs.Frames.{Setting, Stated, frame_at, frames_at, stack_map_table_at, listed, missing, fits_at, table_u2_at}
 use Rattle.class_model.specs.declared.fault.ClassFault.{ClassFault}
 use Rattle.class_model.specs.declared.frame.Frame.{Frame}
 use Rattle.class_model.specs.declared.frame.PlacedFrame.{PlacedFrame}
 use Rattle.class_model.specs.declared.frame.VType.{VType}
 use Rattle.map_frames.specs.Reading.{Accepts}
-use Rattle.map_frames.specs.Steps.{Refuses, Standing, IsStep, Steps, fits_at, placed, number_at, end_at, whole}
+use Rattle.map_frames.specs.Steps.{Refuses, Standing, IsStep, Steps, placed, end_at}
 use Rattle.map_frames.proofs.Faults.{refuses_bind, refuses_same, refuses_gives, accepts_refused}
 use Rattle.map_frames.proofs.Fronts.{in_front, in_front-none, in_front-append, left_more}
 
@@ -47,13 +47,13 @@ frames_next s count start done frames w next at stack lt r step = record {
 
 -- where a table is read: its count, and the entry frame before its frames
 pub record TableStart (entry : Frame) (bytes : List ℕ) (count : ℕ) (start : Standing) : Type 0 where
-  pub counted : number_at (whole bytes) ≡ Ok (count, start.rest)
+  pub counted : table_u2_at (uncut bytes) ≡ Ok (count, start.rest)
   pub from : start.from ≡ 0
   pub locals : start.locals ≡ listed entry
 
-pub table_start : (entry : Frame) (bytes : List ℕ) (count : ℕ) (first start : Standing) → first ≡ record { from = 0; locals = listed entry; rest = whole bytes } → number_at first.rest ≡ Ok (count, start.rest) → start.locals ≡ first.locals → start.from ≡ first.from → TableStart entry bytes count start
+pub table_start : (entry : Frame) (bytes : List ℕ) (count : ℕ) (first start : Standing) → first ≡ record { from = 0; locals = listed entry; rest = uncut bytes } → table_u2_at first.rest ≡ Ok (count, start.rest) → start.locals ≡ first.locals → start.from ≡ first.from → TableStart entry bytes count start
 table_start entry bytes count first start is counted locals from = record {
-  counted = subst (λ (w : Standing). number_at w.rest ≡ Ok (count, start.rest)) is counted;
+  counted = subst (λ (w : Standing). table_u2_at w.rest ≡ Ok (count, start.rest)) is counted;
   from = from ∙ ap (λ (w : Standing). w.from) is;
   locals = locals ∙ ap (λ (w : Standing). w.locals) is;
 }
@@ -62,10 +62,10 @@ table_start entry bytes count first start is counted locals from = record {
 abbrev finish : List PlacedFrame × Rest → Result (List PlacedFrame) Fault
 finish frames = cond (length frames.1.bytes == 0) (Ok frames.0) (Err missing)
 
-table_from : (s : Setting) (entry : Frame) (bytes : List ℕ) (count : ℕ) (start : Standing) → TableStart entry bytes count start → table_at s entry bytes ≡ (frames_from s count start >>= finish)
+table_from : (s : Setting) (entry : Frame) (bytes : List ℕ) (count : ℕ) (start : Standing) → TableStart entry bytes count start → stack_map_table_at s entry bytes ≡ (frames_from s count start >>= finish)
 table_from s entry bytes count start t = rw (t.counted, t.from, t.locals) refl
 
-pub table_fails : (s : Setting) (entry : Frame) (bytes : List ℕ) (count : ℕ) (start : Standing) (done : ℕ) (frames : List PlacedFrame) (w next : Standing) (f : ClassFault) → TableStart entry bytes count start → done < count → FramesRead s count start done frames w → Steps s w next (Err f) → Refuses (table_at s entry bytes) f
+pub table_fails : (s : Setting) (entry : Frame) (bytes : List ℕ) (count : ℕ) (start : Standing) (done : ℕ) (frames : List PlacedFrame) (w next : Standing) (f : ClassFault) → TableStart entry bytes count start → done < count → FramesRead s count start done frames w → Steps s w next (Err f) → Refuses (stack_map_table_at s entry bytes) f
 table_fails s entry bytes count start done frames w next f t lt r step =
     refuses_same _ _ f (table_from s entry bytes count start t)
     (refuses_bind (frames_from s count start) finish f
@@ -78,7 +78,7 @@ frames_all s count start done frames w le r =
     r.left ∙ ap (λ (n : ℕ). in_front frames (frames_from s n w)) {y = 0} (omega arith) ∙ ap (λ (l : List PlacedFrame). Ok (l, w.rest)) (append-nil frames)
 
 -- all frames were read: the table is told by what is left
-table_all : (s : Setting) (entry : Frame) (bytes : List ℕ) (count : ℕ) (start : Standing) (done : ℕ) (frames : List PlacedFrame) (w : Standing) → TableStart entry bytes count start → count ≤ done → FramesRead s count start done frames w → table_at s entry bytes ≡ (end_at w.rest >>= λ end. Ok frames)
+table_all : (s : Setting) (entry : Frame) (bytes : List ℕ) (count : ℕ) (start : Standing) (done : ℕ) (frames : List PlacedFrame) (w : Standing) → TableStart entry bytes count start → count ≤ done → FramesRead s count start done frames w → stack_map_table_at s entry bytes ≡ (end_at w.rest >>= λ end. Ok frames)
 table_all s entry bytes count start done frames w t le r =
     table_from s entry bytes count start t ∙ ap (λ (cut : Cut (List PlacedFrame)). cut >>= finish) (frames_all s count start done frames w le r) ∙ by_test (length w.rest.bytes == 0)
   where
@@ -86,13 +86,13 @@ table_all s entry bytes count start done frames w t le r =
     by_test true = refl
     by_test false = refl
 
-pub table_ends : (s : Setting) (entry : Frame) (bytes : List ℕ) (count : ℕ) (start : Standing) (done : ℕ) (frames : List PlacedFrame) (w : Standing) → TableStart entry bytes count start → count ≤ done → FramesRead s count start done frames w → Gives (end_at w.rest) (Ok tt) → table_at s entry bytes ≡ Ok frames
+pub table_ends : (s : Setting) (entry : Frame) (bytes : List ℕ) (count : ℕ) (start : Standing) (done : ℕ) (frames : List PlacedFrame) (w : Standing) → TableStart entry bytes count start → count ≤ done → FramesRead s count start done frames w → Gives (end_at w.rest) (Ok tt) → stack_map_table_at s entry bytes ≡ Ok frames
 table_ends s entry bytes count start done frames w t le r e = table_all s entry bytes count start done frames w t le r ∙ rw e refl
 
-pub table_goes_on : (s : Setting) (entry : Frame) (bytes : List ℕ) (count : ℕ) (start : Standing) (done : ℕ) (frames : List PlacedFrame) (w : Standing) (f : ClassFault) → TableStart entry bytes count start → count ≤ done → FramesRead s count start done frames w → Gives (end_at w.rest) (Err f) → Refuses (table_at s entry bytes) f
+pub table_goes_on : (s : Setting) (entry : Frame) (bytes : List ℕ) (count : ℕ) (start : Standing) (done : ℕ) (frames : List PlacedFrame) (w : Standing) (f : ClassFault) → TableStart entry bytes count start → count ≤ done → FramesRead s count start done frames w → Gives (end_at w.rest) (Err f) → Refuses (stack_map_table_at s entry bytes) f
 table_goes_on s entry bytes count start done frames w f t le r h =
     refuses_same _ _ f (table_all s entry bytes count start done frames w t le r) (refuses_bind (end_at w.rest) _ f (refuses_gives (end_at w.rest) f h))
 
-pub table_told : (s : Setting) (entry : Frame) (bytes : List ℕ) (count : ℕ) (start : Standing) (done : ℕ) (frames : List PlacedFrame) (w : Standing) (r : Result (Unit {0}) ClassFault) → TableStart entry bytes count start → count ≤ done → FramesRead s count start done frames w → Gives (end_at w.rest) r → Accepts (table_at s entry bytes) r
+pub table_told : (s : Setting) (entry : Frame) (bytes : List ℕ) (count : ℕ) (start : Standing) (done : ℕ) (frames : List PlacedFrame) (w : Standing) (r : Result (Unit {0}) ClassFault) → TableStart entry bytes count start → count ≤ done → FramesRead s count start done frames w → Gives (end_at w.rest) r → Accepts (stack_map_table_at s entry bytes) r
 table_told s entry bytes count start done frames w (Ok end) t le r e = (frames, table_ends s entry bytes count start done frames w t le r e)
 table_told s entry bytes count start done frames w (Err f) t le r h = accepts_refused _ f (table_goes_on s entry bytes count start done frames w f t le r h)

@@ -6,7 +6,7 @@ use Rattle.class_model.specs.Spelling.{u2}
 use Rattle.class_model.specs.declared.frame.VType.{VType}
 use Rattle.map_frames.specs.Change.{IsChange}
 use Rattle.map_frames.specs.Choosing.{passes, first_passing}
-use Rattle.map_frames.specs.Writing.{Listed, FrameKind, Chop, Append, frame_kinds, Fits, IsFirst, IsFrame, types_bytes, kind_bytes}
+use Rattle.map_frames.specs.Writing.{Listed, FrameKind, Chop, Append, frame_kinds, FitsFrameKind, IsFirst, IsFrame, types_bytes, kind_bytes}
 use Rattle.map_frames.specs.declared.kinds.Change.{Change}
 use Rattle.map_frames.specs.declared.writing.NamedIndex.{NamedIndex}
 use Rattle.map_frames.proofs.Chosen.{counts, kind_first, first_fits, chop_adds_none, append_takes_none}
@@ -23,7 +23,7 @@ changed_bytes classes frame found more Append = (251 + found.more) ∷ (u2 frame
 changed_bytes classes frame found more other = kind_bytes classes [] frame other
 
 module _ (classes : List NamedIndex) (before : List VType) (frame : Listed) (gone more : List VType) (change : IsChange before frame.locals gone more) where
-  bytes_are : (kind : FrameKind) → Fits before frame kind → kind_bytes classes before frame kind ≡ changed_bytes classes frame (counts gone more frame.stack) more kind
+  bytes_are : (kind : FrameKind) → FitsFrameKind before frame kind → kind_bytes classes before frame kind ≡ changed_bytes classes frame (counts gone more frame.stack) more kind
   bytes_are Chop fits =
       let none = chop_adds_none before frame gone more change fits in
       let count : length before - length frame.locals ≡ length gone = omega (arith, ap length none, ap length change.before_is, ap length change.locals_is, length-append change.common gone, length-append change.common more) in
@@ -41,14 +41,14 @@ module _ (classes : List NamedIndex) (before : List VType) (frame : Listed) (gon
   abbrev pub IsChosen : Change → FrameKind → Type 0
   IsChosen found kind = kind ≡ first_passing (passes frame.delta found) frame_kinds
 
-  is_first : (kind : FrameKind) → IsChosen (counts gone more frame.stack) kind → IsFirst (Fits before frame) frame_kinds kind
-  is_first kind chosen = subst (IsFirst (Fits before frame) frame_kinds) (sym chosen) (kind_first before frame gone more change)
+  is_first : (kind : FrameKind) → IsChosen (counts gone more frame.stack) kind → IsFirst (FitsFrameKind before frame) frame_kinds kind
+  is_first kind chosen = subst (IsFirst (FitsFrameKind before frame) frame_kinds) (sym chosen) (kind_first before frame gone more change)
 
   with_counts : (kind : FrameKind) → IsChosen (counts gone more frame.stack) kind → IsFrame classes before frame (changed_bytes classes frame (counts gone more frame.stack) more kind)
   with_counts kind chosen = record {
     kind = kind;
     first = is_first kind chosen;
-    spelled = sym (bytes_are kind (first_fits (Fits before frame) frame_kinds kind (is_first kind chosen)));
+    spelled = sym (bytes_are kind (first_fits (FitsFrameKind before frame) frame_kinds kind (is_first kind chosen)));
   }
 
   pub is_written : (gone_count more_count : ℕ) → gone_count ≡ length gone → more_count ≡ length more → (kind : FrameKind)

@@ -6,13 +6,13 @@ use Rattle.std.proofs.lemmas.Bool.Decides.{nat_tests}
 use Rattle.std.proofs.lemmas.List.{append-nil, length-append}
 use Rattle.class_model.specs.Checks.{fault, ◌>>=◌}
 use Rattle.class_model.specs.Cutting.{Rest, Cut}
-use Rattle.class_model.specs.Frames.{Setting, Stated, stated, chopped, entry_at, entries_at, number_at, full_at, frame_at, missing}
+use Rattle.class_model.specs.Frames.{Setting, Stated, stated_frame, chopped, verification_type_at, verification_types_at, table_u2_at, full_at, frame_at, missing}
 use Rattle.class_model.specs.Instructions.{u1_in}
 use Rattle.class_model.specs.Spelling.{u2}
 use Rattle.class_model.specs.declared.fault.FileRule.TheVariants as rules
 use Rattle.class_model.specs.declared.frame.VType.{VType}
 use Rattle.map_frames.specs.Indices.{AreShort}
-use Rattle.map_frames.specs.Writing.{FitsType, HasType, Listed, FrameKind, Same, SameItem, SameItemExtended, Chop, SameExtended, Append, Full, Fits, type_bytes, types_bytes, kind_bytes}
+use Rattle.map_frames.specs.Writing.{FitsType, HasType, Listed, FrameKind, Same, SameItem, SameItemExtended, Chop, SameExtended, Append, Full, FitsFrameKind, type_bytes, types_bytes, kind_bytes}
 use Rattle.map_frames.specs.declared.writing.NamedIndex.{NamedIndex}
 use Rattle.map_frames.proofs.TypesRead.{Reads, then_read, made_read, number_read, type_read, types_read, u1_front}
 
@@ -45,14 +45,14 @@ module _ {A : Type 0} (kind : ℕ) (same item unknown extended chop same_extende
 -- the frame at a place behind its first byte
 abbrev of_kind : Setting → List VType → ℕ → ℕ → Rest → Cut Stated
 of_kind s locals at kind rest =
-    by_kind kind (Ok (stated kind locals [], rest))
-    (entry_at s at rest >>= λ item. Ok (stated (kind - 64) locals (item.0 ∷ []), item.1))
+    by_kind kind (Ok (stated_frame kind locals [], rest))
+    (verification_type_at s at rest >>= λ item. Ok (stated_frame (kind - 64) locals (item.0 ∷ []), item.1))
     (Err (fault at rules.FrameKind))
-    (number_at rest >>= λ delta. entry_at s at delta.1 >>= λ item. Ok (stated delta.0 locals (item.0 ∷ []), item.1))
+    (table_u2_at rest >>= λ delta. verification_type_at s at delta.1 >>= λ item. Ok (stated_frame delta.0 locals (item.0 ∷ []), item.1))
     (cond (ltb (length locals) (251 - kind)) (Err (fault at rules.FrameKind))
-    (number_at rest >>= λ delta. Ok (stated delta.0 (chopped (251 - kind) locals) [], delta.1)))
-    (number_at rest >>= λ delta. Ok (stated delta.0 locals [], delta.1))
-    (number_at rest >>= λ delta. entries_at s at (kind - 251) delta.1 >>= λ more. Ok (stated delta.0 (locals ++ more.0) [], more.1))
+    (table_u2_at rest >>= λ delta. Ok (stated_frame delta.0 (chopped (251 - kind) locals) [], delta.1)))
+    (table_u2_at rest >>= λ delta. Ok (stated_frame delta.0 locals [], delta.1))
+    (table_u2_at rest >>= λ delta. verification_types_at s at (kind - 251) delta.1 >>= λ more. Ok (stated_frame delta.0 (locals ++ more.0) [], more.1))
     (full_at s at rest)
 
 some_byte : {A : Type 0} (n : ℕ) (x y : A) → cond (ltb (suc n) 1) x y ≡ y
@@ -81,56 +81,56 @@ module _ (s : Setting) (before : List VType) where
         (inside.0, at_kind s before at kind (bytes ++ rest) ∙ same at _ ∙ inside.1);
   }
 
-  same_read : (delta : ℕ) → delta ≤ 63 → Reads (frame_at s before) (delta ∷ []) (stated delta before [])
+  same_read : (delta : ℕ) → delta ≤ 63 → Reads (frame_at s before) (delta ∷ []) (stated_frame delta before [])
   same_read delta h =
-      behind_kind delta [] (stated delta before []) (λ at rest. Ok (stated delta before [], rest))
+      behind_kind delta [] (stated_frame delta before []) (λ at rest. Ok (stated_frame delta before [], rest))
       (λ at rest. by_same delta _ _ _ _ _ _ _ _ h) (λ at. record { read = λ at rest. (at, refl) })
 
-  same_extended_read : (delta : ℕ) → delta ≤ 65535 → Reads (frame_at s before) (251 ∷ u2 delta) (stated delta before [])
+  same_extended_read : (delta : ℕ) → delta ≤ 65535 → Reads (frame_at s before) (251 ∷ u2 delta) (stated_frame delta before [])
   same_extended_read delta h =
-      behind_kind 251 (u2 delta) (stated delta before []) (λ at rest. number_at rest >>= λ delta. Ok (stated delta.0 before [], delta.1))
-      (λ at rest. refl) (λ at. made_read (number_read delta h) (λ n. stated n before []))
+      behind_kind 251 (u2 delta) (stated_frame delta before []) (λ at rest. table_u2_at rest >>= λ delta. Ok (stated_frame delta.0 before [], delta.1))
+      (λ at rest. refl) (λ at. made_read (number_read delta h) (λ n. stated_frame n before []))
 
-  item_read : (delta : ℕ) (bytes : List ℕ) (type : VType) → delta ≤ 63 → ((frame : ℕ) → Reads (entry_at s frame) bytes type) → Reads (frame_at s before) ((64 + delta) ∷ bytes) (stated delta before (type ∷ []))
+  item_read : (delta : ℕ) (bytes : List ℕ) (type : VType) → delta ≤ 63 → ((frame : ℕ) → Reads (verification_type_at s frame) bytes type) → Reads (frame_at s before) ((64 + delta) ∷ bytes) (stated_frame delta before (type ∷ []))
   item_read delta bytes type h reads =
-      behind_kind (64 + delta) bytes (stated delta before (type ∷ []))
-      (λ at rest. entry_at s at rest >>= λ item. Ok (stated delta before (item.0 ∷ []), item.1))
-      (λ at rest. by_item (64 + delta) _ _ _ _ _ _ _ _ (omega arith) (omega arith) ∙ ap (λ (n : ℕ). entry_at s at rest >>= λ item. Ok (stated n before (item.0 ∷ []), item.1)) (omega arith))
-      (λ at. made_read (reads at) (λ item. stated delta before (item ∷ [])))
+      behind_kind (64 + delta) bytes (stated_frame delta before (type ∷ []))
+      (λ at rest. verification_type_at s at rest >>= λ item. Ok (stated_frame delta before (item.0 ∷ []), item.1))
+      (λ at rest. by_item (64 + delta) _ _ _ _ _ _ _ _ (omega arith) (omega arith) ∙ ap (λ (n : ℕ). verification_type_at s at rest >>= λ item. Ok (stated_frame n before (item.0 ∷ []), item.1)) (omega arith))
+      (λ at. made_read (reads at) (λ item. stated_frame delta before (item ∷ [])))
 
-  item_extended_read : (delta : ℕ) (bytes : List ℕ) (type : VType) → delta ≤ 65535 → ((frame : ℕ) → Reads (entry_at s frame) bytes type) → Reads (frame_at s before) (247 ∷ (u2 delta ++ bytes)) (stated delta before (type ∷ []))
+  item_extended_read : (delta : ℕ) (bytes : List ℕ) (type : VType) → delta ≤ 65535 → ((frame : ℕ) → Reads (verification_type_at s frame) bytes type) → Reads (frame_at s before) (247 ∷ (u2 delta ++ bytes)) (stated_frame delta before (type ∷ []))
   item_extended_read delta bytes type h reads =
-      behind_kind 247 (u2 delta ++ bytes) (stated delta before (type ∷ []))
-      (λ at rest. number_at rest >>= λ delta. entry_at s at delta.1 >>= λ item. Ok (stated delta.0 before (item.0 ∷ []), item.1))
+      behind_kind 247 (u2 delta ++ bytes) (stated_frame delta before (type ∷ []))
+      (λ at rest. table_u2_at rest >>= λ delta. verification_type_at s at delta.1 >>= λ item. Ok (stated_frame delta.0 before (item.0 ∷ []), item.1))
       (λ at rest. refl)
-      (λ at. then_read (number_read delta h) _ bytes (stated delta before (type ∷ [])) (made_read (reads at) (λ item. stated delta before (item ∷ []))))
+      (λ at. then_read (number_read delta h) _ bytes (stated_frame delta before (type ∷ [])) (made_read (reads at) (λ item. stated_frame delta before (item ∷ []))))
 
-  chop_read : (delta count : ℕ) → delta ≤ 65535 → 1 ≤ count → count ≤ 3 → count ≤ length before → Reads (frame_at s before) ((251 - count) ∷ u2 delta) (stated delta (chopped count before) [])
+  chop_read : (delta count : ℕ) → delta ≤ 65535 → 1 ≤ count → count ≤ 3 → count ≤ length before → Reads (frame_at s before) ((251 - count) ∷ u2 delta) (stated_frame delta (chopped count before) [])
   chop_read delta count h some few fits =
-      behind_kind (251 - count) (u2 delta) (stated delta (chopped count before) [])
-      (λ at rest. number_at rest >>= λ delta. Ok (stated delta.0 (chopped count before) [], delta.1))
-      (λ at rest. by_chop (251 - count) _ _ _ _ _ _ _ _ (omega arith) (omega arith) ∙ chop_form count (length before) _ (λ (n : ℕ). number_at rest >>= λ delta. Ok (stated delta.0 (chopped n before) [], delta.1)) fits few)
-      (λ at. made_read (number_read delta h) (λ n. stated n (chopped count before) []))
+      behind_kind (251 - count) (u2 delta) (stated_frame delta (chopped count before) [])
+      (λ at rest. table_u2_at rest >>= λ delta. Ok (stated_frame delta.0 (chopped count before) [], delta.1))
+      (λ at rest. by_chop (251 - count) _ _ _ _ _ _ _ _ (omega arith) (omega arith) ∙ chop_form count (length before) _ (λ (n : ℕ). table_u2_at rest >>= λ delta. Ok (stated_frame delta.0 (chopped n before) [], delta.1)) fits few)
+      (λ at. made_read (number_read delta h) (λ n. stated_frame n (chopped count before) []))
 
-  append_read : (delta : ℕ) (bytes : List ℕ) (more : List VType) → delta ≤ 65535 → 1 ≤ length more → length more ≤ 3 → ((frame : ℕ) → Reads (entries_at s frame (length more)) bytes more) → Reads (frame_at s before) ((251 + length more) ∷ (u2 delta ++ bytes)) (stated delta (before ++ more) [])
+  append_read : (delta : ℕ) (bytes : List ℕ) (more : List VType) → delta ≤ 65535 → 1 ≤ length more → length more ≤ 3 → ((frame : ℕ) → Reads (verification_types_at s frame (length more)) bytes more) → Reads (frame_at s before) ((251 + length more) ∷ (u2 delta ++ bytes)) (stated_frame delta (before ++ more) [])
   append_read delta bytes more h some few reads =
-      behind_kind (251 + length more) (u2 delta ++ bytes) (stated delta (before ++ more) [])
-      (λ at rest. number_at rest >>= λ delta. entries_at s at (length more) delta.1 >>= λ more. Ok (stated delta.0 (before ++ more.0) [], more.1))
-      (λ at rest. by_append (251 + length more) _ _ _ _ _ _ _ _ (omega arith) (omega arith) ∙ ap (λ (n : ℕ). number_at rest >>= λ delta. entries_at s at n delta.1 >>= λ more. Ok (stated delta.0 (before ++ more.0) [], more.1)) (omega arith))
-      (λ at. then_read (number_read delta h) _ bytes (stated delta (before ++ more) []) (made_read (reads at) (λ (types : List VType). stated delta (before ++ types) [])))
+      behind_kind (251 + length more) (u2 delta ++ bytes) (stated_frame delta (before ++ more) [])
+      (λ at rest. table_u2_at rest >>= λ delta. verification_types_at s at (length more) delta.1 >>= λ more. Ok (stated_frame delta.0 (before ++ more.0) [], more.1))
+      (λ at rest. by_append (251 + length more) _ _ _ _ _ _ _ _ (omega arith) (omega arith) ∙ ap (λ (n : ℕ). table_u2_at rest >>= λ delta. verification_types_at s at n delta.1 >>= λ more. Ok (stated_frame delta.0 (before ++ more.0) [], more.1)) (omega arith))
+      (λ at. then_read (number_read delta h) _ bytes (stated_frame delta (before ++ more) []) (made_read (reads at) (λ (types : List VType). stated_frame delta (before ++ types) [])))
 
   full_read : (delta : ℕ) (locals stack : List VType) (locals_bytes stack_bytes : List ℕ) → delta ≤ 65535 → length locals ≤ 65535 → length stack ≤ 65535
-      → ((frame : ℕ) → Reads (entries_at s frame (length locals)) locals_bytes locals) → ((frame : ℕ) → Reads (entries_at s frame (length stack)) stack_bytes stack)
-      → Reads (frame_at s before) (255 ∷ (u2 delta ++ ((u2 (length locals) ++ locals_bytes) ++ (u2 (length stack) ++ stack_bytes)))) (stated delta locals stack)
+      → ((frame : ℕ) → Reads (verification_types_at s frame (length locals)) locals_bytes locals) → ((frame : ℕ) → Reads (verification_types_at s frame (length stack)) stack_bytes stack)
+      → Reads (frame_at s before) (255 ∷ (u2 delta ++ ((u2 (length locals) ++ locals_bytes) ++ (u2 (length stack) ++ stack_bytes)))) (stated_frame delta locals stack)
   full_read delta locals stack locals_bytes stack_bytes h few_locals few_stack locals_reads stack_reads =
-      behind_kind 255 _ (stated delta locals stack) (λ at rest. full_at s at rest)
+      behind_kind 255 _ (stated_frame delta locals stack) (λ at rest. full_at s at rest)
       (λ at rest. refl)
       (λ at. rw (append_assoc (u2 (length locals)) locals_bytes)
       (then_read (number_read delta h) _ _ _
       (then_read (number_read (length locals) few_locals) _ _ _
       (then_read (locals_reads at) _ _ _
       (then_read (number_read (length stack) few_stack) _ _ _
-      (made_read (stack_reads at) (λ (types : List VType). stated delta locals types)))))))
+      (made_read (stack_reads at) (λ (types : List VType). stated_frame delta locals types)))))))
 
 -- ---- the kinds that fit
 
@@ -157,9 +157,9 @@ one_item (x ∷ y ∷ items) len = absurd (omega arith)
 module _ (s : Setting) (classes : List NamedIndex) (before : List VType) where
   -- the bytes of a frame in this kind are read as the frame
   abbrev pub IsReadAs : Listed → FrameKind → Type 0
-  IsReadAs frame kind = Reads (frame_at s before) (kind_bytes classes before frame kind) (stated frame.delta frame.locals frame.stack)
+  IsReadAs frame kind = Reads (frame_at s before) (kind_bytes classes before frame kind) (stated_frame frame.delta frame.locals frame.stack)
 
-  read_item : (frame : Listed) → IsReadable s classes frame → Fits before frame SameItem → IsReadAs frame SameItem
+  read_item : (frame : Listed) → IsReadable s classes frame → FitsFrameKind before frame SameItem → IsReadAs frame SameItem
   read_item frame can fits =
       let item = one_item frame.stack fits.1 in
       let fits_item = rw item.1 at can.fits_stack in
@@ -167,7 +167,7 @@ module _ (s : Setting) (classes : List NamedIndex) (before : List VType) where
       rw (fits.0, item.1, append-nil (type_bytes classes item.0))
       (item_read s before frame.delta (type_bytes classes item.0) item.0 fits.2 (λ at. type_read s classes can.short at item.0 fits_item.0 has_item.0))
 
-  read_item_extended : (frame : Listed) → IsReadable s classes frame → Fits before frame SameItemExtended → IsReadAs frame SameItemExtended
+  read_item_extended : (frame : Listed) → IsReadable s classes frame → FitsFrameKind before frame SameItemExtended → IsReadAs frame SameItemExtended
   read_item_extended frame can fits =
       let item = one_item frame.stack fits.1 in
       let fits_item = rw item.1 at can.fits_stack in
@@ -175,17 +175,17 @@ module _ (s : Setting) (classes : List NamedIndex) (before : List VType) where
       rw (fits.0, item.1, append-nil (type_bytes classes item.0))
       (item_extended_read s before frame.delta (type_bytes classes item.0) item.0 can.delta (λ at. type_read s classes can.short at item.0 fits_item.0 has_item.0))
 
-  read_chop : (frame : Listed) → IsReadable s classes frame → Fits before frame Chop → IsReadAs frame Chop
+  read_chop : (frame : Listed) → IsReadable s classes frame → FitsFrameKind before frame Chop → IsReadAs frame Chop
   read_chop frame can fits =
       let gone = fits.1.0 in
       let lengths : length before ≡ length frame.locals + length gone = ap length fits.1.1 ∙ length-append frame.locals gone in
       let count : length before - length frame.locals ≡ length gone = omega arith in
       let kept : length before - length gone ≡ length frame.locals = omega arith in
       let left : take (length before - length gone) before ≡ frame.locals = ap (λ (n : ℕ). take n before) kept ∙ ap (take (length frame.locals)) fits.1.1 ∙ take-append_seam frame.locals gone in
-      rw (count, fits.0) (subst (λ (locals : List VType). Reads (frame_at s before) ((251 - length gone) ∷ u2 frame.delta) (stated frame.delta locals [])) left
+      rw (count, fits.0) (subst (λ (locals : List VType). Reads (frame_at s before) ((251 - length gone) ∷ u2 frame.delta) (stated_frame frame.delta locals [])) left
       (chop_read s before frame.delta (length gone) can.delta fits.1.2.0 fits.1.2.1 (omega arith)))
 
-  read_append : (frame : Listed) → IsReadable s classes frame → Fits before frame Append → IsReadAs frame Append
+  read_append : (frame : Listed) → IsReadable s classes frame → FitsFrameKind before frame Append → IsReadAs frame Append
   read_append frame can fits =
       let more = fits.1.0 in
       let count : length frame.locals - length before ≡ length more = omega (arith, ap length fits.1.1, length-append before more) in
@@ -195,7 +195,7 @@ module _ (s : Setting) (classes : List NamedIndex) (before : List VType) where
       rw (count, behind, fits.1.1, fits.0)
       (append_read s before frame.delta (types_bytes classes more) more can.delta fits.1.2.0 fits.1.2.1 (λ at. types_read s classes can.short at more fits_more has_more))
 
-  pub frame_read : (frame : Listed) → IsReadable s classes frame → (kind : FrameKind) → Fits before frame kind → IsReadAs frame kind
+  pub frame_read : (frame : Listed) → IsReadable s classes frame → (kind : FrameKind) → FitsFrameKind before frame kind → IsReadAs frame kind
   frame_read frame can Same fits = rw (fits.0, fits.1) (same_read s before frame.delta fits.2)
   frame_read frame can SameItem fits = read_item frame can fits
   frame_read frame can SameItemExtended fits = read_item_extended frame can fits

@@ -7,10 +7,10 @@ use Rattle.std.proofs.lemmas.Bool.{cases_lt}
 use Rattle.std.proofs.lemmas.List.{at_drop_more, drop_all}
 use Rattle.std.proofs.lemmas.Bool.Decides.{nat_tests}
 use Rattle.std.proofs.lemmas.Cmp.{ranked}
-use Rattle.class_model.specs.Frames.{is_new_at}
+use Rattle.class_model.specs.Frames.{is_new_at, is_new}
 use Rattle.class_model.specs.Instructions.{is_start}
 use Rattle.class_model.specs.declared.instr.Placed.{Placed}
-use Rattle.map_frames.specs.Offsets.{IncreasesFrom, Increases, instr_at, is_new}
+use Rattle.map_frames.specs.Offsets.{IncreasesFrom, Increases, instr_at_offset}
 
 -- ---- by the first instruction
 
@@ -24,9 +24,9 @@ first_start p at others starts true same rest = ap Some (grind (arith, nat_tests
 first_start p at others starts false other rest = rest
 
 -- it is that of the first instruction there
-pub start_found : (code : List Placed) (at : ℕ) → start_of (instr_at code at) ≡ cond (is_start code at) (Some at) None
+pub start_found : (code : List Placed) (at : ℕ) → start_of (instr_at_offset code at) ≡ cond (is_start code at) (Some at) None
 start_found [] at = refl
-start_found (p ∷ code) at = first_start p at (instr_at code at) (is_start code at) (p.at == at) refl (start_found code at)
+start_found (p ∷ code) at = first_start p at (instr_at_offset code at) (is_start code at) (p.at == at) refl (start_found code at)
 
 -- ---- offsets that increase
 
@@ -36,11 +36,11 @@ any_at sort code at = list_any (λ p. (p.at == at) && sort p) code
 
 -- What is said of an offset where no instruction stands, and of one where only this does.
 record Nowhere (sort : Placed → Bool) (code : List Placed) (at : ℕ) : Type 0 where
-  pub first : instr_at code at ≡ None
+  pub first : instr_at_offset code at ≡ None
   pub any : any_at sort code at ≡ false
 
 record Alone (sort : Placed → Bool) (code : List Placed) (at : ℕ) (p : Placed) : Type 0 where
-  pub first : instr_at code at ≡ Some p
+  pub first : instr_at_offset code at ≡ Some p
   pub any : any_at sort code at ≡ sort p
 
 nowhere_more : (sort : Placed → Bool) (code : List Placed) (at : ℕ) (p : Placed) → p.at ≢ at → Nowhere sort code at → Nowhere sort (p ∷ code) at
@@ -102,13 +102,13 @@ comparisons_rise code at up i j d le lt = by_numbers _ _ (rises code 0 i j d up 
     by_numbers x y le = grind (arith, nat_tests)
 
 -- what a binary search finds
-pub search_found : (code : List Placed) (at i : ℕ) (p : Placed) → Increases code → i < length code → IsBinarySearchResult (λ q. nat_cmp q.at at) code (Ok i) → p ≡ get_or code i p → (instr_at code at ≡ Some p) × (is_new_at code at ≡ is_new p.instr)
+pub search_found : (code : List Placed) (at i : ℕ) (p : Placed) → Increases code → i < length code → IsBinarySearchResult (λ q. nat_cmp q.at at) code (Ok i) → p ≡ get_or code i p → (instr_at_offset code at ≡ Some p) × (is_new_at code at ≡ is_new p.instr)
 search_found code at i p up lt equal is =
     let same : p.at ≡ at = ap (λ (q : Placed). q.at) is ∙ ranked _ at _ (sym (equal p)) in
     let alone = (alone_at (λ q. is_new q.instr) code 0 i p p up lt is).0 in
-    subst (λ (k : ℕ). (instr_at code k ≡ Some p) × (is_new_at code k ≡ is_new p.instr)) same (alone.first, alone.any)
+    subst (λ (k : ℕ). (instr_at_offset code k ≡ Some p) × (is_new_at code k ≡ is_new p.instr)) same (alone.first, alone.any)
 
-pub search_none : (code : List Placed) (at i : ℕ) → Increases code → i ≤ length code → IsBinarySearchResult (λ q. nat_cmp q.at at) code (Err i) → (instr_at code at ≡ None) × (is_new_at code at ≡ false)
+pub search_none : (code : List Placed) (at i : ℕ) → Increases code → i ≤ length code → IsBinarySearchResult (λ q. nat_cmp q.at at) code (Err i) → (instr_at_offset code at ≡ None) × (is_new_at code at ≡ false)
 search_none code at i up le parted =
     let parts = parted (comparisons_rise code at up) in
     let none = nowhere (λ q. is_new q.instr) code at (λ k d lt same. elim (cases_lt k i) [

@@ -5,7 +5,7 @@ use Rattle.class_model.specs.Spelling.{u2}
 use Rattle.class_model.specs.declared.frame.Frame.{Frame}
 use Rattle.class_model.specs.declared.frame.PlacedFrame.{PlacedFrame}
 use Rattle.class_model.specs.declared.frame.VType.{VType}
-use Rattle.map_frames.specs.Writing.{FrameKind, Listed, IsFirst, Fits, frame_kinds, kind_bytes, IsFrame, AreFrames, IsTable}
+use Rattle.map_frames.specs.Writing.{FrameKind, Listed, IsFirst, FitsFrameKind, frame_kinds, kind_bytes, IsFrame, AreFrames, IsTable}
 use Rattle.map_frames.specs.declared.writing.NamedIndex.{NamedIndex}
 
 one_kind : (fits : FrameKind → Type 0) (kinds : List FrameKind) (one other : FrameKind) → IsFirst fits kinds one → IsFirst fits kinds other → one ≡ other
@@ -17,7 +17,7 @@ one_kind fits (kind ∷ kinds) one other (inr a) (inr b) = one_kind fits kinds o
 
 one_frame : (classes : List NamedIndex) (before : List VType) (frame : Listed) (one other : List ℕ) → IsFrame classes before frame one → IsFrame classes before frame other → one ≡ other
 one_frame classes before frame one other a b =
-    a.spelled ∙ ap (kind_bytes classes before frame) (one_kind (Fits before frame) frame_kinds a.kind b.kind a.first b.first) ∙ sym b.spelled
+    a.spelled ∙ ap (kind_bytes classes before frame) (one_kind (FitsFrameKind before frame) frame_kinds a.kind b.kind a.first b.first) ∙ sym b.spelled
 
 one_list : (classes : List NamedIndex) (from : ℕ) (before : List VType) (frames : List PlacedFrame) (one other : List ℕ) → AreFrames classes from before frames one → AreFrames classes from before frames other → one ≡ other
 one_list classes from before [] one other a b = a ∙ sym b

@@ -5,14 +5,14 @@ use Rattle.std.proofs.lemmas.Bool.Decides.{nat_tests}
 use Rattle.std.proofs.lemmas.List.{append-nil}
 use Rattle.class_model.specs.Checks.{Fault, fault, ◌>>=◌}
 use Rattle.class_model.specs.Cutting.{Rest, Cut}
-use Rattle.class_model.specs.Frames.{Setting, Stated, stated, depth, filled, listed, frame_at, fits_at, frames_at, table_at, missing}
+use Rattle.class_model.specs.Frames.{Setting, Stated, stated_frame, depth, filled, listed, frame_at, fits_at, frames_at, stack_map_table_at, missing}
 use Rattle.class_model.specs.Instructions.{is_start}
 use Rattle.class_model.specs.declared.fault.FileRule.TheVariants as rules
 use Rattle.class_model.specs.declared.frame.Frame.{Frame}
 use Rattle.class_model.specs.declared.frame.PlacedFrame.{PlacedFrame}
 use Rattle.class_model.specs.declared.frame.VType.{VType}
 use Rattle.map_frames.specs.Indices.{AreShort}
-use Rattle.map_frames.specs.Writing.{FitsType, HasType, frame_kinds, Fits, AreFrames, IsTable, listed_at, FitsFrame, PlacesIncrease, FitsTable, HasFrame, HasFrames}
+use Rattle.map_frames.specs.Writing.{FitsType, HasType, frame_kinds, FitsFrameKind, AreFrames, IsTable, listed_at, FitsFrame, PlacesIncrease, FitsTable, HasFrame, HasFrames}
 use Rattle.map_frames.specs.declared.writing.NamedIndex.{NamedIndex}
 use Rattle.map_frames.proofs.Chosen.{first_fits}
 use Rattle.map_frames.proofs.FrameUnits.{all_listed, few_listed, IsListed, is_listed}
@@ -44,7 +44,7 @@ checked a b c size place x no_a no_b c_is = rw (no_a, no_b, c_is)
 
 -- the units of a frame fit, and it stands at an instruction
 frame_fits : (s : Setting) (at delta : ℕ) (placed : PlacedFrame) → IsListed placed.frame → length placed.frame.locals ≡ s.max_locals → depth placed.frame.stack ≤ s.max_stack → is_start s.code placed.at ≡ true
-    → fits_at s at placed.at (stated delta (listed placed.frame) placed.frame.stack) ≡ Ok placed
+    → fits_at s at placed.at (stated_frame delta (listed placed.frame) placed.frame.stack) ≡ Ok placed
 frame_fits s at delta placed is_listed all fits start =
     let back : filled s.max_locals (listed placed.frame) ≡ placed.frame.locals = rw (← all) is_listed.back in
     let found : PlacedFrame = record { at = placed.at; frame = record { locals = filled s.max_locals (listed placed.frame); stack = placed.frame.stack } } in
@@ -73,9 +73,9 @@ module _ (s : Setting) (classes : List NamedIndex) (short : AreShort classes) wh
   frames_read from before [] bytes places fits has are = record { read = λ at rest. (at, rw are) }
   frames_read from before (placed ∷ frames) bytes places fits has are =
       let frame = listed_at from placed in
-      let found : Stated = stated frame.delta frame.locals frame.stack in
+      let found : Stated = stated_frame frame.delta frame.locals frame.stack in
       let one : Reads (frame_at s before) are.0 found =
-      rw are.3.spelled (frame_read s classes before frame (readable from placed places.1 fits.0 has.0) are.3.kind (first_fits (Fits before frame) frame_kinds are.3.kind are.3.first)) in
+      rw are.3.spelled (frame_read s classes before frame (readable from placed places.1 fits.0 has.0) are.3.kind (first_fits (FitsFrameKind before frame) frame_kinds are.3.kind are.3.first)) in
       let others = frames_read (placed.at + 1) (listed placed.frame) frames are.1 places.2 fits.1 has.1 are.4 in
       let here : from + (placed.at - from) ≡ placed.at = omega arith in
       let listed_is = is_listed placed.frame fits.0.by_unit in
@@ -98,7 +98,7 @@ whole_read {first = first} {bytes = bytes} one next more y two =
     rw (a.1, left)
 
 pub table_read : (s : Setting) (classes : List NamedIndex) (entry : Frame) (frames : List PlacedFrame) (bytes : List ℕ) → AreShort classes → FitsTable classes frames → HasFrames s classes frames → IsTable classes entry frames bytes
-    → table_at s entry bytes ≡ Ok frames
+    → stack_map_table_at s entry bytes ≡ Ok frames
 table_read s classes entry frames bytes short fits has is =
     rw is.counted (whole_read (number_read (length frames) fits.few)
     (λ count. frames_at s count.0 0 (listed entry) count.1) is.inside frames

@@ -5,7 +5,7 @@ use Rattle.std.proofs.lemmas.Bool.Decides.{nat_tests}
 use Rattle.std.proofs.lemmas.Nat.{from_be_bytes-to_be_bytes_2}
 use Rattle.class_model.specs.Checks.{◌>>=◌}
 use Rattle.class_model.specs.Cutting.{Rest, Cut}
-use Rattle.class_model.specs.Frames.{Setting, is_new_at, entry_at, entries_at, number_at}
+use Rattle.class_model.specs.Frames.{Setting, is_new_at, verification_type_at, verification_types_at, table_u2_at}
 use Rattle.class_model.specs.Instructions.{u1_in, u2_in}
 use Rattle.class_model.specs.PoolChecks.{class_at}
 use Rattle.class_model.specs.Spelling.{u2}
@@ -45,21 +45,21 @@ made_read {bytes = bytes} first make = record {
       (one.0, rw one.1);
 }
 
-pub number_read : (n : ℕ) → n ≤ 65535 → Reads number_at (u2 n) n
+pub number_read : (n : ℕ) → n ≤ 65535 → Reads table_u2_at (u2 n) n
 number_read n h = record { read = λ at rest. (at + 2, grind (arith, nat_tests, u2_front n rest h)) }
 
-object_read : (s : Setting) (frame index : ℕ) (name : List ℕ) → index ≤ 65535 → class_at s.pool index ≡ Some name → Reads (entry_at s frame) (7 ∷ u2 index) (Object name)
+object_read : (s : Setting) (frame index : ℕ) (name : List ℕ) → index ≤ 65535 → class_at s.pool index ≡ Some name → Reads (verification_type_at s frame) (7 ∷ u2 index) (Object name)
 object_read s frame index name fits has = record {
   read = λ at rest. (at + 3, grind (arith, nat_tests, u2_second 7 index rest fits));
 }
 
-uninit_read : (s : Setting) (frame at : ℕ) → at ≤ 65535 → is_new_at s.code at ≡ true → Reads (entry_at s frame) (8 ∷ u2 at) (Uninit at)
+uninit_read : (s : Setting) (frame at : ℕ) → at ≤ 65535 → is_new_at s.code at ≡ true → Reads (verification_type_at s frame) (8 ∷ u2 at) (Uninit at)
 uninit_read s frame new fits has = record {
   read = λ at rest. (at + 3, grind (arith, nat_tests, u2_second 8 new rest fits));
 }
 
 module _ (s : Setting) (classes : List NamedIndex) (short : AreShort classes) (frame : ℕ) where
-  pub type_read : (type : VType) → FitsType classes type → HasType s classes type → Reads (entry_at s frame) (type_bytes classes type) type
+  pub type_read : (type : VType) → FitsType classes type → HasType s classes type → Reads (verification_type_at s frame) (type_bytes classes type) type
   type_read Top fits has = record { read = λ at rest. (at + 1, search (rules, nat_tests)) }
   type_read Int fits has = record { read = λ at rest. (at + 1, search (rules, nat_tests)) }
   type_read Float fits has = record { read = λ at rest. (at + 1, search (rules, nat_tests)) }
@@ -71,8 +71,8 @@ module _ (s : Setting) (classes : List NamedIndex) (short : AreShort classes) (f
   type_read (Uninit at) fits has = uninit_read s frame at fits has
 
   pub types_read : (types : List VType) → AllByRecursion (FitsType classes) types → AllByRecursion (HasType s classes) types
-      → Reads (entries_at s frame (length types)) (types_bytes classes types) types
-  unfolding entries_at
+      → Reads (verification_types_at s frame (length types)) (types_bytes classes types) types
+  unfolding verification_types_at
   types_read [] fits has = record { read = λ at rest. (at, refl) }
   types_read (type ∷ types) fits has =
       then_read (type_read type fits.0 has.0) _ (types_bytes classes types) (type ∷ types)

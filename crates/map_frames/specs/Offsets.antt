@@ -1,8 +1,7 @@
 -- The instructions of a code by offset, for the contracts of the reader's own functions.
-use Rattle.std.specs.Prelude.{◌==◌, ◌+◌, ◌≤◌, ℕ, Bool, true, false, List, [], ◌∷◌, Option, Some, None}
+use Rattle.std.specs.Prelude.{◌==◌, ◌+◌, ◌≤◌, ℕ, Bool, false, List, [], ◌∷◌, Option, Some, None}
 use Rattle.std.specs.List.{find}
-use Rattle.class_model.specs.declared.instr.Instr.{Instr}
-use Rattle.class_model.specs.declared.instr.Instr.TheVariants.{New}
+use Rattle.class_model.specs.Frames.{is_new}
 use Rattle.class_model.specs.declared.instr.Placed.{Placed}
 
 -- the offsets increase, from a number on
@@ -14,12 +13,8 @@ abbrev pub Increases : List Placed → Type 0
 Increases code = IncreasesFrom 0 code
 
 -- the first instruction at an offset
-abbrev pub instr_at : List Placed → ℕ → Option Placed
-instr_at code at = find (λ p. p.at == at) code
-
-abbrev pub is_new : Instr → Bool
-is_new (New class) = true
-is_new other = false
+abbrev pub instr_at_offset : List Placed → ℕ → Option Placed
+instr_at_offset code at = find (λ p. p.at == at) code
 
 -- it is a new
 abbrev pub has_new : Option Placed → Bool

@@ -1,10 +1,10 @@
 -- A table read step by step, for the contracts of the reader's own functions: what one step gives, and where it
--- leaves the reader. The words whose names Frames has too mean the same.
-use Rattle.std.specs.Prelude.{◌≡◌, ◌==◌, ◌+◌, ◌-◌, ◌||◌, nat_lt, ℕ, List, [], ◌∷◌, ◌++◌, length, take, Option, Some, None, Result, Ok, Err, if◌then◌else◌}
+-- leaves the reader.
+use Rattle.std.specs.Prelude.{◌≡◌, ◌==◌, ◌+◌, ◌-◌, nat_lt, ℕ, List, [], ◌∷◌, ◌++◌, length, take, Option, Some, None, Result, Ok, Err, if◌then◌else◌}
 use Rattle.class_model.specs.Checks.{Fault, fault, ◌>>=◌}
 use Rattle.class_model.specs.Cutting.{Rest, Cut, behind}
-use Rattle.class_model.specs.Frames.{Setting, Stated, entry_at, entries_at, frame_at, depth, is_new_at, filled, missing}
-use Rattle.class_model.specs.Instructions.{u1_in, u2_in, is_start}
+use Rattle.class_model.specs.Frames.{Setting, Stated, stated_frame, table_u2_at, object_of, verification_type_at, verification_types_at, frame_at, fits_at, is_new_at, filled, missing}
+use Rattle.class_model.specs.Instructions.{u1_in}
 use Rattle.class_model.specs.PoolChecks.{class_at}
 use Rattle.class_model.specs.declared.fault.ClassFault.{ClassFault}
 use Rattle.class_model.specs.declared.fault.ClassFault.TheVariants.{Malformed, Version, NoMemory}
@@ -16,17 +16,9 @@ use Rattle.class_model.specs.declared.frame.VType.TheVariants.{Object, Uninit}
 
 -- ---- numbers
 
--- bytes from the first on
-abbrev pub whole : List ℕ → Rest
-whole bytes = record { at = 0; bytes = bytes }
-
 -- a number of one byte
 abbrev pub byte_at : Rest → Cut ℕ
 byte_at rest = if nat_lt (length rest.bytes) 1 then Err missing else Ok (u1_in rest.bytes 0, behind 1 rest)
-
--- a number of two bytes
-abbrev pub number_at : Rest → Cut ℕ
-number_at rest = if nat_lt (length rest.bytes) 2 then Err missing else Ok (u2_in rest.bytes 0, behind 2 rest)
 
 -- nothing follows
 abbrev pub end_at : Rest → Result (Unit {0}) Fault
@@ -34,18 +26,14 @@ end_at rest = if length rest.bytes == 0 then Ok tt else Err missing
 
 -- ---- entries
 
-abbrev pub object_of : ℕ → Rest → Option (List ℕ) → Cut VType
-object_of frame rest (Some name) = Ok (Object name, rest)
-object_of frame rest None = Err (fault frame rules.FrameType)
-
 -- an object of a class, behind its tag
 abbrev pub object_at : Setting → ℕ → Rest → Cut VType
-object_at s frame rest = number_at rest >>= λ index. object_of frame index.1 (class_at s.pool index.0)
+object_at s frame rest = table_u2_at rest >>= λ index. object_of frame index.1 (class_at s.pool index.0)
 
 -- an object of a new, behind its tag
 abbrev pub uninit_at : Setting → ℕ → Rest → Cut VType
 uninit_at s frame rest =
-    number_at rest >>= λ at. if is_new_at s.code at.0 then Ok (Uninit at.0, at.1) else Err (fault frame rules.FrameType)
+    table_u2_at rest >>= λ at. if is_new_at s.code at.0 then Ok (Uninit at.0, at.1) else Err (fault frame rules.FrameType)
 
 -- a frame of these locals
 abbrev pub of_locals : List VType → Frame
@@ -53,45 +41,36 @@ of_locals locals = record { locals = locals; stack = [] }
 
 -- ---- frames
 
-abbrev pub stated : ℕ → List VType → List VType → Stated
-stated delta locals stack = record { delta = delta; entries = record { locals = locals; stack = stack } }
-
 -- entries behind their number
-abbrev pub counted_at : Setting → ℕ → Rest → Cut (List VType)
-counted_at s frame rest = number_at rest >>= λ count. entries_at s frame count.0 count.1
+abbrev pub counted_types_at : Setting → ℕ → Rest → Cut (List VType)
+counted_types_at s frame rest = table_u2_at rest >>= λ count. verification_types_at s frame count.0 count.1
 
 -- a stack of one entry
 abbrev pub item_at : Setting → ℕ → Rest → Cut (List VType)
-item_at s frame rest = entry_at s frame rest >>= λ item. Ok (item.0 ∷ [], item.1)
+item_at s frame rest = verification_type_at s frame rest >>= λ item. Ok (item.0 ∷ [], item.1)
 
 -- the last so many locals are gone
 abbrev pub chop_at : ℕ → List VType → ℕ → Rest → Cut Stated
 chop_at count locals frame rest =
     if nat_lt (length locals) count then Err (fault frame rules.FrameKind)
-    else (number_at rest >>= λ delta. Ok (stated delta.0 (take (length locals - count) locals) [], delta.1))
+    else (table_u2_at rest >>= λ delta. Ok (stated_frame delta.0 (take (length locals - count) locals) [], delta.1))
 
 -- so many locals are added
 abbrev pub append_at : Setting → ℕ → List VType → ℕ → Rest → Cut Stated
 append_at s count locals frame rest =
-    number_at rest >>= λ delta. entries_at s frame count delta.1 >>= λ more. Ok (stated delta.0 (locals ++ more.0) [], more.1)
+    table_u2_at rest >>= λ delta. verification_types_at s frame count delta.1 >>= λ more. Ok (stated_frame delta.0 (locals ++ more.0) [], more.1)
 
 -- all locals and the stack
-abbrev pub full_at : Setting → ℕ → Rest → Cut Stated
-full_at s frame rest = do
-  delta ← number_at rest
-  locals ← counted_at s frame delta.1
-  stack ← counted_at s frame locals.1
-  Ok (stated delta.0 locals.0 stack.0, stack.1)
+abbrev pub full_frame_at : Setting → ℕ → Rest → Cut Stated
+full_frame_at s frame rest = do
+  delta ← table_u2_at rest
+  locals ← counted_types_at s frame delta.1
+  stack ← counted_types_at s frame locals.1
+  Ok (stated_frame delta.0 locals.0 stack.0, stack.1)
 
 -- a frame with its offset, of these entries
 abbrev pub placed : Setting → ℕ → List VType → List VType → PlacedFrame
 placed s at locals stack = record { at = at; frame = record { locals = filled s.max_locals locals; stack = stack } }
-
--- its units fit, and its offset is the start of an instruction
-abbrev pub fits_at : Setting → ℕ → ℕ → Stated → Result PlacedFrame Fault
-fits_at s frame at f =
-    if nat_lt s.max_locals (depth f.entries.locals) || nat_lt s.max_stack (depth f.entries.stack) then Err (fault frame rules.FrameSize)
-    else (if is_start s.code at then Ok (placed s at f.entries.locals f.entries.stack) else Err (fault frame rules.FramePlace))
 
 -- ---- what a function of the reader answers
 
@@ -108,7 +87,7 @@ Appends cut before now after (Err f) = Refuses cut f
 
 -- the delta and the stack of a frame, whose locals are these
 abbrev pub States : Cut Stated → List VType → Rest → Result (ℕ × List VType) ClassFault → Type 0
-States cut locals after (Ok read) = cut ≡ Ok (stated read.0 locals read.1, after)
+States cut locals after (Ok read) = cut ≡ Ok (stated_frame read.0 locals read.1, after)
 States cut locals after (Err f) = Refuses cut f
 
 -- the offset of a frame, whose entries are these
@@ -125,8 +104,8 @@ pub record Standing : Type 0 where
 -- A frame was read there: its offset and stack, and where the reader stands then.
 pub record IsStep (s : Setting) (w : Standing) (at : ℕ) (stack : List VType) (next : Standing) : Type 0 where
   pub delta : ℕ
-  pub read : frame_at s w.locals w.rest ≡ Ok (stated delta next.locals stack, next.rest)
-  pub fits : fits_at s w.rest.at (w.from + delta) (stated delta next.locals stack) ≡ Ok (placed s at next.locals stack)
+  pub read : frame_at s w.locals w.rest ≡ Ok (stated_frame delta next.locals stack, next.rest)
+  pub fits : fits_at s w.rest.at (w.from + delta) (stated_frame delta next.locals stack) ≡ Ok (placed s at next.locals stack)
   pub from : next.from ≡ w.from + delta + 1
 
 abbrev pub Steps : Setting → Standing → Standing → Result (ℕ × List VType) ClassFault → Type 0

@@ -63,14 +63,14 @@ abbrev pub IsFew : List VType → Type 0
 IsFew types = (1 ≤ length types) × (length types ≤ 3)
 
 -- the frame has a spelling of this kind behind a frame with these locals
-abbrev pub Fits : List VType → Listed → FrameKind → Type 0
-Fits before frame Same = (frame.locals ≡ before) × (frame.stack ≡ []) × (frame.delta ≤ 63)
-Fits before frame SameItem = (frame.locals ≡ before) × (length frame.stack ≡ 1) × (frame.delta ≤ 63)
-Fits before frame SameItemExtended = (frame.locals ≡ before) × (length frame.stack ≡ 1)
-Fits before frame Chop = (frame.stack ≡ []) × ((gone : List VType) × (before ≡ frame.locals ++ gone) × IsFew gone)
-Fits before frame SameExtended = (frame.locals ≡ before) × (frame.stack ≡ [])
-Fits before frame Append = (frame.stack ≡ []) × ((more : List VType) × (frame.locals ≡ before ++ more) × IsFew more)
-Fits before frame Full = Unit {0}
+abbrev pub FitsFrameKind : List VType → Listed → FrameKind → Type 0
+FitsFrameKind before frame Same = (frame.locals ≡ before) × (frame.stack ≡ []) × (frame.delta ≤ 63)
+FitsFrameKind before frame SameItem = (frame.locals ≡ before) × (length frame.stack ≡ 1) × (frame.delta ≤ 63)
+FitsFrameKind before frame SameItemExtended = (frame.locals ≡ before) × (length frame.stack ≡ 1)
+FitsFrameKind before frame Chop = (frame.stack ≡ []) × ((gone : List VType) × (before ≡ frame.locals ++ gone) × IsFew gone)
+FitsFrameKind before frame SameExtended = (frame.locals ≡ before) × (frame.stack ≡ [])
+FitsFrameKind before frame Append = (frame.stack ≡ []) × ((more : List VType) × (frame.locals ≡ before ++ more) × IsFew more)
+FitsFrameKind before frame Full = Unit {0}
 
 -- its bytes in this kind
 abbrev pub kind_bytes : List NamedIndex → List VType → Listed → FrameKind → List ℕ
@@ -94,7 +94,7 @@ IsFirst fits (one ∷ others) kind = ((kind ≡ one) × fits one) ⊎ ((¬ fits 
 -- the bytes of one frame
 pub record IsFrame (classes : List NamedIndex) (before : List VType) (frame : Listed) (bytes : List ℕ) : Type 0 where
   pub kind : FrameKind
-  pub first : IsFirst (Fits before frame) frame_kinds kind
+  pub first : IsFirst (FitsFrameKind before frame) frame_kinds kind
   pub spelled : bytes ≡ kind_bytes classes before frame kind
 
 -- ---- the table

@@ -2,8 +2,8 @@
 ghost use Rattle.std.specs.Prelude.{◌≡◌, Some, None, IsTrue, if◌then◌else◌};
 ghost use Rattle.std.specs.Option.{option_copied};
 ghost use Rattle.class_model.specs.Instructions.{is_start};
-ghost use Rattle.class_model.specs.Frames.{is_new_at};
-ghost use Rattle.map_frames.specs.Offsets.{Increases, instr_at, has_new, is_new};
+ghost use Rattle.class_model.specs.Frames.{is_new_at, is_new};
+ghost use Rattle.map_frames.specs.Offsets.{Increases, instr_at_offset, has_new};
 
 use class_model::{Instr, Placed};
 use std::marker::Model;
@@ -60,7 +60,7 @@ impl<'a> CodeIndex<'a> {
 
     // The first instruction at an offset.
     fn first(&self, at: u64) -> Option<&Placed>
-        ensures { option_copied result ≡ instr_at self.now at }
+        ensures { option_copied result ≡ instr_at_offset self.now at }
     {
         if self.increases {
             search(self.code, at)
@@ -87,7 +87,7 @@ fn increases(code: &[Placed]) -> bool
 // The instruction at an offset of a code whose offsets increase.
 fn search(code: &[Placed], at: u64) -> Option<&Placed>
     requires { Increases code.now }
-    ensures first { option_copied result ≡ instr_at code.now at }
+    ensures first { option_copied result ≡ instr_at_offset code.now at }
     ensures only { is_new_at code.now at ≡ has_new (option_copied result) }
 {
     match code.binary_search_by_key(&at, |placed| u64::from(placed.at)) {
@@ -98,7 +98,7 @@ fn search(code: &[Placed], at: u64) -> Option<&Placed>
 
 // The first instruction at an offset of any code.
 fn scan(code: &[Placed], at: u64) -> Option<&Placed>
-    ensures { option_copied result ≡ instr_at code.now at }
+    ensures { option_copied result ≡ instr_at_offset code.now at }
 {
     code.iter().find(|placed| u64::from(placed.at) == at)
 }

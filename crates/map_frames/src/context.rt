@@ -2,10 +2,10 @@
 ghost use Rattle.std.specs.Prelude.{◌≡◌};
 ghost use Rattle.std.specs.Option.{option_copied};
 ghost use Rattle.class_model.specs.Answers.{Takes};
-ghost use Rattle.class_model.specs.Frames.{entry_at, entries_at};
+ghost use Rattle.class_model.specs.Frames.{verification_type_at, verification_types_at, stated_frame};
 ghost use Rattle.class_model.specs.PoolChecks.{class_at};
 ghost use Rattle.map_frames.specs.Settings.{setting_of};
-ghost use Rattle.map_frames.specs.Steps.{Appends, IsPlaced, stated, item_at, counted_at, object_at, uninit_at};
+ghost use Rattle.map_frames.specs.Steps.{Appends, IsPlaced, item_at, counted_types_at, object_at, uninit_at};
 
 use crate::code_index::CodeIndex;
 use crate::cursor::Cursor;
@@ -37,7 +37,7 @@ impl Context<'_> {
         rest: &mut Cursor,
         entries: &mut Entries,
     ) -> Result<(), ClassFault>
-        ensures { Appends (entries_at (setting_of self.now) frame count rest.old) entries.old entries.new rest.new result }
+        ensures { Appends (verification_types_at (setting_of self.now) frame count rest.old) entries.old entries.new rest.new result }
     {
         for _ in 0..count {
             entries.push(self.entry(frame, rest)?)?;
@@ -62,7 +62,7 @@ impl Context<'_> {
     /// # Errors
     /// As `push_entries`.
     pub(crate) fn counted(&self, frame: u64, rest: &mut Cursor) -> Result<Entries, ClassFault>
-        ensures { Takes (counted_at (setting_of self.now) frame rest.old) rest.new result }
+        ensures { Takes (counted_types_at (setting_of self.now) frame rest.old) rest.new result }
     {
         let count = rest.u2()?;
         let mut entries = Entries::new(self.alloc);
@@ -81,7 +81,7 @@ impl Context<'_> {
         locals: &Entries,
         stack: &Entries,
     ) -> Result<u32, ClassFault>
-        ensures { IsPlaced (setting_of self.now) frame (stated 0 locals.now stack.now) at result }
+        ensures { IsPlaced (setting_of self.now) frame (stated_frame 0 locals.now stack.now) at result }
     {
         let max_locals = usize::from(self.max_locals);
         let max_stack = usize::from(self.max_stack);
@@ -96,7 +96,7 @@ impl Context<'_> {
 
     // The next entry of the frame at a place.
     fn entry(&self, frame: u64, rest: &mut Cursor) -> Result<VType, ClassFault>
-        ensures { Takes (entry_at (setting_of self.now) frame rest.old) rest.new result }
+        ensures { Takes (verification_type_at (setting_of self.now) frame rest.old) rest.new result }
     {
         match rest.u1()? {
             0 => Ok(VType::Top),

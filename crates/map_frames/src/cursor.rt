@@ -1,7 +1,9 @@
 //! The content of a table, read from the front.
 ghost use Rattle.std.specs.Prelude.{◌≡◌, ◌==◌, length};
 ghost use Rattle.class_model.specs.Answers.{Takes};
-ghost use Rattle.map_frames.specs.Steps.{byte_at, number_at, whole};
+ghost use Rattle.class_model.specs.Cutting.{uncut};
+ghost use Rattle.class_model.specs.Frames.{table_u2_at};
+ghost use Rattle.map_frames.specs.Steps.{byte_at};
 
 use class_model::{ClassFault, FileRule};
 use std::marker::Model;
@@ -33,7 +35,7 @@ impl<'a> Model for Cursor<'a> {
 impl<'a> Cursor<'a> {
     /// At the first of these bytes.
     pub(crate) fn new(bytes: &'a [u8]) -> Self
-        ensures { result ≡ whole bytes.now }
+        ensures { result ≡ uncut bytes.now }
     {
         Cursor { bytes, at: 0 }
     }
@@ -71,7 +73,7 @@ impl<'a> Cursor<'a> {
     /// # Errors
     /// As `u1`.
     pub(crate) fn u2(&mut self) -> Result<u16, ClassFault>
-        ensures { Takes (number_at self.old) self.new result }
+        ensures { Takes (table_u2_at self.old) self.new result }
     {
         let Some([high, low, ..]) = self.bytes.get(self.at..) else {
             return Err(MISSING);

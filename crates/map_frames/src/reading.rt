@@ -1,7 +1,7 @@
 //! Reading a StackMapTable.
 ghost use Rattle.std.specs.Prelude.{};
 ghost use Rattle.class_model.specs.Answers.{Gives};
-ghost use Rattle.class_model.specs.Frames.{Setting, table_at};
+ghost use Rattle.class_model.specs.Frames.{Setting, stack_map_table_at};
 ghost use Rattle.map_frames.specs.Reading.{Accepts};
 
 use crate::code_index::CodeIndex;
@@ -26,7 +26,7 @@ pub fn read_frames(
     bytes: &[u8],
 ) -> Result<PlacedFrameList, ClassFault>
     ensures { let s : Setting = record { pool = pool.now; max_locals = max_locals; max_stack = max_stack; code = code.now } in
-        Gives (table_at s entry.now bytes.now) result }
+        Gives (stack_map_table_at s entry.now bytes.now) result }
 {
     let code = CodeIndex::new(code.as_slice());
     let context = Context {
@@ -66,7 +66,7 @@ pub fn check_frames(
     bytes: &[u8],
 ) -> Result<(), ClassFault>
     ensures { let s : Setting = record { pool = pool.now; max_locals = max_locals; max_stack = max_stack; code = code.now } in
-        Accepts (table_at s entry.now bytes.now) result }
+        Accepts (stack_map_table_at s entry.now bytes.now) result }
 {
     let code = CodeIndex::new(code.as_slice());
     let context = Context {

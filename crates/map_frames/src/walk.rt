@@ -22,14 +22,15 @@ pub(crate) struct Walk<'a> {
 impl<'a> Walk<'a> {
     ghost use Rattle.std.specs.Prelude.{◌≡◌, IfOk, OnOk};
     ghost use Rattle.class_model.specs.Answers.{Gives, Takes};
-    ghost use Rattle.class_model.specs.Frames.{frame_at, filled, listed};
+    ghost use Rattle.class_model.specs.Cutting.{uncut};
+    ghost use Rattle.class_model.specs.Frames.{frame_at, filled, listed, table_u2_at};
     ghost use Rattle.map_frames.specs.Settings.{setting_of, standing_of};
     ghost use Rattle.map_frames.specs.Units.{Keeps};
-    ghost use Rattle.map_frames.specs.Steps.{States, Steps, whole, number_at, end_at, chop_at, append_at, full_at};
+    ghost use Rattle.map_frames.specs.Steps.{States, Steps, end_at, chop_at, append_at, full_frame_at};
 
     /// At the first byte of a table, behind an entry frame.
     pub(crate) fn new(alloc: Global, entry: &Frame, bytes: &'a [u8]) -> Result<Self, NoMemory>
-        ensures { IfOk result (λ walk. standing_of walk ≡ record { from = 0; locals = listed entry.now; rest = whole bytes.now }) }
+        ensures { IfOk result (λ walk. standing_of walk ≡ record { from = 0; locals = listed entry.now; rest = uncut bytes.now }) }
     {
         Ok(Walk {
             rest: Cursor::new(bytes),
@@ -44,7 +45,7 @@ impl<'a> Walk<'a> {
     /// # Errors
     /// `Attribute` where it is missing.
     pub(crate) fn count(&mut self) -> Result<u16, ClassFault>
-        ensures count { Takes (number_at self.old.rest) self.new.rest result }
+        ensures count { Takes (table_u2_at self.old.rest) self.new.rest result }
         ensures locals { self.new.locals ≡ self.old.locals }
         ensures from { self.new.from ≡ self.old.from }
     {
@@ -174,7 +175,7 @@ impl<'a> Walk<'a> {
 
     // All locals, and the stack, each behind their number.
     fn full(&mut self, context: &Context, place: u64) -> Result<(u16, Entries), ClassFault>
-        ensures stated { States (full_at (setting_of context.now) place self.old.rest) self.new.locals self.new.rest result }
+        ensures stated { States (full_frame_at (setting_of context.now) place self.old.rest) self.new.locals self.new.rest result }
         ensures kept { OnOk result (Keeps self.new.kept self.old.locals self.new.locals) }
         ensures from { self.new.from ≡ self.old.from }
     {

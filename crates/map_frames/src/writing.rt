@@ -1,6 +1,6 @@
 //! Writing a StackMapTable.
 ghost use Rattle.std.specs.Prelude.{◌≡◌, ◌≤◌, ◌++◌, List, ℕ, Ok, IfOk, OnOk, reverse};
-ghost use Rattle.class_model.specs.Frames.{Setting, table_at, entries_of_units, without_tops};
+ghost use Rattle.class_model.specs.Frames.{Setting, stack_map_table_at, entries_of_units, without_tops};
 ghost use Rattle.map_frames.specs.Listing.{listed_of};
 ghost use Rattle.map_frames.specs.Writing.{FitsTable, IsTable, HasFrames, AreFrames, listed_at};
 
@@ -36,7 +36,7 @@ pub fn frame_bytes(
 ) -> Result<ByteList, NoMemory>
     requires { FitsTable class_index.now frames.now }
     ensures chosen { IfOk result (IsTable class_index.now entry.now frames.now) }
-    ensures read { IfOk result (λ bytes. (s : Setting) → HasFrames s class_index.now frames.now → table_at s entry.now bytes ≡ Ok frames.now) }
+    ensures read { IfOk result (λ bytes. (s : Setting) → HasFrames s class_index.now frames.now → stack_map_table_at s entry.now bytes ≡ Ok frames.now) }
 {
     let classes = ClassIndices::new(alloc, class_index.as_slice())?;
     let frames = frames.as_slice();

@@ -10,42 +10,42 @@ use Rattle.class_model.specs.declared.instr.Placed.{Placed}
 use Rattle.class_tree.specs.Answers.{Answers}
 use Rattle.class_tree.specs.Problems.{asked_each, AllHold}
 use Rattle.class_tree.specs.declared.fault.LinkFault.{LinkFault}
-use Rattle.member_link.specs.Resolving.{Resolved, scope_of}
-use Rattle.member_link.specs.Uses.{Scope, code_checks, instr_checks, instrs_checks, handler_checks, inner_checks}
+use Rattle.member_link.specs.Resolving.{Resolved, resolved_scope}
+use Rattle.member_link.specs.Uses.{UseScope, code_use_checks, instr_use_checks, instrs_checks, handler_use_checks, inner_checks}
 use Rattle.member_link.proofs.EachUse.{first_refused, second_refused, third_answers}
 
 -- the instructions of a code, as they were decoded
 pub record AreInstrs (code : List ℕ) (instrs : List Placed) : Type 0 where
   pub read : decoded code ≡ Ok instrs
 
-instrs_told : (s : Scope) (code : List ℕ) (instrs : List Placed) (result : Result (Unit {0}) LinkFault) → AreInstrs code instrs → Answers (asked_each (λ placed. instr_checks s placed.instr) instrs) result → Answers (instrs_checks s (decoded code)) result
+instrs_told : (s : UseScope) (code : List ℕ) (instrs : List Placed) (result : Result (Unit {0}) LinkFault) → AreInstrs code instrs → Answers (asked_each (λ placed. instr_use_checks s placed.instr) instrs) result → Answers (instrs_checks s (decoded code)) result
 instrs_told s code instrs result are told = subst (λ read. Answers (instrs_checks s read) result) (sym are.read) told
 
 pub are_instrs : (given code : List ℕ) (instrs slice : List Placed) → given ≡ code → decoded given ≡ Ok instrs → slice ≡ instrs → AreInstrs code slice
 are_instrs given code instrs slice same read is = record { read = ap decoded (sym same) ∙ read ∙ ap Ok (sym is) }
 
 module _ (home : Home) (method : Method) (part : CodePart) (member : Member) (was : Resolved) (instrs : List Placed) (are : AreInstrs part.code instrs) where
-  instrs_hold : AllHold (asked_each (λ placed. instr_checks (scope_of was member) placed.instr) instrs) → AllHold (instrs_checks (scope_of was member) (decoded part.code))
-  instrs_hold hold = instrs_told (scope_of was member) part.code instrs (Ok tt) are hold
+  instrs_hold : AllHold (asked_each (λ placed. instr_use_checks (resolved_scope was member) placed.instr) instrs) → AllHold (instrs_checks (resolved_scope was member) (decoded part.code))
+  instrs_hold hold = instrs_told (resolved_scope was member) part.code instrs (Ok tt) are hold
 
-  pub instrs_refused : (e : LinkFault) → Answers {X = Unit {0}} (asked_each (λ placed. instr_checks (scope_of was member) placed.instr) instrs) (Err e) → Answers {X = Unit {0}} (code_checks (scope_of was member) home method part) (Err e)
+  pub instrs_refused : (e : LinkFault) → Answers {X = Unit {0}} (asked_each (λ placed. instr_use_checks (resolved_scope was member) placed.instr) instrs) (Err e) → Answers {X = Unit {0}} (code_use_checks (resolved_scope was member) home method part) (Err e)
   instrs_refused e told =
-      first_refused (instrs_checks (scope_of was member) (decoded part.code)) (asked_each (handler_checks (scope_of was member)) part.handlers) (asked_each (inner_checks (scope_of was member) home method part) part.attrs) e
-      (instrs_told (scope_of was member) part.code instrs (Err e) are told)
+      first_refused (instrs_checks (resolved_scope was member) (decoded part.code)) (asked_each (handler_use_checks (resolved_scope was member)) part.handlers) (asked_each (inner_checks (resolved_scope was member) home method part) part.attrs) e
+      (instrs_told (resolved_scope was member) part.code instrs (Err e) are told)
 
-  pub handlers_refused : (next : Resolved) (handlers : List Handler) (e : LinkFault) → AllHold (asked_each (λ placed. instr_checks (scope_of was member) placed.instr) instrs) → next ≡ was → handlers ≡ part.handlers
-      → Answers {X = Unit {0}} (asked_each (handler_checks (scope_of next member)) handlers) (Err e) → Answers {X = Unit {0}} (code_checks (scope_of was member) home method part) (Err e)
+  pub handlers_refused : (next : Resolved) (handlers : List Handler) (e : LinkFault) → AllHold (asked_each (λ placed. instr_use_checks (resolved_scope was member) placed.instr) instrs) → next ≡ was → handlers ≡ part.handlers
+      → Answers {X = Unit {0}} (asked_each (handler_use_checks (resolved_scope next member)) handlers) (Err e) → Answers {X = Unit {0}} (code_use_checks (resolved_scope was member) home method part) (Err e)
   handlers_refused next handlers e hold same all told =
-      second_refused (instrs_checks (scope_of was member) (decoded part.code)) (asked_each (handler_checks (scope_of was member)) part.handlers) (asked_each (inner_checks (scope_of was member) home method part) part.attrs) e
+      second_refused (instrs_checks (resolved_scope was member) (decoded part.code)) (asked_each (handler_use_checks (resolved_scope was member)) part.handlers) (asked_each (inner_checks (resolved_scope was member) home method part) part.attrs) e
       (instrs_hold hold)
-      (subst (λ resolver. Answers {X = Unit {0}} (asked_each (handler_checks (scope_of resolver member)) part.handlers) (Err e)) same
-      (subst (λ items. Answers {X = Unit {0}} (asked_each (handler_checks (scope_of next member)) items) (Err e)) all told))
+      (subst (λ resolver. Answers {X = Unit {0}} (asked_each (handler_use_checks (resolved_scope resolver member)) part.handlers) (Err e)) same
+      (subst (λ items. Answers {X = Unit {0}} (asked_each (handler_use_checks (resolved_scope next member)) items) (Err e)) all told))
 
-  pub code_answers : (next last : Resolved) (handlers : List Handler) (result : Result (Unit {0}) LinkFault) → AllHold (asked_each (λ placed. instr_checks (scope_of was member) placed.instr) instrs) → next ≡ was → handlers ≡ part.handlers
-      → AllHold (asked_each (handler_checks (scope_of next member)) handlers) → last ≡ next → Answers (asked_each (inner_checks (scope_of last member) home method part) part.attrs) result → Answers (code_checks (scope_of was member) home method part) result
+  pub code_answers : (next last : Resolved) (handlers : List Handler) (result : Result (Unit {0}) LinkFault) → AllHold (asked_each (λ placed. instr_use_checks (resolved_scope was member) placed.instr) instrs) → next ≡ was → handlers ≡ part.handlers
+      → AllHold (asked_each (handler_use_checks (resolved_scope next member)) handlers) → last ≡ next → Answers (asked_each (inner_checks (resolved_scope last member) home method part) part.attrs) result → Answers (code_use_checks (resolved_scope was member) home method part) result
   code_answers next last handlers result hold same all also kept told =
-      third_answers (instrs_checks (scope_of was member) (decoded part.code)) (asked_each (handler_checks (scope_of was member)) part.handlers) (asked_each (inner_checks (scope_of was member) home method part) part.attrs) result
+      third_answers (instrs_checks (resolved_scope was member) (decoded part.code)) (asked_each (handler_use_checks (resolved_scope was member)) part.handlers) (asked_each (inner_checks (resolved_scope was member) home method part) part.attrs) result
       (instrs_hold hold)
-      (subst (λ resolver. AllHold (asked_each (handler_checks (scope_of resolver member)) part.handlers)) same
-      (subst (λ items. AllHold (asked_each (handler_checks (scope_of next member)) items)) all also))
-      (subst (λ resolver. Answers (asked_each (inner_checks (scope_of resolver member) home method part) part.attrs) result) (kept ∙ same) told)
+      (subst (λ resolver. AllHold (asked_each (handler_use_checks (resolved_scope resolver member)) part.handlers)) same
+      (subst (λ items. AllHold (asked_each (handler_use_checks (resolved_scope next member)) items)) all also))
+      (subst (λ resolver. Answers (asked_each (inner_checks (resolved_scope resolver member) home method part) part.attrs) result) (kept ∙ same) told)

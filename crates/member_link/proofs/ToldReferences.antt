@@ -17,9 +17,10 @@ use Rattle.member_link.specs.DeclaredMembers.{Declared}
 use Rattle.member_link.specs.Fields.{FindsField}
 use Rattle.member_link.specs.Methods.{FindsMethod}
 use Rattle.member_link.specs.References.{Reference, reference_at, FieldTypeNames, DescriptorNames, IsNamedThere, IsNamedAccessible}
-use Rattle.member_link.specs.Resolutions.{FirstBroken, IfHad, IsReferent, IsCallee, FieldResolves, MethodResolves, IsFieldConstant, IsMethodConstant, ConstantResolves}
-use Rattle.member_link.specs.Resolving.{Resolved, scope_of}
-use Rattle.member_link.specs.Uses.{Scope, member_checks, field_checks, method_checks, asked_of_reference, fieldref_checks, methodref_checks}
+use Rattle.member_link.specs.Resolutions.{FirstBroken, IfHad, IsReferent, IsCallee, FieldResolves, MethodResolves, IsCalleeConstant, ConstantResolves}
+use Rattle.member_link.specs.Resolving.{Resolved, resolved_scope}
+use Rattle.member_link.specs.Uses.{UseScope, member_checks, field_use_checks, method_use_checks, asked_of_reference, fieldref_use_checks, methodref_use_checks}
+use Rattle.class_model.specs.PoolChecks.{IsFieldConstant}
 use Rattle.member_link.specs.declared.resolution.Callee.{Callee}
 use Rattle.member_link.specs.declared.resolution.Referent.{Referent}
 use Rattle.member_link.specs.declared.resolution.Resolution.{Resolution}
@@ -31,7 +32,7 @@ use Rattle.member_link.proofs.LinkSteps.{Remain, all_remain, passes, answered}
 abbrev problem_at : Site → LinkRule → Problem
 problem_at site rule = record { class = site.class; member = site.member; rule = rule }
 
-first_broken : (s : Scope) (reference : Reference) (OthersAreThere : Type 0) (Finds : Option Declared → Type 0) (HasForm : Declared → Type 0) (rule : LinkRule) → FirstBroken (IsNamedThere s.headers reference.class × OthersAreThere) (IsNamedAccessible s.headers s.site.class reference.class) ((member : Declared) × Finds (Some member)) rule → IsFirstProblem (member_checks s reference OthersAreThere Finds HasForm) (problem_at s.site rule)
+first_broken : (s : UseScope) (reference : Reference) (OthersAreThere : Type 0) (Finds : Option Declared → Type 0) (HasForm : Declared → Type 0) (rule : LinkRule) → FirstBroken (IsNamedThere s.headers reference.class × OthersAreThere) (IsNamedAccessible s.headers s.site.class reference.class) ((member : Declared) × Finds (Some member)) rule → IsFirstProblem (member_checks s reference OthersAreThere Finds HasForm) (problem_at s.site rule)
 first_broken s reference OthersAreThere Finds HasForm rules.Missing first = inl (first, refl)
 first_broken s reference OthersAreThere Finds HasForm rules.NoAccess first = inr (first.0, inl (first.1, refl))
 first_broken s reference OthersAreThere Finds HasForm rules.NoMember first = inr (first.0, inr (first.1, inl (first.2, refl)))
@@ -43,7 +44,7 @@ refused_at checks site rule (Err (Unlinked class member broken)) first (inl here
 refused_at checks site rule (Err (Unlinked class member broken)) first (inr later) = absurd later.1
 refused_at checks site rule (Err NoMemory) first told = tt
 
-told_broken : (s : Scope) (reference : Reference) (OthersAreThere : Type 0) (Finds : Option Declared → Type 0) (HasForm : Declared → Type 0) (rule : LinkRule) (result : Result (Unit {0}) LinkFault) → FirstBroken (IsNamedThere s.headers reference.class × OthersAreThere) (IsNamedAccessible s.headers s.site.class reference.class) ((member : Declared) × Finds (Some member)) rule → Answers (asked s.site rule (IsTrue false) ∷ []) result → Answers (member_checks s reference OthersAreThere Finds HasForm) result
+told_broken : (s : UseScope) (reference : Reference) (OthersAreThere : Type 0) (Finds : Option Declared → Type 0) (HasForm : Declared → Type 0) (rule : LinkRule) (result : Result (Unit {0}) LinkFault) → FirstBroken (IsNamedThere s.headers reference.class × OthersAreThere) (IsNamedAccessible s.headers s.site.class reference.class) ((member : Declared) × Finds (Some member)) rule → Answers (asked s.site rule (IsTrue false) ∷ []) result → Answers (member_checks s reference OthersAreThere Finds HasForm) result
 told_broken s reference OthersAreThere Finds HasForm rule result first told =
     refused_at (member_checks s reference OthersAreThere Finds HasForm) s.site rule result (first_broken s reference OthersAreThere Finds HasForm rule first) told
 
@@ -58,7 +59,7 @@ same_two one other p q (Err (Unlinked class member rule)) first second (inr (hol
 same_two one other p q (Err NoMemory) first second told = tt
 
 -- what is asked of the form
-abbrev form_checks : Scope → Reference → (Option Declared → Type 0) → (Declared → Type 0) → List Check
+abbrev form_checks : UseScope → Reference → (Option Declared → Type 0) → (Declared → Type 0) → List Check
 form_checks s reference Finds HasForm =
     asked s.site rules.WrongForm ((member : Declared) → Finds (Some member) → HasForm member)
     ∷ asked s.site rules.NoAccess ((member : Declared) → Finds (Some member) → IsAccessible s.headers s.site.class reference.class member)
@@ -68,7 +69,7 @@ form_checks s reference Finds HasForm =
 of_the_one : {headers : Headers} {from named : Name} {Finds : Option Declared → Type 0} {referent : Referent} (P : Declared → Type 0) (found : IsReferent headers from named Finds referent) (test : Bool) → (IsTrue test ↔ P found.member) → IsTrue test ↔ ((member : Declared) → Finds (Some member) → P member)
 of_the_one P found test same = (λ yes member finds. subst P (sym (found.only member finds)) (same.0 yes), λ all. same.1 (all found.member found.finds))
 
-told_found : (s : Scope) (reference : Reference) (OthersAreThere : Type 0) (Finds : Option Declared → Type 0) (HasForm : Declared → Type 0) (has_form : Bool) (referent : Referent) (result : Result (Unit {0}) LinkFault) → IsNamedThere s.headers reference.class × OthersAreThere → IsNamedAccessible s.headers s.site.class reference.class → IsReferent s.headers s.site.class reference.class Finds referent → ((member : Declared) → referent.flags ≡ member.member.flags → IsTrue has_form ↔ HasForm member) → Answers (asked s.site rules.WrongForm (IsTrue has_form) ∷ asked s.site rules.NoAccess (IsTrue referent.is_accessible) ∷ []) result → Answers (member_checks s reference OthersAreThere Finds HasForm) result
+told_found : (s : UseScope) (reference : Reference) (OthersAreThere : Type 0) (Finds : Option Declared → Type 0) (HasForm : Declared → Type 0) (has_form : Bool) (referent : Referent) (result : Result (Unit {0}) LinkFault) → IsNamedThere s.headers reference.class × OthersAreThere → IsNamedAccessible s.headers s.site.class reference.class → IsReferent s.headers s.site.class reference.class Finds referent → ((member : Declared) → referent.flags ≡ member.member.flags → IsTrue has_form ↔ HasForm member) → Answers (asked s.site rules.WrongForm (IsTrue has_form) ∷ asked s.site rules.NoAccess (IsTrue referent.is_accessible) ∷ []) result → Answers (member_checks s reference OthersAreThere Finds HasForm) result
 told_found s reference OthersAreThere Finds HasForm has_form referent result are_there is_open found forms told =
     let whole = member_checks s reference OthersAreThere Finds HasForm in
     let left : Remain whole (form_checks s reference Finds HasForm) = passes (passes (passes (all_remain whole) are_there) is_open) (found.member, found.finds) in
@@ -79,51 +80,51 @@ told_found s reference OthersAreThere Finds HasForm has_form referent result are
 -- ---- fields
 
 module _ (class : Resolved) (method : Member) (HasForm : Declared → Type 0) where
-  broken_field : (reference : Option Reference) (rule : LinkRule) (result : Result (Unit {0}) LinkFault) → IfHad (FieldResolves class.headers class.from) reference (resolutions.Broken rule) → Answers (asked (scope_of class method).site rule (IsTrue false) ∷ []) result → Answers (asked_of_reference (field_checks (scope_of class method) HasForm) reference) result
+  broken_field : (reference : Option Reference) (rule : LinkRule) (result : Result (Unit {0}) LinkFault) → IfHad (FieldResolves class.headers class.from) reference (resolutions.Broken rule) → Answers (asked (resolved_scope class method).site rule (IsTrue false) ∷ []) result → Answers (asked_of_reference (field_use_checks (resolved_scope class method) HasForm) reference) result
   broken_field None rule result resolves told = absurd resolves
-  broken_field (Some reference) rule result resolves told = told_broken (scope_of class method) reference (FieldTypeNames (IsThere class.headers) reference.desc) (FindsField class.headers reference.class reference.name reference.desc) HasForm rule result resolves told
+  broken_field (Some reference) rule result resolves told = told_broken (resolved_scope class method) reference (FieldTypeNames (IsThere class.headers) reference.desc) (FindsField class.headers reference.class reference.name reference.desc) HasForm rule result resolves told
 
-  found_field : (reference : Option Reference) (field : Referent) (has_form : Bool) (result : Result (Unit {0}) LinkFault) → IfHad (FieldResolves class.headers class.from) reference (resolutions.Field field) → ((member : Declared) → field.flags ≡ member.member.flags → IsTrue has_form ↔ HasForm member) → Answers (asked (scope_of class method).site rules.WrongForm (IsTrue has_form) ∷ asked (scope_of class method).site rules.NoAccess (IsTrue field.is_accessible) ∷ []) result → Answers (asked_of_reference (field_checks (scope_of class method) HasForm) reference) result
+  found_field : (reference : Option Reference) (field : Referent) (has_form : Bool) (result : Result (Unit {0}) LinkFault) → IfHad (FieldResolves class.headers class.from) reference (resolutions.Field field) → ((member : Declared) → field.flags ≡ member.member.flags → IsTrue has_form ↔ HasForm member) → Answers (asked (resolved_scope class method).site rules.WrongForm (IsTrue has_form) ∷ asked (resolved_scope class method).site rules.NoAccess (IsTrue field.is_accessible) ∷ []) result → Answers (asked_of_reference (field_use_checks (resolved_scope class method) HasForm) reference) result
   found_field None field has_form result resolves forms told = absurd resolves
-  found_field (Some reference) field has_form result resolves forms told = told_found (scope_of class method) reference (FieldTypeNames (IsThere class.headers) reference.desc) (FindsField class.headers reference.class reference.name reference.desc) HasForm has_form field result resolves.0 resolves.1 resolves.2 forms told
+  found_field (Some reference) field has_form result resolves forms told = told_found (resolved_scope class method) reference (FieldTypeNames (IsThere class.headers) reference.desc) (FindsField class.headers reference.class reference.name reference.desc) HasForm has_form field result resolves.0 resolves.1 resolves.2 forms told
 
-  pub told_broken_field : (constant : Option Const) (rule : LinkRule) (result : Result (Unit {0}) LinkFault) → IsFieldConstant constant → ConstantResolves class constant (resolutions.Broken rule) → Answers (asked (scope_of class method).site rule (IsTrue false) ∷ []) result → Answers (fieldref_checks (scope_of class method) HasForm constant) result
+  pub told_broken_field : (constant : Option Const) (rule : LinkRule) (result : Result (Unit {0}) LinkFault) → IsFieldConstant constant → ConstantResolves class constant (resolutions.Broken rule) → Answers (asked (resolved_scope class method).site rule (IsTrue false) ∷ []) result → Answers (fieldref_use_checks (resolved_scope class method) HasForm constant) result
   told_broken_field (Some (Fieldref named member)) rule result is resolves told = broken_field (reference_at class.pool named member) rule result resolves told
   told_broken_field constant rule result is resolves told = absurd is
 
-  pub told_field : (constant : Option Const) (field : Referent) (has_form : Bool) (result : Result (Unit {0}) LinkFault) → IsFieldConstant constant → ConstantResolves class constant (resolutions.Field field) → ((member : Declared) → field.flags ≡ member.member.flags → IsTrue has_form ↔ HasForm member) → Answers (asked (scope_of class method).site rules.WrongForm (IsTrue has_form) ∷ asked (scope_of class method).site rules.NoAccess (IsTrue field.is_accessible) ∷ []) result → Answers (fieldref_checks (scope_of class method) HasForm constant) result
+  pub told_field : (constant : Option Const) (field : Referent) (has_form : Bool) (result : Result (Unit {0}) LinkFault) → IsFieldConstant constant → ConstantResolves class constant (resolutions.Field field) → ((member : Declared) → field.flags ≡ member.member.flags → IsTrue has_form ↔ HasForm member) → Answers (asked (resolved_scope class method).site rules.WrongForm (IsTrue has_form) ∷ asked (resolved_scope class method).site rules.NoAccess (IsTrue field.is_accessible) ∷ []) result → Answers (fieldref_use_checks (resolved_scope class method) HasForm constant) result
   told_field (Some (Fieldref named member)) field has_form result is resolves forms told = found_field (reference_at class.pool named member) field has_form result resolves forms told
   told_field constant field has_form result is resolves forms told = absurd is
 
 -- ---- methods
 
 module _ (class : Resolved) (method : Member) (HasForm : Reference → Declared → Type 0) where
-  broken_method : (constant : Option Const) (reference : Option Reference) (rule : LinkRule) (result : Result (Unit {0}) LinkFault) → IfHad (MethodResolves class.headers class.from constant) reference (resolutions.Broken rule) → Answers (asked (scope_of class method).site rule (IsTrue false) ∷ []) result → Answers (asked_of_reference (method_checks (scope_of class method) HasForm) reference) result
+  broken_method : (constant : Option Const) (reference : Option Reference) (rule : LinkRule) (result : Result (Unit {0}) LinkFault) → IfHad (MethodResolves class.headers class.from constant) reference (resolutions.Broken rule) → Answers (asked (resolved_scope class method).site rule (IsTrue false) ∷ []) result → Answers (asked_of_reference (method_use_checks (resolved_scope class method) HasForm) reference) result
   broken_method constant None rule result resolves told = absurd resolves
-  broken_method constant (Some reference) rule result resolves told = told_broken (scope_of class method) reference (DescriptorNames (IsThere class.headers) reference.desc) (FindsMethod class.headers reference.class reference.name reference.desc) (HasForm reference) rule result resolves told
+  broken_method constant (Some reference) rule result resolves told = told_broken (resolved_scope class method) reference (DescriptorNames (IsThere class.headers) reference.desc) (FindsMethod class.headers reference.class reference.name reference.desc) (HasForm reference) rule result resolves told
 
-  found_method : (constant : Option Const) (reference : Option Reference) (found : Referent) (callee : Callee) (has_form : Bool) (result : Result (Unit {0}) LinkFault) → IfHad (MethodResolves class.headers class.from constant) reference (resolutions.Method found callee) → ((reference : Reference) (member : Declared) → IsCallee class.headers constant reference callee → found.flags ≡ member.member.flags → IsTrue has_form ↔ HasForm reference member) → Answers (asked (scope_of class method).site rules.WrongForm (IsTrue has_form) ∷ asked (scope_of class method).site rules.NoAccess (IsTrue found.is_accessible) ∷ []) result → Answers (asked_of_reference (method_checks (scope_of class method) HasForm) reference) result
+  found_method : (constant : Option Const) (reference : Option Reference) (found : Referent) (callee : Callee) (has_form : Bool) (result : Result (Unit {0}) LinkFault) → IfHad (MethodResolves class.headers class.from constant) reference (resolutions.Method found callee) → ((reference : Reference) (member : Declared) → IsCallee class.headers constant reference callee → found.flags ≡ member.member.flags → IsTrue has_form ↔ HasForm reference member) → Answers (asked (resolved_scope class method).site rules.WrongForm (IsTrue has_form) ∷ asked (resolved_scope class method).site rules.NoAccess (IsTrue found.is_accessible) ∷ []) result → Answers (asked_of_reference (method_use_checks (resolved_scope class method) HasForm) reference) result
   found_method constant None found callee has_form result resolves forms told = absurd resolves
-  found_method constant (Some reference) found callee has_form result resolves forms told = told_found (scope_of class method) reference (DescriptorNames (IsThere class.headers) reference.desc) (FindsMethod class.headers reference.class reference.name reference.desc) (HasForm reference) has_form found result resolves.0 resolves.1 resolves.2 (λ member. forms reference member resolves.3) told
+  found_method constant (Some reference) found callee has_form result resolves forms told = told_found (resolved_scope class method) reference (DescriptorNames (IsThere class.headers) reference.desc) (FindsMethod class.headers reference.class reference.name reference.desc) (HasForm reference) has_form found result resolves.0 resolves.1 resolves.2 (λ member. forms reference member resolves.3) told
 
-  pub told_broken_method : (constant : Option Const) (rule : LinkRule) (result : Result (Unit {0}) LinkFault) → IsMethodConstant constant → ConstantResolves class constant (resolutions.Broken rule) → Answers (asked (scope_of class method).site rule (IsTrue false) ∷ []) result → Answers (methodref_checks (scope_of class method) HasForm constant) result
+  pub told_broken_method : (constant : Option Const) (rule : LinkRule) (result : Result (Unit {0}) LinkFault) → IsCalleeConstant constant → ConstantResolves class constant (resolutions.Broken rule) → Answers (asked (resolved_scope class method).site rule (IsTrue false) ∷ []) result → Answers (methodref_use_checks (resolved_scope class method) HasForm constant) result
   told_broken_method (Some (Methodref named member)) rule result is resolves told = broken_method (Some (Methodref named member)) (reference_at class.pool named member) rule result resolves told
   told_broken_method (Some (InterfaceMethodref named member)) rule result is resolves told = broken_method (Some (InterfaceMethodref named member)) (reference_at class.pool named member) rule result resolves told
   told_broken_method constant rule result is resolves told = absurd is
 
-  pub told_method : (constant : Option Const) (found : Referent) (callee : Callee) (has_form : Bool) (result : Result (Unit {0}) LinkFault) → IsMethodConstant constant → ConstantResolves class constant (resolutions.Method found callee) → ((reference : Reference) (member : Declared) → IsCallee class.headers constant reference callee → found.flags ≡ member.member.flags → IsTrue has_form ↔ HasForm reference member) → Answers (asked (scope_of class method).site rules.WrongForm (IsTrue has_form) ∷ asked (scope_of class method).site rules.NoAccess (IsTrue found.is_accessible) ∷ []) result → Answers (methodref_checks (scope_of class method) HasForm constant) result
+  pub told_method : (constant : Option Const) (found : Referent) (callee : Callee) (has_form : Bool) (result : Result (Unit {0}) LinkFault) → IsCalleeConstant constant → ConstantResolves class constant (resolutions.Method found callee) → ((reference : Reference) (member : Declared) → IsCallee class.headers constant reference callee → found.flags ≡ member.member.flags → IsTrue has_form ↔ HasForm reference member) → Answers (asked (resolved_scope class method).site rules.WrongForm (IsTrue has_form) ∷ asked (resolved_scope class method).site rules.NoAccess (IsTrue found.is_accessible) ∷ []) result → Answers (methodref_use_checks (resolved_scope class method) HasForm constant) result
   told_method (Some (Methodref named member)) found callee has_form result is resolves forms told = found_method (Some (Methodref named member)) (reference_at class.pool named member) found callee has_form result resolves forms told
   told_method (Some (InterfaceMethodref named member)) found callee has_form result is resolves forms told = found_method (Some (InterfaceMethodref named member)) (reference_at class.pool named member) found callee has_form result resolves forms told
   told_method constant found callee has_form result is resolves forms told = absurd is
 
-  settled_method : (constant : Option Const) (reference : Option Reference) (resolution : Resolution) → IfHad (MethodResolves class.headers class.from constant) reference resolution → ((rule : LinkRule) → ¬ (resolution ≡ resolutions.Broken rule)) → ((found : Referent) (callee : Callee) → ¬ (resolution ≡ resolutions.Method found callee)) → AllHold (asked_of_reference (method_checks (scope_of class method) HasForm) reference)
+  settled_method : (constant : Option Const) (reference : Option Reference) (resolution : Resolution) → IfHad (MethodResolves class.headers class.from constant) reference resolution → ((rule : LinkRule) → ¬ (resolution ≡ resolutions.Broken rule)) → ((found : Referent) (callee : Callee) → ¬ (resolution ≡ resolutions.Method found callee)) → AllHold (asked_of_reference (method_use_checks (resolved_scope class method) HasForm) reference)
   settled_method constant None resolution resolves not_broken not_method = tt
   settled_method constant (Some reference) (resolutions.Broken rule) resolves not_broken not_method = absurd (not_broken rule refl)
   settled_method constant (Some reference) (resolutions.Method found callee) resolves not_broken not_method = absurd (not_method found callee refl)
   settled_method constant (Some reference) resolution resolves not_broken not_method = absurd resolves
 
   -- nothing is asked of a reference that could not be had
-  pub told_settled_method : (constant : Option Const) (resolution : Resolution) → ConstantResolves class constant resolution → ((rule : LinkRule) → ¬ (resolution ≡ resolutions.Broken rule)) → ((found : Referent) (callee : Callee) → ¬ (resolution ≡ resolutions.Method found callee)) → AllHold (methodref_checks (scope_of class method) HasForm constant)
+  pub told_settled_method : (constant : Option Const) (resolution : Resolution) → ConstantResolves class constant resolution → ((rule : LinkRule) → ¬ (resolution ≡ resolutions.Broken rule)) → ((found : Referent) (callee : Callee) → ¬ (resolution ≡ resolutions.Method found callee)) → AllHold (methodref_use_checks (resolved_scope class method) HasForm constant)
   told_settled_method (Some (Methodref named member)) resolution resolves not_broken not_method = settled_method (Some (Methodref named member)) (reference_at class.pool named member) resolution resolves not_broken not_method
   told_settled_method (Some (InterfaceMethodref named member)) resolution resolves not_broken not_method = settled_method (Some (InterfaceMethodref named member)) (reference_at class.pool named member) resolution resolves not_broken not_method
   told_settled_method constant resolution resolves not_broken not_method = tt

@@ -35,11 +35,11 @@ abbrev pub element_class : Name → Option Name
 element_class name = if brackets name == 0 then Some name else class_of_element (drop (brackets name) name)
 
 -- what is asked of the class that a name or a type names
-abbrev pub NamesClass : (Name → Type 0) → Name → Type 0
-NamesClass Asked name = IfSome (element_class name) Asked
+abbrev pub NamesElementClass : (Name → Type 0) → Name → Type 0
+NamesElementClass Asked name = IfSome (element_class name) Asked
 
 abbrev pub TypeNames : (Name → Type 0) → FieldType → Type 0
-TypeNames Asked (Named name) = NamesClass Asked name
+TypeNames Asked (Named name) = NamesElementClass Asked name
 TypeNames Asked Byte = Unit {0}
 TypeNames Asked Char = Unit {0}
 TypeNames Asked Short = Unit {0}
@@ -59,8 +59,8 @@ DescriptorNames Asked text = (descriptor : Descriptor) → SpellsDescriptor text
 
 -- the class that is named is there
 abbrev pub IsNamedThere : Headers → Name → Type 0
-IsNamedThere headers name = NamesClass (IsThere headers) name
+IsNamedThere headers name = NamesElementClass (IsThere headers) name
 
 -- the class that is named is accessible
 abbrev pub IsNamedAccessible : Headers → Name → Name → Type 0
-IsNamedAccessible headers from name = NamesClass (IsClassAccessible headers from) name
+IsNamedAccessible headers from name = NamesElementClass (IsClassAccessible headers from) name

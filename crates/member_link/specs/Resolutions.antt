@@ -91,15 +91,11 @@ ConstantResolves class (Some (MethodType desc)) = IfHad (λ text. TypesResolve (
 ConstantResolves class (Some (InvokeDynamic bootstrap member)) = IfHad (λ text. TypesResolve (DescriptorNames (IsThere class.headers) text) (Unit {0})) (descriptor_at class.pool member)
 ConstantResolves class constant = IsSettled
 
--- a constant that refers to a field, and one that refers to a method
-abbrev pub IsFieldConstant : Option Const → Type 0
-IsFieldConstant (Some (Fieldref named member)) = Unit {0}
-IsFieldConstant constant = ⊥
-
-abbrev pub IsMethodConstant : Option Const → Type 0
-IsMethodConstant (Some (Methodref named member)) = Unit {0}
-IsMethodConstant (Some (InterfaceMethodref named member)) = Unit {0}
-IsMethodConstant constant = ⊥
+-- a constant that refers to a method, of a class or of an interface
+abbrev pub IsCalleeConstant : Option Const → Type 0
+IsCalleeConstant (Some (Methodref named member)) = Unit {0}
+IsCalleeConstant (Some (InterfaceMethodref named member)) = Unit {0}
+IsCalleeConstant constant = ⊥
 
 -- what the constant at an index resolves to
 abbrev pub Resolves : Resolved → ℕ → Resolution → Type 0

@@ -40,7 +40,7 @@ use Rattle.member_link.specs.References.{Reference, reference_at, FieldTypeNames
 use Rattle.code_bytes.specs.Codes.{home_of}
 
 -- Where references stand: the classes, the pool of the class file, and the method.
-pub record Scope : Type 0 where
+pub record UseScope : Type 0 where
   pub headers : Headers
   pub pool : Constants
   pub site : Site
@@ -48,30 +48,30 @@ pub record Scope : Type 0 where
 -- ---- classes
 
 -- a class that is named is there and accessible
-abbrev pub named_class_checks : Scope → Name → List Check
+abbrev pub named_class_checks : UseScope → Name → List Check
 named_class_checks s name =
     asked s.site rules.Missing (IsNamedThere s.headers name)
     ∷ asked s.site rules.NoAccess (IsNamedAccessible s.headers s.site.class name)
     ∷ []
 
 -- what is asked of the name of a Class constant
-abbrev pub asked_of_class : Scope → (Name → List Check) → ℕ → List Check
+abbrev pub asked_of_class : UseScope → (Name → List Check) → ℕ → List Check
 asked_of_class s asks index = of_name asks (class_at s.pool index) where
   of_name : (Name → List Check) → Option Name → List Check
   of_name asks None = []
   of_name asks (Some name) = asks name
 
-abbrev pub class_checks : Scope → ℕ → List Check
-class_checks s index = asked_of_class s (named_class_checks s) index
+abbrev pub class_use_checks : UseScope → ℕ → List Check
+class_use_checks s index = asked_of_class s (named_class_checks s) index
 
-abbrev pub new_checks : Scope → ℕ → List Check
+abbrev pub new_checks : UseScope → ℕ → List Check
 new_checks s index = asked_of_class s (λ name. named_class_checks s name ++ asked s.site rules.WrongForm (IsInstantiable s.headers name) ∷ []) index
 
 -- ---- members
 
 -- What is asked of a reference to a member: its classes are there, the named class is accessible, it is found, it has a
 -- form, and it is accessible.
-abbrev pub member_checks : Scope → Reference → Type 0 → (Option Declared → Type 0) → (Declared → Type 0) → List Check
+abbrev pub member_checks : UseScope → Reference → Type 0 → (Option Declared → Type 0) → (Declared → Type 0) → List Check
 member_checks s reference OthersAreThere Finds HasForm =
     asked s.site rules.Missing (IsNamedThere s.headers reference.class × OthersAreThere)
     ∷ asked s.site rules.NoAccess (IsNamedAccessible s.headers s.site.class reference.class)
@@ -80,12 +80,12 @@ member_checks s reference OthersAreThere Finds HasForm =
     ∷ asked s.site rules.NoAccess ((member : Declared) → Finds (Some member) → IsAccessible s.headers s.site.class reference.class member)
     ∷ []
 
-abbrev pub field_checks : Scope → (Declared → Type 0) → Reference → List Check
-field_checks s HasForm reference =
+abbrev pub field_use_checks : UseScope → (Declared → Type 0) → Reference → List Check
+field_use_checks s HasForm reference =
     member_checks s reference (FieldTypeNames (IsThere s.headers) reference.desc) (FindsField s.headers reference.class reference.name reference.desc) HasForm
 
-abbrev pub method_checks : Scope → (Reference → Declared → Type 0) → Reference → List Check
-method_checks s HasForm reference =
+abbrev pub method_use_checks : UseScope → (Reference → Declared → Type 0) → Reference → List Check
+method_use_checks s HasForm reference =
     member_checks s reference (DescriptorNames (IsThere s.headers) reference.desc) (FindsMethod s.headers reference.class reference.name reference.desc) (HasForm reference)
 
 -- what is asked of a reference that could be had
@@ -94,15 +94,15 @@ asked_of_reference asks None = []
 asked_of_reference asks (Some reference) = asks reference
 
 -- of a field
-abbrev pub fieldref_checks : Scope → (Declared → Type 0) → Option Const → List Check
-fieldref_checks s HasForm (Some (Fieldref class member)) = asked_of_reference (field_checks s HasForm) (reference_at s.pool class member)
-fieldref_checks s HasForm constant = []
+abbrev pub fieldref_use_checks : UseScope → (Declared → Type 0) → Option Const → List Check
+fieldref_use_checks s HasForm (Some (Fieldref class member)) = asked_of_reference (field_use_checks s HasForm) (reference_at s.pool class member)
+fieldref_use_checks s HasForm constant = []
 
 -- of a method
-abbrev pub methodref_checks : Scope → (Reference → Declared → Type 0) → Option Const → List Check
-methodref_checks s HasForm (Some (Methodref class member)) = asked_of_reference (method_checks s HasForm) (reference_at s.pool class member)
-methodref_checks s HasForm (Some (InterfaceMethodref class member)) = asked_of_reference (method_checks s HasForm) (reference_at s.pool class member)
-methodref_checks s HasForm constant = []
+abbrev pub methodref_use_checks : UseScope → (Reference → Declared → Type 0) → Option Const → List Check
+methodref_use_checks s HasForm (Some (Methodref class member)) = asked_of_reference (method_use_checks s HasForm) (reference_at s.pool class member)
+methodref_use_checks s HasForm (Some (InterfaceMethodref class member)) = asked_of_reference (method_use_checks s HasForm) (reference_at s.pool class member)
+methodref_use_checks s HasForm constant = []
 
 -- ---- constants that are loaded
 
@@ -111,8 +111,8 @@ abbrev pub HasAnyForm : Declared → Type 0
 HasAnyForm member = Unit {0}
 
 -- what a method handle refers to is a field or a method
-abbrev pub handle_checks : Scope → Option Const → List Check
-handle_checks s constant = fieldref_checks s HasAnyForm constant ++ methodref_checks s (λ reference. HasAnyForm) constant
+abbrev pub handle_use_checks : UseScope → Option Const → List Check
+handle_use_checks s constant = fieldref_use_checks s HasAnyForm constant ++ methodref_use_checks s (λ reference. HasAnyForm) constant
 
 -- what is asked of a text that is there
 abbrev pub asked_of_text : (List ℕ → List Check) → Option (List ℕ) → List Check
@@ -120,88 +120,88 @@ asked_of_text asks None = []
 asked_of_text asks (Some text) = asks text
 
 -- the classes of a method type are there and accessible (5.4.3.5)
-abbrev pub method_type_checks : Scope → List ℕ → List Check
-method_type_checks s desc =
+abbrev pub method_type_use_checks : UseScope → List ℕ → List Check
+method_type_use_checks s desc =
     asked s.site rules.Missing (DescriptorNames (IsThere s.headers) desc)
     ∷ asked s.site rules.NoAccess (DescriptorNames (IsClassAccessible s.headers s.site.class) desc)
     ∷ []
 
-abbrev pub loaded_checks : Scope → ℕ → Option Const → List Check
-loaded_checks s index (Some (Class name)) = class_checks s index
-loaded_checks s index (Some (MethodHandle kind reference)) = handle_checks s (constant_at s.pool reference)
-loaded_checks s index (Some (MethodType desc)) = asked_of_text (method_type_checks s) (utf8_at s.pool desc)
+abbrev pub loaded_checks : UseScope → ℕ → Option Const → List Check
+loaded_checks s index (Some (Class name)) = class_use_checks s index
+loaded_checks s index (Some (MethodHandle kind reference)) = handle_use_checks s (constant_at s.pool reference)
+loaded_checks s index (Some (MethodType desc)) = asked_of_text (method_type_use_checks s) (utf8_at s.pool desc)
 loaded_checks s index constant = []
 
 -- the classes of a dynamic call's descriptor are there
-abbrev pub dynamic_checks : Scope → Option Const → List Check
-dynamic_checks s (Some (InvokeDynamic bootstrap member)) = asked_of_text (λ desc. asked s.site rules.Missing (DescriptorNames (IsThere s.headers) desc) ∷ []) (descriptor_at s.pool member)
-dynamic_checks s constant = []
+abbrev pub dynamic_use_checks : UseScope → Option Const → List Check
+dynamic_use_checks s (Some (InvokeDynamic bootstrap member)) = asked_of_text (λ desc. asked s.site rules.Missing (DescriptorNames (IsThere s.headers) desc) ∷ []) (descriptor_at s.pool member)
+dynamic_use_checks s constant = []
 
 -- ---- instructions
 
-abbrev pub instr_checks : Scope → Instr → List Check
-instr_checks s (Ldc index) = loaded_checks s index (constant_at s.pool index)
-instr_checks s (GetStatic index) = fieldref_checks s IsStaticForm (constant_at s.pool index)
-instr_checks s (PutStatic index) = fieldref_checks s IsStaticForm (constant_at s.pool index)
-instr_checks s (GetField index) = fieldref_checks s IsInstanceForm (constant_at s.pool index)
-instr_checks s (PutField index) = fieldref_checks s IsInstanceForm (constant_at s.pool index)
-instr_checks s (Invoke opcode index count) = methodref_checks s (FitsCall s.headers opcode (constant_at s.pool index)) (constant_at s.pool index)
-instr_checks s (Dynamic index) = dynamic_checks s (constant_at s.pool index)
-instr_checks s (New index) = new_checks s index
-instr_checks s (NewRefArray index) = class_checks s index
-instr_checks s (NewMulti index dimensions) = class_checks s index
-instr_checks s (Cast index) = class_checks s index
-instr_checks s (InstanceOf index) = class_checks s index
-instr_checks s other = []
+abbrev pub instr_use_checks : UseScope → Instr → List Check
+instr_use_checks s (Ldc index) = loaded_checks s index (constant_at s.pool index)
+instr_use_checks s (GetStatic index) = fieldref_use_checks s IsStaticForm (constant_at s.pool index)
+instr_use_checks s (PutStatic index) = fieldref_use_checks s IsStaticForm (constant_at s.pool index)
+instr_use_checks s (GetField index) = fieldref_use_checks s IsInstanceForm (constant_at s.pool index)
+instr_use_checks s (PutField index) = fieldref_use_checks s IsInstanceForm (constant_at s.pool index)
+instr_use_checks s (Invoke opcode index count) = methodref_use_checks s (FitsCall s.headers opcode (constant_at s.pool index)) (constant_at s.pool index)
+instr_use_checks s (Dynamic index) = dynamic_use_checks s (constant_at s.pool index)
+instr_use_checks s (New index) = new_checks s index
+instr_use_checks s (NewRefArray index) = class_use_checks s index
+instr_use_checks s (NewMulti index dimensions) = class_use_checks s index
+instr_use_checks s (Cast index) = class_use_checks s index
+instr_use_checks s (InstanceOf index) = class_use_checks s index
+instr_use_checks s other = []
 
-abbrev pub instrs_checks : Scope → Result (List Placed) Fault → List Check
-instrs_checks s (Ok instrs) = asked_each (λ placed. instr_checks s placed.instr) instrs
+abbrev pub instrs_checks : UseScope → Result (List Placed) Fault → List Check
+instrs_checks s (Ok instrs) = asked_each (λ placed. instr_use_checks s placed.instr) instrs
 instrs_checks s (Err fault) = []
 
 -- ---- caught classes
 
-abbrev pub handler_checks : Scope → Handler → List Check
-handler_checks s handler = asked_if (not (handler.catch_type == 0)) (class_checks s handler.catch_type)
+abbrev pub handler_use_checks : UseScope → Handler → List Check
+handler_use_checks s handler = asked_if (not (handler.catch_type == 0)) (class_use_checks s handler.catch_type)
 
 -- ---- stated frames
 
-abbrev pub type_name_checks : Scope → Name → List Check
+abbrev pub type_name_checks : UseScope → Name → List Check
 type_name_checks s name = asked s.site rules.Missing (IsNamedThere s.headers name) ∷ []
 
-abbrev pub type_checks : Scope → VType → List Check
+abbrev pub type_checks : UseScope → VType → List Check
 type_checks s (Object name) = type_name_checks s name
 type_checks s other = []
 
-abbrev pub frame_checks : Scope → PlacedFrame → List Check
+abbrev pub frame_checks : UseScope → PlacedFrame → List Check
 frame_checks s placed = asked_each (type_checks s) placed.frame.locals ++ asked_each (type_checks s) placed.frame.stack
 
-abbrev pub frames_checks : Scope → Result (List PlacedFrame) Fault → List Check
+abbrev pub frames_checks : UseScope → Result (List PlacedFrame) Fault → List Check
 frames_checks s (Ok frames) = asked_each (frame_checks s) frames
 frames_checks s (Err fault) = []
 
-abbrev pub inner_checks : Scope → Home → Method → CodePart → InnerAttr → List Check
+abbrev pub inner_checks : UseScope → Home → Method → CodePart → InnerAttr → List Check
 inner_checks s home method part attr =
     asked_if (inner_is_named s.pool stack_map_table attr) (frames_checks s (stated_frames home method part (decoded part.code) attr))
 
 -- ---- methods
 
-abbrev pub code_checks : Scope → Home → Method → CodePart → List Check
-code_checks s home method part =
+abbrev pub code_use_checks : UseScope → Home → Method → CodePart → List Check
+code_use_checks s home method part =
     instrs_checks s (decoded part.code)
-    ++ asked_each (handler_checks s) part.handlers
+    ++ asked_each (handler_use_checks s) part.handlers
     ++ asked_each (inner_checks s home method part) part.attrs
 
-abbrev pub attr_checks : Scope → Home → Method → Attr → List Check
-attr_checks s home method (Code name part) = code_checks s home method part
+abbrev pub attr_checks : UseScope → Home → Method → Attr → List Check
+attr_checks s home method (Code name part) = code_use_checks s home method part
 attr_checks s home method (Raw name bytes) = []
 
 -- the methods of a class file, each with its flags, name and descriptor
-abbrev pub methods_checks : Headers → ClassFile → Header → List Method → List Member → List Check
-methods_checks headers class header (method ∷ methods) (member ∷ members) =
+abbrev pub methods_use_checks : Headers → ClassFile → Header → List Method → List Member → List Check
+methods_use_checks headers class header (method ∷ methods) (member ∷ members) =
     asked_each (attr_checks (record { headers = headers; pool = class.pool; site = site_of header member }) (home_of class) method) method.attrs
-    ++ methods_checks headers class header methods members
-methods_checks headers class header methods members = []
+    ++ methods_use_checks headers class header methods members
+methods_use_checks headers class header methods members = []
 
 -- what the references of a class are asked
 abbrev pub use_checks : Headers → ClassFile → List Check
-use_checks headers class = methods_checks headers class (header_of class) class.methods (header_of class).methods
+use_checks headers class = methods_use_checks headers class (header_of class) class.methods (header_of class).methods

@@ -5,9 +5,9 @@ ghost use Rattle.class_model.specs.Checks.{AllHold};
 ghost use Rattle.class_model.specs.Instructions.{decoded};
 ghost use Rattle.class_tree.specs.Answers.{Answers};
 ghost use Rattle.class_tree.specs.Problems.{asked_each};
-ghost use Rattle.code_bytes.specs.Decoding.{code_checks as decoding_checks};
-ghost use Rattle.member_link.specs.Resolving.{scope_of};
-ghost use Rattle.member_link.specs.Uses.{code_checks, handler_checks, instr_checks};
+ghost use Rattle.code_bytes.specs.Decoding.{decoding_checks};
+ghost use Rattle.member_link.specs.Resolving.{resolved_scope};
+ghost use Rattle.member_link.specs.Uses.{code_use_checks, handler_use_checks, instr_use_checks};
 ghost use Rattle.code_bytes.specs.Codes.{IsReadMethod, home_of};
 
 use crate::frames::{MethodCode, check_inners};
@@ -34,7 +34,7 @@ pub(crate) fn check_code(
     requires method { IsReadMethod class.now.pool method.now }
     requires code { AllHold (decoding_checks part.now.code) }
     ensures same { resolver.new ≡ resolver.old }
-    ensures told { Answers (code_checks (scope_of resolver.old member.now) (home_of class.now) method.now part.now) result }
+    ensures told { Answers (code_use_checks (resolved_scope resolver.old member.now) (home_of class.now) method.now part.now) result }
 {
     let instrs = instructions_of(alloc, part.code.as_slice())?;
     check_instrs(alloc, resolver, member, instrs.as_slice())?;
@@ -57,7 +57,7 @@ fn check_instrs(
     instrs: &[Placed],
 ) -> Result<(), LinkFault>
     ensures same { resolver.new ≡ resolver.old }
-    ensures told { Answers (asked_each (λ placed. instr_checks (scope_of resolver.old member.now) placed.instr) instrs.now) result }
+    ensures told { Answers (asked_each (λ placed. instr_use_checks (resolved_scope resolver.old member.now) placed.instr) instrs.now) result }
 {
     for placed in instrs {
         check_instr(alloc, resolver, member, &placed.instr)?;
@@ -73,7 +73,7 @@ fn check_handlers(
     handlers: &[Handler],
 ) -> Result<(), LinkFault>
     ensures same { resolver.new ≡ resolver.old }
-    ensures told { Answers (asked_each (handler_checks (scope_of resolver.old member.now)) handlers.now) result }
+    ensures told { Answers (asked_each (handler_use_checks (resolved_scope resolver.old member.now)) handlers.now) result }
 {
     for handler in handlers {
         check_handler(alloc, resolver, member, *handler)?;
@@ -89,7 +89,7 @@ fn check_handler(
     handler: Handler,
 ) -> Result<(), LinkFault>
     ensures same { resolver.new ≡ resolver.old }
-    ensures told { Answers (handler_checks (scope_of resolver.old member.now) handler) result }
+    ensures told { Answers (handler_use_checks (resolved_scope resolver.old member.now) handler) result }
 {
     if handler.catch_type == 0 {
         return Ok(());

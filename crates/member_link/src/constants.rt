@@ -1,9 +1,9 @@
 //! What constants say of members (JVM Specification SE 8, 4.4.2 and 4.4.6), by their indices.
 ghost use Rattle.std.specs.Prelude.{◌≡◌, ◌↔◌, IsTrue};
 ghost use Rattle.std.specs.Option.{option_copied};
-ghost use Rattle.class_model.specs.PoolChecks.{descriptor_at};
+ghost use Rattle.class_model.specs.PoolChecks.{descriptor_at, IsFieldConstant};
 ghost use Rattle.member_link.specs.References.{reference_at};
-ghost use Rattle.member_link.specs.Resolutions.{IsFieldConstant, IsMethodConstant};
+ghost use Rattle.member_link.specs.Resolutions.{IsCalleeConstant};
 
 use class_model::{Const, Pool, Text};
 use std::marker::Model;
@@ -52,7 +52,7 @@ pub(crate) fn is_field(constant: Option<&Const>) -> bool
 
 /// Whether a constant refers to a method.
 pub(crate) fn is_method(constant: Option<&Const>) -> bool
-    ensures { IsTrue result ↔ IsMethodConstant (option_copied constant.entry) }
+    ensures { IsTrue result ↔ IsCalleeConstant (option_copied constant.entry) }
 {
     matches!(
         constant,

@@ -3,7 +3,7 @@ ghost use Rattle.std.specs.Prelude.{◌≡◌, Ok};
 ghost use Rattle.class_model.specs.Instructions.{decoded};
 ghost use Rattle.class_tree.specs.Answers.{Answers};
 ghost use Rattle.class_tree.specs.Problems.{asked_each};
-ghost use Rattle.member_link.specs.Resolving.{scope_of};
+ghost use Rattle.member_link.specs.Resolving.{resolved_scope};
 ghost use Rattle.member_link.specs.Uses.{frame_checks, inner_checks, type_checks};
 ghost use Rattle.code_bytes.specs.Codes.{IsReadMethod, home_of};
 
@@ -39,7 +39,7 @@ pub(crate) fn check_inners(
     requires pool { resolver.now.pool ≡ code.now.class.now.pool }
     requires method { IsReadMethod code.now.class.now.pool code.now.method.now }
     requires instrs { decoded code.now.part.now.code ≡ Ok code.now.instrs.now }
-    ensures { Answers (asked_each (inner_checks (scope_of resolver.now code.now.member.now) (home_of code.now.class.now) code.now.method.now code.now.part.now) code.now.part.now.attrs) result }
+    ensures { Answers (asked_each (inner_checks (resolved_scope resolver.now code.now.member.now) (home_of code.now.class.now) code.now.method.now code.now.part.now) code.now.part.now.attrs) result }
 {
     for attr in code.part.attrs.as_slice() {
         check_inner(alloc, resolver, code, attr)?;
@@ -57,7 +57,7 @@ fn check_inner(
     requires pool { resolver.now.pool ≡ code.now.class.now.pool }
     requires method { IsReadMethod code.now.class.now.pool code.now.method.now }
     requires instrs { decoded code.now.part.now.code ≡ Ok code.now.instrs.now }
-    ensures { Answers (inner_checks (scope_of resolver.now code.now.member.now) (home_of code.now.class.now) code.now.method.now code.now.part.now attr.now) result }
+    ensures { Answers (inner_checks (resolved_scope resolver.now code.now.member.now) (home_of code.now.class.now) code.now.method.now code.now.part.now attr.now) result }
 {
     let pool = &code.class.pool;
     if !is_text(pool, STACK_MAP_TABLE, attr.name) {
@@ -88,7 +88,7 @@ fn check_frames(
     member: &Member,
     frames: &[PlacedFrame],
 ) -> Result<(), LinkFault>
-    ensures { Answers (asked_each (frame_checks (scope_of resolver.now member.now)) frames.now) result }
+    ensures { Answers (asked_each (frame_checks (resolved_scope resolver.now member.now)) frames.now) result }
 {
     for placed in frames {
         check_frame(alloc, resolver, member, placed)?;
@@ -103,7 +103,7 @@ fn check_frame(
     member: &Member,
     placed: &PlacedFrame,
 ) -> Result<(), LinkFault>
-    ensures { Answers (frame_checks (scope_of resolver.now member.now) placed.now) result }
+    ensures { Answers (frame_checks (resolved_scope resolver.now member.now) placed.now) result }
 {
     check_locals(alloc, resolver, member, &placed.frame.locals)?;
     check_types(alloc, resolver, member, placed.frame.stack.as_slice())
@@ -116,7 +116,7 @@ fn check_locals(
     member: &Member,
     locals: &LocalTypeList,
 ) -> Result<(), LinkFault>
-    ensures { Answers (asked_each (type_checks (scope_of resolver.now member.now)) locals.now) result }
+    ensures { Answers (asked_each (type_checks (resolved_scope resolver.now member.now)) locals.now) result }
 {
     for at in 0..locals.listed() {
         let Some(one) = locals.get(at) else {
@@ -134,7 +134,7 @@ fn check_types(
     member: &Member,
     types: &[VType],
 ) -> Result<(), LinkFault>
-    ensures { Answers (asked_each (type_checks (scope_of resolver.now member.now)) types.now) result }
+    ensures { Answers (asked_each (type_checks (resolved_scope resolver.now member.now)) types.now) result }
 {
     for one in types {
         check_type(alloc, resolver, member, one)?;
@@ -149,7 +149,7 @@ fn check_type(
     member: &Member,
     one: &VType,
 ) -> Result<(), LinkFault>
-    ensures { Answers (type_checks (scope_of resolver.now member.now) one.now) result }
+    ensures { Answers (type_checks (resolved_scope resolver.now member.now) one.now) result }
 {
     match one {
         VType::Object(name) => check_name(alloc, resolver, member, name),

@@ -2,8 +2,8 @@
 ghost use Rattle.std.specs.Prelude.{◌≡◌};
 ghost use Rattle.class_model.specs.Pool.{constant_at};
 ghost use Rattle.class_tree.specs.Answers.{Answers};
-ghost use Rattle.member_link.specs.Resolving.{scope_of};
-ghost use Rattle.member_link.specs.Uses.{instr_checks, new_checks, loaded_checks, dynamic_checks};
+ghost use Rattle.member_link.specs.Resolving.{resolved_scope};
+ghost use Rattle.member_link.specs.Uses.{instr_use_checks, new_checks, loaded_checks, dynamic_use_checks};
 
 use crate::forms::{FieldForm, MethodForm};
 use crate::references::{check_field, check_handle, check_method};
@@ -21,7 +21,7 @@ pub(crate) fn check_instr(
     instr: &Instr,
 ) -> Result<(), LinkFault>
     ensures same { resolver.new ≡ resolver.old }
-    ensures told { Answers (instr_checks (scope_of resolver.old member.now) instr.now) result }
+    ensures told { Answers (instr_use_checks (resolved_scope resolver.old member.now) instr.now) result }
 {
     match instr {
         Instr::Ldc(index) => check_loaded(alloc, resolver, member, *index),
@@ -52,7 +52,7 @@ fn check_loaded(
     index: u16,
 ) -> Result<(), LinkFault>
     ensures same { resolver.new ≡ resolver.old }
-    ensures told { Answers (loaded_checks (scope_of resolver.old member.now) index (constant_at resolver.old.pool index)) result }
+    ensures told { Answers (loaded_checks (resolved_scope resolver.old member.now) index (constant_at resolver.old.pool index)) result }
 {
     match resolver.constant(index) {
         Some(Const::Class(_)) => check_class(alloc, resolver, member, index),
@@ -76,7 +76,7 @@ fn check_dynamic(
     index: u16,
 ) -> Result<(), LinkFault>
     ensures same { resolver.new ≡ resolver.old }
-    ensures told { Answers (dynamic_checks (scope_of resolver.old member.now) (constant_at resolver.old.pool index)) result }
+    ensures told { Answers (dynamic_use_checks (resolved_scope resolver.old member.now) (constant_at resolver.old.pool index)) result }
 {
     let Some(Const::InvokeDynamic(..)) = resolver.constant(index) else {
         return Ok(());
@@ -95,7 +95,7 @@ fn check_new(
     index: u16,
 ) -> Result<(), LinkFault>
     ensures same { resolver.new ≡ resolver.old }
-    ensures told { Answers (new_checks (scope_of resolver.old member.now) index) result }
+    ensures told { Answers (new_checks (resolved_scope resolver.old member.now) index) result }
 {
     let Some(Const::Class(_)) = resolver.constant(index) else {
         return Ok(());

@@ -5,8 +5,8 @@ ghost use Rattle.class_tree.specs.Answers.{Answers};
 ghost use Rattle.class_tree.specs.declared.fault.LinkRule.TheVariants as rules;
 ghost use Rattle.member_link.specs.Declarations.{asked};
 ghost use Rattle.member_link.specs.NeededForms.{IsFieldForm, IsMethodForm};
-ghost use Rattle.member_link.specs.Resolving.{scope_of};
-ghost use Rattle.member_link.specs.Uses.{fieldref_checks, methodref_checks, handle_checks};
+ghost use Rattle.member_link.specs.Resolving.{resolved_scope};
+ghost use Rattle.member_link.specs.Uses.{fieldref_use_checks, methodref_use_checks, handle_use_checks};
 
 use crate::constants::{is_field, is_method};
 use crate::forms::{FieldForm, MethodForm, fits_field, fits_method};
@@ -25,7 +25,7 @@ pub(crate) fn check_field(
     form: FieldForm,
 ) -> Result<(), LinkFault>
     ensures same { resolver.new ≡ resolver.old }
-    ensures told { Answers (fieldref_checks (scope_of resolver.old member.now) (IsFieldForm form) (constant_at resolver.old.pool index)) result }
+    ensures told { Answers (fieldref_use_checks (resolved_scope resolver.old member.now) (IsFieldForm form) (constant_at resolver.old.pool index)) result }
 {
     if !is_field(resolver.constant(index)) {
         return Ok(());
@@ -49,7 +49,7 @@ pub(crate) fn check_method(
     form: MethodForm,
 ) -> Result<(), LinkFault>
     ensures same { resolver.new ≡ resolver.old }
-    ensures told { Answers (methodref_checks (scope_of resolver.old member.now) (IsMethodForm resolver.old.headers form (constant_at resolver.old.pool index)) (constant_at resolver.old.pool index)) result }
+    ensures told { Answers (methodref_use_checks (resolved_scope resolver.old member.now) (IsMethodForm resolver.old.headers form (constant_at resolver.old.pool index)) (constant_at resolver.old.pool index)) result }
 {
     if !is_method(resolver.constant(index)) {
         return Ok(());
@@ -72,7 +72,7 @@ pub(crate) fn check_handle(
     index: u16,
 ) -> Result<(), LinkFault>
     ensures same { resolver.new ≡ resolver.old }
-    ensures told { Answers (handle_checks (scope_of resolver.old member.now) (constant_at resolver.old.pool index)) result }
+    ensures told { Answers (handle_use_checks (resolved_scope resolver.old member.now) (constant_at resolver.old.pool index)) result }
 {
     check_field(alloc, resolver, member, index, FieldForm::Any)?;
     check_method(alloc, resolver, member, index, MethodForm::Any)
@@ -86,7 +86,7 @@ fn ask_found(
     has_form: bool,
     is_accessible: bool,
 ) -> Result<(), LinkFault>
-    ensures { Answers (asked (scope_of resolver.now member.now).site rules.WrongForm (IsTrue has_form) ∷ asked (scope_of resolver.now member.now).site rules.NoAccess (IsTrue is_accessible) ∷ []) result }
+    ensures { Answers (asked (resolved_scope resolver.now member.now).site rules.WrongForm (IsTrue has_form) ∷ asked (resolved_scope resolver.now member.now).site rules.NoAccess (IsTrue is_accessible) ∷ []) result }
 {
     resolver.ask(alloc, has_form, member, LinkRule::WrongForm)?;
     resolver.ask(alloc, is_accessible, member, LinkRule::NoAccess)

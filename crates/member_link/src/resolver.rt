@@ -6,8 +6,8 @@ ghost use Rattle.class_tree.specs.Answers.{Answers};
 ghost use Rattle.class_tree.specs.Headers.{headers_of};
 ghost use Rattle.member_link.specs.Declarations.{asked};
 ghost use Rattle.member_link.specs.Resolutions.{Resolves};
-ghost use Rattle.member_link.specs.Resolving.{scope_of};
-ghost use Rattle.member_link.specs.Uses.{class_checks, type_name_checks};
+ghost use Rattle.member_link.specs.Resolving.{resolved_scope};
+ghost use Rattle.member_link.specs.Uses.{class_use_checks, type_name_checks};
 
 use crate::ask::ask_at;
 use crate::names::is_named_there;
@@ -67,7 +67,7 @@ impl<'a> Resolver<'a> {
         method: &Member,
         rule: LinkRule,
     ) -> Result<(), LinkFault>
-        ensures { Answers (asked (scope_of self.now method.now).site rule (IsTrue holds) ∷ []) result }
+        ensures { Answers (asked (resolved_scope self.now method.now).site rule (IsTrue holds) ∷ []) result }
     {
         ask_at(alloc, holds, self.name, method, rule)
     }
@@ -119,7 +119,7 @@ pub(crate) fn check_class(
     index: u16,
 ) -> Result<(), LinkFault>
     ensures same { resolver.new ≡ resolver.old }
-    ensures told { Answers (class_checks (scope_of resolver.old member.now) index) result }
+    ensures told { Answers (class_use_checks (resolved_scope resolver.old member.now) index) result }
 {
     let Some(Const::Class(_)) = resolver.constant(index) else {
         return Ok(());
@@ -137,7 +137,7 @@ pub(crate) fn check_name(
     member: &Member,
     name: &Text,
 ) -> Result<(), LinkFault>
-    ensures { Answers (type_name_checks (scope_of resolver.now member.now) name.now) result }
+    ensures { Answers (type_name_checks (resolved_scope resolver.now member.now) name.now) result }
 {
     let is_there = is_named_there(resolver.tree, name.bytes());
     resolver.ask(alloc, is_there, member, LinkRule::Missing)

@@ -4,7 +4,7 @@ ghost use Rattle.class_model.specs.Header.{header_of};
 ghost use Rattle.class_tree.specs.Answers.{Answers};
 ghost use Rattle.class_tree.specs.Headers.{headers_of};
 ghost use Rattle.class_tree.specs.Problems.{asked_each};
-ghost use Rattle.member_link.specs.Resolving.{scope_of};
+ghost use Rattle.member_link.specs.Resolving.{resolved_scope};
 ghost use Rattle.member_link.specs.Uses.{attr_checks, use_checks};
 ghost use Rattle.code_bytes.specs.Codes.{HasInstrs, IsReadMethod, HasReadMethods, home_of};
 
@@ -60,7 +60,7 @@ fn check_method(
     requires pool { resolver.old.pool ≡ class.now.pool }
     requires method { IsReadMethod class.now.pool method.now }
     ensures same { resolver.new ≡ resolver.old }
-    ensures told { Answers (asked_each (attr_checks (scope_of resolver.old member.now) (home_of class.now) method.now) method.now.attrs) result }
+    ensures told { Answers (asked_each (attr_checks (resolved_scope resolver.old member.now) (home_of class.now) method.now) method.now.attrs) result }
 {
     for attr in method.attrs.as_slice() {
         check_attr(alloc, resolver, class, method, member, attr)?;
@@ -81,7 +81,7 @@ fn check_attr(
     requires method { IsReadMethod class.now.pool method.now }
     requires instrs { HasInstrs attr.now }
     ensures same { resolver.new ≡ resolver.old }
-    ensures told { Answers (attr_checks (scope_of resolver.old member.now) (home_of class.now) method.now attr.now) result }
+    ensures told { Answers (attr_checks (resolved_scope resolver.old member.now) (home_of class.now) method.now attr.now) result }
 {
     match attr {
         Attr::Code { part, .. } => check_code(alloc, resolver, class, method, member, part),

@@ -3,7 +3,7 @@
 
 ghost use Rattle.std.specs.Prelude.{◌≡◌};
 ghost use Rattle.std.specs.Process.{exit_status};
-ghost use Rattle.pea_top.specs.Status.{code_of};
+ghost use Rattle.pea_top.specs.Status.{status_code};
 
 use class_model::NoMemory;
 use host_tree::RealHost;
@@ -32,7 +32,7 @@ fn words_of(rt: &HostRuntime) -> Result<Vec<String>, NoMemory> {
 
 /// The exit code of a status.
 fn exit_code(status: &Status) -> ExitCode
-    ensures { exit_status result ≡ code_of status.now }
+    ensures { exit_status result ≡ status_code status.now }
 {
     ExitCode::from(status.code())
 }

@@ -12,9 +12,9 @@ use Rattle.std.proofs.lemmas.Slice.Eq.{bytes_eq-Decides}
 use Rattle.host_tree.specs.Host.{Bytes, Folder, Files, times}
 use Rattle.pea_top.specs.declared.folder.NamedFile.{NamedFile}
 use Rattle.pea_top.specs.Effects.{IsCopied, IsPartlyCopied}
-use Rattle.pea_top.specs.Folders.{AreFiles, IsBefore}
+use Rattle.pea_top.specs.Folders.{AreFiles, IsBytesBefore}
 use Rattle.pea_top.specs.Writing.{content_after, Puts, PutsSome}
-use Rattle.pea_top.proofs.NamesInOrder.{times-cons, IsBefore-other, later_not_before, earlier_not_after}
+use Rattle.pea_top.proofs.NamesInOrder.{times-cons, IsBytesBefore-other, later_not_before, earlier_not_after}
 
 abbrev names_of : List NamedFile → List Bytes
 names_of files = map (λ file. file.name) files
@@ -103,9 +103,9 @@ module _ (input output : Bytes) (done : List NamedFile) (failing : NamedFile) (l
   there_failing : old input failing.name ≡ Some failing.bytes
   there_failing = (contents_after (old input) done (failing ∷ left) are.contents).0
 
-  put_before : (name bytes : Bytes) → IsBefore name failing.name → old input name ≡ Some bytes → new output name ≡ Some bytes
+  put_before : (name bytes : Bytes) → IsBytesBefore name failing.name → old input name ≡ Some bytes → new output name ≡ Some bytes
   put_before name bytes before there =
-      let other = IsBefore-other name failing.name before in
+      let other = IsBytesBefore-other name failing.name before in
       let apart : cond {A = ℕ} (bytes_eq name failing.name) 1 0 ≡ 0 = cond-false (bytes_eq name failing.name) 1 0 (false_from_ne_true (bytes_eq name failing.name) (λ e. other ((bytes_eq-Decides name failing.name).0 e))) in
       let none_later = none_from (times name (names_of left)) (λ some. later_not_before (names_of done) failing.name (names_of left) in_order name some before) in
       let once = times-some (old input) (done ++ failing ∷ left) name bytes are there in
@@ -120,7 +120,7 @@ module _ (input output : Bytes) (done : List NamedFile) (failing : NamedFile) (l
     failing = failing.name;
     is_input = ap is_some there_failing;
     before = put_before;
-    after = λ name behind. kept_absent name (none_from _ (λ some. earlier_not_after (names_of done) failing.name (names_of left) in_order name some behind)) (λ same. IsBefore-other failing.name name behind (sym same));
+    after = λ name behind. kept_absent name (none_from _ (λ some. earlier_not_after (names_of done) failing.name (names_of left) in_order name some behind)) (λ same. IsBytesBefore-other failing.name name behind (sym same));
     kept = λ name none other.
         let nowhere = times-none (old input) (done ++ failing ∷ left) name are none in
         kept_absent name (omega (arith, times_parts name)) other;

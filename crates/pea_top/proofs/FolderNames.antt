@@ -10,11 +10,11 @@ use Rattle.std.proofs.lemmas.Bool.{false_from_ne_true}
 use Rattle.std.proofs.lemmas.Cmp.{nat_list_cmp_total}
 use Rattle.std.proofs.lemmas.Slice.Eq.{bytes_eq-Decides}
 use Rattle.host_tree.specs.Host.{Bytes, Folder, times}
-use Rattle.pea_top.specs.Folders.{IsBefore, AreNames}
-use Rattle.pea_top.proofs.NamesInOrder.{times-cons, times-first, IsBefore-other, later_not_before}
+use Rattle.pea_top.specs.Folders.{IsBytesBefore, AreNames}
+use Rattle.pea_top.proofs.NamesInOrder.{times-cons, times-first, IsBytesBefore-other, later_not_before}
 
 -- names of which neither stands before the other are one name
-pub one_name : (name other : Bytes) → ¬ IsBefore name other → ¬ IsBefore other name → name ≡ other
+pub one_name : (name other : Bytes) → ¬ IsBytesBefore name other → ¬ IsBytesBefore other name → name ≡ other
 one_name name other not_before not_after = by (slice_cmp nat_cmp name other) refl
   where
     by : (order : Ordering) → slice_cmp nat_cmp name other ≡ order → name ≡ other
@@ -23,9 +23,9 @@ one_name name other not_before not_after = by (slice_cmp nat_cmp name other) ref
     by Greater e = absurd (not_after (nat_list_cmp_total.antisymm other name ∙ ap ordering_reverse e))
 
 -- no name of a list in byte order stands before the first
-not_before_first : (first : Bytes) (names : List Bytes) (name : Bytes) → IsSorted (slice_cmp nat_cmp) (first ∷ names) → 0 < times name (first ∷ names) → ¬ IsBefore name first
+not_before_first : (first : Bytes) (names : List Bytes) (name : Bytes) → IsSorted (slice_cmp nat_cmp) (first ∷ names) → 0 < times name (first ∷ names) → ¬ IsBytesBefore name first
 not_before_first first names name in_order some before =
-    let apart = false_from_ne_true (bytes_eq name first) (λ e. IsBefore-other name first before ((bytes_eq-Decides name first).0 e)) in
+    let apart = false_from_ne_true (bytes_eq name first) (λ e. IsBytesBefore-other name first before ((bytes_eq-Decides name first).0 e)) in
     later_not_before [] first names in_order name (omega (arith, some, times-cons name first names, ap {B = ℕ} (λ b. cond b 1 0) apart)) before
 
 in_order_behind : (first : Bytes) (names : List Bytes) → IsSorted (slice_cmp nat_cmp) (first ∷ names) → IsSorted (slice_cmp nat_cmp) names

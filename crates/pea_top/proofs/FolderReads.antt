@@ -8,9 +8,9 @@ use Rattle.std.proofs.lemmas.List.{take_all, length-take, append-nil}
 use Rattle.std.proofs.lemmas.List.Sums.{sum_by-append}
 use Rattle.std.proofs.lemmas.Slice.Eq.{bytes_eq-Decides}
 use Rattle.host_tree.specs.Host.{Bytes, Folder, IsReadOf, times}
-use Rattle.pea_top.specs.Folders.{IsBefore, AreNames, AreReadAs, no_name, class_file, other_file, names_class_file}
+use Rattle.pea_top.specs.Folders.{IsBytesBefore, AreNames, AreReadAs, no_name, class_file, other_file, names_class_file}
 use Rattle.pea_top.specs.Answer.{Refusal, IsRefused, NoneRefused, IsFirstRefused}
-use Rattle.pea_top.proofs.NamesInOrder.{times-cons, times-first, IsBefore-other, later_not_before}
+use Rattle.pea_top.proofs.NamesInOrder.{times-cons, times-first, IsBytesBefore-other, later_not_before}
 
 -- A read that gives fewer bytes than were asked gives all.
 pub whole_from_read : (file : Option Bytes) (most : ℕ) (bytes : Bytes) → IsReadOf file most bytes → length bytes < most → file ≡ Some bytes
@@ -24,11 +24,11 @@ times-append : (name : Bytes) (front back : List Bytes) → times name (front ++
 times-append name front back = sum_by-append (λ x. cond (bytes_eq name x) 1 0) front back
 
 -- in a sorted list neither a name nor one after it stands before it
-none_less_after : (front : List Bytes) (name : Bytes) (left : List Bytes) (other : Bytes) → IsSorted (slice_cmp nat_cmp) (front ++ name ∷ left) → 0 < times other (name ∷ left) → ¬ IsBefore other name
+none_less_after : (front : List Bytes) (name : Bytes) (left : List Bytes) (other : Bytes) → IsSorted (slice_cmp nat_cmp) (front ++ name ∷ left) → 0 < times other (name ∷ left) → ¬ IsBytesBefore other name
 none_less_after front name left other sorted some before = by (bytes_eq other name) refl
   where
     by : (same : Bool) → bytes_eq other name ≡ same → ⊥
-    by true e = IsBefore-other other name before ((bytes_eq-Decides other name).0 e)
+    by true e = IsBytesBefore-other other name before ((bytes_eq-Decides other name).0 e)
     by false e = later_not_before front name left sorted other (omega (arith, some, times-cons other name left, ap {B = ℕ} (λ b. cond b 1 0) e)) before
 
 -- ---- the refused names of a folder

@@ -11,7 +11,7 @@ use Rattle.std.proofs.lemmas.List.Sorted.{ranks_by, sorted_far}
 use Rattle.std.proofs.lemmas.List.Sums.{sum_by-cons}
 use Rattle.std.proofs.lemmas.Slice.Eq.{bytes_eq-Decides}
 use Rattle.host_tree.specs.Host.{Bytes, times}
-use Rattle.pea_top.specs.Folders.{IsBefore}
+use Rattle.pea_top.specs.Folders.{IsBytesBefore}
 
 pub times-cons : (name other : Bytes) (names : List Bytes) → times name (other ∷ names) ≡ cond (bytes_eq name other) 1 0 + times name names
 times-cons name other names = sum_by-cons (λ x. cond (bytes_eq name x) 1 0) other names
@@ -34,8 +34,8 @@ found (other ∷ names) name d some =
     let counted : 0 < cond (bytes_eq name other) 1 0 + times name names = omega (arith, times-cons name other names) in
     found_at (bytes_eq name other) name other names d (bytes_eq-Decides name other) counted (found names name d)
 
-pub IsBefore-other : (name other : Bytes) → IsBefore name other → name ≢ other
-IsBefore-other name other before same =
+pub IsBytesBefore-other : (name other : Bytes) → IsBytesBefore name other → name ≢ other
+IsBytesBefore-other name other before same =
     let tied = tied_itself nat_list_cmp_total other in
     let less : slice_cmp nat_cmp other other ≡ slice_cmp nat_cmp name other = ap (λ n. slice_cmp nat_cmp n other) (sym same) in
     false≢true (ap is_lt (sym tied ∙ less ∙ before))
@@ -52,7 +52,7 @@ module _ (front : List Bytes) (middle : Bytes) (back : List Bytes) (in_order : I
   all_middle = get_or_at front middle back middle (length front) refl
 
   -- no later name stands before it
-  pub later_not_before : (name : Bytes) → 0 < times name back → ¬ IsBefore name middle
+  pub later_not_before : (name : Bytes) → 0 < times name back → ¬ IsBytesBefore name middle
   later_not_before name some before =
       let at = found back name middle some in
       let far = sorted_far _ ranked (front ++ middle ∷ back) in_order (length front) (length front + suc at.0) middle (omega arith) (omega (arith, all_length, at.1)) in
@@ -60,7 +60,7 @@ module _ (front : List Bytes) (middle : Bytes) (back : List Bytes) (in_order : I
       false≢true (sym far ∙ rw (there, all_middle) (ap is_lt before))
 
   -- it stands before no earlier name
-  pub earlier_not_after : (name : Bytes) → 0 < times name front → ¬ IsBefore middle name
+  pub earlier_not_after : (name : Bytes) → 0 < times name front → ¬ IsBytesBefore middle name
   earlier_not_after name some before =
       let at = found front name middle some in
       let far = sorted_far _ ranked (front ++ middle ∷ back) in_order at.0 (length front) middle (omega (arith, at.1)) (omega (arith, all_length)) in

@@ -4,7 +4,7 @@ use Rattle.std.proofs.lemmas.List.{drop_more}
 use Rattle.std.specs.Prelude.{codes, ◌↔◌, IfNone, Option, None, Some}
 use Rattle.std.specs.Borrow.{Bor}
 use Rattle.pea_top.specs.Words.{Word, Command, Optimise, Verify, folders_of, library_of, IsOperand}
-use Rattle.pea_top.specs.Seen.{folder_words, library_words, awaiting, Completes, Ends, Leads, Fails, MayBeFolder}
+use Rattle.pea_top.specs.Seen.{folder_words, library_words, awaiting, Completes, EndsCommand, Leads, Fails, MayBeFolder}
 use Rattle.pea_top.specs.declared.words.Seen.{Seen}
 use Rattle.pea_top.specs.declared.words.Folders.{Folders}
 use Rattle.pea_top.specs.declared.words.Folders.TheVariants.{Neither, Input, Both}
@@ -63,7 +63,7 @@ ended_libraries seen_folders Awaited command h = absurd (no_value seen_folders [
 ended_libraries seen_folders (Given folder) command h = none_left seen_folders (folder.now ∷ []) command h
 
 -- where no word is left, the command's folders were seen
-pub ended : (seen : Seen) (command : Command) → Ends seen [] command → (folder_words seen.folders ≡ folders_of command) × (library_words seen.library ≡ library_of command ∷ [])
+pub ended : (seen : Seen) (command : Command) → EndsCommand seen [] command → (folder_words seen.folders ≡ folders_of command) × (library_words seen.library ≡ library_of command ∷ [])
 ended seen command h = ended_libraries (folder_words seen.folders) seen.library command h
 
 -- two folders are both folders
@@ -89,12 +89,12 @@ pub next_word : {A : Type 0} (view : A → Word) (xs : List A) (k : ℕ) (item :
 next_word view xs k item word within is same = rw (drop_more xs k item within, ← is, same) refl
 
 -- what the words complete is what the words seen and the rest complete, and so with one more word seen
-pub follows : (P : Command → Type 0) (seen next : Seen) (word : Word) (before rest : List Word) → before ≡ word ∷ rest → Leads seen word next → ((command : Command) → Ends seen before command ↔ P command) → (command : Command) → Ends next rest command ↔ P command
+pub follows : (P : Command → Type 0) (seen next : Seen) (word : Word) (before rest : List Word) → before ≡ word ∷ rest → Leads seen word next → ((command : Command) → EndsCommand seen before command ↔ P command) → (command : Command) → EndsCommand next rest command ↔ P command
 follows P seen next word before rest split leads same command =
     (λ h. (same command).0 (rw split ((leads rest command).0 h)), λ p. (leads rest command).1 (rw split at ((same command).1 p)))
 
 -- what the words complete is nothing, where no more word can be seen
-pub stops : (P : Command → Type 0) (seen : Seen) (word : Word) (before rest : List Word) → before ≡ word ∷ rest → Fails seen word → ((command : Command) → Ends seen before command ↔ P command) → (command : Command) → ¬ P command
+pub stops : (P : Command → Type 0) (seen : Seen) (word : Word) (before rest : List Word) → before ≡ word ∷ rest → Fails seen word → ((command : Command) → EndsCommand seen before command ↔ P command) → (command : Command) → ¬ P command
 stops P seen word before rest split fails same command p = fails rest command (rw split at ((same command).1 p))
 
 -- what follows where a call gives nothing

@@ -12,7 +12,7 @@ use Rattle.host_tree.specs.Host.{Bytes, Folder, Files}
 use Rattle.host_tree.specs.declared.call.HostCall.TheVariants as calls
 use Rattle.verify_folder.specs.Verifying.{Failure}
 use Rattle.pea_top.specs.Words.{Word, Command, input_of, library_of, Spells, IsUsage}
-use Rattle.pea_top.specs.Folders.{IsBefore, names_class_file, HasClassFiles}
+use Rattle.pea_top.specs.Folders.{IsBytesBefore, names_class_file, HasClassFiles}
 use Rattle.pea_top.specs.Linking.{IsLinkProblem}
 use Rattle.pea_top.specs.Verifying.{AreVerified, IsTypeFailure}
 use Rattle.pea_top.specs.declared.status.Status.{Status}
@@ -49,7 +49,7 @@ NoneRefused Refused folder = (name : Bytes) (why : Refusal) → ¬ IsRefused Ref
 -- the first of them in byte order, whatever the others are refused for
 pub record IsFirstRefused (Refused : Bytes → Refusal → Type 0) (folder : Folder) (name : Bytes) (why : Refusal) : Type 0 where
   pub refused : IsRefused Refused folder name why
-  pub none_before : (other : Bytes) → IsBefore other name → (other_why : Refusal) → ¬ IsRefused Refused folder other other_why
+  pub none_before : (other : Bytes) → IsBytesBefore other name → (other_why : Refusal) → ¬ IsRefused Refused folder other other_why
 
 -- The first refused file: one of the input, or where none of the input is refused one of the library.
 pub data IsFirstOf (input library : Folder) (name : Bytes) (why : Refusal) : Type 0 where

@@ -5,7 +5,7 @@ use Rattle.class_model.specs.declared.class_file.ClassFile.{ClassFile}
 use Rattle.host_tree.specs.Host.{Bytes, Files, SameFiles, IsPrefixPrinted}
 use Rattle.host_tree.specs.declared.call.HostCall.TheVariants as calls
 use Rattle.pea_top.specs.Words.{Word, Command, Optimise, Verify, input_of, Spells}
-use Rattle.pea_top.specs.Folders.{IsBefore, AreNames, AreReadAs}
+use Rattle.pea_top.specs.Folders.{IsBytesBefore, AreNames, AreReadAs}
 use Rattle.pea_top.specs.Lines.{summary_line, verified_line, refusal_line}
 use Rattle.pea_top.specs.Answer.{CanDo, IsAnswer}
 use Rattle.pea_top.specs.declared.status.Status.{Status}
@@ -22,8 +22,8 @@ pub record IsCopied (input output : Bytes) (old new : Files) : Type 0 where
 pub record IsPartlyCopied (input output : Bytes) (old new : Files) : Type 0 where
   pub failing : Bytes
   pub is_input : IsSome (old input failing)
-  pub before : (name bytes : Bytes) → IsBefore name failing → old input name ≡ Some bytes → new output name ≡ Some bytes
-  pub after : (name : Bytes) → IsBefore failing name → new output name ≡ old output name
+  pub before : (name bytes : Bytes) → IsBytesBefore name failing → old input name ≡ Some bytes → new output name ≡ Some bytes
+  pub after : (name : Bytes) → IsBytesBefore failing name → new output name ≡ old output name
   pub kept : (name : Bytes) → old input name ≡ None → name ≢ failing → new output name ≡ old output name
   pub others : (root name : Bytes) → root ≢ output → new root name ≡ old root name
 

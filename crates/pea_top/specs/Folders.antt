@@ -8,8 +8,8 @@ use Rattle.host_tree.specs.Host.{Bytes, Folder, HasEachOnce}
 use Rattle.pea_top.specs.declared.folder.NamedFile.{NamedFile}
 
 -- the one name stands before the other in byte order
-abbrev pub IsBefore : Bytes → Bytes → Type 0
-IsBefore one other = slice_cmp nat_cmp one other ≡ Less
+abbrev pub IsBytesBefore : Bytes → Bytes → Type 0
+IsBytesBefore one other = slice_cmp nat_cmp one other ≡ Less
 
 -- the names of the folder, each once, in byte order
 pub record AreNames (folder : Folder) (names : List Bytes) : Type 0 where

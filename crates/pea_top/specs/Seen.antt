@@ -36,16 +36,16 @@ pub record Completes (seen_folders seen_libraries words : List Word) (command : 
   pub apart : IsApart command
 
 -- Behind the words seen, the rest completes the command.
-abbrev pub Ends : Seen → List Word → Command → Type 0
-Ends seen rest command = Completes (folder_words seen.folders) (library_words seen.library) (awaiting seen.library ++ rest) command
+abbrev pub EndsCommand : Seen → List Word → Command → Type 0
+EndsCommand seen rest command = Completes (folder_words seen.folders) (library_words seen.library) (awaiting seen.library ++ rest) command
 
 -- With this word behind the words seen, the words seen are next.
 abbrev pub Leads : Seen → Word → Seen → Type 0
-Leads seen word next = (rest : List Word) (command : Command) → Ends next rest command ↔ Ends seen (word ∷ rest) command
+Leads seen word next = (rest : List Word) (command : Command) → EndsCommand next rest command ↔ EndsCommand seen (word ∷ rest) command
 
 -- This word cannot stand behind the words seen.
 abbrev pub Fails : Seen → Word → Type 0
-Fails seen word = (rest : List Word) (command : Command) → ¬ Ends seen (word ∷ rest) command
+Fails seen word = (rest : List Word) (command : Command) → ¬ EndsCommand seen (word ∷ rest) command
 
 -- the word is not the value of the option, and is the option only where its value was seen before
 pub record MayBeFolder (seen : Seen) (word : Word) : Type 0 where

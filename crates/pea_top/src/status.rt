@@ -1,6 +1,6 @@
 //! The outcome of a call.
 ghost use Rattle.std.specs.Prelude.{◌≡◌};
-ghost use Rattle.pea_top.specs.Status.{code_of};
+ghost use Rattle.pea_top.specs.Status.{status_code};
 
 use class_model::{FileRule, Member, Text};
 use class_tree::LinkRule;
@@ -52,7 +52,7 @@ pub enum Status {
 impl Status {
     /// The exit status of the process.
     pub fn code(&self) -> u8
-        ensures { result ≡ code_of self.now }
+        ensures { result ≡ status_code self.now }
     {
         match self {
             Status::Done => 0,

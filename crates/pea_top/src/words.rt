@@ -3,7 +3,7 @@ ghost use Rattle.std.specs.Prelude.{◌≡◌, ◌≢◌, List, [], ◌∷◌, �
 ghost use Rattle.pea_top.specs.Words.{Word, IsOperand, name_of, input_of, library_of, Spells, IsUsage};
 ghost use Rattle.pea_top.specs.Words.{Command as grammar_command, Optimise as grammar_optimise, Verify as grammar_verify};
 ghost use Rattle.pea_top.specs.CommandView.{command_view};
-ghost use Rattle.pea_top.specs.Seen.{folder_words, library_words, awaiting, Completes, Ends, Leads, Fails, MayBeFolder};
+ghost use Rattle.pea_top.specs.Seen.{folder_words, library_words, awaiting, Completes, EndsCommand, Leads, Fails, MayBeFolder};
 
 /// What the words ask for: to optimise the folder `input` into the folder `output`, or to verify the folder `input`, with
 /// the folder of the library.
@@ -80,7 +80,7 @@ pub(crate) fn command_of(words: &[String]) -> Option<Command<'_>>
 
 /// What the words behind a command's name say of it.
 fn seen_in(words: &[String]) -> Option<Seen<'_>>
-    ensures some { IfSome result (λ seen. (command : grammar_command) → Ends seen [] command ↔ Completes [] [] (map string_bytes words.now) command) }
+    ensures some { IfSome result (λ seen. (command : grammar_command) → EndsCommand seen [] command ↔ Completes [] [] (map string_bytes words.now) command) }
     ensures none { IfNone result ((command : grammar_command) → ¬ Completes [] [] (map string_bytes words.now) command) }
 {
     let mut seen = Seen {
@@ -166,8 +166,8 @@ impl<'a> Seen<'a> {
     /// The command that optimises, where no word is missing.
     fn optimise(self) -> Option<Command<'a>>
         ensures name { IfSome result (λ command. name_of (command_view command) ≡ codes "optimise") }
-        ensures some { IfSome result (λ command. Ends self.entry [] (command_view command)) }
-        ensures none { IfNone result ((input output library : Word) → ¬ Ends self.entry [] (grammar_optimise input output library)) }
+        ensures some { IfSome result (λ command. EndsCommand self.entry [] (command_view command)) }
+        ensures none { IfNone result ((input output library : Word) → ¬ EndsCommand self.entry [] (grammar_optimise input output library)) }
     {
         let Folders::Both { input, output } = self.folders else {
             return None;
@@ -188,8 +188,8 @@ impl<'a> Seen<'a> {
     /// The command that verifies, where no word is missing.
     fn verify(self) -> Option<Command<'a>>
         ensures name { IfSome result (λ command. name_of (command_view command) ≡ codes "verify") }
-        ensures some { IfSome result (λ command. Ends self.entry [] (command_view command)) }
-        ensures none { IfNone result ((input library : Word) → ¬ Ends self.entry [] (grammar_verify input library)) }
+        ensures some { IfSome result (λ command. EndsCommand self.entry [] (command_view command)) }
+        ensures none { IfNone result ((input library : Word) → ¬ EndsCommand self.entry [] (grammar_verify input library)) }
     {
         let Folders::Input(input) = self.folders else {
             return None;

@@ -5,7 +5,7 @@ use Rattle.std.specs.List.{flat_map}
 use Rattle.std.specs.Result.{IsErrAnd}
 use Rattle.class_model.specs.Answers.{Answers}
 use Rattle.class_model.specs.Checks.{Check, Fault, AllHold, IsFirstFault}
-use Rattle.class_model.specs.ClassOf.{dynamic_checks}
+use Rattle.class_model.specs.ClassOf.{bootstrap_index_checks}
 use Rattle.class_model.specs.Pool.{Constants, constant_at}
 use Rattle.class_model.specs.PoolChecks.{constant_checks, entries_checks}
 use Rattle.class_model.specs.Spelling.{constant_bytes, entry_bytes}
@@ -13,7 +13,7 @@ use Rattle.class_model.specs.declared.fault.ClassFault.{ClassFault}
 use Rattle.class_model.specs.declared.fault.ClassFault.TheVariants.{Malformed, Version, NoMemory}
 use Rattle.class_model.specs.declared.pool.Const.{Const}
 use Rattle.class_model.specs.declared.pool.Const.TheVariants.{Utf8, Integer, Float, Long, Double, Class, String, Fieldref, Methodref, InterfaceMethodref, NameAndType, MethodHandle, MethodType, InvokeDynamic}
-use Rattle.pool_bytes.specs.Dynamics.{bootstrap_checks}
+use Rattle.pool_bytes.specs.Dynamics.{constant_bootstrap_checks}
 use Rattle.pool_bytes.specs.Texts.{HasText, HasTexts}
 
 abbrev Answer : Type 0
@@ -117,7 +117,7 @@ module _ {checks : ℕ → Constants → List Check} {one : ℕ → Const → Li
 pub entries_by_constant : (major : ℕ) (pool : Constants) → ByConstant (entries_checks major pool) (constant_checks major pool)
 entries_by_constant major pool = record { nil = λ at. refl; none = λ at rest. refl; some = λ at constant rest. refl }
 
-by_dynamic : (count at : ℕ) (constant : Const) (rest : Constants) → dynamic_checks count at (Some constant ∷ rest) ≡ bootstrap_checks count at constant ++ dynamic_checks count (at + length (constant_bytes constant)) rest
+by_dynamic : (count at : ℕ) (constant : Const) (rest : Constants) → bootstrap_index_checks count at (Some constant ∷ rest) ≡ constant_bootstrap_checks count at constant ++ bootstrap_index_checks count (at + length (constant_bytes constant)) rest
 by_dynamic count at (Utf8 text) rest = refl
 by_dynamic count at (Integer number) rest = refl
 by_dynamic count at (Float bits) rest = refl
@@ -133,7 +133,7 @@ by_dynamic count at (MethodHandle kind reference) rest = refl
 by_dynamic count at (MethodType descriptor) rest = refl
 by_dynamic count at (InvokeDynamic bootstrap member) rest = refl
 
-pub dynamics_by_constant : (count : ℕ) → ByConstant (dynamic_checks count) (bootstrap_checks count)
+pub dynamics_by_constant : (count : ℕ) → ByConstant (bootstrap_index_checks count) (constant_bootstrap_checks count)
 dynamics_by_constant count = record { nil = λ at. refl; none = λ at rest. refl; some = by_dynamic count }
 
 -- where the checks hold, the texts are texts

@@ -6,8 +6,8 @@ use Rattle.class_model.specs.declared.fault.FileRule.TheVariants as rules
 use Rattle.class_model.specs.declared.pool.Const.{Const}
 
 -- how many indices a constant of a tag takes
-abbrev pub units_of : ℕ → ℕ
-units_of tag = if (tag == 5) || (tag == 6) then 2 else 1
+abbrev pub indices_of : ℕ → ℕ
+indices_of tag = if (tag == 5) || (tag == 6) then 2 else 1
 
 -- The tag is known, and that of a long or double does not stand at the last index.
 abbrev pub may_stand : ℕ → ℕ → ℕ → ℕ → Bool

@@ -4,7 +4,7 @@ ghost use Rattle.class_model.specs.Answers.{Takes};
 ghost use Rattle.class_model.specs.Cutting.{pool_at, fields_at, u2_pair_at};
 ghost use Rattle.class_model.specs.Cutting as cutting;
 ghost use Rattle.class_model.specs.Pool.{entries_of};
-ghost use Rattle.pool_bytes.specs.Entries.{units_of, is_number_tag, entry_at};
+ghost use Rattle.pool_bytes.specs.Entries.{indices_of, is_number_tag, entry_at};
 ghost use Rattle.pool_bytes.specs.Entries as entries;
 
 use crate::raw::{RawConst, RawForm, RawPool};
@@ -93,7 +93,7 @@ fn is_tag(major: u16, tag: u8) -> bool
 // The constant of a known tag, from behind the tag.
 fn fields<'a>(tag: u8, cursor: &mut Cursor<'a>) -> Result<RawConst<'a>, ClassFault>
     ensures taken { Takes (fields_at tag cursor.old) cursor.new result }
-    ensures units { IfOk result (λ constant. length (entries_of constant) ≡ units_of tag) }
+    ensures units { IfOk result (λ constant. length (entries_of constant) ≡ indices_of tag) }
 {
     match tag {
         UTF8_TAG => text(cursor),
@@ -120,7 +120,7 @@ fn text<'a>(cursor: &mut Cursor<'a>) -> Result<RawConst<'a>, ClassFault>
 fn number(tag: u8, cursor: &mut Cursor<'_>) -> Result<Const, ClassFault>
     requires { is_number_tag tag ≡ true }
     ensures taken { Takes (fields_at tag cursor.old) cursor.new result }
-    ensures units { IfOk result (λ constant. length (entries_of constant) ≡ units_of tag) }
+    ensures units { IfOk result (λ constant. length (entries_of constant) ≡ indices_of tag) }
 {
     match tag {
         INTEGER_TAG => Ok(Const::Integer(cursor.u4()?.cast_signed())),
@@ -143,7 +143,7 @@ fn member(tag: u8, cursor: &mut Cursor<'_>) -> Result<Const, ClassFault>
     requires no_text { tag ≢ 1 }
     requires no_number { is_number_tag tag ≡ false }
     ensures taken { Takes (fields_at tag cursor.old) cursor.new result }
-    ensures units { IfOk result (λ constant. length (entries_of constant) ≡ units_of tag) }
+    ensures units { IfOk result (λ constant. length (entries_of constant) ≡ indices_of tag) }
 {
     let (first, second) = u2_pair(cursor)?;
     Ok(match tag {

@@ -2,9 +2,9 @@
 ghost use Rattle.std.specs.Prelude.{◌≡◌, ◌+◌, ◌<◌, ◌^◌, length};
 ghost use Rattle.std.specs.List.{flat_map};
 ghost use Rattle.class_model.specs.Answers.{Answers};
-ghost use Rattle.class_model.specs.ClassOf.{dynamic_checks};
+ghost use Rattle.class_model.specs.ClassOf.{bootstrap_index_checks};
 ghost use Rattle.class_model.specs.Spelling.{entry_bytes};
-ghost use Rattle.pool_bytes.specs.Dynamics.{bootstrap_checks};
+ghost use Rattle.pool_bytes.specs.Dynamics.{constant_bootstrap_checks};
 
 use crate::raw::{RawConst, RawForm, RawPool};
 use class_model::{ClassFault, Const, FileRule};
@@ -17,7 +17,7 @@ impl RawPool<'_> {
     /// `Malformed` with `Index` at the tag of the first that does not.
     pub fn check_dynamics(&self, count: usize, at: u64) -> Result<(), ClassFault>
         requires { at + length (flat_map entry_bytes self.now) < 2 ^ 64 }
-        ensures { Answers (dynamic_checks count at self.now) result }
+        ensures { Answers (bootstrap_index_checks count at self.now) result }
     {
         let mut place = at;
         for index in 1..self.count() {
@@ -31,7 +31,7 @@ impl RawPool<'_> {
 }
 
 fn check_bootstrap(constant: &RawConst<'_>, count: usize, at: u64) -> Result<(), ClassFault>
-    ensures { Answers (bootstrap_checks count at constant.now) result }
+    ensures { Answers (constant_bootstrap_checks count at constant.now) result }
 {
     match constant.form() {
         RawForm::Constant(Const::InvokeDynamic(bootstrap, _)) if usize::from(*bootstrap) >= count =>

@@ -12,7 +12,7 @@ use Rattle.type_rules.specs.Flow.{flows_on}
 use Rattle.type_rules.specs.Scope.{Scope, instructions, scope_at, scope_of}
 use Rattle.type_rules.specs.Stated.{entry}
 use Rattle.type_rules.specs.Typed.{AreTyped, Typed, flows_into}
-use Rattle.type_rules.specs.TypedFrames.{FolderFrames, frames_at}
+use Rattle.type_rules.specs.TypedFrames.{FolderFrames, typed_frames_at}
 use Rattle.type_rules.specs.Verified.{AreTypedClasses, AreTypedMethods, TypesFolder, TypesMethod}
 
 -- ---- methods
@@ -33,7 +33,7 @@ class_typed headers (class ∷ classes) [] are place number = absurd are
 class_typed headers (class ∷ classes) (methods ∷ typed) are zero number = method_typed headers class class.methods methods are.0 number
 class_typed headers (class ∷ classes) (methods ∷ typed) are (suc place) number = class_typed headers classes typed are.1 place number
 
-pub each_method : (classes : Classes) (typed : FolderFrames) → TypesFolder classes typed → (at : MethodAt) → TypesMethod (scope_at classes at) (frames_at typed at)
+pub each_method : (classes : Classes) (typed : FolderFrames) → TypesFolder classes typed → (at : MethodAt) → TypesMethod (scope_at classes at) (typed_frames_at typed at)
 each_method classes typed are at = class_typed (headers_of classes) classes.folder typed are at.class at.method
 
 -- ---- instructions

@@ -19,7 +19,6 @@ pub mod Pairwise
 pub mod LocalWalks
 pub mod MappedSoFar
 pub mod OlderObjects
-pub mod PlainTexts
 pub mod StoredLocals
 pub mod ArrayTexts
 pub mod PushedElements

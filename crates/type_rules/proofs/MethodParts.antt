@@ -14,7 +14,7 @@ use Rattle.class_model.specs.declared.header.Header.{Header}
 use Rattle.class_tree.specs.Headers.{Classes, headers_of}
 use Rattle.class_tree.specs.Order.{header_at}
 use Rattle.class_tree.specs.declared.place.Place.TheVariants.{Folder}
-use Rattle.code_bytes.specs.Decoding.{code_checks}
+use Rattle.code_bytes.specs.Decoding.{decoding_checks}
 use Rattle.code_bytes.specs.Codes.{HasInstrs, HasOperands, HasReadMethods, HasReadOperands, IsReadMethod}
 use Rattle.type_rules.specs.Scope.{code_of}
 
@@ -28,9 +28,9 @@ at_index Holds (y ∷ xs) zero x all e = subst Holds (same_some y x e) all.0
 at_index Holds (y ∷ xs) (suc i) x all e = at_index Holds xs i x all.1 e
 
 -- the first code among attributes has instructions
-pub code_has_instrs : (attrs : List Attr) (part : CodePart) → AllByRecursion HasInstrs attrs → code_of attrs ≡ Some part → AllHold (code_checks part.code)
+pub code_has_instrs : (attrs : List Attr) (part : CodePart) → AllByRecursion HasInstrs attrs → code_of attrs ≡ Some part → AllHold (decoding_checks part.code)
 code_has_instrs [] part all e = absurd cc
-code_has_instrs (Code name own ∷ attrs) part all e = subst (λ (p : CodePart). AllHold (code_checks p.code)) (same_some own part e) all.0
+code_has_instrs (Code name own ∷ attrs) part all e = subst (λ (p : CodePart). AllHold (decoding_checks p.code)) (same_some own part e) all.0
 code_has_instrs (Raw name bytes ∷ attrs) part all e = code_has_instrs attrs part all.1 e
 
 -- the header of a class at its place

@@ -2,7 +2,7 @@
 use Rattle.std.proofs.Common.{◌≡◌, ◌+◌, ◌*◌, IsTrue, ℕ, zero, suc, List, [], ◌∷◌, ◌++◌, length, Option, Some, None, IfSome, option_and_then, option_map, refl, sym, ap, subst}
 use Rattle.std.specs.List.{flat_map}
 use Rattle.class_model.specs.Checks.{Check, check, AllHold}
-use Rattle.class_model.specs.ClassOf.{class_checks, fields_checks, methods_checks, dynamic_checks}
+use Rattle.class_model.specs.ClassOf.{class_file_checks, fields_checks, methods_checks, bootstrap_index_checks}
 use Rattle.class_model.specs.Members.{fits_class, class_name_checks, super_checks, interfaces_checks, attrs_checks}
 use Rattle.class_model.specs.Methods.{Home, class_attr_checks, bootstrap_count}
 use Rattle.class_model.specs.Pool.{Constants, constant_at}
@@ -50,7 +50,7 @@ first_of_nine a b c d e f g h i all =
     let abcd = front (a ++ b ++ c ++ d) e abcde in
     front a b (front (a ++ b) c (front (a ++ b ++ c) d abcd))
 
-pool_holds : (c : ClassFile) → AllHold (class_checks c) → AllHold (entries_checks c.major c.pool 10 c.pool)
+pool_holds : (c : ClassFile) → AllHold (class_file_checks c) → AllHold (entries_checks c.major c.pool 10 c.pool)
 pool_holds c hold =
     let pool = c.pool in
     let flags = 10 + length (flat_map entry_bytes pool) in
@@ -60,7 +60,7 @@ pool_holds c hold =
     let home : Home = record { pool = pool; major = c.major; flags = c.flags; name = class_at pool c.this_class } in
     first_of_nine (entries_checks c.major pool 10 pool) (check flags rules.Flags (IsTrue (fits_class c.flags)) ∷ []) (class_name_checks pool (flags + 2) c.this_class) (super_checks pool (flags + 4) c.super_class)
     (interfaces_checks pool (flags + 8) c.interfaces) (fields_checks pool c.flags [] (fields + 2) c.fields) (methods_checks home [] (methods + 2) c.methods) (attrs_checks (class_attr_checks pool) [] (attrs + 2) c.attrs)
-    (dynamic_checks (bootstrap_count pool c.attrs) 10 pool) hold
+    (bootstrap_index_checks (bootstrap_count pool c.attrs) 10 pool) hold
 
 constant_asked : (class : ClassFile) (index : ℕ) (constant : Const) → IsClassFile class → constant_at class.pool index ≡ Some constant → (major : ℕ) × IsAsked major class.pool constant
 constant_asked class index constant is e =

@@ -54,8 +54,8 @@ abbrev pub elements_load_row : Frame → Option Elements → Row
 elements_load_row f None = no_row f
 elements_load_row f (Some e) = plain f (array_among e.arrays ∷ of_kind Int ∷ []) (e.type ∷ [])
 
-abbrev pub load_row : Frame → ℕ → Row
-load_row f opcode =
+abbrev pub array_load_row : Frame → ℕ → Row
+array_load_row f opcode =
     either (opcode == 50) (plain f (array_of_references ∷ of_kind Int ∷ []) (component_type (lowest_of 2 f.stack) ∷ [])) (elements_load_row f (elements_from 46 opcode))
 
 -- what is asked of a value of this type
@@ -70,8 +70,8 @@ elements_store_row f None = no_row f
 elements_store_row f (Some e) = plain f (array_among e.arrays ∷ of_kind Int ∷ need_of_value e.type ∷ []) []
 
 -- any array of references takes any reference that is initialised
-abbrev pub store_row : Frame → ℕ → Row
-store_row f opcode =
+abbrev pub array_store_row : Frame → ℕ → Row
+array_store_row f opcode =
     either (opcode == 83) (plain f (array_of_references ∷ of_kind Int ∷ initialised ∷ []) []) (elements_store_row f (elements_from 79 opcode))
 
 -- ---- arrays that are made

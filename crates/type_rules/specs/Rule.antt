@@ -1,10 +1,10 @@
 -- What an instruction does to a frame (JVM Specification SE 8, 4.10.1.4): the frame behind it and the one that handlers
 -- see, or the first rule that fails.
 use Rattle.std.specs.Prelude.{◌≡◌, ◌⊎◌, ◌≤◌, ℕ, List, [], ◌∷◌, ◌++◌, length, Some, None, Result, Ok, Err, if◌then◌else◌}
-use Rattle.class_model.specs.Code.{IsInterfaceConstant, IsMethodConstant, OperandFits}
+use Rattle.class_model.specs.Code.{OperandFits}
 use Rattle.class_model.specs.Frames.{depth}
 use Rattle.class_model.specs.Pool.{Constants, constant_at}
-use Rattle.class_model.specs.PoolChecks.{IsClassAt}
+use Rattle.class_model.specs.PoolChecks.{IsClassAt, IsInterfaceConstant, IsMethodConstant}
 use Rattle.class_model.specs.declared.frame.Frame.{Frame}
 use Rattle.class_model.specs.declared.frame.VType.{VType}
 use Rattle.class_model.specs.declared.instr.Instr.{Instr}

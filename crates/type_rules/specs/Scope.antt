@@ -5,7 +5,7 @@ use Rattle.class_model.specs.Header.{header_of}
 use Rattle.class_model.specs.Instructions.{decoded}
 use Rattle.class_model.specs.Members.{is_text}
 use Rattle.class_model.specs.Names.{init}
-use Rattle.class_model.specs.PoolChecks.{utf8_at, class_at}
+use Rattle.class_model.specs.PoolChecks.{utf8_at, class_at, text_or_empty}
 use Rattle.class_model.specs.declared.class_file.Attr.{Attr}
 use Rattle.class_model.specs.declared.class_file.Attr.TheVariants.{Raw, Code}
 use Rattle.class_model.specs.declared.class_file.ClassFile.{ClassFile}
@@ -52,10 +52,7 @@ is_init s = is_text init (utf8_at s.class.pool s.method.name)
 
 -- the method's descriptor
 abbrev pub own_descriptor : Scope → List ℕ
-own_descriptor s = or_empty (utf8_at s.class.pool s.method.desc) where
-  or_empty : Option (List ℕ) → List ℕ
-  or_empty None = []
-  or_empty (Some text) = text
+own_descriptor s = text_or_empty (utf8_at s.class.pool s.method.desc)
 
 -- the method's instructions
 abbrev pub instructions : Scope → List Placed

@@ -15,10 +15,10 @@ abbrev pub given : Option VType → List VType
 given None = []
 given (Some type) = type ∷ []
 
-abbrev pub Takes : Scope → Frame → List Need → Result Unit RuleFault → Type 0
-Takes s f needs (Ok done) = AllFit s.headers needs (topmost (length needs) f.stack)
-Takes s f needs (Err (faults.Fails rules.Stack)) = ¬ AllFit s.headers needs (topmost (length needs) f.stack)
-Takes s f needs (Err other) = ⊥
+abbrev pub TakesNeeds : Scope → Frame → List Need → Result Unit RuleFault → Type 0
+TakesNeeds s f needs (Ok done) = AllFit s.headers needs (topmost (length needs) f.stack)
+TakesNeeds s f needs (Err (faults.Fails rules.Stack)) = ¬ AllFit s.headers needs (topmost (length needs) f.stack)
+TakesNeeds s f needs (Err other) = ⊥
 
 -- a stack is no deeper than it may be, and the further condition holds, or the first of these fails
 abbrev pub EndsWith : Scope → List VType → Type 0 → Ruled → Result Ruled RuleFault → Type 0

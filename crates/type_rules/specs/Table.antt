@@ -14,7 +14,7 @@ use Rattle.class_model.specs.declared.instr.Placed.{Placed}
 use Rattle.class_tree.specs.Headers.{Name}
 use Rattle.class_tree.specs.Names.{throwable}
 use Rattle.type_rules.specs.ArithmeticRows.{pure_operations, divide_operations, float_operations, operation_in, operation_row}
-use Rattle.type_rules.specs.ArrayRows as arrays
+use Rattle.type_rules.specs.ArrayRows.{array_load_row, array_store_row, new_array_row, new_ref_array_row, new_multi_row, length_row}
 use Rattle.type_rules.specs.LocalRows.{imm_row, const_row, load_row, store_row, iinc_row}
 use Rattle.type_rules.specs.MemberRows.{reference_of, get_static_row, put_static_row, get_field_row, put_field_row, call_row, dynamic_row, return_row}
 use Rattle.type_rules.specs.Operands.{Need, of_kind, initialised, assignable_to}
@@ -60,8 +60,8 @@ row_of s f placed = of_instr placed.instr where
   of_instr (Load kind local) = load_row f kind local
   of_instr (Store kind local) = store_row f kind local
   of_instr (Iinc local by) = iinc_row f local
-  of_instr (ArrayLoad opcode) = arrays.load_row f opcode
-  of_instr (ArrayStore opcode) = arrays.store_row f opcode
+  of_instr (ArrayLoad opcode) = array_load_row f opcode
+  of_instr (ArrayStore opcode) = array_store_row f opcode
   of_instr (Shuffle opcode) = shuffle_row f opcode
   of_instr (Pure opcode) = operation_row f (operation_in pure_operations opcode)
   of_instr (Divide opcode) = operation_row f (operation_in divide_operations opcode)
@@ -81,10 +81,10 @@ row_of s f placed = of_instr placed.instr where
   of_instr (Invoke opcode index count) = call_row s f opcode (reference_of s.class.pool (constant_at s.class.pool index))
   of_instr (Dynamic index) = dynamic_row s f (constant_at s.class.pool index)
   of_instr (New index) = new_row f placed.at
-  of_instr (NewArray code) = arrays.new_array_row f code
-  of_instr (NewRefArray index) = arrays.new_ref_array_row s f index
-  of_instr (NewMulti index dimensions) = arrays.new_multi_row s f index dimensions
-  of_instr Length = arrays.length_row f
+  of_instr (NewArray code) = new_array_row f code
+  of_instr (NewRefArray index) = new_ref_array_row s f index
+  of_instr (NewMulti index dimensions) = new_multi_row s f index dimensions
+  of_instr Length = length_row f
   of_instr Throw = throw_row f
   of_instr (Cast index) = cast_row f (class_at s.class.pool index)
   of_instr (InstanceOf index) = plain f (initialised ∷ []) (types.Int ∷ [])

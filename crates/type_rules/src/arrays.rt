@@ -36,7 +36,7 @@ const IASTORE: u8 = 79;
 
 /// Pushes an element.
 pub(crate) fn load(step: &Step<'_>, opcode: u8) -> Result<Ruled, RuleFault>
-    ensures { RowRules step.now.rules.now step.now.before.now (rows.load_row step.now.before.now opcode) result }
+    ensures { RowRules step.now.rules.now step.now.before.now (rows.array_load_row step.now.before.now opcode) result }
 {
     match opcode.checked_sub(IALOAD) {
         Some(0) => load_from(step, b"[I", VType::Int),
@@ -53,7 +53,7 @@ pub(crate) fn load(step: &Step<'_>, opcode: u8) -> Result<Ruled, RuleFault>
 
 /// Pops a value into an element.
 pub(crate) fn store(step: &Step<'_>, opcode: u8) -> Result<Ruled, RuleFault>
-    ensures { RowRules step.now.rules.now step.now.before.now (rows.store_row step.now.before.now opcode) result }
+    ensures { RowRules step.now.rules.now step.now.before.now (rows.array_store_row step.now.before.now opcode) result }
 {
     match opcode.checked_sub(IASTORE) {
         Some(0) => store_into(step, b"[I", INT),
@@ -88,7 +88,7 @@ fn store_into(
 
 // Pops an array of references and an index, and pushes an element.
 fn load_reference(step: &Step<'_>) -> Result<Ruled, RuleFault>
-    ensures { RowRules step.now.rules.now step.now.before.now (rows.load_row step.now.before.now 50) result }
+    ensures { RowRules step.now.rules.now step.now.before.now (rows.array_load_row step.now.before.now 50) result }
 {
     let element = element(step)?;
     step.plain(&[Need::ArrayOfReferences, INT], Some(element))

@@ -65,10 +65,10 @@ fn type_of_const(alloc: Global, constant: &Const) -> Result<Option<VType>, NoMem
         Const::Float(_) => VType::Float,
         Const::Long(_) => VType::Long,
         Const::Double(_) => VType::Double,
-        Const::String(_) => VType::Object(Text::of_text(alloc, STRING)?),
-        Const::Class(_) => VType::Object(Text::of_text(alloc, CLASS)?),
-        Const::MethodHandle(..) => VType::Object(Text::of_text(alloc, METHOD_HANDLE)?),
-        Const::MethodType(_) => VType::Object(Text::of_text(alloc, METHOD_TYPE)?),
+        Const::String(_) => VType::Object(Text::of_plain(alloc, STRING)?),
+        Const::Class(_) => VType::Object(Text::of_plain(alloc, CLASS)?),
+        Const::MethodHandle(..) => VType::Object(Text::of_plain(alloc, METHOD_HANDLE)?),
+        Const::MethodType(_) => VType::Object(Text::of_plain(alloc, METHOD_TYPE)?),
         _ => return Ok(None),
     }))
 }

@@ -7,7 +7,7 @@ ghost use Rattle.class_tree.specs.Headers.{Classes};
 ghost use Rattle.type_rules.specs.Checks.{IsTypedAt};
 ghost use Rattle.type_rules.specs.Scope.{Scope, instructions, scope_at};
 ghost use Rattle.type_rules.specs.Typed.{IsFirstFailure, Typed, flows_into};
-ghost use Rattle.type_rules.specs.TypedFrames.{FolderFrames, frames_at};
+ghost use Rattle.type_rules.specs.TypedFrames.{FolderFrames, typed_frames_at};
 ghost use Rattle.type_rules.specs.Verified.{TypesFolder, TypesMethod};
 ghost use Rattle.type_rules.specs.declared.fault.TypeRule.{TypeRule};
 
@@ -24,7 +24,7 @@ pub fn a_failing_method_has_no_frames()
 
 /// A typed folder types each method by its numbers: one with code has frames that type it, and one without has none.
 pub fn a_typed_folder_types_each_method()
-    ensures { (classes : Classes) (typed : FolderFrames) → TypesFolder classes typed → (at : MethodAt) → TypesMethod (scope_at classes at) (frames_at typed at) }
+    ensures { (classes : Classes) (typed : FolderFrames) → TypesFolder classes typed → (at : MethodAt) → TypesMethod (scope_at classes at) (typed_frames_at typed at) }
 {}
 
 /// In a typed method each instruction is typed by its frame behind what flows into it, and nothing flows past the last.

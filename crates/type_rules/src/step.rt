@@ -5,7 +5,7 @@ ghost use Rattle.type_rules.specs.Meanings.{need_meant};
 ghost use Rattle.type_rules.specs.Operands.{under};
 ghost use Rattle.type_rules.specs.Rows.{plain, conditional, no_row};
 ghost use Rattle.type_rules.specs.Rule.{RowRules};
-ghost use Rattle.type_rules.specs.Steps.{Concludes, Ends, Holds, Takes, given, thrown};
+ghost use Rattle.type_rules.specs.Steps.{Concludes, Ends, Holds, TakesNeeds, given, thrown};
 
 use crate::fault::{RuleFault, TypeRule};
 use crate::method_rules::MethodRules;
@@ -28,7 +28,7 @@ impl Step<'_> {
     /// # Errors
     /// `Stack`.
     pub(crate) fn takes(&self, needs: &[Need<'_>]) -> Result<(), RuleFault>
-        ensures { Takes self.now.rules.now self.now.before.now (map need_meant needs.now) result }
+        ensures { TakesNeeds self.now.rules.now self.now.before.now (map need_meant needs.now) result }
     {
         let rules = self.rules;
         if all_fit(rules.tree, needs, self.before.stack.as_slice()) {

@@ -2,7 +2,7 @@
 ghost use Rattle.std.specs.Prelude.{◌≡◌, [], ◌∷◌, ◌++◌, OnOk, OnErr};
 ghost use Rattle.std.specs.Option.{option_copied, option_and_then};
 ghost use Rattle.std.specs.List.{slice_get};
-ghost use Rattle.type_rules.specs.TypedFrames.{frames_at};
+ghost use Rattle.type_rules.specs.TypedFrames.{typed_frames_at};
 
 use class_model::{Frame, ListOf, MethodAt, NoMemory};
 use std::alloc::Global;
@@ -50,7 +50,7 @@ impl TypedFolder {
     /// The frames of a method. Of frames that type a folder, None exactly where no method with code has these numbers
     /// (`a_typed_folder_types_each_method`).
     pub fn of(&self, at: MethodAt) -> Option<&TypedMethod>
-        ensures { option_copied result ≡ frames_at self.now at }
+        ensures { option_copied result ≡ typed_frames_at self.now at }
     {
         self.classes.get(at.class)?.get(at.method)?.as_ref()
     }

@@ -42,7 +42,7 @@ pub(crate) fn type_method(alloc: Global, rules: &MethodRules<'_>) -> Result<Type
 fn throwable_name(alloc: Global) -> Result<Text, NoMemory>
     ensures { IfOk result (λ name. name ≡ throwable) }
 {
-    Text::of_text(alloc, THROWABLE)
+    Text::of_plain(alloc, THROWABLE)
 }
 
 /// A method that is typed, the frames that its code states, and the name of all throwables. Contracts see the method.

@@ -3,7 +3,7 @@ use Rattle.std.proofs.Common.{◌≡◌, ◌≢◌, ◌≤◌, ℕ, true, false,
 use Rattle.std.proofs.lemmas.Slice.Eq.{bytes_eq-Decides}
 use Rattle.std.specs.Prelude.{IsTrue}
 use Rattle.class_model.specs.Checks.{AllHold}
-use Rattle.class_model.specs.ClassOf.{class_checks}
+use Rattle.class_model.specs.ClassOf.{class_file_checks}
 use Rattle.class_model.specs.Cutting as cutting
 use Rattle.class_model.specs.Descriptors as descriptors
 use Rattle.class_model.specs.Instructions as instructions
@@ -93,13 +93,13 @@ keep = codes "keep"
 keeper_plain : IsPlainClassName keeper_name
 keeper_plain = record { plain = refl; parts = refl; joined = refl }
 
-pub memberless_holds : (flags : ℕ) (name : Name) → IsPlainClassName name → IsTrue (fits_class flags) → AllHold (class_checks (raw (memberless flags name)))
+pub memberless_holds : (flags : ℕ) (name : Name) → IsPlainClassName name → IsTrue (fits_class flags) → AllHold (class_file_checks (raw (memberless flags name)))
 memberless_holds flags name plain fits =
     utf8 name plain ▸ refl ▸ reference_name name plain
     ▸ utf8 object object_name ▸ refl ▸ reference_name object object_name
     ▸ fits ▸ refl ▸ class_name name plain ▸ refl ▸ class_name object object_name ▸ tt
 
-pub thrown_holds : (super_name name : Name) → IsPlainClassName super_name → IsPlainClassName name → AllHold (class_checks (raw (thrown super_name name)))
+pub thrown_holds : (super_name name : Name) → IsPlainClassName super_name → IsPlainClassName name → AllHold (class_file_checks (raw (thrown super_name name)))
 unfolding cutting.many_at descriptors.types_before instructions.instrs_at instructions.instr_at
 thrown_holds super_name name super_plain plain =
     utf8 name plain ▸ refl ▸ reference_name name plain
@@ -116,7 +116,7 @@ thrown_holds super_name name super_plain plain =
     -- its instructions: jumps, and then operands
     ▸ refl ▸ refl ▸ refl ▸ omega arith ▸ inr (inr (inl refl, inl tt)) ▸ tt ▸ tt
 
-pub root_holds : AllHold (class_checks (raw root))
+pub root_holds : AllHold (class_file_checks (raw root))
 unfolding cutting.many_at descriptors.types_before instructions.instrs_at instructions.instr_at
 root_holds =
     text object refl ▸ refl ▸ reference_name object object_name
@@ -131,7 +131,7 @@ root_holds =
     -- finalize
     ▸ refl ▸ refl ▸ refl ▸ refl ▸ refl ▸ (method_name finalize refl refl, λ _ _. is_void) ▸ refl ▸ void_of 0x0104 (omega arith) ▸ tt
 
-pub keeper_holds : AllHold (class_checks (raw keeper))
+pub keeper_holds : AllHold (class_file_checks (raw keeper))
 unfolding cutting.many_at descriptors.types_before instructions.instrs_at instructions.instr_at
 keeper_holds =
     text keeper_name refl ▸ refl ▸ reference_name keeper_name keeper_plain

@@ -2,9 +2,9 @@
 use Rattle.std.proofs.Common.{◌≡◌, ℕ, true, List, [], ◌∷◌, map, Ok, refl, codes}
 use Rattle.std.specs.Prelude.{IsTrue}
 use Rattle.std.specs.List.{AllByRecursion, join_with_byte}
-use Rattle.class_model.specs.ClassOf.{ClassOf, start}
+use Rattle.class_model.specs.ClassOf.{ClassOf}
 use Rattle.class_model.specs.Cutting as cutting
-use Rattle.class_model.specs.Cutting.{version_at, class_at}
+use Rattle.class_model.specs.Cutting.{version_at, class_file_at, uncut}
 use Rattle.class_model.specs.Instructions as instructions
 use Rattle.class_model.specs.Members.{fits_class}
 use Rattle.class_model.specs.Spelling.{class_bytes}
@@ -20,7 +20,7 @@ use Rattle.work_gen.specs.Values.{memberless, thrown, thrown_code, root, root_co
 known : {name : Name} → is_plain_text name ≡ true → are_parts (parts_of name) ≡ true → name ≡ join_with_byte 47 (parts_of name) → IsPlainClassName name
 known plain parts joined = record { plain = plain; parts = parts; joined = joined }
 
-read_back : {c : ClassFile} → version_at (start (class_bytes c)) ≡ Ok (version, behind_version c) → class_at version (behind_version c) ≡ Ok (raw c) → IsReadBack c
+read_back : {c : ClassFile} → version_at (uncut (class_bytes c)) ≡ Ok (version, behind_version c) → class_file_at version (behind_version c) ≡ Ok (raw c) → IsReadBack c
 read_back head cut = record { head = head; cut = cut }
 
 -- ---- classes without members

@@ -1,8 +1,8 @@
 -- A class file that is read back from its bytes and whose checks hold.
 use Rattle.std.proofs.Common.{◌≡◌, Ok, inr, refl, map, drop}
 use Rattle.class_model.specs.Checks.{AllHold}
-use Rattle.class_model.specs.ClassOf.{start, ClassOf, class_checks, entered}
-use Rattle.class_model.specs.Cutting.{Rest, Version, version_at, class_at}
+use Rattle.class_model.specs.ClassOf.{ClassOf, class_file_checks, entered}
+use Rattle.class_model.specs.Cutting.{Rest, Version, version_at, class_file_at, uncut}
 use Rattle.class_model.specs.Spelling.{class_bytes, code_part_bytes}
 use Rattle.class_model.specs.declared.class_file.Attr.{Attr}
 use Rattle.class_model.specs.declared.class_file.Attr.TheVariants.{Raw, Code}
@@ -29,10 +29,10 @@ raw c = record c { methods = map raw_method c.methods }
 
 -- The bytes are cut into the class: at a class that is known both compute.
 pub record IsReadBack (c : ClassFile) : Type 0 where
-  pub head : version_at (start (class_bytes c)) ≡ Ok (version, behind_version c)
-  pub cut : class_at version (behind_version c) ≡ Ok (raw c)
+  pub head : version_at (uncut (class_bytes c)) ≡ Ok (version, behind_version c)
+  pub cut : class_file_at version (behind_version c) ≡ Ok (raw c)
 
-pub class_file : (c : ClassFile) → IsReadBack c → AllHold (class_checks (raw c)) → c ≡ entered (raw c) → ClassOf (class_bytes c) c
+pub class_file : (c : ClassFile) → IsReadBack c → AllHold (class_file_checks (raw c)) → c ≡ entered (raw c) → ClassOf (class_bytes c) c
 class_file c read holds is = record {
   version = version;
   rest = behind_version c;

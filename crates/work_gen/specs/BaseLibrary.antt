@@ -36,12 +36,12 @@ takes_object = codes "(Ljava/lang/Object;)V"
 abbrev pub gives_object : List ℕ
 gives_object = codes "()Ljava/lang/Object;"
 
-abbrev method : ℕ → List ℕ → List ℕ → Member
-method flags name desc = record { flags = flags; name = name; desc = desc }
+abbrev member : ℕ → List ℕ → List ℕ → Member
+member flags name desc = record { flags = flags; name = name; desc = desc }
 
 -- a public constructor without parameters
 abbrev constructor : Member
-constructor = method 0x0001 init no_parameters
+constructor = member 0x0001 init no_parameters
 
 -- Flags, superclass and methods: no class of the library has an interface or a field.
 abbrev class : Name → ℕ → Option Name → List Member → Header
@@ -60,29 +60,29 @@ final name = class name 0x0031 (Some object) []
 abbrev plain : Name → Header
 plain name = class name 0x0021 (Some object) []
 
-abbrev thrown : Name → Name → Header
-thrown super_name name = class name 0x0021 (Some super_name) (constructor ∷ [])
+abbrev thrown_header : Name → Name → Header
+thrown_header super_name name = class name 0x0021 (Some super_name) (constructor ∷ [])
 
 -- clone and finalize are protected and native
-abbrev root : Header
-root = class object 0x0021 None (constructor ∷ method 0x0104 (codes "clone") gives_object ∷ method 0x0104 (codes "finalize") no_parameters ∷ [])
+abbrev root_header : Header
+root_header = class object 0x0021 None (constructor ∷ member 0x0104 (codes "clone") gives_object ∷ member 0x0104 (codes "finalize") no_parameters ∷ [])
 
 -- use and keep are public, static and native
-abbrev keeper : Header
-keeper = class (codes "L") 0x0021 (Some object) (method 0x0109 (codes "use") takes_object ∷ method 0x0109 (codes "keep") takes_object ∷ [])
+abbrev keeper_header : Header
+keeper_header = class (codes "L") 0x0021 (Some object) (member 0x0109 (codes "use") takes_object ∷ member 0x0109 (codes "keep") takes_object ∷ [])
 
 abbrev pub base_headers : List Header
 base_headers =
-    root
+    root_header
     ∷ interface cloneable
     ∷ interface serializable
     ∷ final (codes "java/lang/String")
     ∷ final (codes "java/lang/Class")
     ∷ plain method_handle
     ∷ plain method_type
-    ∷ keeper
-    ∷ thrown object throwable
-    ∷ map (thrown throwable) machine_throwables
+    ∷ keeper_header
+    ∷ thrown_header object throwable
+    ∷ map (thrown_header throwable) machine_throwables
 
 -- ---- the code of constructors
 

@@ -1,6 +1,6 @@
 use Rattle.std.proofs.Common.{◌≡◌, ◌∙◌, ℕ, ap}
 use Rattle.std.proofs.lemmas.Result.{err_from_is_err_and}
-use Rattle.class_model.specs.ClassOf.{dynamic_checks}
+use Rattle.class_model.specs.ClassOf.{bootstrap_index_checks}
 use Rattle.class_model.specs.Methods.{bootstrap_count}
 use Rattle.class_model.specs.Pool.{Constants}
 use Rattle.class_bytes.specs.Cut.{class_of}
@@ -31,11 +31,11 @@ returns-in_err-check_dynamics c =
     let class = class_of c.args.raw.now c.args.body.now in
     let p = err_from_is_err_and c.from_residual-in_err-check_dynamics.result c.from_residual-in_err-check_dynamics.ensures.1 in
     let behind = rw (c.in_ok-pool.ensures, c.requires.place) at c.in_ok-bootstraps.ensures in
-    let same = ap (λ (n : ℕ). dynamic_checks n 10 class.pool) behind.1 in
+    let same = ap (λ (n : ℕ). bootstrap_index_checks n 10 class.pool) behind.1 in
     let Is = λ (done : Unit {0}). Unit {0} in
     let Other = λ (pool : Constants). pool ≡ c.args.raw.now in
     let e = c.in_err-check_dynamics.field-0.0 in
-    rw (p.1, p.2) (dynamics_stop class c.in_ok-check.ensures.told.0 behind.0 Is Other e (same_fault (dynamic_checks c.in_ok-bootstraps.bootstraps 10 class.pool) _ Is Is e same c.in_err-check_dynamics.ensures))
+    rw (p.1, p.2) (dynamics_stop class c.in_ok-check.ensures.told.0 behind.0 Is Other e (same_fault (bootstrap_index_checks c.in_ok-bootstraps.bootstraps 10 class.pool) _ Is Is e same c.in_err-check_dynamics.ensures))
 
 pub returns : goal.returns
 returns c =

@@ -1,11 +1,10 @@
 use Rattle.std.proofs.Common.{◌≡◌, ◌+◌, ◌≤◌, ◌∙◌, ℕ, length, true, Ok, Err, ap, sym, subst, arith}
 use Rattle.std.proofs.lemmas.Result.{err_from_is_err_and}
 use Rattle.class_model.specs.Answers.{Takes, Tells}
-use Rattle.class_model.specs.ClassOf.{start}
-use Rattle.class_model.specs.Cutting.{Rest, Version, version_at}
+use Rattle.class_model.specs.Cutting.{Rest, Version, version_at, uncut}
 use Rattle.class_model.specs.declared.header.Header.{Header}
 use Rattle.class_bytes.specs.Cut.{version_of}
-use Rattle.class_bytes.specs.HeaderParts.{header_len, header_checks, header_of}
+use Rattle.class_bytes.specs.HeaderParts.{header_len, cut_header_checks, header_in}
 use Rattle.class_bytes.proofs.CutBytes.{are_bytes, version_left}
 use Rattle.class_bytes.proofs.HeaderFiles.{flags_place, head_refused, pool_refused, body_refused, of, is_cut, within, text_refused, told}
 use Rattle.class_bytes.proofs.HeaderSame.{flags_at}
@@ -20,7 +19,7 @@ returns-in_err-version c =
     let cut = subst (λ (rest : Rest). Takes {X = Version} (version_at rest) c.cut_version.new.cursor (Err c.in_err-version.field-0.0)) c.new-cursor.ensures c.in_err-version.ensures in
     rw (p.1, p.2) (head_refused c.args.bytes.now c.cut_version.new.cursor c.in_err-version.field-0.0 cut)
 
-begins : (c : In_ok-version) → version_at (start c.args.bytes.now) ≡ Ok (version_of c.in_ok-version.version, c.cut_version.new.cursor)
+begins : (c : In_ok-version) → version_at (uncut c.args.bytes.now) ≡ Ok (version_of c.in_ok-version.version, c.cut_version.new.cursor)
 begins c = ap version_at (sym c.new-cursor.ensures) ∙ c.in_ok-version.ensures
 
 pub returns-then-not-is_library_version : goal.returns-then-not-is_library_version
@@ -85,6 +84,6 @@ returns c =
     let place = (stands at.After-a_cut_class_is_spelled).0 in
     let head = c.in_ok-head.head in
     let pool = c.in_ok-raw.raw in
-    let asked = λ (n : ℕ). Tells (header_checks pool n head) (λ (header : Header). header ≡ header_of pool head) c.own_header.result in
+    let asked = λ (n : ℕ). Tells (cut_header_checks pool n head) (λ (header : Header). header ≡ header_in pool head) c.own_header.result in
     told c.args.bytes.now (version_of c.in_ok-version.version) c.cut_version.new.cursor (begins at.In_ok-version) (c.is_library_version.ensures.0 c.if-not-is_library_version.false) pool c.cut_pool.new.cursor c.in_ok-raw.ensures
     head c.in_ok-head.ensures c.in_ok-check_texts.ensures.told.0 c.own_header.result (subst asked place c.own_header.ensures)

@@ -1,8 +1,8 @@
 use Rattle.std.proofs.Common.{◌≡◌, ◌∙◌, length, true, Ok, Err, ap, sym, subst, arith}
 use Rattle.std.proofs.lemmas.Result.{err_from_is_err_and}
 use Rattle.class_model.specs.Answers.{Takes}
-use Rattle.class_model.specs.ClassOf.{start, entered}
-use Rattle.class_model.specs.Cutting.{IsBytes, Rest, Version, version_at}
+use Rattle.class_model.specs.ClassOf.{entered}
+use Rattle.class_model.specs.Cutting.{IsBytes, Rest, Version, version_at, uncut}
 use Rattle.class_model.specs.Pool.{Constants}
 use Rattle.class_model.specs.Spelling.{pool_bytes}
 use Rattle.class_bytes.specs.Counts.{FitsCounts}
@@ -19,7 +19,7 @@ returns-in_err-version-clause-told c =
     let cut = subst (λ (rest : Rest). Takes {X = Version} (version_at rest) c.cut_version.new.cursor (Err c.in_err-version.field-0.0)) c.new-cursor.ensures c.in_err-version.ensures in
     rw (p.1, p.2) (head_refused c.args.bytes.now c.cut_version.new.cursor c.in_err-version.field-0.0 cut)
 
-head : (c : In_ok-version) → version_at (start c.args.bytes.now) ≡ Ok (version_of c.in_ok-version.version, c.cut_version.new.cursor)
+head : (c : In_ok-version) → version_at (uncut c.args.bytes.now) ≡ Ok (version_of c.in_ok-version.version, c.cut_version.new.cursor)
 head c = ap version_at (sym c.new-cursor.ensures) ∙ c.in_ok-version.ensures
 
 pub returns-then-not-is_read-clause-told : goal.returns-then-not-is_read-clause-told

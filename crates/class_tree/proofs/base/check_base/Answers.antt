@@ -5,7 +5,6 @@ use Rattle.class_tree.specs.Steps.{is_method_handle, is_method_type}
 use Rattle.class_tree.proofs.BaseChecks as parts
 use Rattle.class_tree.proofs.LibraryNames.{in_library_is_there}
 use Rattle.class_tree.proofs.LinkChecks.{refused, answered}
-use Rattle.class_tree.proofs.PlainTexts.{plain_text}
 use Rattle.class_tree.proofs.base.check_base.Goals as goal
 
 pub returns-in_err-check_names : goal.returns-in_err-check_names
@@ -44,9 +43,6 @@ returns-in_err-check_interfaces c =
     let left = parts.at_interfaces headers folder c.requires.folder c.in_ok-check_names.ensures c.in_ok-check_object.ensures c.in_ok-check_throwables.ensures in
     rw (p.1, p.2) (refused (parts.interfaces_checks headers) (parts.from_handles headers folder) _ left c.in_err-check_interfaces.ensures)
 
-pub check_need-requires-clause-text : goal.check_need-requires-clause-text
-check_need-requires-clause-text c = plain_text method_handle refl
-
 pub returns-in_err-check_need : goal.returns-in_err-check_need
 returns-in_err-check_need c =
     let p = err_from_is_err_and c.from_residual-in_err-check_need.result c.from_residual-in_err-check_need.ensures.1 in
@@ -55,9 +51,6 @@ returns-in_err-check_need c =
     let told = parts.need_told headers folder is_method_handle method_handle c.needs_of-constants.result.method_handle (Err c.in_err-check_need.field-0.0) c.needs_of-constants.ensures.method_handle c.in_err-check_need.ensures in
     let left = parts.at_handles headers folder c.requires.folder c.in_ok-check_names.ensures c.in_ok-check_object.ensures c.in_ok-check_throwables.ensures c.in_ok-check_interfaces.ensures in
     rw (p.1, p.2) (refused (parts.handle_checks headers folder) (parts.type_checks headers folder) _ left told)
-
-pub check_need-requires-2-clause-text : goal.check_need-requires-2-clause-text
-check_need-requires-2-clause-text c = plain_text method_type refl
 
 pub returns : goal.returns
 returns c =

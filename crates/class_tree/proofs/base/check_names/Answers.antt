@@ -1,12 +1,13 @@
 use Rattle.std.proofs.Common.{◌≡◌, true, List, refl, sym, ap, subst, ◌∙◌}
 use Rattle.std.specs.List.{list_all}
 use Rattle.std.proofs.lemmas.Result.{err_from_is_err_and}
+use Rattle.class_model.specs.ModifiedUtf8.{is_plain_text}
 use Rattle.class_tree.specs.Headers.{Name}
 use Rattle.class_tree.specs.Names.{base_names}
 use Rattle.class_tree.specs.Problems.{asked_each}
 use Rattle.class_tree.proofs.BaseChecks.{library_check}
 use Rattle.class_tree.proofs.LinkChecks.{Remain, all_remain, asked_at, asked_all, passes, fails}
-use Rattle.class_tree.proofs.PlainTexts.{is_plain_text, text_at}
+use Rattle.class_tree.proofs.PlainNames.{plain_at}
 use Rattle.class_tree.proofs.base.check_names.Goals as goal
 
 pub loop-name-init : goal.loop-name-init
@@ -17,7 +18,7 @@ loop-name-init c =
 pub ask_named-requires : goal.ask_named-requires
 ask_named-requires c =
     let plain : list_all is_plain_text base_names ≡ true = refl in
-    text_at (λ name. name.now) c.base_names-name-items.result.now c.loop-name.name-index _ (ap (list_all is_plain_text) c.base_names-name-items.ensures ∙ plain) c.loop-name-test.true
+    plain_at (λ name. name.now) c.base_names-name-items.result.now c.loop-name.name-index _ (ap (list_all is_plain_text) c.base_names-name-items.ensures ∙ plain) c.loop-name-test.true
 
 pub returns-in_err-ask_named : goal.returns-in_err-ask_named
 returns-in_err-ask_named c =

@@ -3,13 +3,14 @@ use Rattle.std.specs.List.{list_all}
 use Rattle.std.specs.Option.{is_some}
 use Rattle.std.proofs.lemmas.Bool.{false≢true}
 use Rattle.std.proofs.lemmas.Result.{err_from_is_err_and}
+use Rattle.class_model.specs.ModifiedUtf8.{is_plain_text}
 use Rattle.class_tree.specs.Headers.{Name}
 use Rattle.class_tree.specs.Names.{throwable, machine_throwables}
 use Rattle.class_tree.specs.Problems.{asked_each}
 use Rattle.class_tree.proofs.BaseChecks.{throwable_check}
 use Rattle.class_tree.proofs.LinkChecks.{Remain, all_remain, asked_at, asked_all, passes, fails}
 use Rattle.class_tree.proofs.Places.{class_of_no_number}
-use Rattle.class_tree.proofs.PlainTexts.{is_plain_text, text_at}
+use Rattle.class_tree.proofs.PlainNames.{plain_at}
 use Rattle.class_tree.proofs.base.check_throwables.Goals as goal
 
 pub unreachable-requires : goal.unreachable-requires
@@ -24,7 +25,7 @@ loop-name-init c =
 pub ask_named-requires : goal.ask_named-requires
 ask_named-requires c =
     let plain : list_all is_plain_text machine_throwables ≡ true = refl in
-    text_at (λ name. name.now) c.machine_throwables-name-items.result.now c.loop-name.name-index _ (ap (list_all is_plain_text) c.machine_throwables-name-items.ensures ∙ plain) c.loop-name-test.true
+    plain_at (λ name. name.now) c.machine_throwables-name-items.result.now c.loop-name.name-index _ (ap (list_all is_plain_text) c.machine_throwables-name-items.ensures ∙ plain) c.loop-name-test.true
 
 pub returns-in_err-ask_named : goal.returns-in_err-ask_named
 returns-in_err-ask_named c =

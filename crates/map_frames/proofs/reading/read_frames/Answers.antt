@@ -2,7 +2,7 @@
 use Rattle.std.proofs.Common.{◌≡◌, ap, sym, ◌∙◌, List, Result}
 use Rattle.std.proofs.lemmas.Result.{err_from_is_err_and}
 use Rattle.class_model.specs.Checks.{Fault}
-use Rattle.class_model.specs.Frames.{Setting, table_at}
+use Rattle.class_model.specs.Frames.{Setting, stack_map_table_at}
 use Rattle.class_model.specs.declared.frame.PlacedFrame.{PlacedFrame}
 use Rattle.class_model.specs.declared.instr.Placed.{Placed}
 use Rattle.map_frames.specs.Settings.{standing_of}
@@ -21,7 +21,7 @@ abbrev setting : In_ok-count → List Placed → Setting
 setting c code = record { pool = c.args.pool.now; max_locals = c.args.max_locals; max_stack = c.args.max_stack; code = code }
 
 abbrev table : In_ok-count → List Placed → Result (List PlacedFrame) Fault
-table c code = table_at (setting c code) c.args.entry.now c.args.bytes.now
+table c code = stack_map_table_at (setting c code) c.args.entry.now c.args.bytes.now
 
 same_table : (c : In_ok-count) → table c c.args.code.now ≡ table c c.new-code.result
 same_table c = ap (table c) (sym (c.new-code.ensures ∙ c.as_slice.ensures))

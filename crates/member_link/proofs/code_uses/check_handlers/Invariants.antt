@@ -1,7 +1,7 @@
-use Rattle.member_link.specs.Resolving.{scope_of}
-use Rattle.member_link.specs.Uses.{handler_checks}
+use Rattle.member_link.specs.Resolving.{resolved_scope}
+use Rattle.member_link.specs.Uses.{handler_use_checks}
 use Rattle.member_link.proofs.EachUse.{UsedBelow}
 use Rattle.member_link.proofs.code_uses.check_handlers.Given as goal
 
 abbrev pub invariant-loop-handler : goal.invariant-loop-handler
-invariant-loop-handler l = UsedBelow (λ resolver handler. handler_checks (scope_of resolver l.member) handler) l.handlers l.initial.resolver l.resolver l.handler-index
+invariant-loop-handler l = UsedBelow (λ resolver handler. handler_use_checks (resolved_scope resolver l.member) handler) l.handlers l.initial.resolver l.resolver l.handler-index

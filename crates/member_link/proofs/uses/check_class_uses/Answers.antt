@@ -7,7 +7,7 @@ use Rattle.std.specs.Slice.Iter.{iter_rest}
 use Rattle.class_model.specs.declared.header.Header.{Header}
 use Rattle.class_tree.specs.Answers.{Answers}
 use Rattle.class_tree.specs.Headers.{headers_of}
-use Rattle.member_link.specs.Uses.{methods_checks}
+use Rattle.member_link.specs.Uses.{methods_use_checks}
 use Rattle.member_link.proofs.MethodUses.{MethodsBelow, MethodAt, no_method_below, method_below, method_refused}
 use Rattle.member_link.proofs.uses.check_class_uses.Goals as goal
 use Rattle.member_link.proofs.uses.check_class_uses.Goals.{In-Some}
@@ -35,6 +35,6 @@ pub returns-in_err-check_method : goal.returns-in_err-check_method
 returns-in_err-check_method c =
     let p = err_from_is_err_and c.from_residual-in_err-check_method.result c.from_residual-in_err-check_method.ensures.1 in
     let headers = headers_of c.args.tree.now in
-    rw (p.1, p.2) (subst (λ (header : Header). Answers {X = Unit {0}} (methods_checks headers c.args.class.now header c.args.class.now.methods header.methods) (Err c.in_err-check_method.field-0.0)) c.requires.header
+    rw (p.1, p.2) (subst (λ (header : Header). Answers {X = Unit {0}} (methods_use_checks headers c.args.class.now header c.args.class.now.methods header.methods) (Err c.in_err-check_method.field-0.0)) c.requires.header
     (method_refused headers c.args.class.now c.args.header.now c.loop-method.resolver (length c.loop-method.yielded) c.in-Some.method.now c.in-Some.member.now c.loop-method.invariant (method_at (goal.at.returns-in_err-check_method c).In-Some)
     _ c.in_err-check_method.ensures.told))

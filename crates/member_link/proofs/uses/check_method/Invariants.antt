@@ -1,8 +1,8 @@
-use Rattle.member_link.specs.Resolving.{scope_of}
+use Rattle.member_link.specs.Resolving.{resolved_scope}
 use Rattle.member_link.specs.Uses.{attr_checks}
 use Rattle.code_bytes.specs.Codes.{home_of}
 use Rattle.member_link.proofs.EachUse.{UsedBelow}
 use Rattle.member_link.proofs.uses.check_method.Given as goal
 
 abbrev pub invariant-loop-attr : goal.invariant-loop-attr
-invariant-loop-attr l = UsedBelow (λ resolver attr. attr_checks (scope_of resolver l.member) (home_of l.class) l.method attr) l.attr-items l.initial.resolver l.resolver l.attr-index
+invariant-loop-attr l = UsedBelow (λ resolver attr. attr_checks (resolved_scope resolver l.member) (home_of l.class) l.method attr) l.attr-items l.initial.resolver l.resolver l.attr-index

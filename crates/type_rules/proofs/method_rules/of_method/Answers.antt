@@ -3,7 +3,7 @@ use Rattle.class_model.specs.Checks.{AllHold}
 use Rattle.class_model.specs.Instructions.{decoded}
 use Rattle.class_model.specs.declared.instr.Placed.{Placed}
 use Rattle.class_tree.specs.Headers.{headers_of}
-use Rattle.code_bytes.specs.Decoding.{code_checks}
+use Rattle.code_bytes.specs.Decoding.{decoding_checks}
 use Rattle.type_rules.specs.Offsets.{IsIndexOf}
 use Rattle.type_rules.specs.Scope.{Scope, code_of}
 use Rattle.type_rules.proofs.FittingPools.{code_has_operands, instrs_fit}
@@ -12,7 +12,7 @@ use Rattle.type_rules.proofs.method_rules.of_method.Goals as goal
 
 pub instructions_of-requires : goal.instructions_of-requires
 instructions_of-requires c =
-    subst (λ (code : List ℕ). AllHold (code_checks code)) (sym c.as_slice-2.ensures)
+    subst (λ (code : List ℕ). AllHold (decoding_checks code)) (sym c.as_slice-2.ensures)
     (code_has_instrs c.args.method.now.attrs c.in-Some.part.now c.requires.read.codes (sym (c.in-Some.ensures ∙ ap code_of c.as_slice.ensures)))
 
 pub invariant_of-result : goal.invariant_of-result
