@@ -51,10 +51,3 @@ pub use names::{
 };
 pub use pool::{Const, Pool};
 pub use text::{Text, TextFault, is_modified_utf8};
-
-#[cfg(test)]
-mod descriptor_tests;
-#[cfg(test)]
-mod local_types_tests;
-#[cfg(test)]
-mod tests;

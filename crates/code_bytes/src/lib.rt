@@ -24,8 +24,3 @@ pub use encoding::{code_len, encode_one};
 pub use entry::{entry_frame, entry_locals, is_text, verification_type};
 pub use laws::{a_class_file_has_read_methods, one_chosen_spelling};
 pub use starts::Starts;
-
-#[cfg(test)]
-mod decoding_tests;
-#[cfg(test)]
-mod encoding_tests;

@@ -9,8 +9,6 @@ mod host;
 mod memory;
 mod real;
 mod stream;
-#[cfg(test)]
-mod tests;
 mod tree;
 mod walk;
 

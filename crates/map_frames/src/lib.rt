@@ -18,8 +18,3 @@ mod writing;
 pub use laws::one_written_table;
 pub use reading::{check_frames, read_frames};
 pub use writing::{IndexOfText, NamedIndex, frame_bytes};
-
-#[cfg(test)]
-mod reading_tests;
-#[cfg(test)]
-mod writing_tests;

@@ -15,6 +15,3 @@ pub use cutting::cut_pool;
 pub use raw::RawPool;
 pub use reading::read_pool;
 pub use writing::{push_pool, write_pool};
-
-#[cfg(test)]
-mod tests;

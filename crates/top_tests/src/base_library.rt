@@ -92,3 +92,10 @@ fn is_small_code(part: &CodePart) -> bool
 {
     part.code.len() < 100 && part.handlers.is_empty() && part.attrs.is_empty()
 }
+
+#[test]
+fn a_library_of_nineteen_classes(rt: HostRuntime) -> Result<(), Fail> {
+    let classes = base_library(rt.alloc())?;
+    assert_eq!(rt; classes.len(), 19);
+    Ok(())
+}

@@ -7,6 +7,3 @@ mod flags;
 mod parts;
 
 pub use base::base_library;
-
-#[cfg(test)]
-mod tests;

@@ -1,25 +1,24 @@
 ghost use Rattle.std.specs.Prelude.{◌<◌};
 ghost use Rattle.code_bytes.specs.Encoding.{HasSpelling};
 
-use super::*;
 use class_model::{Imm, Instr, Kind, ListOf, Pair};
+use code_bytes::{code_len, encode_one};
 use std::process::Abort;
 
 // The instruction at this offset is written as these bytes, and counted as they are.
-fn written<R: Abort + AllocGlobal>(rt: &R, instr: Instr, at: u32, bytes: &[u8])
+fn written(rt: &(impl Abort + AllocGlobal), instr: Instr, at: u32, bytes: &[u8])
     requires { HasSpelling at instr }
 {
     let out = encode_one(rt.alloc(), &instr, at).expect(rt, "memory");
-    assert_eq!(rt; out.as_slice(), bytes, "{instr:?} at {at}");
-    assert_eq!(rt;
-        code_len(&instr, at) as usize,
-        bytes.len(),
+    assert!(rt; out.as_slice() == bytes, "{instr:?} at {at}");
+    assert!(rt;
+        code_len(&instr, at) as usize == bytes.len(),
         "{instr:?} at {at}"
     );
 }
 
 // A tableswitch of the keys -1 and 0, with the targets 40, 50 and 0.
-fn table_written<R: Abort + AllocGlobal>(rt: &R, at: u32, bytes: &[u8])
+fn table_written(rt: &(impl Abort + AllocGlobal), at: u32, bytes: &[u8])
     requires { at < 100 }
 {
     let targets = Vec::from_slice(rt.alloc(), &[50, 0]).expect(rt, "memory");
@@ -32,7 +31,7 @@ fn table_written<R: Abort + AllocGlobal>(rt: &R, at: u32, bytes: &[u8])
 }
 
 // A lookupswitch of the keys -5 and 7, with the targets 40, 50 and 0.
-fn lookup_written<R: Abort + AllocGlobal>(rt: &R, at: u32, bytes: &[u8])
+fn lookup_written(rt: &(impl Abort + AllocGlobal), at: u32, bytes: &[u8])
     requires { at < 100 }
 {
     let pairs = [Pair { key: -5, to: 50 }, Pair { key: 7, to: 0 }];
@@ -105,48 +104,87 @@ fn jumps(rt: HostRuntime) {
     written(&rt, Instr::Goto(1), 32_770, &[0xC8, 0xFF, 0xFF, 0x7F, 0xFF]);
 }
 
-#[test]
-fn switches(rt: HostRuntime) {
-    let table: [&[u8]; 4] = [
+// An offset, and the bytes of a switch there.
+type Switch = (u32, &'static [u8]);
+
+const TABLES: [Switch; 4] = [
+    (
+        0,
         &[
             0xAA, 0, 0, 0, 0, 0, 0, 40, 0xFF, 0xFF, 0xFF, 0xFF, 0, 0, 0, 0, 0, 0, 0, 50, 0, 0, 0, 0,
         ],
+    ),
+    (
+        1,
         &[
             0xAA, 0, 0, 0, 0, 0, 39, 0xFF, 0xFF, 0xFF, 0xFF, 0, 0, 0, 0, 0, 0, 0, 49, 0xFF, 0xFF,
             0xFF, 0xFF,
         ],
+    ),
+    (
+        2,
         &[
             0xAA, 0, 0, 0, 0, 38, 0xFF, 0xFF, 0xFF, 0xFF, 0, 0, 0, 0, 0, 0, 0, 48, 0xFF, 0xFF,
             0xFF, 0xFE,
         ],
+    ),
+    (
+        3,
         &[
             0xAA, 0, 0, 0, 37, 0xFF, 0xFF, 0xFF, 0xFF, 0, 0, 0, 0, 0, 0, 0, 47, 0xFF, 0xFF, 0xFF,
             0xFD,
         ],
-    ];
-    for at in 0..4 {
-        table_written(&rt, at, table[at as usize]);
-    }
-    let table: [&[u8]; 4] = [
+    ),
+];
+
+const LOOKUPS: [Switch; 4] = [
+    (
+        0,
         &[
             0xAB, 0, 0, 0, 0, 0, 0, 40, 0, 0, 0, 2, 0xFF, 0xFF, 0xFF, 0xFB, 0, 0, 0, 50, 0, 0, 0,
             7, 0, 0, 0, 0,
         ],
+    ),
+    (
+        1,
         &[
             0xAB, 0, 0, 0, 0, 0, 39, 0, 0, 0, 2, 0xFF, 0xFF, 0xFF, 0xFB, 0, 0, 0, 49, 0, 0, 0, 7,
             0xFF, 0xFF, 0xFF, 0xFF,
         ],
+    ),
+    (
+        2,
         &[
             0xAB, 0, 0, 0, 0, 38, 0, 0, 0, 2, 0xFF, 0xFF, 0xFF, 0xFB, 0, 0, 0, 48, 0, 0, 0, 7,
             0xFF, 0xFF, 0xFF, 0xFE,
         ],
+    ),
+    (
+        3,
         &[
             0xAB, 0, 0, 0, 37, 0, 0, 0, 2, 0xFF, 0xFF, 0xFF, 0xFB, 0, 0, 0, 47, 0, 0, 0, 7, 0xFF,
             0xFF, 0xFF, 0xFD,
         ],
-    ];
-    for at in 0..4 {
-        lookup_written(&rt, at, table[at as usize]);
+    ),
+];
+
+#[test]
+fn switches(rt: HostRuntime) {
+    tables_written(&rt, &TABLES);
+    lookups_written(&rt, &LOOKUPS);
+}
+
+fn tables_written(rt: &(impl Abort + AllocGlobal), rows: &[Switch]) {
+    for (at, bytes) in rows {
+        assert!(rt; *at < 100);
+        table_written(rt, *at, bytes);
+    }
+}
+
+fn lookups_written(rt: &(impl Abort + AllocGlobal), rows: &[Switch]) {
+    for (at, bytes) in rows {
+        assert!(rt; *at < 100);
+        lookup_written(rt, *at, bytes);
     }
 }
 

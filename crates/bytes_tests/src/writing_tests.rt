@@ -3,11 +3,12 @@ ghost use Rattle.std.specs.List.{AllByRecursion};
 ghost use Rattle.std.specs.Option.{is_some};
 ghost use Rattle.map_frames.specs.Writing.{index_of, is_by_unit, FitsType, FitsFrame, PlacesIncrease, FitsTable};
 
-use super::*;
 use class_model::{
     ByteList, Frame, ListOf, LocalTypeList, PlacedFrame, PlacedFrameList, Text, VType, VTypeList,
 };
+use map_frames::{IndexOfText, NamedIndex, frame_bytes};
 use std::alloc::Global;
+use std::process::Abort;
 use std::test::Fail;
 
 // ---- whether a table can be written
@@ -171,104 +172,110 @@ fn bytes_of(alloc: Global, entry: &[u8], rows: &[Row]) -> Result<Option<ByteList
     Ok(Some(frame_bytes(alloc, &entry, &frames, &classes)?))
 }
 
-// An entry frame's locals, the frames, and the bytes.
-type Case<'a> = (&'a [u8], &'a [Row<'a>], &'a [u8]);
+// The letters of the entry frame's locals, the place of a frame, those of its locals and its stack, and the table.
+type Single = (
+    &'static [u8],
+    u32,
+    &'static [u8],
+    &'static [u8],
+    &'static [u8],
+);
 
 // Tables of one frame.
-const SINGLE: [Case<'static>; 24] = [
-    (b"I", &[(0, b"I", b"")], &[0, 1, 0]),
-    (b"I", &[(63, b"IT", b"")], &[0, 1, 63]),
-    (b"I", &[(64, b"I", b"")], &[0, 1, 251, 0, 64]),
-    (b"", &[(65_535, b"", b"")], &[0, 1, 251, 255, 255]),
+const SINGLE: [Single; 24] = [
+    (b"I", 0, b"I", b"", &[0, 1, 0]),
+    (b"I", 63, b"IT", b"", &[0, 1, 63]),
+    (b"I", 64, b"I", b"", &[0, 1, 251, 0, 64]),
+    (b"", 65_535, b"", b"", &[0, 1, 251, 255, 255]),
     // one item
-    (b"I", &[(63, b"I", b"F")], &[0, 1, 127, 2]),
-    (b"I", &[(64, b"I", b"J")], &[0, 1, 247, 0, 64, 4]),
-    (b"", &[(1, b"", b"B")], &[0, 1, 65, 7, 1, 2]),
-    (b"", &[(1, b"", b"n")], &[0, 1, 65, 8, 3, 4]),
+    (b"I", 63, b"I", b"F", &[0, 1, 127, 2]),
+    (b"I", 64, b"I", b"J", &[0, 1, 247, 0, 64, 4]),
+    (b"", 1, b"", b"B", &[0, 1, 65, 7, 1, 2]),
+    (b"", 1, b"", b"n", &[0, 1, 65, 8, 3, 4]),
     // fewer locals
-    (b"IFN", &[(0, b"IFT", b"")], &[0, 1, 250, 0, 0]),
-    (b"IFN", &[(1, b"I", b"")], &[0, 1, 249, 0, 1]),
-    (b"IFN", &[(2, b"TTT", b"")], &[0, 1, 248, 0, 2]),
-    (b"IFNI", &[(3, b"", b"")], &[0, 1, 255, 0, 3, 0, 0, 0, 0]),
-    (b"ITF", &[(4, b"ITT", b"")], &[0, 1, 249, 0, 4]),
-    (b"JTDTI", &[(5, b"JT", b"")], &[0, 1, 249, 0, 5]),
+    (b"IFN", 0, b"IFT", b"", &[0, 1, 250, 0, 0]),
+    (b"IFN", 1, b"I", b"", &[0, 1, 249, 0, 1]),
+    (b"IFN", 2, b"TTT", b"", &[0, 1, 248, 0, 2]),
+    (b"IFNI", 3, b"", b"", &[0, 1, 255, 0, 3, 0, 0, 0, 0]),
+    (b"ITF", 4, b"ITT", b"", &[0, 1, 249, 0, 4]),
+    (b"JTDTI", 5, b"JT", b"", &[0, 1, 249, 0, 5]),
     // more locals
-    (b"I", &[(0, b"IF", b"")], &[0, 1, 252, 0, 0, 2]),
-    (b"I", &[(1, b"IJTDT", b"")], &[0, 1, 253, 0, 1, 4, 3]),
-    (b"I", &[(2, b"ITF", b"")], &[0, 1, 253, 0, 2, 0, 2]),
+    (b"I", 0, b"IF", b"", &[0, 1, 252, 0, 0, 2]),
+    (b"I", 1, b"IJTDT", b"", &[0, 1, 253, 0, 1, 4, 3]),
+    (b"I", 2, b"ITF", b"", &[0, 1, 253, 0, 2, 0, 2]),
+    (b"I", 3, b"INUA", b"", &[0, 1, 254, 0, 3, 5, 6, 7, 0, 5]),
     (
         b"I",
-        &[(3, b"INUA", b"")],
-        &[0, 1, 254, 0, 3, 5, 6, 7, 0, 5],
-    ),
-    (
-        b"I",
-        &[(4, b"IFFFF", b"")],
+        4,
+        b"IFFFF",
+        b"",
         &[0, 1, 255, 0, 4, 0, 5, 1, 2, 2, 2, 2, 0, 0],
     ),
     // other locals, or more on the stack
-    (b"I", &[(5, b"F", b"")], &[0, 1, 255, 0, 5, 0, 1, 2, 0, 0]),
-    (
-        b"IF",
-        &[(6, b"IN", b"")],
-        &[0, 1, 255, 0, 6, 0, 2, 1, 5, 0, 0],
-    ),
+    (b"I", 5, b"F", b"", &[0, 1, 255, 0, 5, 0, 1, 2, 0, 0]),
+    (b"IF", 6, b"IN", b"", &[0, 1, 255, 0, 6, 0, 2, 1, 5, 0, 0]),
     (
         b"I",
-        &[(7, b"IF", b"N")],
+        7,
+        b"IF",
+        b"N",
         &[0, 1, 255, 0, 7, 0, 2, 1, 2, 0, 1, 5],
     ),
     (
         b"I",
-        &[(8, b"I", b"DJ")],
+        8,
+        b"I",
+        b"DJ",
         &[0, 1, 255, 0, 8, 0, 1, 1, 0, 2, 3, 4],
     ),
     (
         b"",
-        &[(9, b"JTDT", b"AI")],
+        9,
+        b"JTDT",
+        b"AI",
         &[0, 1, 255, 0, 9, 0, 2, 4, 3, 0, 2, 7, 0, 5, 1],
     ),
 ];
 
-// Each later frame is behind the one before, and its delta is one less than the offsets are apart.
-const SEVERAL: [Case<'static>; 4] = [
-    (b"U", &[], &[0, 0]),
-    (
-        b"",
-        &[(0, b"", b""), (1, b"", b""), (66, b"", b"")],
-        &[0, 3, 0, 0, 251, 0, 64],
-    ),
-    (
-        b"",
-        &[(5, b"I", b""), (69, b"I", b"I")],
-        &[0, 2, 252, 0, 5, 1, 127, 1],
-    ),
-    (
-        b"I",
-        &[(0, b"IJT", b""), (9, b"ITT", b"")],
-        &[0, 2, 252, 0, 0, 4, 250, 0, 8],
-    ),
-];
-
-// The number of the first table with other bytes.
-fn first_wrong(alloc: Global, cases: &[Case]) -> Result<Option<usize>, Fail> {
-    for (number, (entry, frames, bytes)) in cases.iter().enumerate() {
-        match bytes_of(alloc, entry, frames)? {
-            Some(written) if written.as_slice() == *bytes => {}
-            _ => return Ok(Some(number)),
-        }
-    }
-    Ok(None)
+// Checks that a table of these frames is written as these bytes.
+fn compare(
+    rt: &(impl Abort + AllocGlobal),
+    entry: &[u8],
+    frames: &[Row],
+    bytes: &[u8],
+) -> Result<(), Fail> {
+    let written = bytes_of(rt.alloc(), entry, frames)?;
+    let is_so = match &written {
+        Some(written) => written.as_slice() == bytes,
+        None => false,
+    };
+    assert!(rt; is_so, "at {bytes:?}");
+    Ok(())
 }
 
 #[test]
 fn each_frame_in_the_first_kind_that_fits(rt: HostRuntime) -> Result<(), Fail> {
-    assert_eq!(rt; first_wrong(rt.alloc(), &SINGLE)?, None);
+    compare_single(&rt, &SINGLE)
+}
+
+fn compare_single(rt: &(impl Abort + AllocGlobal), rows: &[Single]) -> Result<(), Fail> {
+    for (entry, at, locals, stack, bytes) in rows {
+        compare(rt, entry, &[(*at, *locals, *stack)], bytes)?;
+    }
     Ok(())
 }
 
+const EMPTY: [Row<'static>; 3] = [(0, b"", b""), (1, b"", b""), (66, b"", b"")];
+
+const OF_ONE_ITEM: [Row<'static>; 2] = [(5, b"I", b""), (69, b"I", b"I")];
+
+const CHOPPED: [Row<'static>; 2] = [(0, b"IJT", b""), (9, b"ITT", b"")];
+
+// Each later frame is behind the one before, and its delta is one less than the offsets are apart.
 #[test]
 fn frames_behind_one_another(rt: HostRuntime) -> Result<(), Fail> {
-    assert_eq!(rt; first_wrong(rt.alloc(), &SEVERAL)?, None);
-    Ok(())
+    compare(&rt, b"U", &[], &[0, 0])?;
+    compare(&rt, b"", &EMPTY, &[0, 3, 0, 0, 251, 0, 64])?;
+    compare(&rt, b"", &OF_ONE_ITEM, &[0, 2, 252, 0, 5, 1, 127, 1])?;
+    compare(&rt, b"I", &CHOPPED, &[0, 2, 252, 0, 0, 4, 250, 0, 8])
 }

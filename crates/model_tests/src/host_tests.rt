@@ -1,5 +1,5 @@
-use super::*;
 use class_model::ListOf;
+use host_tree::{FileNameList, Host, HostCall, HostFail, MemoryHost, RealHost};
 use std::fs;
 use std::process::Abort;
 use std::test::Fail;

@@ -1,11 +1,14 @@
-use super::*;
 use class_model::{ClassFault, FileRule, Placed};
+use code_bytes::{Starts, decode};
 use std::alloc::Global;
 use std::fmt::Write;
+use std::process::Abort;
 use std::test::Fail;
 
-// Codes, and the instructions of each: offset, length and instruction.
-const LISTINGS: [(&[u8], &str); 29] = [
+// A code, and its instructions: offset, length and instruction.
+type Listing = (&'static [u8], &'static str);
+
+const LISTINGS: [Listing; 29] = [
     (
         &[
             0x00, 0x01, 0x02, 0x03, 0x04, 0x05, 0x06, 0x07, 0x08, 0x09, 0x0A, 0x0B, 0x0C, 0x0D,
@@ -241,8 +244,10 @@ const LISTINGS: [(&[u8], &str); 29] = [
     (&[0x57, 0xB1], "0+1 Shuffle(87); 1+1 Return(None); "),
 ];
 
-// Codes that are refused, with the place and the rule.
-const REFUSED: [(&[u8], u64, FileRule); 66] = [
+// A code that is refused, the place and the rule.
+type Refused = (&'static [u8], u64, FileRule);
+
+const REFUSED: [Refused; 66] = [
     (&[], 0, FileRule::CodeLength),
     (&[0xA8, 0x00, 0x03], 0, FileRule::Opcode),
     (&[0x00, 0xA9, 0x00], 1, FileRule::Opcode),
@@ -440,34 +445,42 @@ fn listing(alloc: Global, code: &[u8]) -> Result<String, Fail> {
 
 #[test]
 fn instructions_of_codes(rt: HostRuntime) -> Result<(), Fail> {
-    for (code, wanted) in LISTINGS {
+    compare_listings(&rt, &LISTINGS)
+}
+
+fn compare_listings(rt: &(impl Abort + AllocGlobal), rows: &[Listing]) -> Result<(), Fail> {
+    for (code, wanted) in rows {
         let found = listing(rt.alloc(), code)?;
-        assert_eq!(rt; found.as_str(), wanted, "at {code:?}");
+        assert!(rt; found.as_str() == *wanted, "{found} at {code:?}");
     }
     Ok(())
 }
 
 #[test]
 fn refused_codes(rt: HostRuntime) -> Result<(), Fail> {
-    for (code, at, rule) in REFUSED {
-        let refused = decode(rt.alloc(), code).err();
-        let fault = ClassFault::Malformed { at, rule };
-        assert_eq!(rt; refused, Some(fault), "at {code:?}");
-    }
+    compare_refused(&rt, &REFUSED);
     Ok(())
+}
+
+fn compare_refused(rt: &(impl Abort + AllocGlobal), rows: &[Refused]) {
+    for (code, at, rule) in rows {
+        is_refused(rt, code, *at, *rule);
+    }
+}
+
+// Checks the first fault of a code.
+fn is_refused(rt: &(impl Abort + AllocGlobal), code: &[u8], at: u64, rule: FileRule) {
+    let told = decode(rt.alloc(), code).err();
+    let wanted = ClassFault::Malformed { at, rule };
+    assert!(rt; told == Some(wanted), "{told:?} at {code:?}");
 }
 
 #[test]
 fn lengths_of_codes(rt: HostRuntime) -> Result<(), Fail> {
     let nops = vec![in rt.alloc(); 0; 65_536]?;
-    let refused = decode(rt.alloc(), &nops).err();
-    let fault = ClassFault::Malformed {
-        at: 0,
-        rule: FileRule::CodeLength,
-    };
-    assert_eq!(rt; refused, Some(fault));
-    let instrs = decode(rt.alloc(), &nops[1..])?;
-    assert_eq!(rt; instrs.len(), 65_535);
+    is_refused(&rt, &nops, 0, FileRule::CodeLength);
+    let instrs = decode(rt.alloc(), nops.get(1..).unwrap_or(&[]))?;
+    assert!(rt; instrs.len() == 65_535);
     Ok(())
 }
 
@@ -475,11 +488,14 @@ fn lengths_of_codes(rt: HostRuntime) -> Result<(), Fail> {
 fn starts_of_codes(rt: HostRuntime) -> Result<(), Fail> {
     let instrs = decode(rt.alloc(), &[0x57, 0x10, 0x00, 0xB1])?;
     let starts = Starts::of(rt.alloc(), &instrs)?;
-    for at in [0, 1, 3] {
-        assert!(rt; starts.has(at), "at {at}");
-    }
-    for at in [2, 4, u32::MAX] {
-        assert!(rt; !starts.has(at), "at {at}");
-    }
+    compare_starts(&rt, &starts, &[0, 1, 3], true);
+    compare_starts(&rt, &starts, &[2, 4, u32::MAX], false);
     Ok(())
+}
+
+// Checks whether there is an instruction at each of these offsets.
+fn compare_starts(rt: &impl Abort, starts: &Starts, offsets: &[u32], wanted: bool) {
+    for at in offsets {
+        assert!(rt; starts.has(*at) == wanted, "at {at}");
+    }
 }

@@ -1,0 +1,258 @@
+use class_model::{
+    Descriptor, FieldType, Kind, NameFault, Text, is_array_type, is_field_descriptor,
+    is_reference_name, method_shape, parse_descriptor, parse_field_type,
+};
+use std::alloc::Global;
+use std::process::Abort;
+use std::test::Fail;
+
+// Bytes, and whether they are a method descriptor.
+type Spelled = (&'static [u8], bool);
+
+const DESCRIPTORS: [Spelled; 16] = [
+    (b"()D", true),
+    (b"([[Ljava/lang/Object;)[I", true),
+    (b"()V", true),
+    (b"(BCSZFD)LP;", true),
+    (b"", false),
+    (b"I", false),
+    (b"(I", false),
+    (b"()", false),
+    (b"()VV", false),
+    (b"(V)V", false),
+    (b"(L;)V", false),
+    (b"(L/a;)V", false),
+    (b"(LP)V", false),
+    (b"([)V", false),
+    (b"([V)V", false),
+    (b"(I)V ", false),
+];
+
+// A parameter, how often it stands in a method descriptor, what is behind, and whether this is one.
+type Repeated = (u8, usize, &'static [u8], bool);
+
+const PARAMETERS: [Repeated; 4] = [
+    (b'I', 255, b")V", true),
+    (b'I', 256, b")V", false),
+    (b'J', 127, b"I)V", true),
+    (b'J', 128, b")V", false),
+];
+
+// How many dimensions an array has, and whether it may have so many.
+const DIMENSIONS: [(usize, bool); 2] = [(255, true), (256, false)];
+
+// Bytes, and the kind of the field type that they spell.
+type FieldKind = (&'static [u8], Option<Kind>);
+
+const FIELD_KINDS: [FieldKind; 17] = [
+    (b"B", Some(Kind::Int)),
+    (b"C", Some(Kind::Int)),
+    (b"D", Some(Kind::Double)),
+    (b"F", Some(Kind::Float)),
+    (b"I", Some(Kind::Int)),
+    (b"J", Some(Kind::Long)),
+    (b"S", Some(Kind::Int)),
+    (b"Z", Some(Kind::Int)),
+    (b"LP;", Some(Kind::Ref)),
+    (b"[J", Some(Kind::Ref)),
+    (b"[[LP;", Some(Kind::Ref)),
+    (b"", None),
+    (b"V", None),
+    (b"P", None),
+    (b"[", None),
+    (b"LP", None),
+    (b"L[I;;", None),
+];
+
+// Bytes, and whether they are a name of a reference type, and a field descriptor.
+type Named = (&'static [u8], bool, bool);
+
+const NAMES: [Named; 9] = [
+    (b"P", true, false),
+    (b"a/P", true, false),
+    (b"LP;", false, true),
+    (b"[J", true, true),
+    (b"J", true, true),
+    (b"", false, false),
+    (b"[V", false, false),
+    (b"[", false, false),
+    // no text
+    (b"L\xFF;", false, true),
+];
+
+// Bytes, the units of the parameters of the method descriptor that they spell, and whether the result is void.
+type Shaped = (&'static [u8], Option<u16>, bool);
+
+const SHAPES: [Shaped; 7] = [
+    (b"()V", Some(0), true),
+    (b"(IJ[DLP;)I", Some(5), false),
+    (b"(D)[V", None, false),
+    (b"()", None, false),
+    (b"I", None, false),
+    (b"(V)V", None, false),
+    (b"(L\xFF;)V", Some(1), true),
+];
+
+// How many ints are parameters, and the units of these.
+const INTS: [(usize, Option<u16>); 2] = [(255, Some(255)), (256, None)];
+
+// Whether bytes spell a method descriptor.
+fn is_descriptor(alloc: Global, bytes: &[u8]) -> Result<bool, Fail> {
+    let text = Text::of_bytes(alloc, bytes)?;
+    let parsed = parse_descriptor(alloc, &text);
+    if let Err(NameFault::BadName) = parsed {
+        return Ok(false);
+    }
+    parsed?;
+    Ok(true)
+}
+
+// What parse_field_type says of bytes.
+fn kind_of(alloc: Global, bytes: &[u8]) -> Result<Option<Kind>, Fail> {
+    let text = Text::of_bytes(alloc, bytes)?;
+    match parse_field_type(alloc, &text) {
+        Ok(field_type) => Ok(Some(field_type.kind())),
+        Err(NameFault::BadName) => Ok(None),
+        Err(fault) => Err(fault)?,
+    }
+}
+
+// The part so many times, between the front and the back.
+fn repeated(
+    alloc: Global,
+    front: &[u8],
+    part: u8,
+    count: usize,
+    back: &[u8],
+) -> Result<Vec<u8>, Fail> {
+    let mut bytes = front.to_vec(alloc)?;
+    for _ in 0..count {
+        bytes.push(part)?;
+    }
+    bytes.extend_from_slice(back)?;
+    Ok(bytes)
+}
+
+// Whether a field type is the class or array type of this name.
+fn is_named(field_type: Option<&FieldType>, name: &[u8]) -> bool {
+    match field_type {
+        Some(FieldType::Named(text)) => text.bytes() == name,
+        _ => false,
+    }
+}
+
+#[test]
+fn parts_of_a_descriptor(rt: HostRuntime) -> Result<(), Fail> {
+    let text = Text::of_bytes(rt.alloc(), b"(I[JLP;)V")?;
+    let descriptor = parse_descriptor(rt.alloc(), &text)?;
+    has_parts(&rt, &descriptor);
+    Ok(())
+}
+
+fn has_parts(rt: &impl Abort, descriptor: &Descriptor) {
+    let Descriptor { params, result } = descriptor;
+    assert!(rt; params.len() == 3 && result.is_none());
+    assert!(rt; matches!(params.get(0), Some(FieldType::Int)));
+    assert!(rt; is_named(params.get(1), b"[J"));
+    assert!(rt; is_named(params.get(2), b"P"));
+}
+
+#[test]
+fn descriptors(rt: HostRuntime) -> Result<(), Fail> {
+    compare_descriptors(&rt, &DESCRIPTORS)
+}
+
+fn compare_descriptors(rt: &(impl Abort + AllocGlobal), rows: &[Spelled]) -> Result<(), Fail> {
+    for (bytes, good) in rows {
+        assert!(rt; is_descriptor(rt.alloc(), bytes)? == *good, "at {bytes:?}");
+    }
+    Ok(())
+}
+
+#[test]
+fn parameters_take_255_units(rt: HostRuntime) -> Result<(), Fail> {
+    compare_parameters(&rt, &PARAMETERS)
+}
+
+fn compare_parameters(rt: &(impl Abort + AllocGlobal), rows: &[Repeated]) -> Result<(), Fail> {
+    for (part, count, back, good) in rows {
+        let bytes = repeated(rt.alloc(), b"(", *part, *count, back)?;
+        assert!(rt; is_descriptor(rt.alloc(), &bytes)? == *good, "of {count}");
+    }
+    Ok(())
+}
+
+#[test]
+fn arrays_have_255_dimensions(rt: HostRuntime) -> Result<(), Fail> {
+    compare_dimensions(&rt, &DIMENSIONS)
+}
+
+fn compare_dimensions(rt: &(impl Abort + AllocGlobal), rows: &[(usize, bool)]) -> Result<(), Fail> {
+    for (count, good) in rows {
+        let bytes = repeated(rt.alloc(), b"", b'[', *count, b"I")?;
+        assert!(rt; is_array_type(&bytes) == *good, "of {count}");
+        let descriptor = repeated(rt.alloc(), b"()", b'[', *count, b"I")?;
+        assert!(rt;
+            is_descriptor(rt.alloc(), &descriptor)? == *good,
+            "of {count}"
+        );
+    }
+    Ok(())
+}
+
+#[test]
+fn field_types(rt: HostRuntime) -> Result<(), Fail> {
+    compare_kinds(&rt, &FIELD_KINDS)
+}
+
+fn compare_kinds(rt: &(impl Abort + AllocGlobal), rows: &[FieldKind]) -> Result<(), Fail> {
+    for (bytes, kind) in rows {
+        assert!(rt; kind_of(rt.alloc(), bytes)? == *kind, "at {bytes:?}");
+        assert!(rt;
+            is_field_descriptor(bytes) == kind.is_some(),
+            "at {bytes:?}"
+        );
+    }
+    Ok(())
+}
+
+#[test]
+fn descriptors_over_bytes(rt: HostRuntime) -> Result<(), Fail> {
+    compare_names(&rt, &NAMES);
+    Ok(())
+}
+
+fn compare_names(rt: &impl Abort, rows: &[Named]) {
+    for (bytes, reference, descriptor) in rows {
+        assert!(rt; is_reference_name(bytes) == *reference, "at {bytes:?}");
+        assert!(rt; is_field_descriptor(bytes) == *descriptor, "at {bytes:?}");
+    }
+}
+
+#[test]
+fn shapes_of_methods(rt: HostRuntime) -> Result<(), Fail> {
+    compare_shapes(&rt, &SHAPES);
+    compare_ints(&rt, &INTS)
+}
+
+fn compare_shapes(rt: &impl Abort, rows: &[Shaped]) {
+    for (bytes, units, is_void) in rows {
+        let is_so = match method_shape(bytes) {
+            Some(shape) => Some(shape.units) == *units && shape.is_void == *is_void,
+            None => units.is_none(),
+        };
+        assert!(rt; is_so, "at {bytes:?}");
+    }
+}
+
+fn compare_ints(
+    rt: &(impl Abort + AllocGlobal),
+    rows: &[(usize, Option<u16>)],
+) -> Result<(), Fail> {
+    for (count, units) in rows {
+        let bytes = repeated(rt.alloc(), b"(", b'I', *count, b")V")?;
+        let told = method_shape(&bytes).map(|shape| shape.units);
+        assert!(rt; told == *units, "of {count}");
+    }
+    Ok(())
+}
