@@ -2,15 +2,16 @@
 ghost use Rattle.std.specs.Prelude.{◌≡◌};
 ghost use Rattle.class_tree.specs.Trees.{IsTreeOf};
 
+use crate::head::Head;
 use crate::library::LIBRARY;
-use crate::notation::class_file;
+use crate::notation::{class_file, name_of, plain_file};
 use class_bytes::{read_class, read_header};
 use class_model::{ClassFault, ListOf};
 use class_tree::{ClassFileList, HeaderList, LinkFault, Tree, build_tree};
 use std::alloc::Global;
 use std::marker::Model;
 
-/// The class files of a folder and the headers of a library, each read from the notation.
+/// The class files of a folder and the headers of a library, each read from bytes.
 #[derive(Drop)]
 pub struct Input {
     folder: ClassFileList,
@@ -29,14 +30,26 @@ impl Model for Input {
 }
 
 impl Input {
-    /// No class of the folder, and those that each library has.
-    pub fn new(alloc: Global) -> Result<Self, ClassFault> {
-        let mut input = Input {
+    /// No class at all.
+    pub fn empty(alloc: Global) -> Self {
+        Input {
             folder: ListOf::new(alloc),
             library: ListOf::new(alloc),
-        };
+        }
+    }
+
+    /// No class of the folder, and those that each library has.
+    pub fn new(alloc: Global) -> Result<Self, ClassFault> {
+        Input::without(alloc, &[])
+    }
+
+    /// The same, but for the library's classes of these names.
+    pub fn without(alloc: Global, names: &[&str]) -> Result<Self, ClassFault> {
+        let mut input = Input::empty(alloc);
         for text in &LIBRARY {
-            input.add_header(alloc, text)?;
+            if !names.contains(&name_of(text)) {
+                input.add_header(alloc, text)?;
+            }
         }
         Ok(input)
     }
@@ -44,17 +57,35 @@ impl Input {
     /// The classes of a folder, and what the library has beside those that each has, with ` | ` between classes.
     pub fn of(alloc: Global, folder: &str, library: &str) -> Result<Self, ClassFault> {
         let mut input = Input::new(alloc)?;
-        for text in library.split(" | ") {
-            if !text.is_empty() {
-                input.add_header(alloc, text)?;
-            }
-        }
-        for text in folder.split(" | ") {
-            if !text.is_empty() {
-                input.add_class(alloc, text)?;
-            }
-        }
+        input.add_headers(alloc, library)?;
+        input.add_classes(alloc, folder)?;
         Ok(input)
+    }
+
+    /// Adds classes to the folder, with ` | ` between them.
+    ///
+    /// # Errors
+    /// Those of `read_class`.
+    pub fn add_classes(&mut self, alloc: Global, texts: &str) -> Result<(), ClassFault> {
+        for text in texts.split(" | ") {
+            if !text.is_empty() {
+                self.add_class(alloc, text)?;
+            }
+        }
+        Ok(())
+    }
+
+    /// Adds classes to the library, with ` | ` between them.
+    ///
+    /// # Errors
+    /// Those of `read_header`.
+    pub fn add_headers(&mut self, alloc: Global, texts: &str) -> Result<(), ClassFault> {
+        for text in texts.split(" | ") {
+            if !text.is_empty() {
+                self.add_header(alloc, text)?;
+            }
+        }
+        Ok(())
     }
 
     /// Adds a class to the folder.
@@ -67,6 +98,16 @@ impl Input {
         Ok(())
     }
 
+    /// Adds a class without members to the folder.
+    ///
+    /// # Errors
+    /// Those of `read_class`.
+    pub fn add_plain(&mut self, alloc: Global, head: &Head<'_, '_>) -> Result<(), ClassFault> {
+        let class = read_class(alloc, &plain_file(alloc, head)?)?;
+        self.folder.push(class)?;
+        Ok(())
+    }
+
     /// Adds a class to the library.
     ///
     /// # Errors
@@ -75,6 +116,11 @@ impl Input {
         let header = read_header(alloc, &class_file(alloc, text)?)?;
         self.library.push(header)?;
         Ok(())
+    }
+
+    /// How many classes there are.
+    pub fn len(&self) -> u64 {
+        (self.folder.len() as u64).wrapping_add(self.library.len() as u64)
     }
 
     /// The hierarchy of the classes.

@@ -1,6 +1,6 @@
 //! A library that has what the machine needs, and nothing else.
 
-/// Its classes. Each class file of the notation has a method handle, so java/lang/invoke/MethodHandle is among them.
+/// Its classes, with java/lang/invoke/MethodHandle, which folders with method handles and dynamic calls need.
 pub(crate) const LIBRARY: [&str; 19] = [
     "public java/lang/Object - / method public <init> ()V / method protected+native clone ()Ljava/lang/Object; / method protected finalize ()V / method public+native hashCode ()I",
     "public+interface java/io/Serializable Object",

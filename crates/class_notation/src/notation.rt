@@ -4,12 +4,18 @@
 //! neither abstract nor native has code. A `51:` in front of a class is its version, which is else 52.
 use crate::code::push_code;
 use crate::counted::Counted;
-use crate::pool::{MemberTag, PoolBytes, low_bits};
+use crate::head::Head;
+use crate::pool::{MemberTag, PoolBytes};
 use class_model::{NoMemory, push_u2, push_u4};
 use std::alloc::Global;
 
 /// The class that each other is below.
-pub(crate) const OBJECT: &str = "java/lang/Object";
+pub const OBJECT: &[u8] = b"java/lang/Object";
+
+/// The name of the class that a text says.
+pub(crate) fn name_of(text: &str) -> &str {
+    text.split(' ').nth(1).unwrap_or("")
+}
 
 /// The bytes of the class file that a text says.
 pub(crate) fn class_file(alloc: Global, text: &str) -> Result<Vec<u8>, NoMemory> {
@@ -19,12 +25,27 @@ pub(crate) fn class_file(alloc: Global, text: &str) -> Result<Vec<u8>, NoMemory>
     };
     let mut pool = PoolBytes::new(alloc);
     let body = body_of(alloc, &mut pool, text)?;
+    file_of(alloc, major, &pool, &body)
+}
+
+/// The bytes of a class file of version 52.0 without members.
+pub(crate) fn plain_file(alloc: Global, head: &Head<'_, '_>) -> Result<Vec<u8>, NoMemory> {
+    let mut pool = PoolBytes::new(alloc);
+    let mut body = Vec::new(alloc);
+    head.push_to(&mut body, &mut pool)?;
+    // no fields, methods and attributes
+    body.extend_from_slice(&[0; 6])?;
+    file_of(alloc, 52, &pool, &body)
+}
+
+// The bytes of a class file of a major version, of its pool and of what stands behind that.
+fn file_of(alloc: Global, major: u32, pool: &PoolBytes, body: &[u8]) -> Result<Vec<u8>, NoMemory> {
     let mut out = Vec::new(alloc);
     push_u4(&mut out, 0xCAFE_BABE)?;
     push_u4(&mut out, major)?;
     push_u2(&mut out, pool.count)?;
     out.extend_from_slice(&pool.bytes)?;
-    out.extend_from_slice(&body)?;
+    out.extend_from_slice(body)?;
     Ok(out)
 }
 
@@ -57,21 +78,26 @@ fn push_head(
     let [flags, name, superclass, interfaces @ ..] = words.as_slice() else {
         return Ok(());
     };
-    push_u2(out, flags_of(flags))?;
-    push_u2(out, pool.class(name.as_bytes())?)?;
-    push_u2(
-        out,
-        match *superclass {
-            "-" => 0,
-            "Object" => pool.class(OBJECT.as_bytes())?,
-            name => pool.class(name.as_bytes())?,
-        },
-    )?;
-    push_u2(out, low_bits(interfaces.len()))?;
-    for interface in interfaces {
-        push_u2(out, pool.class(interface.as_bytes())?)?;
+    let interfaces = interfaces
+        .iter()
+        .map(|name| name.as_bytes())
+        .collect::<Vec<&[u8]>>(alloc)?;
+    let head = Head {
+        flags: flags_of(flags),
+        name: name.as_bytes(),
+        superclass: superclass_of(superclass),
+        interfaces: &interfaces,
+    };
+    head.push_to(out, pool)
+}
+
+// The name of the superclass that a word says.
+fn superclass_of(word: &str) -> Option<&[u8]> {
+    match word {
+        "-" => None,
+        "Object" => Some(OBJECT),
+        name => Some(name.as_bytes()),
     }
-    Ok(())
 }
 
 // Appends a member to those of its kind.
@@ -105,9 +131,12 @@ fn push_member(
     Ok(())
 }
 
-// Appends the attributes of the class: one bootstrap method, which the dynamic calls of its code take. It is of a class that
-// is not there, which no instruction names.
+// Appends the attributes of the class: where its code has dynamic calls, the bootstrap method that they take. It is of a
+// class that is not there, which no instruction names.
 fn push_bootstraps(out: &mut Vec<u8>, pool: &mut PoolBytes) -> Result<(), NoMemory> {
+    if !pool.has_dynamic {
+        return push_u2(out, 0);
+    }
     push_u2(out, 1)?;
     push_u2(out, pool.utf8(b"BootstrapMethods")?)?;
     push_u4(out, 6)?;

@@ -2,11 +2,12 @@
 use class_model::NoMemory;
 use std::alloc::Global;
 
-/// The bytes of a pool to which constants are added, and the index of the next.
+/// The bytes of a pool to which constants are added, the index of the next, and whether a dynamic call is among them.
 #[derive(Drop)]
 pub(crate) struct PoolBytes {
     pub bytes: Vec<u8>,
     pub count: u16,
+    pub has_dynamic: bool,
 }
 
 /// Which constant names a member.
@@ -22,6 +23,7 @@ impl PoolBytes {
         PoolBytes {
             bytes: Vec::new(alloc),
             count: 1,
+            has_dynamic: false,
         }
     }
 
@@ -71,6 +73,7 @@ impl PoolBytes {
     /// Adds a dynamic call of the first bootstrap method.
     pub(crate) fn dynamic(&mut self, name: &[u8], desc: &[u8]) -> Result<u16, NoMemory> {
         let member = self.name_and_type(name, desc)?;
+        self.has_dynamic = true;
         self.push_two(18, 0, member)
     }
 

@@ -3,15 +3,7 @@
 //! linked so many times. The number of classes that were linked, of all times together, is printed.
 #![tactic(auto)]
 
-#[cfg(test)]
-mod answers;
-#[cfg(test)]
-mod form_tests;
 mod generated;
-#[cfg(test)]
-mod look_up_tests;
-#[cfg(test)]
-mod missing_tests;
 
 use class_tree::Tree;
 use generated::input_of;

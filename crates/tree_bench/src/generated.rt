@@ -1,9 +1,12 @@
 //! Classes by number, of which as many can be made as is wanted.
-use crate::input::Input;
-use crate::library::add_library;
-use crate::shape::{CLASS, INTERFACE, OBJECT, Shape};
 use class_model::ClassFault;
+use class_notation::{Head, Input, OBJECT};
 use std::alloc::Global;
+
+// The flags of a plain class, public and with the treatment of calls of today, and of a plain interface, public and abstract.
+const CLASS: u16 = 0x0021;
+
+const INTERFACE: u16 = 0x0601;
 
 /// How many interfaces there are beside the classes.
 pub(crate) const INTERFACES: usize = 64;
@@ -11,8 +14,7 @@ pub(crate) const INTERFACES: usize = 64;
 /// A library, a lattice of interfaces and so many classes: each is below that of a quarter of its number, and every
 /// seventh has one or two of the interfaces.
 pub(crate) fn tree_of(alloc: Global, count: usize) -> Result<Input, ClassFault> {
-    let mut input = Input::new(alloc);
-    add_library(alloc, &mut input, &[])?;
+    let mut input = Input::new(alloc)?;
     for number in 0..INTERFACES {
         add_interface(alloc, &mut input, number)?;
     }
@@ -24,8 +26,7 @@ pub(crate) fn tree_of(alloc: Global, count: usize) -> Result<Input, ClassFault> 
 
 /// A library and so many classes, each below that of the number before its own.
 pub(crate) fn chain_of(alloc: Global, count: usize) -> Result<Input, ClassFault> {
-    let mut input = Input::new(alloc);
-    add_library(alloc, &mut input, &[])?;
+    let mut input = Input::new(alloc)?;
     for number in 0..count {
         add_link(alloc, &mut input, number)?;
     }
@@ -38,10 +39,7 @@ fn add_interface(alloc: Global, input: &mut Input, number: usize) -> Result<(), 
     let both = slices(&names);
     let count = if number < 4 { 0 } else { 2 };
     let name = interface_name(number);
-    input.add_class(
-        alloc,
-        &Shape::plain(INTERFACE, &name, Some(OBJECT), &both[..count]),
-    )
+    input.add_plain(alloc, &head_of(INTERFACE, &name, OBJECT, &both[..count]))
 }
 
 // Adds the class of a number.
@@ -66,10 +64,22 @@ fn add_below(
         7 => 2,
         _ => 0,
     };
-    input.add_class(
-        alloc,
-        &Shape::plain(CLASS, &name, Some(superclass), &both[..count]),
-    )
+    input.add_plain(alloc, &head_of(CLASS, &name, superclass, &both[..count]))
+}
+
+// What a class file says of a class below another.
+fn head_of<'a, 'n>(
+    flags: u16,
+    name: &'a [u8],
+    superclass: &'a [u8],
+    interfaces: &'a [&'n [u8]],
+) -> Head<'a, 'n> {
+    Head {
+        flags,
+        name,
+        superclass: Some(superclass),
+        interfaces,
+    }
 }
 
 // The bytes of two names.
@@ -83,7 +93,7 @@ fn add_link(alloc: Global, input: &mut Input, number: usize) -> Result<(), Class
     let name = class_name(number);
     let before = class_name(number.saturating_sub(1));
     let superclass = if number == 0 { OBJECT } else { &before };
-    input.add_class(alloc, &Shape::plain(CLASS, &name, Some(superclass), &[]))
+    input.add_plain(alloc, &head_of(CLASS, &name, superclass, &[]))
 }
 
 /// The name of the class of a number.

@@ -4,22 +4,10 @@
 //! chain, or of questions that were answered by yes, is printed, of all times together.
 #![tactic(auto)]
 
-mod asking;
-#[cfg(test)]
-mod base_tests;
-#[cfg(test)]
-mod declared;
 mod generated;
-mod input;
-mod library;
-#[cfg(test)]
-mod question_tests;
-#[cfg(test)]
-mod refusal_tests;
-mod shape;
 
-use asking::superclasses;
 use class_model::Text;
+use class_notation::superclasses;
 use class_tree::{Place, Tree, is_sub};
 use generated::{INTERFACES, chain_of, class_name, tree_of};
 use std::alloc::Global;

@@ -61,11 +61,11 @@ pub(crate) struct Named {
 
 impl Named {
     /// The member of three words.
-    pub(crate) fn of(alloc: Global, words: (&str, &str, &str)) -> Result<Self, Fail> {
+    pub(crate) fn of(alloc: Global, class: &str, name: &str, desc: &str) -> Result<Self, Fail> {
         Ok(Named {
-            class: Text::of_bytes(alloc, words.0.as_bytes())?,
-            name: Text::of_bytes(alloc, words.1.as_bytes())?,
-            desc: Text::of_bytes(alloc, words.2.as_bytes())?,
+            class: Text::of_bytes(alloc, class.as_bytes())?,
+            name: Text::of_bytes(alloc, name.as_bytes())?,
+            desc: Text::of_bytes(alloc, desc.as_bytes())?,
         })
     }
 }
@@ -116,15 +116,19 @@ fn selected(tree: &Tree, receiver: &Text, named: &Named, form: CallForm) -> Opti
     Some(select(tree, receiver, found, form))
 }
 
-/// Whether a method that is found is accessible from a class; None where none is found.
+/// Whether a method that is found is accessible from a class, `yes` or `no`; `-` where none is found.
 pub(crate) fn access_answer(
     alloc: Global,
     tree: &Tree,
     from: &str,
     named: &Named,
-) -> Result<Option<bool>, Fail> {
+) -> Result<&'static str, Fail> {
     let from = Text::of_bytes(alloc, from.as_bytes())?;
-    Ok(is_method_accessible(tree, &from, named))
+    Ok(match is_method_accessible(tree, &from, named) {
+        Some(true) => "yes",
+        Some(false) => "no",
+        None => "-",
+    })
 }
 
 fn is_method_accessible(tree: &Tree, from: &Text, named: &Named) -> Option<bool> {

@@ -1,47 +1,53 @@
 use crate::answers::{
     Named, access_answer, field_answer, method_answer, selection_answer, tree_of,
 };
+use class_tree::Tree;
 use member_link::CallForm;
+use std::process::Abort;
 use std::test::Fail;
 
 // A class, a name and a descriptor, and the class where the member is found.
-type Found = ((&'static str, &'static str, &'static str), &'static str);
+type Found = (&'static str, &'static str, &'static str, &'static str);
 
 const FIELDS: &str =
     "public+interface I Object / field public+static+final x I | public+interface J Object I | public A Object / field public x I / field public y I | public B A J | public C B / field public y J | public D Object J I / field public z I | public+interface I2 Object / field public+static x I | public F Object J I2 | public F2 Object I2 J | public F3 A I2 / field public x J";
 
 const FOUND_FIELDS: [Found; 15] = [
-    (("A", "x", "I"), "A"),
+    ("A", "x", "I", "A"),
     // interfaces come before the superclass
-    (("B", "x", "I"), "I"),
-    (("B", "y", "I"), "A"),
-    (("C", "x", "I"), "I"),
-    (("C", "y", "J"), "C"),
-    (("C", "y", "I"), "A"),
-    (("D", "x", "I"), "I"),
-    (("J", "x", "I"), "I"),
-    (("D", "y", "I"), "-"),
-    (("I", "x", "J"), "-"),
-    (("[LA;", "x", "I"), "-"),
-    (("Z", "x", "I"), "-"),
+    ("B", "x", "I", "I"),
+    ("B", "y", "I", "A"),
+    ("C", "x", "I", "I"),
+    ("C", "y", "J", "C"),
+    ("C", "y", "I", "A"),
+    ("D", "x", "I", "I"),
+    ("J", "x", "I", "I"),
+    ("D", "y", "I", "-"),
+    ("I", "x", "J", "-"),
+    ("[LA;", "x", "I", "-"),
+    ("Z", "x", "I", "-"),
     // the interfaces above one come before the next
-    (("F", "x", "I"), "I"),
-    (("F2", "x", "I"), "I2"),
-    (("F3", "x", "I"), "I2"),
+    ("F", "x", "I", "I"),
+    ("F2", "x", "I", "I2"),
+    ("F3", "x", "I", "I2"),
 ];
 
 #[test]
 fn where_fields_are_found(rt: HostRuntime) -> Result<(), Fail> {
     let tree = tree_of(rt.alloc(), FIELDS, "")?;
-    for (words, wanted) in &FOUND_FIELDS {
-        let named = Named::of(rt.alloc(), *words)?;
-        let told = field_answer(rt.alloc(), &tree, &named)?;
-        assert!(rt;
-            told.as_str() == *wanted,
-            "{told} for {} {}",
-            words.0,
-            words.1
-        );
+    compare_fields(&rt, &tree, &FOUND_FIELDS)
+}
+
+// Compares the class of each field.
+fn compare_fields(
+    rt: &(impl Abort + AllocGlobal),
+    tree: &Tree,
+    rows: &[Found],
+) -> Result<(), Fail> {
+    for (class, name, desc, wanted) in rows {
+        let named = Named::of(rt.alloc(), class, name, desc)?;
+        let told = field_answer(rt.alloc(), tree, &named)?;
+        assert!(rt; told.as_str() == *wanted, "{told} for {class} {name}");
     }
     Ok(())
 }
@@ -50,60 +56,66 @@ const METHODS: &str =
     "public+interface I Object / method public m ()V | public+interface J Object I / method public m ()V | public+interface K Object I / method public+abstract m ()V | public+interface L Object I / method public m ()V | public A Object I | public B A J | public C A J K | public D A J L | public E Object K | public G Object / method public m ()V | public H G J | public+interface P Object / method private p ()V / method public+static s ()V | public Q Object P | public O lib/Open | public M Object K J | public N Object K J L | public+interface U Object K | public+interface AB Object / method public+abstract m ()V | public V1 Object U AB | public V2 E AB | public V3 Object I K | public+interface Js Object I / method public+static m ()V | public V4 Object Js | public+interface Jp Object I / method private m ()V | public V5 Object Jp | public+interface Ip Object / method - m ()V | public V6 Object Ip | public MH java/lang/invoke/MethodHandle";
 
 const FOUND_METHODS: [Found; 37] = [
-    (("A", "m", "()V"), "I"),
+    ("A", "m", "()V", "I"),
     // the method of J hides that of I
-    (("B", "m", "()V"), "J"),
+    ("B", "m", "()V", "J"),
     // one of two maximally specific methods is abstract
-    (("C", "m", "()V"), "J"),
+    ("C", "m", "()V", "J"),
     // of two defaults the first is found
-    (("D", "m", "()V"), "J"),
+    ("D", "m", "()V", "J"),
     // a default that is made abstract again
-    (("E", "m", "()V"), "K"),
+    ("E", "m", "()V", "K"),
     // a superclass hides a default
-    (("H", "m", "()V"), "G"),
-    (("I", "m", "()V"), "I"),
-    (("Q", "p", "()V"), "-"),
-    (("Q", "s", "()V"), "-"),
-    (("P", "p", "()V"), "P"),
-    (("P", "s", "()V"), "P"),
-    (("I", "hashCode", "()I"), "java/lang/Object"),
-    (("I", "finalize", "()V"), "-"),
-    (("A", "finalize", "()V"), "java/lang/Object"),
-    (("O", "call", "()V"), "lib/Open"),
-    (("O", "<init>", "()V"), "-"),
-    (("lib/Open", "<init>", "()V"), "lib/Open"),
-    (("[I", "hashCode", "()I"), "java/lang/Object"),
-    (("[I", "clone", "()Ljava/lang/Object;"), "java/lang/Object"),
-    (("[LA;", "m", "()V"), "-"),
+    ("H", "m", "()V", "G"),
+    ("I", "m", "()V", "I"),
+    ("Q", "p", "()V", "-"),
+    ("Q", "s", "()V", "-"),
+    ("P", "p", "()V", "P"),
+    ("P", "s", "()V", "P"),
+    ("I", "hashCode", "()I", "java/lang/Object"),
+    ("I", "finalize", "()V", "-"),
+    ("A", "finalize", "()V", "java/lang/Object"),
+    ("O", "call", "()V", "lib/Open"),
+    ("O", "<init>", "()V", "-"),
+    ("lib/Open", "<init>", "()V", "lib/Open"),
+    ("[I", "hashCode", "()I", "java/lang/Object"),
+    ("[I", "clone", "()Ljava/lang/Object;", "java/lang/Object"),
+    ("[LA;", "m", "()V", "-"),
     (
-        ("java/lang/invoke/MethodHandle", "invoke", "(I)V"),
+        "java/lang/invoke/MethodHandle",
+        "invoke",
+        "(I)V",
         "java/lang/invoke/MethodHandle",
     ),
     (
-        ("java/lang/invoke/MethodHandle", "invokeExact", "()LA;"),
+        "java/lang/invoke/MethodHandle",
+        "invokeExact",
+        "()LA;",
         "java/lang/invoke/MethodHandle",
     ),
-    (("A", "invoke", "(I)V"), "-"),
-    (("Z", "m", "()V"), "-"),
+    ("A", "invoke", "(I)V", "-"),
+    ("Z", "m", "()V", "-"),
     // the one default is not the first
-    (("M", "m", "()V"), "J"),
+    ("M", "m", "()V", "J"),
     // of two defaults and an abstract method the first of all
-    (("N", "m", "()V"), "K"),
-    (("U", "m", "()V"), "K"),
+    ("N", "m", "()V", "K"),
+    ("U", "m", "()V", "K"),
     // the interfaces above one come before the next, and those of a class before those of its superclass
-    (("V1", "m", "()V"), "K"),
-    (("V2", "m", "()V"), "AB"),
+    ("V1", "m", "()V", "K"),
+    ("V2", "m", "()V", "AB"),
     // no default, and the first is hidden
-    (("V3", "m", "()V"), "I"),
+    ("V3", "m", "()V", "I"),
     // static and private methods hide none
-    (("V4", "m", "()V"), "I"),
-    (("V5", "m", "()V"), "I"),
-    (("Js", "m", "()V"), "Js"),
-    (("[I", "<init>", "()V"), "-"),
-    (("I", "clone", "()Ljava/lang/Object;"), "-"),
-    (("MH", "invoke", "(I)V"), "-"),
+    ("V4", "m", "()V", "I"),
+    ("V5", "m", "()V", "I"),
+    ("Js", "m", "()V", "Js"),
+    ("[I", "<init>", "()V", "-"),
+    ("I", "clone", "()Ljava/lang/Object;", "-"),
+    ("MH", "invoke", "(I)V", "-"),
     (
-        ("MH", "invoke", "([Ljava/lang/Object;)Ljava/lang/Object;"),
+        "MH",
+        "invoke",
+        "([Ljava/lang/Object;)Ljava/lang/Object;",
         "java/lang/invoke/MethodHandle",
     ),
 ];
@@ -111,15 +123,19 @@ const FOUND_METHODS: [Found; 37] = [
 #[test]
 fn where_methods_are_found(rt: HostRuntime) -> Result<(), Fail> {
     let tree = tree_of(rt.alloc(), METHODS, "")?;
-    for (words, wanted) in &FOUND_METHODS {
-        let named = Named::of(rt.alloc(), *words)?;
-        let told = method_answer(rt.alloc(), &tree, &named)?;
-        assert!(rt;
-            told.as_str() == *wanted,
-            "{told} for {} {}",
-            words.0,
-            words.1
-        );
+    compare_methods(&rt, &tree, &FOUND_METHODS)
+}
+
+// Compares the class of each method.
+fn compare_methods(
+    rt: &(impl Abort + AllocGlobal),
+    tree: &Tree,
+    rows: &[Found],
+) -> Result<(), Fail> {
+    for (class, name, desc, wanted) in rows {
+        let named = Named::of(rt.alloc(), class, name, desc)?;
+        let told = method_answer(rt.alloc(), tree, &named)?;
+        assert!(rt; told.as_str() == *wanted, "{told} for {class} {name}");
     }
     Ok(())
 }
@@ -187,9 +203,18 @@ const SELECTED: [Selected; 44] = [
 fn which_methods_are_selected(rt: HostRuntime) -> Result<(), Fail> {
     let folder = format!(in rt.alloc(); "{METHODS} | {CLASSES}")?;
     let tree = tree_of(rt.alloc(), &folder, "")?;
-    for (form, receiver, class, wanted) in &SELECTED {
-        let named = Named::of(rt.alloc(), (*class, "m", "()V"))?;
-        let told = selection_answer(rt.alloc(), &tree, receiver, &named, *form)?;
+    compare_selected(&rt, &tree, &SELECTED)
+}
+
+// Compares what a call of `m` of each class selects.
+fn compare_selected(
+    rt: &(impl Abort + AllocGlobal),
+    tree: &Tree,
+    rows: &[Selected],
+) -> Result<(), Fail> {
+    for (form, receiver, class, wanted) in rows {
+        let named = Named::of(rt.alloc(), class, "m", "()V")?;
+        let told = selection_answer(rt.alloc(), tree, receiver, &named, *form)?;
         assert!(rt;
             told.as_str() == *wanted,
             "{told} for {receiver} and {class}"
@@ -202,35 +227,45 @@ fn which_methods_are_selected(rt: HostRuntime) -> Result<(), Fail> {
 type NamedSelected = (
     CallForm,
     &'static str,
-    (&'static str, &'static str, &'static str),
+    &'static str,
+    &'static str,
+    &'static str,
     &'static str,
 );
 
 const NAMED_SELECTED: [NamedSelected; 5] = [
     // from an interface upwards a method of java/lang/Object is public
-    (CallForm::Special, "I", ("A", "finalize", "()V"), "Abstract"),
+    (CallForm::Special, "I", "A", "finalize", "()V", "Abstract"),
     (
         CallForm::Special,
         "A",
-        ("A", "finalize", "()V"),
+        "A",
+        "finalize",
+        "()V",
         "java/lang/Object",
     ),
     (
         CallForm::Special,
         "I",
-        ("A", "hashCode", "()I"),
+        "A",
+        "hashCode",
+        "()I",
         "java/lang/Object",
     ),
     (
         CallForm::Special,
         "O",
-        ("lib/Open", "<init>", "()V"),
+        "lib/Open",
+        "<init>",
+        "()V",
         "lib/Open",
     ),
     (
         CallForm::Virtual,
         "[I",
-        ("[I", "clone", "()Ljava/lang/Object;"),
+        "[I",
+        "clone",
+        "()Ljava/lang/Object;",
         "java/lang/Object",
     ),
 ];
@@ -238,42 +273,62 @@ const NAMED_SELECTED: [NamedSelected; 5] = [
 #[test]
 fn which_methods_of_object_are_selected(rt: HostRuntime) -> Result<(), Fail> {
     let tree = tree_of(rt.alloc(), METHODS, "")?;
-    for (form, receiver, words, wanted) in &NAMED_SELECTED {
-        let named = Named::of(rt.alloc(), *words)?;
-        let told = selection_answer(rt.alloc(), &tree, receiver, &named, *form)?;
+    compare_named(&rt, &tree, &NAMED_SELECTED)
+}
+
+// Compares what a call of each method selects.
+fn compare_named(
+    rt: &(impl Abort + AllocGlobal),
+    tree: &Tree,
+    rows: &[NamedSelected],
+) -> Result<(), Fail> {
+    for (form, receiver, class, name, desc, wanted) in rows {
+        let named = Named::of(rt.alloc(), class, name, desc)?;
+        let told = selection_answer(rt.alloc(), tree, receiver, &named, *form)?;
         assert!(rt;
             told.as_str() == *wanted,
-            "{told} for {receiver} and {}",
-            words.1
+            "{told} for {receiver} and {name}"
         );
     }
     Ok(())
 }
 
-// A class, what it names, and whether it is accessible, if it is found.
+// A class, the class, name and descriptor that it names, and whether that is accessible: `yes` or `no`, or `-` where it is not
+// found.
 type Accessed = (
     &'static str,
-    (&'static str, &'static str, &'static str),
-    Option<bool>,
+    &'static str,
+    &'static str,
+    &'static str,
+    &'static str,
 );
 
 const ACCESSED: [Accessed; 7] = [
-    ("A", ("O", "call", "()V"), Some(false)),
-    ("O", ("O", "call", "()V"), Some(true)),
-    ("lib/Any", ("O", "call", "()V"), Some(true)),
-    ("A", ("lib/Open", "all", "()V"), Some(false)),
-    ("A", ("[LA;", "clone", "()Ljava/lang/Object;"), Some(true)),
-    ("A", ("[LA;", "finalize", "()V"), Some(false)),
-    ("A", ("A", "none", "()V"), None),
+    ("A", "O", "call", "()V", "no"),
+    ("O", "O", "call", "()V", "yes"),
+    ("lib/Any", "O", "call", "()V", "yes"),
+    ("A", "lib/Open", "all", "()V", "no"),
+    ("A", "[LA;", "clone", "()Ljava/lang/Object;", "yes"),
+    ("A", "[LA;", "finalize", "()V", "no"),
+    ("A", "A", "none", "()V", "-"),
 ];
 
 #[test]
 fn which_methods_are_accessible(rt: HostRuntime) -> Result<(), Fail> {
     let tree = tree_of(rt.alloc(), METHODS, "")?;
-    for (from, words, wanted) in &ACCESSED {
-        let named = Named::of(rt.alloc(), *words)?;
-        let told = access_answer(rt.alloc(), &tree, from, &named)?;
-        assert!(rt; told == *wanted, "from {from} to {} {}", words.0, words.1);
+    compare_accessed(&rt, &tree, &ACCESSED)
+}
+
+// Compares whether each method is accessible.
+fn compare_accessed(
+    rt: &(impl Abort + AllocGlobal),
+    tree: &Tree,
+    rows: &[Accessed],
+) -> Result<(), Fail> {
+    for (from, class, name, desc, wanted) in rows {
+        let named = Named::of(rt.alloc(), class, name, desc)?;
+        let told = access_answer(rt.alloc(), tree, from, &named)?;
+        assert!(rt; told == *wanted, "{told} from {from} to {class} {name}");
     }
     Ok(())
 }
