@@ -45,7 +45,7 @@ written_chosen at instr has fits = record {
 }
 
 -- bytes that are chosen are the written ones
-chosen_written : (at : ℕ) (instr : Instr) (bytes : List ℕ) → IsBytes bytes → IsChosen at instr bytes → bytes ≡ instr_bytes at instr
+pub chosen_written : (at : ℕ) (instr : Instr) (bytes : List ℕ) → IsBytes bytes → IsChosen at instr bytes → bytes ≡ instr_bytes at instr
 chosen_written at instr bytes small chosen =
     elim (spelled_outcome at instr bytes small chosen.shortest.spells) [
       | inl same ↦ same.is chosen.pad

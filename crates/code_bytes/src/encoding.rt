@@ -1,6 +1,7 @@
 //! Writing an instruction.
 ghost use Rattle.std.specs.Prelude.{◌≡◌, ◌+◌, ◌<◌, ℕ, List, length, FitsSigned, IfOk};
 ghost use Rattle.std.specs.Int.{w16};
+ghost use Rattle.class_model.specs.Cutting.{IsBytes};
 ghost use Rattle.code_bytes.specs.Encoding.{HasSpelling, IsChosen, IsPushed};
 ghost use Rattle.code_bytes.specs.Forms.{kind_index, pushed_bytes, int_bytes, ldc_bytes, local_bytes, iinc_bytes, jump_bytes, goto_bytes, return_bytes, invoke_bytes, instr_bytes};
 ghost use Rattle.code_bytes.specs.FormBytes.{form_bytes, FitsCount, HasKeys};
@@ -36,7 +37,8 @@ pub fn encode_one(alloc: Global, instr: &Instr, at: u32) -> Result<ByteList, NoM
 /// How many bytes the shortest spelling of an instruction at an offset takes; it has one, as for `encode_one`.
 pub fn code_len(instr: &Instr, at: u32) -> u32
     requires { HasSpelling at instr.now }
-    ensures { (bytes : List ℕ) × IsChosen at instr.now bytes × (result ≡ length bytes) }
+    ensures chosen { (bytes : List ℕ) × IsChosen at instr.now bytes × (result ≡ length bytes) }
+    ensures each { (bytes : List ℕ) → IsBytes bytes → IsChosen at instr.now bytes → result ≡ length bytes }
 {
     form_of(instr, at).len()
 }

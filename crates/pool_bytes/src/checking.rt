@@ -1,7 +1,7 @@
 //! Checking the constants of a pool that was cut out of bytes, in the order of their indices (JVM
 //! Specification SE 8, 4.4). Each is asked all that can be said of it, also through the constants that its
 //! indices name.
-ghost use Rattle.std.specs.Prelude.{◌≡◌, [], ◌∷◌, ◌≢◌, ◌+◌, ◌^◌, ◌<◌, ◌↔◌, ◌⊎◌, length, OnOk, IfSome, IsTrue};
+ghost use Rattle.std.specs.Prelude.{◌≡◌, [], ◌∷◌, ◌≢◌, ◌+◌, ◌^◌, ◌<◌, ◌↔◌, ◌⊎◌, length, Err, OnOk, IfSome, IsTrue};
 ghost use Rattle.std.specs.List.{flat_map};
 ghost use Rattle.std.specs.Option.{option_copied};
 ghost use Rattle.class_model.specs.Answers.{Answers};
@@ -29,6 +29,7 @@ impl RawPool<'_> {
         requires { at + length (flat_map entry_bytes self.now) < 2 ^ 64 }
         ensures told { Answers (entries_checks major self.now at self.now) result }
         ensures texts { OnOk result (HasTexts self.now) }
+        ensures memory { result ≢ Err ClassFault.NoMemory }
     {
         let mut place = at;
         for index in 1..self.count() {
@@ -42,7 +43,8 @@ impl RawPool<'_> {
 
     // Checks the constant whose tag stands at this place.
     fn check_constant(&self, major: u16, at: u64, constant: &RawConst<'_>) -> Result<(), ClassFault>
-        ensures { Answers (constant_checks major self.now at constant.now) result }
+        ensures told { Answers (constant_checks major self.now at constant.now) result }
+        ensures memory { result ≢ Err ClassFault.NoMemory }
     {
         match constant.form() {
             RawForm::Text(text) => check_text(at, text),
@@ -52,7 +54,8 @@ impl RawPool<'_> {
 
     // Checks a constant that is no text that stands in the bytes.
     fn check_other(&self, major: u16, at: u64, constant: &Const) -> Result<(), ClassFault>
-        ensures { Answers (constant_checks major self.now at constant.now) result }
+        ensures told { Answers (constant_checks major self.now at constant.now) result }
+        ensures memory { result ≢ Err ClassFault.NoMemory }
     {
         match constant {
             Const::Utf8(text) => check_text(at, text.bytes()),
@@ -81,7 +84,8 @@ fn broken(at: u64, rule: FileRule) -> Result<(), ClassFault>
 }
 
 fn check_text(at: u64, text: &[u8]) -> Result<(), ClassFault>
-    ensures { Answers (check at FileRule.Text (IsModifiedUtf8 text.now) ∷ []) result }
+    ensures told { Answers (check at FileRule.Text (IsModifiedUtf8 text.now) ∷ []) result }
+    ensures memory { result ≢ Err ClassFault.NoMemory }
 {
     if is_modified_utf8(text) {
         Ok(())
@@ -94,7 +98,8 @@ fn check_text(at: u64, text: &[u8]) -> Result<(), ClassFault>
 
 impl RawPool<'_> {
     fn check_class(&self, at: u64, name: u16) -> Result<(), ClassFault>
-        ensures { Answers (class_checks at self.now name) result }
+        ensures told { Answers (class_checks at self.now name) result }
+        ensures memory { result ≢ Err ClassFault.NoMemory }
     {
         let Some(name) = self.utf8(name) else {
             return broken(at, FileRule::Index);
@@ -107,7 +112,8 @@ impl RawPool<'_> {
     }
 
     fn check_string(&self, at: u64, text: u16) -> Result<(), ClassFault>
-        ensures { Answers (string_checks at self.now text) result }
+        ensures told { Answers (string_checks at self.now text) result }
+        ensures memory { result ≢ Err ClassFault.NoMemory }
     {
         if self.utf8(text).is_some() {
             Ok(())
@@ -117,7 +123,8 @@ impl RawPool<'_> {
     }
 
     fn check_fieldref(&self, at: u64, class: u16, member: u16) -> Result<(), ClassFault>
-        ensures { Answers (fieldref_checks at self.now class member) result }
+        ensures told { Answers (fieldref_checks at self.now class member) result }
+        ensures memory { result ≢ Err ClassFault.NoMemory }
     {
         if !self.is_class(class) || !self.is_name_and_type(member) {
             return broken(at, FileRule::Index);
@@ -132,7 +139,8 @@ impl RawPool<'_> {
     }
 
     fn check_methodref(&self, at: u64, class: u16, member: u16) -> Result<(), ClassFault>
-        ensures { Answers (methodref_checks at self.now class member) result }
+        ensures told { Answers (methodref_checks at self.now class member) result }
+        ensures memory { result ≢ Err ClassFault.NoMemory }
     {
         if !self.is_class(class) || !self.is_name_and_type(member) {
             return broken(at, FileRule::Index);
@@ -147,7 +155,8 @@ impl RawPool<'_> {
     }
 
     fn check_name_and_type(&self, at: u64, name: u16, descriptor: u16) -> Result<(), ClassFault>
-        ensures { Answers (name_and_type_checks at self.now name descriptor) result }
+        ensures told { Answers (name_and_type_checks at self.now name descriptor) result }
+        ensures memory { result ≢ Err ClassFault.NoMemory }
     {
         let (Some(name), Some(descriptor)) = (self.utf8(name), self.utf8(descriptor)) else {
             return broken(at, FileRule::Index);
@@ -162,7 +171,8 @@ impl RawPool<'_> {
     }
 
     fn check_method_type(&self, at: u64, descriptor: u16) -> Result<(), ClassFault>
-        ensures { Answers (method_type_checks at self.now descriptor) result }
+        ensures told { Answers (method_type_checks at self.now descriptor) result }
+        ensures memory { result ≢ Err ClassFault.NoMemory }
     {
         let Some(descriptor) = self.utf8(descriptor) else {
             return broken(at, FileRule::Index);
@@ -175,7 +185,8 @@ impl RawPool<'_> {
     }
 
     fn check_dynamic(&self, at: u64, member: u16) -> Result<(), ClassFault>
-        ensures { Answers (dynamic_checks at self.now member) result }
+        ensures told { Answers (dynamic_checks at self.now member) result }
+        ensures memory { result ≢ Err ClassFault.NoMemory }
     {
         if !self.is_name_and_type(member) {
             return broken(at, FileRule::Index);
@@ -264,7 +275,8 @@ impl RawPool<'_> {
 
 impl RawPool<'_> {
     fn check_handle(&self, major: u16, at: u64, kind: u8, reference: u16) -> Result<(), ClassFault>
-        ensures { Answers (handle_checks major at self.now kind reference) result }
+        ensures told { Answers (handle_checks major at self.now kind reference) result }
+        ensures memory { result ≢ Err ClassFault.NoMemory }
     {
         if self.refers_well(major, kind, reference) {
             Ok(())

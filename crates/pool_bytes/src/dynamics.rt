@@ -1,5 +1,5 @@
 //! Dynamic calls name bootstrap methods (JVM Specification SE 8, 4.4.10).
-ghost use Rattle.std.specs.Prelude.{◌≡◌, ◌+◌, ◌<◌, ◌^◌, length};
+ghost use Rattle.std.specs.Prelude.{◌≡◌, ◌≢◌, ◌+◌, ◌<◌, ◌^◌, length, Err};
 ghost use Rattle.std.specs.List.{flat_map};
 ghost use Rattle.class_model.specs.Answers.{Answers};
 ghost use Rattle.class_model.specs.ClassOf.{bootstrap_index_checks};
@@ -17,7 +17,8 @@ impl RawPool<'_> {
     /// `Malformed` with `Index` at the tag of the first that does not.
     pub fn check_dynamics(&self, count: usize, at: u64) -> Result<(), ClassFault>
         requires { at + length (flat_map entry_bytes self.now) < 2 ^ 64 }
-        ensures { Answers (bootstrap_index_checks count at self.now) result }
+        ensures told { Answers (bootstrap_index_checks count at self.now) result }
+        ensures memory { result ≢ Err ClassFault.NoMemory }
     {
         let mut place = at;
         for index in 1..self.count() {
@@ -31,7 +32,8 @@ impl RawPool<'_> {
 }
 
 fn check_bootstrap(constant: &RawConst<'_>, count: usize, at: u64) -> Result<(), ClassFault>
-    ensures { Answers (constant_bootstrap_checks count at constant.now) result }
+    ensures told { Answers (constant_bootstrap_checks count at constant.now) result }
+    ensures memory { result ≢ Err ClassFault.NoMemory }
 {
     match constant.form() {
         RawForm::Constant(Const::InvokeDynamic(bootstrap, _)) if usize::from(*bootstrap) >= count =>

@@ -1,5 +1,5 @@
 //! The texts of a pool that is not checked yet (JVM Specification SE 8, 4.4.7): they are checked alone, and lent.
-ghost use Rattle.std.specs.Prelude.{◌≡◌, ◌+◌, ◌^◌, ◌<◌, ◌≤◌, length, IfSome, OnOk};
+ghost use Rattle.std.specs.Prelude.{◌≡◌, ◌≢◌, ◌+◌, ◌^◌, ◌<◌, ◌≤◌, length, Err, IfSome, OnOk};
 ghost use Rattle.std.specs.List.{flat_map};
 ghost use Rattle.std.specs.Option.{option_copied};
 ghost use Rattle.class_model.specs.Answers.{Answers};
@@ -22,6 +22,7 @@ impl RawPool<'_> {
         requires { at + length (flat_map entry_bytes self.now) < 2 ^ 64 }
         ensures told { Answers (texts_checks at self.now) result }
         ensures texts { OnOk result (HasTexts self.now) }
+        ensures memory { result ≢ Err ClassFault.NoMemory }
     {
         let mut place = at;
         for index in 1..self.count() {
@@ -54,7 +55,8 @@ impl RawPool<'_> {
 
 // Checks a constant whose tag stands at this place: a text is modified UTF-8.
 fn check_text(constant: &RawConst<'_>, at: u64) -> Result<(), ClassFault>
-    ensures { Answers (text_checks at constant.now) result }
+    ensures told { Answers (text_checks at constant.now) result }
+    ensures memory { result ≢ Err ClassFault.NoMemory }
 {
     match constant.text() {
         Some(text) if !is_modified_utf8(text) => Err(ClassFault::Malformed {

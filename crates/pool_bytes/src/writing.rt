@@ -1,7 +1,8 @@
 //! Writing the constant pool.
-ghost use Rattle.std.specs.Prelude.{◌≡◌, ◌≤◌, ◌∷◌, ◌++◌, length, IfOk, OnOk};
+ghost use Rattle.std.specs.Prelude.{◌≡◌, ◌≤◌, ◌∷◌, ◌++◌, length, IfOk, OnOk, OnErr};
 ghost use Rattle.class_model.specs.Pool.{constant_at};
 ghost use Rattle.class_model.specs.Spelling.{u2, constant_bytes, entry_bytes, pool_bytes};
+ghost use Rattle.pool_bytes.specs.Appended.{Grows};
 ghost use Rattle.pool_bytes.specs.Items.{FitsItems, EntryFits};
 ghost use Rattle.pool_bytes.specs.ReadBack.{IsReadBack};
 ghost use Rattle.pool_bytes.specs.Reading.{Stands};
@@ -30,10 +31,11 @@ pub fn write_pool(alloc: Global, pool: &Pool) -> Result<ByteList, NoMemory>
 /// Appends the count of a pool and its constants. Index 0 has no constant.
 ///
 /// # Errors
-/// `NoMemory`, where memory runs out; some of the bytes may then be appended.
+/// `NoMemory`, where memory runs out; some bytes may then be appended behind those that stood there.
 pub fn push_pool(out: &mut Vec<u8>, pool: &Pool) -> Result<(), NoMemory>
     ensures same { OnOk result (out.new.items ≡ out.old.items ++ pool_bytes pool.now) }
     ensures read { OnOk result (IsReadBack pool.now) }
+    ensures err { OnErr result (Grows out.old.items out.new.items) }
 {
     push_u2(out, pool.count())?;
     for index in 0..pool.count() {
@@ -46,6 +48,7 @@ pub fn push_pool(out: &mut Vec<u8>, pool: &Pool) -> Result<(), NoMemory>
 fn push_entry(out: &mut Vec<u8>, pool: &Pool, index: u16) -> Result<(), NoMemory>
     ensures same { OnOk result (out.new.items ≡ out.old.items ++ entry_bytes (constant_at pool.now index)) }
     ensures fits { OnOk result (EntryFits (constant_at pool.now index)) }
+    ensures err { OnErr result (Grows out.old.items out.new.items) }
 {
     match pool.get(index) {
         Some(constant) => push_constant(out, constant),
@@ -57,6 +60,7 @@ fn push_entry(out: &mut Vec<u8>, pool: &Pool, index: u16) -> Result<(), NoMemory
 fn push_constant(out: &mut Vec<u8>, constant: &Const) -> Result<(), NoMemory>
     ensures same { OnOk result (out.new.items ≡ out.old.items ++ constant_bytes constant.now) }
     ensures fits { OnOk result (FitsItems constant.now) }
+    ensures err { OnErr result (Grows out.old.items out.new.items) }
 {
     match constant {
         Const::Utf8(text) => push_text(out, text),
@@ -88,6 +92,7 @@ fn push_constant(out: &mut Vec<u8>, constant: &Const) -> Result<(), NoMemory>
 fn push_text(out: &mut Vec<u8>, text: &Text) -> Result<(), NoMemory>
     ensures same { OnOk result (out.new.items ≡ out.old.items ++ 1 ∷ (u2 (length text.now) ++ text.now)) }
     ensures fits { length text.now ≤ 65535 }
+    ensures err { OnErr result (Grows out.old.items out.new.items) }
 {
     let text = text.bytes();
     out.push(UTF8_TAG)?;
@@ -98,7 +103,8 @@ fn push_text(out: &mut Vec<u8>, text: &Text) -> Result<(), NoMemory>
 
 // Appends a MethodHandle constant: its tag, its kind and its reference.
 fn push_handle(out: &mut Vec<u8>, kind: u8, reference: u16) -> Result<(), NoMemory>
-    ensures { OnOk result (out.new.items ≡ out.old.items ++ 15 ∷ kind ∷ u2 reference) }
+    ensures ok { OnOk result (out.new.items ≡ out.old.items ++ 15 ∷ kind ∷ u2 reference) }
+    ensures err { OnErr result (Grows out.old.items out.new.items) }
 {
     out.push(METHOD_HANDLE_TAG)?;
     out.push(kind)?;
@@ -107,7 +113,8 @@ fn push_handle(out: &mut Vec<u8>, kind: u8, reference: u16) -> Result<(), NoMemo
 
 // Appends a tag and two indices.
 fn push_pair(out: &mut Vec<u8>, tag: u8, first: u16, second: u16) -> Result<(), NoMemory>
-    ensures { OnOk result (out.new.items ≡ out.old.items ++ tag ∷ (u2 first ++ u2 second)) }
+    ensures ok { OnOk result (out.new.items ≡ out.old.items ++ tag ∷ (u2 first ++ u2 second)) }
+    ensures err { OnErr result (Grows out.old.items out.new.items) }
 {
     out.push(tag)?;
     push_u2(out, first)?;
@@ -116,7 +123,8 @@ fn push_pair(out: &mut Vec<u8>, tag: u8, first: u16, second: u16) -> Result<(), 
 
 // Appends a tag and the bytes of a field.
 fn push_tagged(out: &mut Vec<u8>, tag: u8, field: &[u8]) -> Result<(), NoMemory>
-    ensures { OnOk result (out.new.items ≡ out.old.items ++ tag ∷ field.now) }
+    ensures ok { OnOk result (out.new.items ≡ out.old.items ++ tag ∷ field.now) }
+    ensures err { OnErr result (Grows out.old.items out.new.items) }
 {
     out.push(tag)?;
     out.extend_from_slice(field)?;

@@ -35,10 +35,10 @@ returns-in_err-check_dynamics c =
     let Is = λ (done : Unit {0}). Unit {0} in
     let Other = λ (pool : Constants). pool ≡ c.args.raw.now in
     let e = c.in_err-check_dynamics.field-0.0 in
-    rw (p.1, p.2) (dynamics_stop class c.in_ok-check.ensures.told.0 behind.0 Is Other e (same_fault (bootstrap_index_checks c.in_ok-bootstraps.bootstraps 10 class.pool) _ Is Is e same c.in_err-check_dynamics.ensures))
+    rw (p.1, p.2) (dynamics_stop class c.in_ok-check.ensures.told.0 behind.0 Is Other e (same_fault (bootstrap_index_checks c.in_ok-bootstraps.bootstraps 10 class.pool) _ Is Is e same c.in_err-check_dynamics.ensures.told))
 
 pub returns : goal.returns
 returns c =
     let class = class_of c.args.raw.now c.args.body.now in
     let behind = rw (c.in_ok-pool.ensures, c.requires.place) at c.in_ok-bootstraps.ensures in
-    (all_told class c.in_ok-check.ensures.told.0 behind.0 (rw behind.1 at c.in_ok-check_dynamics.ensures).0, c.in_ok-pool.ensures)
+    (all_told class c.in_ok-check.ensures.told.0 behind.0 (rw behind.1 at c.in_ok-check_dynamics.ensures.told).0, c.in_ok-pool.ensures)

@@ -3,10 +3,10 @@ use Rattle.pool_bytes.proofs.AnswerParts.{at_end, at_none, at_fault, at_some, pl
 use Rattle.pool_bytes.proofs.raw.RawPool.check_dynamics.Goals as goal
 use Rattle.pool_bytes.proofs.raw.RawPool.check_dynamics.Goals.{in-Some+in_ok-check_bootstrap, in_default}
 
-pub returns-in_err-check_bootstrap : goal.returns-in_err-check_bootstrap
-returns-in_err-check_bootstrap c =
+pub returns-in_err-check_bootstrap-clause-told : goal.returns-in_err-check_bootstrap-clause-told
+returns-in_err-check_bootstrap-clause-told c =
     let lt : c.loop-index.index < length c.args.self.now = omega arith in
-    let fails = at_fault (dynamics_by_constant c.args.count) _ _ _ _ c.loop-index.invariant lt _ c.in-Some.ensures.constant _ c.in_err-check_bootstrap.ensures in
+    let fails = at_fault (dynamics_by_constant c.args.count) _ _ _ _ c.loop-index.invariant lt _ c.in-Some.ensures.constant _ c.in_err-check_bootstrap.ensures.told in
     passed_on _ _ _ c.from_residual.ensures.1 fails
 
 pub overflow_add-place : goal.overflow_add-place
@@ -19,9 +19,9 @@ pub loop-index-preserved : goal.loop-index-preserved
 loop-index-preserved c =
     let lt : c.loop-index.index < length c.args.self.now = omega arith in
     elim c.match-get.branch [
-      | in-Some+in_ok-check_bootstrap w ↦ at_some (dynamics_by_constant c.args.count) _ _ _ _ c.loop-index.invariant lt _ w.in-Some.ensures.constant _ (w.place-is ∙ ap (λ n. c.loop-index.place + n) w.byte_len-place.ensures) w.in_ok-check_bootstrap.ensures.0
+      | in-Some+in_ok-check_bootstrap w ↦ at_some (dynamics_by_constant c.args.count) _ _ _ _ c.loop-index.invariant lt _ w.in-Some.ensures.constant _ (w.place-is ∙ ap (λ n. c.loop-index.place + n) w.byte_len-place.ensures) w.in_ok-check_bootstrap.ensures.told.0
       | in_default w ↦ rw w.place-is (at_none (dynamics_by_constant c.args.count) _ _ _ _ c.loop-index.invariant lt w.in_default.ensures.constant)
     ]
 
-pub returns : goal.returns
-returns c = at_end (dynamics_by_constant c.args.count) _ _ _ _ c.loop-index.invariant (omega arith)
+pub returns-clause-told : goal.returns-clause-told
+returns-clause-told c = at_end (dynamics_by_constant c.args.count) _ _ _ _ c.loop-index.invariant (omega arith)

@@ -1,5 +1,5 @@
 use Rattle.std.proofs.Common.{inl, inr, refl}
 use Rattle.pool_bytes.proofs.raw.RawPool.check_name_and_type.Goals as goal
 
-pub returns-then-not-is_descriptor : goal.returns-then-not-is_descriptor
-returns-then-not-is_descriptor c = rw (c.broken-then-not-is_descriptor.ensures, ← c.in-Some-Some.ensures, ← c.in-Some-Some.ensures') (inr ((refl, refl), inr (c.fits_descriptor.ensures.0 c.if-not-fits_descriptor.false, inl (λ d. absurd (cc (c.is_descriptor.ensures.1 d, c.if-not-is_descriptor.true)), refl))))
+pub returns-then-not-is_descriptor-clause-told : goal.returns-then-not-is_descriptor-clause-told
+returns-then-not-is_descriptor-clause-told c = rw (c.broken-then-not-is_descriptor.ensures, ← c.in-Some-Some.ensures, ← c.in-Some-Some.ensures') (inr ((refl, refl), inr (c.fits_descriptor.ensures.0 c.if-not-fits_descriptor.false, inl (λ d. absurd (cc (c.is_descriptor.ensures.1 d, c.if-not-is_descriptor.true)), refl))))
