@@ -8,18 +8,14 @@ use Rattle.class_model.specs.ClassOf.{start}
 use Rattle.class_model.specs.Cutting.{IsBytes, Rest, Version, Cut, behind, bytes_at, number_at, u2_at, u4_at, many_at, counted_at, version_at}
 use Rattle.class_model.specs.Spelling.{magic}
 use Rattle.class_model.specs.declared.fault.FileRule.TheVariants as rules
-use Rattle.class_bytes.proofs.Steps.{bind_ok, done, same_done, guard_false, guard_true}
+use Rattle.class_model.proofs.Cuts.{bind_ok, guard_false, guard_true, below_byte}
+use Rattle.class_bytes.proofs.Steps.{done, same_done}
 
 -- ---- bytes
 
 pub are_bytes : (bytes : List ℕ) → ((i : ℕ) → get_or bytes i 0 < 256) → IsBytes bytes
 are_bytes [] h = tt
 are_bytes (b ∷ bytes) h = (h 0, are_bytes bytes (λ i. h (suc i)))
-
-below_byte : (bytes : List ℕ) → IsBytes bytes → (i : ℕ) → get_or bytes i 0 < 256
-below_byte [] h i = omega arith
-below_byte (b ∷ bytes) h zero = h.0
-below_byte (b ∷ bytes) h (suc i) = below_byte bytes h.1 i
 
 IsBytes-take : (n : ℕ) (bytes : List ℕ) → IsBytes bytes → IsBytes (take n bytes)
 IsBytes-take zero bytes h = tt

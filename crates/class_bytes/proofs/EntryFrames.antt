@@ -1,27 +1,22 @@
 -- The frame that a method's code begins with lists what its locals begin with.
-use Rattle.std.proofs.Common.{◌≡◌, inl, inr, ℕ, zero, suc, ◌+◌, ◌-◌, ◌<◌, ◌≤◌, Bool, true, false, cond, List, [], ◌∷◌, ◌++◌, length, replicate, take, map, get_or, Option, Some, None, refl, sym, ap, ◌∙◌, append_assoc}
-use Rattle.std.proofs.lemmas.Bool.{cases_Bool}
+use Rattle.std.proofs.Common.{◌≡◌, ℕ, zero, suc, ◌+◌, ◌-◌, List, [], ◌∷◌, ◌++◌, length, replicate, map, Option, Some, refl, sym, ap, ◌∙◌, append_assoc}
 use Rattle.std.proofs.lemmas.Grind.{flat_map-append}
-use Rattle.std.proofs.lemmas.List.{append-nil, reverse-append, flat_map_more, map_more, take_all}
+use Rattle.std.proofs.lemmas.List.{append-nil, reverse-append}
 use Rattle.class_model.specs.Code.{entry_frame, verification_type}
 use Rattle.class_model.specs.Descriptors.{parameters_of}
-use Rattle.class_model.specs.Frames.{units, units_of_entries, filled, listed}
+use Rattle.class_model.specs.Frames.{units, units_of_entries, listed}
 use Rattle.class_model.specs.Members.{has, STATIC, is_text}
 use Rattle.class_model.specs.Methods.{Home, entry_of}
 use Rattle.class_model.specs.Names.{init}
 use Rattle.class_model.specs.PoolChecks.{utf8_at}
 use Rattle.class_model.specs.declared.class_file.CodePart.{CodePart}
 use Rattle.class_model.specs.declared.class_file.Method.{Method}
-use Rattle.class_model.specs.declared.descriptor.FieldType.{FieldType}
-use Rattle.class_model.specs.declared.frame.Frame.{Frame}
 use Rattle.class_model.specs.declared.frame.VType.{VType}
 use Rattle.class_model.specs.declared.frame.VType.TheVariants as types
-use Rattle.code_bytes.specs.Entry.{class_entry, this_entries}
+use Rattle.code_bytes.specs.Entry.{this_entries}
+use Rattle.code_bytes.proofs.EntryFrames.{this_units, or_empty, frame_of, frame_is}
 
 -- ---- locals that are not listed
-
-abbrev frame_of : List VType → Frame
-frame_of locals = record { locals = locals; stack = [] }
 
 one_top : (locals : List VType) → listed (frame_of (locals ++ types.Top ∷ [])) ≡ listed (frame_of locals)
 one_top locals = rw (reverse-append locals (types.Top ∷ [])) refl
@@ -32,31 +27,6 @@ tops (suc count) locals =
     ap (λ (units : List VType). listed (frame_of units)) (sym (append_assoc locals (types.Top ∷ []) (replicate count types.Top)))
     ∙ tops count (locals ++ types.Top ∷ [])
     ∙ one_top locals
-
--- ---- this
-
-this_units : (static is_init : Bool) (class : Option (List ℕ)) → let this : List VType = cond static [] (cond is_init types.UninitThis (class_entry class) ∷ []) in units_of_entries this ≡ this
-this_units true is_init class = refl
-this_units false true class = refl
-this_units false false (Some class) = refl
-this_units false false None = refl
-
-abbrev or_empty : Option (List ℕ) → List ℕ
-or_empty None = []
-or_empty (Some text) = text
-
-frame_is : (flags : ℕ) (name class : Option (List ℕ)) (params : List FieldType) (max_locals : ℕ)
-    → entry_frame flags (or_empty name) class params max_locals ≡ frame_of (filled max_locals (this_entries flags name class ++ map verification_type params))
-frame_is flags None None params max_locals = elim (cases_Bool (has flags STATIC)) [ inl e ↦ rw e refl | inr e ↦ rw e refl ]
-frame_is flags None (Some class) params max_locals = elim (cases_Bool (has flags STATIC)) [ inl e ↦ rw e refl | inr e ↦ rw e refl ]
-frame_is flags (Some name) None params max_locals = elim (cases_Bool (has flags STATIC)) [
-  | inl e ↦ rw e refl
-  | inr e ↦ elim (cases_Bool (is_text init (Some name))) [ inl i ↦ rw (e, i) refl | inr i ↦ rw (e, i) refl ]
-]
-frame_is flags (Some name) (Some class) params max_locals = elim (cases_Bool (has flags STATIC)) [
-  | inl e ↦ rw e refl
-  | inr e ↦ elim (cases_Bool (is_text init (Some name))) [ inl i ↦ rw (e, i) refl | inr i ↦ rw (e, i) refl ]
-]
 
 -- ---- the frame
 

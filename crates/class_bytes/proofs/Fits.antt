@@ -20,7 +20,7 @@ use Rattle.class_bytes.specs.Counts.{FitsContent, FitsInner, FitsInners, FitsPar
 use Rattle.class_bytes.specs.Parts.{body_at}
 use Rattle.class_bytes.proofs.CutBytes.{AreBytes, Keeps, step, made, bytes_kept, u2_kept, u4_kept, IsCounted, counted_kept}
 use Rattle.class_bytes.proofs.PartLengths.{part_len, part_fills, whole_some}
-use Rattle.class_bytes.proofs.Steps.{guard_true}
+use Rattle.class_model.proofs.Cuts.{guard_true}
 
 -- what each item is asked is asked of another in its place
 each_as : {X Y : Type 0} (P : X → Type 0) (Q : Y → Type 0) (f : X → Y) → ((x : X) → P x → Q (f x)) → (xs : List X) → AllByRecursion P xs → AllByRecursion Q (map f xs)

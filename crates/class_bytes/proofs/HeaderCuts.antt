@@ -9,7 +9,7 @@ use Rattle.class_bytes.specs.Cut.{result_seen}
 use Rattle.class_bytes.specs.HeaderParts.{cut_seen, member_head_at, cut_header_at, field_head, method_head, cut_header}
 use Rattle.class_bytes.specs.Parts.{body_at}
 use Rattle.class_bytes.specs.declared.header_cutting.CutHeader.{CutHeader}
-use Rattle.class_bytes.proofs.Steps.{bind_ok, guard_true}
+use Rattle.class_model.proofs.Cuts.{bind_ok, guard_true}
 
 -- ---- one step after the other
 

@@ -13,7 +13,8 @@ use Rattle.class_model.specs.declared.class_file.Handler.{Handler}
 use Rattle.class_model.specs.declared.class_file.InnerAttr.{InnerAttr}
 use Rattle.class_model.specs.declared.fault.FileRule.TheVariants as rules
 use Rattle.class_bytes.specs.CodeParts.{parts_len}
-use Rattle.class_bytes.proofs.Steps.{bind_ok, same_done, guard_false, guard_some}
+use Rattle.class_model.proofs.Cuts.{bind_ok, guard_false}
+use Rattle.class_bytes.proofs.Steps.{same_done, guard_some}
 
 -- What a part cuts off has a size.
 record Spends {X : Type 0} (part : Rest → Cut X) (size : X → ℕ) : Type 0 where

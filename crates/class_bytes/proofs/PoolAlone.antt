@@ -15,7 +15,8 @@ use Rattle.class_model.specs.declared.pool.Const.TheVariants.{Utf8, Integer, Flo
 use Rattle.pool_bytes.specs.Reading.{rest_at, pool_checks, Stands}
 use Rattle.class_bytes.proofs.Asking.{both_hold, first_holds, others_hold}
 use Rattle.class_bytes.proofs.HeaderCuts.{pool_kept}
-use Rattle.class_bytes.proofs.Steps.{bind_ok, done, same_done, guard_false, guard_true}
+use Rattle.class_model.proofs.Cuts.{bind_ok, guard_false, guard_true}
+use Rattle.class_bytes.proofs.Steps.{done, same_done}
 
 -- ---- what version 52 gives too
 

@@ -16,7 +16,8 @@ use Rattle.class_model.specs.declared.fault.FileRule.TheVariants as rules
 use Rattle.class_bytes.specs.HeaderParts.{skipped_at}
 use Rattle.class_bytes.specs.Parts.{attrs_len}
 use Rattle.class_bytes.proofs.Many.{SoFar, goes_on_plain, stops, is_done}
-use Rattle.class_bytes.proofs.Steps.{bind_ok, same_done, guard_false}
+use Rattle.class_model.proofs.Cuts.{bind_ok, guard_false}
+use Rattle.class_bytes.proofs.Steps.{same_done}
 
 -- ---- an attribute takes its bytes
 

@@ -7,7 +7,8 @@ use Rattle.class_model.specs.Cutting.{Rest, Cut, behind, bytes_at, u2_at, many_a
 use Rattle.class_model.specs.Methods.{Bootstrap, bootstrap_at, bootstraps}
 use Rattle.class_model.specs.declared.fault.FileRule.TheVariants as rules
 use Rattle.class_bytes.specs.Bootstraps.{bootstraps_len}
-use Rattle.class_bytes.proofs.Steps.{bind_ok, done, same_done, guard_false, guard_some}
+use Rattle.class_model.proofs.Cuts.{bind_ok, guard_false}
+use Rattle.class_bytes.proofs.Steps.{done, same_done, guard_some}
 
 -- So many bytes were taken from the front.
 record Took (rest : Rest) (len : ℕ) (after : Rest) : Type 0 where

@@ -3,11 +3,9 @@ use Rattle.std.proofs.Common.{◌≡◌, ◌↔◌, ◌+◌, ◌<◌, ◌≤◌,
 use Rattle.std.proofs.lemmas.Bool.{false≢true}
 use Rattle.std.proofs.lemmas.List.{drop_more, drop_all}
 use Rattle.class_tree.specs.Answers.{Answers}
-use Rattle.class_tree.specs.Headers.{Name}
-use Rattle.class_tree.specs.Problems.{Check, Problem, check, asked_each, AllHold, IsFirstProblem}
+use Rattle.class_tree.specs.Problems.{Check, Problem, asked_each, AllHold, IsFirstProblem}
 use Rattle.class_tree.specs.declared.fault.LinkFault.{LinkFault}
 use Rattle.class_tree.specs.declared.fault.LinkFault.TheVariants.{Unlinked, NoMemory}
-use Rattle.class_tree.specs.declared.fault.LinkRule.{LinkRule}
 
 both_hold : (a b : List Check) → AllHold a → AllHold b → AllHold (a ++ b)
 both_hold [] b h k = k
@@ -46,12 +44,12 @@ refused a b NoMemory left told = tt
 pub passes : {whole rest : List Check} {c : Check} → Remain whole (c ∷ rest) → c.holds → Remain whole rest
 passes left h = record { hold = λ k. left.hold (h, k); fail = λ p first. left.fail p (inr (h, first)) }
 
-pub fails : {whole rest : List Check} {class : Name} {rule : LinkRule} {P : Type 0} (test : Bool) (e : LinkFault) → Remain whole (check class rule P ∷ rest) → (test ≡ true ↔ P) → Answers {X = Unit {0}} (check class rule (test ≡ true) ∷ []) (Err e) → Answers {X = Unit {0}} whole (Err e)
+pub fails : {whole rest : List Check} {problem : Problem} {P : Type 0} (test : Bool) (e : LinkFault) → Remain whole ((record { problem = problem; holds = P }) ∷ rest) → (test ≡ true ↔ P) → Answers {X = Unit {0}} ((record { problem = problem; holds = test ≡ true }) ∷ []) (Err e) → Answers {X = Unit {0}} whole (Err e)
 fails test NoMemory left same told = tt
 fails test (Unlinked at member broken) left same (inl here) = left.fail _ (inl (λ h. here.0 (same.1 h), here.1))
 fails test (Unlinked at member broken) left same (inr later) = absurd later.1
 
-pub ends : {whole : List Check} {class : Name} {rule : LinkRule} {P : Type 0} (test : Bool) (result : Result (Unit {0}) LinkFault) → Remain whole (check class rule P ∷ []) → (test ≡ true ↔ P) → Answers (check class rule (test ≡ true) ∷ []) result → Answers whole result
+pub ends : {whole : List Check} {problem : Problem} {P : Type 0} (test : Bool) (result : Result (Unit {0}) LinkFault) → Remain whole ((record { problem = problem; holds = P }) ∷ []) → (test ≡ true ↔ P) → Answers ((record { problem = problem; holds = test ≡ true }) ∷ []) result → Answers whole result
 ends test (Ok x) left same told = left.hold (same.0 told.0, tt)
 ends test (Err e) left same told = fails test e left same told
 

@@ -12,7 +12,8 @@ use crate::place::Place;
 use crate::tree::Tree;
 use class_model::Text;
 
-/// Whether a class or array is below another, or is the same. Classes are named, and arrays are their descriptors.
+/// Whether a class or array is below another, or is the same (JVM Specification SE 8, 4.10 and 4.10.1.2). Classes are named, and
+/// arrays are their descriptors. It takes no memory.
 pub fn is_sub(tree: &Tree, low: &Text, high: &Text) -> bool
     ensures { IsTrue result ↔ IsSubtype (headers_of tree.now) low.now high.now }
 {
@@ -61,7 +62,7 @@ pub fn is_array(name: &[u8]) -> bool
     name.starts_with(b"[")
 }
 
-/// Whether each array is below the class of a name.
+/// Whether each array is below the class of a name: java/lang/Object, java/lang/Cloneable and java/io/Serializable are.
 pub fn is_above_arrays(name: &[u8]) -> bool
     ensures { IsTrue result ↔ IsAboveArrays name.now }
 {

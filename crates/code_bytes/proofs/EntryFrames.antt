@@ -26,20 +26,20 @@ with_tops max_locals locals = locals ++ replicate (max_locals - length locals) t
 
 -- ---- this
 
-this_units : (static is_init : Bool) (class : Option (List ℕ)) → let this : List VType = cond static [] (cond is_init types.UninitThis (class_entry class) ∷ []) in units_of_entries this ≡ this
+pub this_units : (static is_init : Bool) (class : Option (List ℕ)) → let this : List VType = cond static [] (cond is_init types.UninitThis (class_entry class) ∷ []) in units_of_entries this ≡ this
 this_units true is_init class = refl
 this_units false true class = refl
 this_units false false (Some class) = refl
 this_units false false None = refl
 
-abbrev or_empty : Option (List ℕ) → List ℕ
+abbrev pub or_empty : Option (List ℕ) → List ℕ
 or_empty None = []
 or_empty (Some text) = text
 
 abbrev pub frame_of : List VType → Frame
 frame_of locals = record { locals = locals; stack = [] }
 
-frame_is : (flags : ℕ) (name class : Option (List ℕ)) (params : List FieldType) (max_locals : ℕ)
+pub frame_is : (flags : ℕ) (name class : Option (List ℕ)) (params : List FieldType) (max_locals : ℕ)
     → entry_frame flags (or_empty name) class params max_locals ≡ frame_of (filled max_locals (this_entries flags name class ++ map verification_type params))
 frame_is flags None None params max_locals = elim (cases_Bool (has flags STATIC)) [ inl e ↦ rw e refl | inr e ↦ rw e refl ]
 frame_is flags None (Some class) params max_locals = elim (cases_Bool (has flags STATIC)) [ inl e ↦ rw e refl | inr e ↦ rw e refl ]

@@ -2,7 +2,7 @@
 -- StackMapTable can be read.
 use Rattle.std.proofs.Common.{◌≡◌, ◌+◌, ◌*◌, ◌==◌, ◌||◌, ℕ, zero, suc, Bool, true, false, cond, List, [], ◌∷◌, ◌++◌, length, map, Option, Some, None, Result, Ok, Err, IsTrue, IsFalse, refl, sym, subst, inl, inr}
 use Rattle.std.specs.List.{AllByRecursion, flat_map}
-use Rattle.class_model.specs.Checks.{Check, Fault, fault, check, AllHold, IsFirstFault, asked_of, asked_if, ◌>>=◌}
+use Rattle.class_model.specs.Checks.{Check, Fault, fault, check, AllHold, IsFirstFault, asked_of, asked_if}
 use Rattle.class_model.specs.ClassOf.{ClassOf, method_signature, fields_checks, methods_checks, dynamic_checks, entered_attr, entered_method}
 use Rattle.class_model.specs.Code.{OperandFits, code_part, jump_checks, operand_checks, handlers_checks, inners_checks, inner_is_named, stack_map_table, table_fault}
 use Rattle.class_model.specs.Cutting.{Rest, Version, Cut, bytes_at, u2_at, u4_at, many_at, counted_at, pool_at, attr_at, field_at, method_at, class_at}
@@ -27,6 +27,7 @@ use Rattle.class_model.specs.declared.frame.PlacedFrame.{PlacedFrame}
 use Rattle.class_model.specs.declared.instr.Placed.{Placed}
 use Rattle.code_bytes.specs.Decoding.{code_checks}
 use Rattle.code_bytes.specs.Codes.{HasInstrs, HasOperands, HaveOperands, HaveFrames, IsReadMethod, HasReadMethods, HasReadOperands, HasReadFrames}
+use Rattle.class_model.proofs.Cuts.{bind_ok}
 
 -- ---- checks that hold
 
@@ -59,10 +60,6 @@ seventh_of_nine a b c d e f g h i all =
     back (a ++ b ++ c ++ d ++ e ++ f) g abcdefg
 
 -- ---- attributes are cut as bytes
-
-bind_ok : {A B : Type 0} (r : Result A Fault) (f : A → Result B Fault) (y : B) → (r >>= f) ≡ Ok y → (x : A) × (r ≡ Ok x) × (f x ≡ Ok y)
-bind_ok (Ok x) f y e = (x, refl, e)
-bind_ok (Err d) f y e = absurd cc
 
 abbrev done : {Y : Type 0} → Y → Result Y Fault
 done y = Ok y

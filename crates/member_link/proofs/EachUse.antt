@@ -7,7 +7,8 @@ use Rattle.class_tree.specs.Answers.{Answers}
 use Rattle.class_tree.specs.Problems.{Check, asked_each, AllHold}
 use Rattle.class_tree.specs.declared.fault.LinkFault.{LinkFault}
 use Rattle.member_link.specs.Resolving.{Resolved}
-use Rattle.member_link.proofs.LinkSteps.{Remain, all_remain, remain, refused, answered, asked_at}
+use Rattle.class_tree.proofs.LinkChecks.{Remain, all_remain, remain, refused, answered}
+use Rattle.member_link.proofs.LinkSteps.{asked_at}
 
 -- Items below an index have been asked.
 pub record AskedBelow {X : Type 0} (asks : X → List Check) (items : List X) (i : ℕ) : Type 0 where

@@ -12,7 +12,7 @@ use Rattle.class_tree.specs.declared.fault.LinkFault.{LinkFault}
 use Rattle.member_link.specs.Resolving.{Resolved, scope_of}
 use Rattle.member_link.specs.Uses.{attr_checks, methods_checks}
 use Rattle.code_bytes.specs.Codes.{home_of}
-use Rattle.member_link.proofs.LinkSteps.{Remain, all_remain, remain, refused}
+use Rattle.class_tree.proofs.LinkChecks.{Remain, all_remain, remain, refused}
 
 abbrev pub resolved : Headers → ClassFile → Header → Resolved
 resolved headers class header = record { headers = headers; pool = class.pool; from = header.name }

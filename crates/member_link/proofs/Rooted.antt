@@ -1,6 +1,6 @@
 -- Superclasses: a class above another that is no interface is its superclass or above that, since java/lang/Object is above
 -- each class and nothing is above it.
-use Rattle.std.proofs.Common.{◌≡◌, List, [], ◌∷◌, Option, Some, None, bytes_eq, IsSome, IfSome, IsTrue, IsFalse, refl, sym, ap, subst, ◌∙◌, inl, inr}
+use Rattle.std.proofs.Common.{◌≡◌, List, [], ◌∷◌, Option, Some, None, bytes_eq, IfSome, IsTrue, IsFalse, refl, sym, ap, subst, ◌∙◌, inl, inr}
 use Rattle.std.specs.List.{AllByRecursion, list_any}
 use Rattle.std.proofs.lemmas.Bool.{false≢true, both_ways, or_cases}
 use Rattle.std.proofs.lemmas.Option.{same_Some}
@@ -14,14 +14,7 @@ use Rattle.class_tree.specs.Subtype.{IsDirectlyBelow, superclass, interface, IsB
 use Rattle.member_link.specs.Access.{IsAtOrBelow}
 use Rattle.member_link.proofs.ClassesAbove.{directly_above_is_there}
 use Rattle.member_link.proofs.OpenOverriding.{below_more}
-
--- the class of a name that is there
-pub class_there : (headers : Headers) (name : Name) → IsThere headers name → (header : Header) × (class_named headers name ≡ Some header)
-class_there headers name there = by (class_named headers name) refl there
-  where
-    by : (found : Option Header) → class_named headers name ≡ found → IsSome found → (header : Header) × (class_named headers name ≡ Some header)
-    by None is some = absurd cc
-    by (Some header) is some = (header, is)
+use Rattle.class_tree.proofs.InterfaceWalks.{class_there}
 
 each_of_names : (P : Name → Type 0) (names : List Name) → AllByRecursion P names → (name : Name) → IsTrue (list_any (bytes_eq name) names) → P name
 each_of_names P [] all name one = absurd (false≢true one)

@@ -1,8 +1,8 @@
 -- The superinterfaces of a class, by their names and by their places, and the methods that they declare.
-use Rattle.std.proofs.Common.{◌≡◌, ◌⊎◌, ◌↔◌, ◌<◌, Bool, true, false, not, cond, ℕ, List, [], ◌∷◌, length, get_or, map, filter, bytes_eq, Option, Some, None, IsSome, IfSome, IsTrue, refl, sym, ap, subst, ◌∙◌, inl, inr}
+use Rattle.std.proofs.Common.{◌≡◌, ◌⊎◌, ◌↔◌, ◌<◌, Bool, true, false, not, cond, ℕ, List, [], ◌∷◌, length, get_or, map, filter, bytes_eq, Some, IfSome, IsTrue, refl, sym, ap, subst, ◌∙◌, inl, inr}
 use Rattle.std.specs.Bool.{Decides}
 use Rattle.std.specs.List.{AllByRecursion, list_any}
-use Rattle.std.proofs.lemmas.Bool.{false≢true, cases_Bool, or_cases, or_left, or_right, eqb-true, eq-eqb}
+use Rattle.std.proofs.lemmas.Bool.{false≢true, cases_Bool, or_cases, or_left, or_right}
 use Rattle.std.proofs.lemmas.Option.{same_Some}
 use Rattle.std.proofs.lemmas.Slice.Eq.{bytes_eq-Decides}
 use Rattle.class_model.specs.declared.header.Header.{Header}
@@ -14,11 +14,11 @@ use Rattle.class_tree.specs.Order.{header_at, place_of}
 use Rattle.class_tree.specs.Subtype.{IsBelow}
 use Rattle.class_tree.specs.contracts.place.PlacePartialEq.TheImpl.{ghosts}
 use Rattle.class_tree.specs.declared.place.Place.{Place}
-use Rattle.class_tree.specs.declared.place.Place.TheVariants.{Folder, Library}
 use Rattle.member_link.specs.DeclaredMembers.{Declared, declared, is_inherited}
 use Rattle.member_link.specs.Defaults.{IsSuperinterfaceMethod}
 use Rattle.member_link.specs.DefaultsAt.{IsSuperinterfaceAt}
 use Rattle.member_link.proofs.OneHas.{each_at}
+use Rattle.class_tree.proofs.SamePlaces.{same_place}
 
 -- ---- names
 
@@ -107,12 +107,6 @@ superinterface_methods headers hierarchy class names are name desc method = (to,
         }
 
 -- ---- places
-
-same_place : (one other : Place) → Decides (ghosts.eq one other) (one ≡ other)
-same_place (Folder one) (Folder other) = (λ same. ap Folder (eqb-true one other same), λ same. eq-eqb one other cc)
-same_place (Library one) (Library other) = (λ same. ap Library (eqb-true one other same), λ same. eq-eqb one other cc)
-same_place (Folder one) (Library other) = (λ same. absurd (false≢true same), λ same. absurd cc)
-same_place (Library one) (Folder other) = (λ same. absurd (false≢true same), λ same. absurd cc)
 
 -- the class of a name stands at one of these places
 abbrev pub IsPlacedIn : Headers → List Place → Name → Type 0
@@ -227,11 +221,3 @@ module _ (headers : Headers) (hierarchy : IsHierarchy headers) where
   -- one of them
   pub superinterface_at : (class : Place) (places : List Place) → IfSome (header_at headers class) (ArePlacesOfNames headers places) → (header : Header) → header_at headers class ≡ Some header → (at : ℕ) (other : Place) → at < length places → IsSuperinterfaceAt headers header.name (get_or places at other)
   superinterface_at class places told header is at other within = each_at (IsSuperinterfaceAt headers header.name) places (superinterfaces_of class places told header is).each at other within
-
--- the class at a place
-pub class_there : (headers : Headers) (place : Place) → IsSome (header_at headers place) → (header : Header) × (header_at headers place ≡ Some header)
-class_there headers place some = by (header_at headers place) refl some
-  where
-    by : (found : Option Header) → header_at headers place ≡ found → IsSome found → (header : Header) × (header_at headers place ≡ Some header)
-    by None e some = absurd cc
-    by (Some header) e some = (header, e)

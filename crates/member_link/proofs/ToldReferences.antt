@@ -24,7 +24,7 @@ use Rattle.member_link.specs.declared.resolution.Callee.{Callee}
 use Rattle.member_link.specs.declared.resolution.Referent.{Referent}
 use Rattle.member_link.specs.declared.resolution.Resolution.{Resolution}
 use Rattle.member_link.specs.declared.resolution.Resolution.TheVariants as resolutions
-use Rattle.member_link.proofs.LinkSteps.{Remain, all_remain, passes, answered}
+use Rattle.class_tree.proofs.LinkChecks.{Remain, all_remain, passes, answered}
 
 -- ---- a rule that is broken
 

@@ -15,10 +15,11 @@ use Rattle.member_link.specs.DeclaredMembers.{Declared}
 use Rattle.member_link.specs.Found.{IsMethodFound}
 use Rattle.member_link.specs.OpenMethods.{IsAbove, IsAboveOfKind, IsSameOf, IsAnyOf, one_passes, none_passes}
 use Rattle.member_link.specs.declared.found.Found.{Found}
-use Rattle.member_link.proofs.Climbed.{superclass_at, no_superclass_at, superclass_there}
+use Rattle.member_link.proofs.Climbed.{superclass_at, superclass_there}
 use Rattle.member_link.proofs.OpenOverriding.{below_more}
 use Rattle.member_link.proofs.Rooted.{superclass_kind, class_is_climbed}
 use Rattle.member_link.proofs.Superinterfaces.{IsPlacedIn, AreSuperinterfacesAt}
+use Rattle.class_tree.proofs.Climbing.{no_superclass}
 
 -- the class stands at the place, or is above the one that does
 abbrev pub IsFrom : Headers → Option Place → Name → Type 0
@@ -55,7 +56,7 @@ module _ (headers : Headers) (hierarchy : IsHierarchy headers) (low : Name) (Pas
       above other class next other_at = by header.super_name refl
         where
           by : (super : Option Name) → header.super_name ≡ super → IsBelow headers low class.name × IsFalse (is_interface class)
-          by None none = absurd (none-some other (sym (no_superclass_at headers place header at none) ∙ next))
+          by None none = absurd (none-some other (sym (no_superclass headers place header at none) ∙ next))
           by (Some name) some =
               let super = superclass_at headers hierarchy place header at name some in
               let same = same_Some super.class class (sym super.stands.at ∙ ap (header_at headers) (same_Some super.high other (sym super.is ∙ next)) ∙ other_at) in (

@@ -1,10 +1,8 @@
 pub mod Depths
 pub mod RowSteps
 pub mod ShuffleForms
-pub mod ClassTexts
 pub mod TypeTexts
 pub mod PoolFacts
-pub mod LastSlash
 pub mod ProtectedMembers
 pub mod OwnFields
 pub mod Chains
@@ -12,14 +10,12 @@ pub mod NewClassLaws
 pub mod OffsetTables
 pub mod InitRows
 pub mod BecomingLocals
-pub mod ReferenceComponents
 pub mod NameAssignability
 pub mod TypeAssignability
 pub mod Pairwise
 pub mod LocalWalks
 pub mod MappedSoFar
 pub mod OlderObjects
-pub mod PlainTexts
 pub mod StoredLocals
 pub mod ArrayTexts
 pub mod PushedElements

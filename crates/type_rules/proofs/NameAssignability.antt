@@ -6,7 +6,7 @@ use Rattle.class_tree.specs.Hierarchy.{IsHierarchy}
 use Rattle.class_tree.specs.Subtype.{IsDirectlyBelow, superclass, interface, IsBelow, directly, onwards, IsArray, IsReferenceComponent, IsAboveArrays}
 use Rattle.member_link.specs.Assignability.{IsNameAssignable, to_itself, to_interface, to_class_above, from_array, of_components}
 use Rattle.member_link.specs.Forms.{IsInterfaceNamed}
-use Rattle.type_rules.proofs.ReferenceComponents.{is_array_of, same_component, not_above_arrays}
+use Rattle.class_tree.proofs.Components.{is_array_of, same_component, not_above_arrays}
 
 -- two that do not both have a component
 abbrev pub AreInnermost : Name → Name → Type 0
@@ -28,7 +28,7 @@ module _ (headers : Headers) (hierarchy : IsHierarchy headers) where
   of_arrays (to_itself name) one other is also = subst (IsNameAssignable headers one) (same_component is also) (to_itself one)
   of_arrays (to_interface low high header flat there kind) one other is also = absurd (flat (is_array_of is))
   of_arrays (to_class_above low high up) one other is also = absurd (not_below (is_array_of is) up)
-  of_arrays (from_array low high deep above) one other is also = absurd (not_above_arrays (is_array_of also) above)
+  of_arrays (from_array low high deep above) one other is also = absurd (not_above_arrays _ (is_array_of also) above)
   of_arrays (of_components low high a b low_is high_is inner) one other is also =
       subst (λ name. IsNameAssignable headers name other) (same_component low_is is) (subst (IsNameAssignable headers a) (same_component high_is also) inner)
 

@@ -17,7 +17,7 @@ use class_tree::{
 
 const ACC_INTERFACE: u16 = 0x0200;
 
-/// Whether a value of a type may stand where another is wanted. It takes no memory.
+/// Whether a value of a type may stand where another is wanted (JVM Specification SE 8, 4.10.1.2). It takes no memory.
 pub fn assignable(tree: &Tree, from: &VType, to: &VType) -> bool
     ensures { IsTrue result ↔ IsAssignable (headers_of tree.now) from.now to.now }
 {
@@ -109,7 +109,7 @@ fn class_of<'a>(tree: &'a Tree, name: &[u8]) -> Option<&'a Header>
     tree.header(tree.find(name)?)
 }
 
-/// Whether a frame may stand where another is stated. It takes no memory.
+/// Whether a frame may stand where another is stated (JVM Specification SE 8, 4.10.1.2). It takes no memory.
 pub fn frame_assignable(tree: &Tree, from: &Frame, to: &Frame) -> bool
     ensures { IsTrue result ↔ IsFrameAssignable (headers_of tree.now) from.now to.now }
 {

@@ -1,6 +1,5 @@
 pub mod OneFailure
 pub mod ChecksLeft
-pub mod PlainTexts
 pub mod CaughtClasses
 pub mod StatedFrames
 pub mod Stepping

@@ -1,5 +1,5 @@
 -- A method with code of a folder was read.
-use Rattle.std.proofs.Common.{◌≡◌, ltb, ℕ, zero, suc, List, [], ◌∷◌, length, slice_get, Option, Some, None, Result, Ok, Err, option_and_then, option_map, refl, subst}
+use Rattle.std.proofs.Common.{◌≡◌, ltb, ℕ, List, [], ◌∷◌, length, slice_get, Option, Some, None, Result, Ok, Err, option_and_then, option_map, refl, subst}
 use Rattle.std.specs.List.{AllByRecursion}
 use Rattle.std.proofs.lemmas.Bool.{and_parts, ltb-true}
 use Rattle.std.proofs.lemmas.Option.{same_Some}
@@ -18,12 +18,7 @@ use Rattle.class_tree.specs.Headers.{Classes, Headers, headers_of, IsClassFile}
 use Rattle.code_bytes.specs.Codes.{HasInstrs, HasReadMethods, IsReadMethod}
 use Rattle.type_rules.specs.Scope.{Scope, code_of, instructions, scope_at, scope_of}
 use Rattle.verify_folder.specs.Steps.{IsRead}
-
--- what holds of each holds of the one at an index
-at_index : {X : Type 0} (Holds : X → Type 0) (xs : List X) (i : ℕ) (x : X) → AllByRecursion Holds xs → slice_get xs i ≡ Some x → Holds x
-at_index Holds [] i x all e = absurd cc
-at_index Holds (y ∷ xs) zero x all e = subst Holds (same_Some y x e) all.0
-at_index Holds (y ∷ xs) (suc i) x all e = at_index Holds xs i x all.1 e
+use Rattle.type_rules.proofs.MethodParts.{at_index}
 
 -- the first code among attributes has instructions
 code_has_instrs : (attrs : List Attr) (part : CodePart) → AllByRecursion HasInstrs attrs → code_of attrs ≡ Some part → HasInstrs (Code 0 part)

@@ -17,7 +17,8 @@ use Rattle.class_model.specs.declared.descriptor.FieldType.TheVariants.{Named}
 use Rattle.class_tree.specs.Headers.{Name}
 use Rattle.class_tree.specs.Names.{object}
 use Rattle.work_gen.specs.BaseLibrary.{no_parameters, takes_object, gives_object}
-use Rattle.work_gen.proofs.PlainNames.{IsPlainClassName, plain_text, is_plain_text, class_name, reference_name, utf8, unqualified, method_name}
+use Rattle.class_tree.proofs.PlainTexts.{plain_text, is_plain_text}
+use Rattle.work_gen.proofs.PlainNames.{IsPlainClassName, class_name, reference_name, utf8, unqualified, method_name}
 use Rattle.work_gen.proofs.ReadClasses.{raw}
 use Rattle.work_gen.specs.Values.{memberless, thrown, root, keeper}
 

@@ -6,7 +6,7 @@ use Rattle.class_tree.specs.Answers.{Answers}
 use Rattle.class_tree.specs.Headers.{headers_of}
 use Rattle.class_tree.specs.Problems.{asked_each}
 use Rattle.member_link.specs.Declarations.{declaration_checks, declared_field_checks, declared_method_checks}
-use Rattle.member_link.proofs.LinkSteps.{all_remain, passes, remain, refused, answered}
+use Rattle.class_tree.proofs.LinkChecks.{all_remain, passes, remain, refused, answered}
 use Rattle.member_link.proofs.declarations.check_class.Goals as goal
 
 pub returns-in_err-check_fields : goal.returns-in_err-check_fields

@@ -6,7 +6,8 @@ use Rattle.class_tree.specs.Headers.{headers_of}
 use Rattle.class_tree.specs.Problems.{asked_each}
 use Rattle.member_link.specs.Declarations.{declaration_checks}
 use Rattle.member_link.proofs.FolderMethods.{item_at}
-use Rattle.member_link.proofs.LinkSteps.{asked_at, refused, remain}
+use Rattle.class_tree.proofs.LinkChecks.{refused, remain}
+use Rattle.member_link.proofs.LinkSteps.{asked_at}
 use Rattle.member_link.proofs.declarations.check_declarations.Goals as goal
 
 pub returns-in_err-check_class : goal.returns-in_err-check_class

@@ -2,7 +2,7 @@ use Rattle.std.proofs.Common.{drop}
 use Rattle.class_tree.specs.Headers.{headers_of}
 use Rattle.class_tree.specs.Problems.{asked_each}
 use Rattle.member_link.specs.Declarations.{declared_field_checks}
-use Rattle.member_link.proofs.LinkSteps.{Remain}
+use Rattle.class_tree.proofs.LinkChecks.{Remain}
 use Rattle.member_link.proofs.declarations.check_fields.Given as goal
 
 abbrev pub invariant-loop-field : goal.invariant-loop-field

@@ -4,7 +4,7 @@ use Rattle.class_tree.specs.Problems.{asked_each}
 use Rattle.member_link.specs.Declarations.{declaration_checks}
 use Rattle.member_link.specs.Linked.{link_checks}
 use Rattle.member_link.specs.Uses.{use_checks}
-use Rattle.member_link.proofs.LinkSteps.{all_remain, remain, refused, answered}
+use Rattle.class_tree.proofs.LinkChecks.{all_remain, remain, refused, answered}
 use Rattle.member_link.proofs.links.check_links.Goals as goal
 
 pub returns-in_err-check_declarations : goal.returns-in_err-check_declarations

@@ -1,5 +1,5 @@
 use Rattle.type_rules.proofs.NameAssignability.{components_decide}
-use Rattle.type_rules.proofs.ReferenceComponents.{component_is_shorter}
+use Rattle.class_tree.proofs.Components.{component_is_shorter}
 use Rattle.type_rules.proofs.assignability.innermost.Goals as goal
 use Rattle.type_rules.proofs.assignability.innermost.Goals.{in_default, in_default-2}
 

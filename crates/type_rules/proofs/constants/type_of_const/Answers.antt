@@ -1,5 +1,5 @@
 use Rattle.std.proofs.Common.{refl}
-use Rattle.type_rules.proofs.PlainTexts.{plain_text}
+use Rattle.class_tree.proofs.PlainTexts.{plain_text}
 use Rattle.type_rules.proofs.constants.type_of_const.Goals as goal
 
 pub of_text-requires : goal.of_text-requires

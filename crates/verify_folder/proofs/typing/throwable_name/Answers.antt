@@ -1,6 +1,6 @@
 use Rattle.std.proofs.Common.{refl}
 use Rattle.class_tree.specs.Names.{throwable}
-use Rattle.verify_folder.proofs.PlainTexts.{plain_text}
+use Rattle.class_tree.proofs.PlainTexts.{plain_text}
 use Rattle.verify_folder.proofs.typing.throwable_name.Goals as goal
 
 pub of_text-requires : goal.of_text-requires

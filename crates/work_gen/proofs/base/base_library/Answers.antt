@@ -7,7 +7,7 @@ use Rattle.work_gen.specs.BaseLibrary.{IsBaseLibrary}
 use Rattle.work_gen.specs.Values.{named_classes, thrown}
 use Rattle.work_gen.proofs.Appended.{one_appended, all_appended}
 use Rattle.work_gen.proofs.Library.{is_base_library}
-use Rattle.work_gen.proofs.PlainNames.{is_plain_text, plain_text, text_at}
+use Rattle.class_tree.proofs.PlainTexts.{is_plain_text, plain_text, text_at}
 use Rattle.work_gen.proofs.base.base_library.Goals as goal
 
 pub throwable-requires-clause-super_name : goal.throwable-requires-clause-super_name

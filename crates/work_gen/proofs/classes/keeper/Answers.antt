@@ -1,5 +1,5 @@
 use Rattle.std.proofs.Common.{refl}
-use Rattle.work_gen.proofs.PlainNames.{plain_text}
+use Rattle.class_tree.proofs.PlainTexts.{plain_text}
 use Rattle.work_gen.proofs.classes.keeper.Goals as goal
 
 pub pool_of-requires-clause-name : goal.pool_of-requires-clause-name

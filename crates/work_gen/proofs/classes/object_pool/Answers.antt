@@ -1,5 +1,5 @@
 use Rattle.std.proofs.Common.{refl}
-use Rattle.work_gen.proofs.PlainNames.{plain_text}
+use Rattle.class_tree.proofs.PlainTexts.{plain_text}
 use Rattle.work_gen.proofs.classes.object_pool.Goals as goal
 
 pub push_class-requires-clause-text : goal.push_class-requires-clause-text

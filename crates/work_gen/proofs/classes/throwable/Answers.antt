@@ -1,5 +1,5 @@
 use Rattle.std.proofs.Common.{refl}
-use Rattle.work_gen.proofs.PlainNames.{plain_text}
+use Rattle.class_tree.proofs.PlainTexts.{plain_text}
 use Rattle.work_gen.proofs.classes.throwable.Goals as goal
 
 pub push_text-requires-clause-text : goal.push_text-requires-clause-text
