@@ -4,7 +4,7 @@ ghost use Rattle.class_model.specs.declared.header.Header.{Header};
 ghost use Rattle.class_tree.specs.Headers.{Name, Headers, headers_of, class_named};
 ghost use Rattle.class_tree.specs.Names as names;
 ghost use Rattle.class_tree.specs.Order.{header_at};
-ghost use Rattle.class_tree.specs.Subtype.{IsArray, IsReferenceComponent, IsAboveArrays, IsBelow, IsSubtype};
+ghost use Rattle.class_tree.specs.Subtype.{AreComponents, IsArray, IsReferenceComponent, IsAboveArrays, IsBelow, IsSubtype};
 ghost use Rattle.class_tree.specs.Trees.{IsTree};
 
 use crate::names::{CLONEABLE, OBJECT, SERIALIZABLE};
@@ -30,9 +30,9 @@ pub fn is_sub(tree: &Tree, low: &Text, high: &Text) -> bool
     }
 }
 
-// The components of two arrays, as far as both have one.
-fn innermost<'a>(low: &'a [u8], high: &'a [u8]) -> (&'a [u8], &'a [u8])
-    ensures same { (headers : Headers) → ((name : Name) (header : Header) → class_named headers name ≡ Some header → ¬ IsArray name) → IsSubtype headers low.now high.now ↔ IsSubtype headers result.0.now result.1.now }
+/// The components of two arrays, as far as both have one.
+pub fn innermost<'a>(low: &'a [u8], high: &'a [u8]) -> (&'a [u8], &'a [u8])
+    ensures taken { AreComponents low.now high.now result.0.now result.1.now }
     ensures last { (low_component high_component : Name) → IsReferenceComponent result.0.now low_component → ¬ IsReferenceComponent result.1.now high_component }
 {
     let (mut low, mut high) = (low, high);
