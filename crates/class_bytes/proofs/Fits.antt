@@ -19,8 +19,9 @@ use Rattle.class_model.specs.declared.fault.FileRule.TheVariants as rules
 use Rattle.class_bytes.specs.Counts.{FitsContent, FitsInner, FitsInners, FitsPart, FitsAttr, FitsAttrs, FitsField, FitsMethod, FitsCounts}
 use Rattle.class_bytes.specs.Parts.{body_at}
 use Rattle.class_bytes.proofs.CutBytes.{AreBytes, Keeps, step, made, bytes_kept, u2_kept, u4_kept, IsCounted, counted_kept}
-use Rattle.class_bytes.proofs.PartLengths.{part_len, part_fills, whole_some}
+use Rattle.class_bytes.proofs.PartLengths.{part_len, part_fills}
 use Rattle.class_model.proofs.Cuts.{guard_true}
+use Rattle.class_model.proofs.ClassCuts.{whole_some}
 
 -- what each item is asked is asked of another in its place
 each_as : {X Y : Type 0} (P : X → Type 0) (Q : Y → Type 0) (f : X → Y) → ((x : X) → P x → Q (f x)) → (xs : List X) → AllByRecursion P xs → AllByRecursion Q (map f xs)

@@ -1,27 +1,14 @@
 -- The bytes of a library's class file have one header, one first fault, or one version that is not read.
-use Rattle.std.proofs.Common.{◌≡◌, ◌⊎◌, inl, inr, ℕ, List, [], ◌∷◌, Result, Ok, Err, refl, sym, ap, subst, ◌∙◌}
-use Rattle.class_model.specs.Checks.{Check, Fault, AllHold, IsFirstFault, asked_of}
+use Rattle.std.proofs.Common.{◌≡◌, ◌⊎◌, inl, inr, ℕ, List, [], Result, Ok, Err, refl, sym, ap, subst, ◌∙◌}
+use Rattle.class_model.specs.Checks.{Check, Fault, IsFirstFault, asked_of}
 use Rattle.class_model.specs.ClassOf.{start}
-use Rattle.class_model.specs.Cutting.{Rest, Cut, Version, version_at, class_at}
+use Rattle.class_model.specs.Cutting.{Rest, Version, version_at, class_at}
 use Rattle.class_model.specs.Header.{IsLibraryVersion, HeaderOf, header_checks, header_of, library_checks}
 use Rattle.class_model.specs.declared.class_file.ClassFile.{ClassFile}
 use Rattle.class_model.specs.declared.header.Header.{Header}
 use Rattle.class_bytes.specs.Reading.{FirstHeaderFault, IsNoLibraryVersion}
 use Rattle.class_bytes.specs.Reading.FirstHeaderFault.{in_head, behind}
-
--- ---- checks
-
-one_first : (checks : List Check) (one other : Fault) → IsFirstFault checks one → IsFirstFault checks other → one ≡ other
-one_first [] one other h k = absurd h
-one_first (c ∷ checks) one other (inl a) (inl b) = a.1 ∙ sym b.1
-one_first (c ∷ checks) one other (inl a) (inr b) = absurd (a.0 b.0)
-one_first (c ∷ checks) one other (inr a) (inl b) = absurd (b.0 a.0)
-one_first (c ∷ checks) one other (inr a) (inr b) = one_first checks one other a.1 b.1
-
-all_or_fault : (checks : List Check) (f : Fault) → AllHold checks → ¬ IsFirstFault checks f
-all_or_fault [] f h k = k
-all_or_fault (c ∷ checks) f h (inl b) = b.0 h.0
-all_or_fault (c ∷ checks) f h (inr b) = all_or_fault checks f h.1 b.1
+use Rattle.class_model.proofs.ClassLaws.{one_fault as one_first_fault, all_or_fault, one_head, head_or_fault, one_error, one_cut}
 
 -- ---- the head is read once
 
@@ -36,24 +23,10 @@ fault_form : (bytes : List ℕ) (f : Fault) → FirstHeaderFault bytes f → (ve
 fault_form bytes _ (in_head f e) = inl e
 fault_form bytes _ (behind version rest f head is_read first) = inr (record { version = version; rest = rest; head = head; is_read = is_read; first = first })
 
-one_pair : (r : Cut Version) (x y : Version × Rest) → r ≡ Ok x → r ≡ Ok y → x ≡ y
-one_pair r x y e d = cc
-
-one_head : (r : Cut Version) (version other : Version) (rest after : Rest) → r ≡ Ok (version, rest) → r ≡ Ok (other, after) → (version ≡ other) × (rest ≡ after)
-one_head r version other rest after e d =
-    let same = one_pair r (version, rest) (other, after) e d in
-    (ap (λ (x : Version × Rest). x.0) same, ap (λ (x : Version × Rest). x.1) same)
-
-head_or_fault : (r : Cut Version) (x : Version × Rest) (f : Fault) → r ≡ Ok x → r ≡ Err f → ⊥
-head_or_fault r x f e d = absurd cc
-
-one_error : (r : Cut Version) (f g : Fault) → r ≡ Err f → r ≡ Err g → f ≡ g
-one_error r f g e d = cc
-
 one_behind : (bytes : List ℕ) (one other : Fault) → Behind bytes one → Behind bytes other → one ≡ other
 one_behind bytes one other a b =
     let same = one_head (version_at (start bytes)) a.version b.version a.rest b.rest a.head b.head in
-    one_first (library_checks a.version a.rest) one other a.first (rw (same.0, same.1) b.first)
+    one_first_fault (library_checks a.version a.rest) one other a.first (rw (same.0, same.1) b.first)
 
 pub one_fault : (bytes : List ℕ) (one other : Fault) → FirstHeaderFault bytes one → FirstHeaderFault bytes other → one ≡ other
 one_fault bytes one other p q =
@@ -107,9 +80,6 @@ pub one_version : (bytes : List ℕ) (one other : Version) → IsNoLibraryVersio
 one_version bytes one other a b = (one_head (version_at (start bytes)) one other a.rest b.rest a.head b.head).0
 
 -- ---- one header
-
-one_cut : (r : Result ClassFile Fault) (a b : ClassFile) → r ≡ Ok a → r ≡ Ok b → a ≡ b
-one_cut r a b e d = cc
 
 pub one_header : (bytes : List ℕ) (one other : Header) → HeaderOf bytes one → HeaderOf bytes other → one ≡ other
 one_header bytes one other a b =

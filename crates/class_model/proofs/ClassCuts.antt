@@ -92,7 +92,7 @@ takes_all : (bytes text : List ℕ) (after : Rest) → Takes (start bytes) text 
 takes_all bytes text after takes none = takes.parts ∙ ap (λ (t : List ℕ). text ++ t) (nil_from_length after.bytes (eqb-true _ _ none)) ∙ append-nil text
 
 -- a content that was cut to its end
-whole_some : (r : Cut CodePart) (part : CodePart) → whole r ≡ Some part → (x : CodePart × Rest) × (r ≡ Ok x) × (eqb (length x.1.bytes) 0 ≡ true) × (x.0 ≡ part)
+pub whole_some : (r : Cut CodePart) (part : CodePart) → whole r ≡ Some part → (x : CodePart × Rest) × (r ≡ Ok x) × (eqb (length x.1.bytes) 0 ≡ true) × (x.0 ≡ part)
 whole_some (Ok x) part e = let g = some_of (eqb (length x.1.bytes) 0) x.0 part e in (x, refl, g.0, g.1) where
   some_of : (b : Bool) (p q : CodePart) → cond b (Some p) None ≡ Some q → (b ≡ true) × (p ≡ q)
   some_of true p q e = (refl, cc)

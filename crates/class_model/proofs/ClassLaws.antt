@@ -8,14 +8,14 @@ use Rattle.class_model.specs.declared.class_file.ClassFile.{ClassFile}
 
 -- ---- checks
 
-one_fault : (checks : List Check) (one other : Fault) → IsFirstFault checks one → IsFirstFault checks other → one ≡ other
+pub one_fault : (checks : List Check) (one other : Fault) → IsFirstFault checks one → IsFirstFault checks other → one ≡ other
 one_fault [] one other h k = absurd h
 one_fault (c ∷ checks) one other (inl a) (inl b) = a.1 ∙ sym b.1
 one_fault (c ∷ checks) one other (inl a) (inr b) = absurd (a.0 b.0)
 one_fault (c ∷ checks) one other (inr a) (inl b) = absurd (b.0 a.0)
 one_fault (c ∷ checks) one other (inr a) (inr b) = one_fault checks one other a.1 b.1
 
-all_or_fault : (checks : List Check) (f : Fault) → AllHold checks → ¬ IsFirstFault checks f
+pub all_or_fault : (checks : List Check) (f : Fault) → AllHold checks → ¬ IsFirstFault checks f
 all_or_fault [] f h k = k
 all_or_fault (c ∷ checks) f h (inl b) = b.0 h.0
 all_or_fault (c ∷ checks) f h (inr b) = all_or_fault checks f h.1 b.1
@@ -36,15 +36,15 @@ fault_form bytes _ (behind version rest f head is_read first) = inr (record { ve
 one_pair : (r : Cut Version) (x y : Version × Rest) → r ≡ Ok x → r ≡ Ok y → x ≡ y
 one_pair r x y e d = cc
 
-one_head : (r : Cut Version) (version other : Version) (rest after : Rest) → r ≡ Ok (version, rest) → r ≡ Ok (other, after) → (version ≡ other) × (rest ≡ after)
+pub one_head : (r : Cut Version) (version other : Version) (rest after : Rest) → r ≡ Ok (version, rest) → r ≡ Ok (other, after) → (version ≡ other) × (rest ≡ after)
 one_head r version other rest after e d =
     let same = one_pair r (version, rest) (other, after) e d in
     (ap (λ (x : Version × Rest). x.0) same, ap (λ (x : Version × Rest). x.1) same)
 
-head_or_fault : (r : Cut Version) (x : Version × Rest) (f : Fault) → r ≡ Ok x → r ≡ Err f → ⊥
+pub head_or_fault : (r : Cut Version) (x : Version × Rest) (f : Fault) → r ≡ Ok x → r ≡ Err f → ⊥
 head_or_fault r x f e d = absurd cc
 
-one_error : (r : Cut Version) (f g : Fault) → r ≡ Err f → r ≡ Err g → f ≡ g
+pub one_error : (r : Cut Version) (f g : Fault) → r ≡ Err f → r ≡ Err g → f ≡ g
 one_error r f g e d = cc
 
 one_behind : (bytes : List ℕ) (one other : Fault) → Behind bytes one → Behind bytes other → one ≡ other
@@ -102,7 +102,7 @@ other_version bytes version o = (λ class c. not_read bytes version o c.version 
 
 -- ---- one class file
 
-one_cut : (r : Result ClassFile Fault) (a b : ClassFile) → r ≡ Ok a → r ≡ Ok b → a ≡ b
+pub one_cut : (r : Result ClassFile Fault) (a b : ClassFile) → r ≡ Ok a → r ≡ Ok b → a ≡ b
 one_cut r a b e d = cc
 
 pub one_class_file : (bytes : List ℕ) (one other : ClassFile) → ClassOf bytes one → ClassOf bytes other → one ≡ other

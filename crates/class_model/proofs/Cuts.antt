@@ -17,12 +17,12 @@ below_byte [] h i = omega arith
 below_byte (b ∷ bytes) h zero = h.0
 below_byte (b ∷ bytes) h (suc i) = below_byte bytes h.1 i
 
-IsBytes-take : (n : ℕ) (bytes : List ℕ) → IsBytes bytes → IsBytes (take n bytes)
+pub IsBytes-take : (n : ℕ) (bytes : List ℕ) → IsBytes bytes → IsBytes (take n bytes)
 IsBytes-take zero bytes h = tt
 IsBytes-take (suc n) [] h = tt
 IsBytes-take (suc n) (b ∷ bytes) h = (h.0, IsBytes-take n bytes h.1)
 
-IsBytes-drop : (n : ℕ) (bytes : List ℕ) → IsBytes bytes → IsBytes (drop n bytes)
+pub IsBytes-drop : (n : ℕ) (bytes : List ℕ) → IsBytes bytes → IsBytes (drop n bytes)
 IsBytes-drop zero bytes h = h
 IsBytes-drop (suc n) [] h = tt
 IsBytes-drop (suc n) (b ∷ bytes) h = IsBytes-drop n bytes h.1

@@ -183,7 +183,7 @@ named_result : (result : Option FieldType) → IfSome result IsFieldType → IfS
 named_result None h = tt
 named_result (Some type) h = named type h
 
-bytes_spell : (bytes : List ℕ) (d : Descriptor) → SpellsDescriptor bytes d → BytesSpell bytes d
+pub bytes_spell : (bytes : List ℕ) (d : Descriptor) → SpellsDescriptor bytes d → BytesSpell bytes d
 bytes_spell bytes d s = record { params = named_types d.params s.is_descriptor.params; units = s.is_descriptor.units; result = named_result d.result s.is_descriptor.result; spelled = s.spelled }
 
 is_descriptor : (d : Descriptor) → Decision (IsDescriptor d)

@@ -7,7 +7,8 @@ use Rattle.class_model.specs.Pool.{Constants}
 use Rattle.class_model.specs.Spelling.{pool_bytes}
 use Rattle.class_bytes.specs.Counts.{FitsCounts}
 use Rattle.class_bytes.specs.Cut.{version_of, class_of}
-use Rattle.class_bytes.proofs.CutBytes.{are_bytes, bytes_behind, version_left}
+use Rattle.class_bytes.proofs.CutBytes.{bytes_behind, version_left}
+use Rattle.pool_bytes.proofs.PoolReads.{are_bytes}
 use Rattle.class_bytes.proofs.Fits.{class_fits}
 use Rattle.class_bytes.proofs.WholeFiles.{head_refused, pool_refused, body_refused, check_refused, is_cut, is_class, class_len}
 use Rattle.class_bytes.proofs.reading.read_class.Goals as goal
