@@ -2,8 +2,6 @@
 use Rattle.std.proofs.Common.{◌≡◌, ◌||◌, not, IsTrue, IsFalse, inl, inr, ℕ, ◌+◌, ◌<◌, Bool, true, false, List, [], ◌∷◌, length, get_or, drop, Option, Some, None, Result, Ok, Err, is_some, unwrap_or, refl, sym, ap, subst, ◌∙◌, add-one, drop-cons}
 use Rattle.std.specs.Option.{option_or, IsSome}
 use Rattle.std.specs.Prelude.{bytes_eq}
-use Rattle.std.proofs.lemmas.Slice.Eq.{bytes_eq-Decides}
-use Rattle.std.proofs.lemmas.Bool.Decides.{same_from_decides}
 use Rattle.class_model.specs.Answers.{Tells}
 use Rattle.class_model.specs.Checks.{Check, check}
 use Rattle.class_model.specs.Members.{is_text, is_named, has_named, attr_name_check}
@@ -19,6 +17,7 @@ use Rattle.class_bytes.specs.Cut.{attr_of, attrs_of}
 use Rattle.class_bytes.specs.declared.cut.CutAttr.{CutAttr}
 use Rattle.class_bytes.proofs.Asking.{goes_on, stops}
 use Rattle.class_bytes.proofs.Attributes.{Checked, refuses, one_more}
+use Rattle.class_bytes.proofs.Kept.{eq_sym}
 
 -- the refusal says nothing of a value
 pub refused_too : {X Y : Type 0} (checks : List Check) (Is : X → Type 0) (Other : Y → Type 0) (e : ClassFault) → Tells checks Is (Err e) → Tells checks Other (Err e)
@@ -38,12 +37,6 @@ pub count_of : (pool : Constants) (attr : CutAttr) (count : ℕ) → is_named po
 count_of pool attr count named counts = rw (named, counts.is) (ap Some (sym counts.len))
 
 -- ---- one BootstrapMethods attribute
-
-eq_sym : (xs ys : List ℕ) → bytes_eq xs ys ≡ bytes_eq ys xs
-eq_sym xs ys =
-    let one = bytes_eq-Decides xs ys in
-    let other = bytes_eq-Decides ys xs in
-    same_from_decides (bytes_eq xs ys) (bytes_eq ys xs) one (λ e. sym (other.0 e), λ e. other.1 (sym e))
 
 not_false : (b : Bool) → false ≡ not b → b ≡ true
 not_false true e = refl

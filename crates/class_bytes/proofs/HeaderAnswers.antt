@@ -6,7 +6,6 @@ use Rattle.class_model.specs.Members.{class_name_checks, super_checks, interface
 use Rattle.class_model.specs.Pool.{Constants}
 use Rattle.class_model.specs.PoolChecks.{class_at}
 use Rattle.class_model.specs.declared.fault.ClassFault.{ClassFault}
-use Rattle.class_model.specs.declared.fault.ClassFault.TheVariants.{Malformed, Version, NoMemory}
 use Rattle.class_model.specs.declared.header.Header.{Header}
 use Rattle.class_model.specs.declared.header.Member.{Member}
 use Rattle.class_bytes.specs.HeaderParts.{members_checks, members_len, cut_header_checks, class_name_in, member_in, header_in}
@@ -16,15 +15,10 @@ use Rattle.class_bytes.specs.declared.header_cutting.CutHeader.{CutHeader}
 use Rattle.class_bytes.specs.declared.header_cutting.MemberHead.{MemberHead}
 use Rattle.class_bytes.proofs.Asking.{both_hold, goes_on, stops}
 use Rattle.class_bytes.proofs.HeaderMembers.{AreOwn}
+use Rattle.class_bytes.proofs.ClassAttrs.{refused_too}
 
 abbrev AreNames : Constants → List ℕ → List (List ℕ) → Type 0
 AreNames pool indices names = names ≡ map (class_name_in pool) indices
-
--- a refusal is one whatever is wanted of the value
-refusal : {X Y : Type 0} (checks : List Check) (Is : X → Type 0) (Other : Y → Type 0) (e : ClassFault) → Tells checks Is (Err e) → Tells checks Other (Err e)
-refusal checks Is Other (Malformed at rule) told = told
-refusal checks Is Other NoMemory told = tt
-refusal checks Is Other (Version major minor) told = told
 
 -- what is told of members from a place on
 abbrev RefusesMembers : MemberKind → Constants → ClassFault → ℕ → List MemberHead → Type 0
@@ -81,7 +75,7 @@ module _ (pool : Constants) (at : ℕ) (head : CutHeader) where
       methods_refused field e start members place same told =
           let here = same_members kinds.Method pool e start methods_at members head.methods place same told in
           let end = methods_at + members_len head.methods in
-          behind e (goes_on interfaces (fields ++ methods) IsHeader (Err e) interface (goes_on fields methods IsHeader (Err e) field (refusal methods (AreOwn pool head.methods end) IsHeader e here)))
+          behind e (goes_on interfaces (fields ++ methods) IsHeader (Err e) interface (goes_on fields methods IsHeader (Err e) field (refused_too methods (AreOwn pool head.methods end) IsHeader e here)))
 
       -- every part holds
       pub all_hold : AllHold fields → AllHold methods → AllHold (cut_header_checks pool at head)

@@ -36,7 +36,7 @@ none_passes : {X : Type 0} (p : X → Bool) → ((x : X) → p x ≡ false) → 
 none_passes p none [] = refl
 none_passes p none (x ∷ xs) = rw (none x) (none_passes p none xs)
 
-eq_sym : (xs ys : List ℕ) → bytes_eq xs ys ≡ bytes_eq ys xs
+pub eq_sym : (xs ys : List ℕ) → bytes_eq xs ys ≡ bytes_eq ys xs
 eq_sym xs ys =
     let one = bytes_eq-Decides xs ys in
     let other = bytes_eq-Decides ys xs in

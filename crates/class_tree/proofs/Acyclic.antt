@@ -45,7 +45,7 @@ mapped_all : {X : Type 0} (P Q : X → Type 0) → ((x : X) → P x → Q x) →
 mapped_all P Q to [] all = tt
 mapped_all P Q to (x ∷ xs) all = (to x all.0, mapped_all P Q to xs all.1)
 
-each_of : (P : ℕ → Type 0) (numbers : List ℕ) → AllByRecursion P numbers → (number : ℕ) → list_any (eqb number) numbers ≡ true → P number
+pub each_of : (P : ℕ → Type 0) (numbers : List ℕ) → AllByRecursion P numbers → (number : ℕ) → list_any (eqb number) numbers ≡ true → P number
 each_of P [] all number one = absurd (false≢true one)
 each_of P (first ∷ numbers) all number one =
     elim (or_cases _ _ one) [ inl here ↦ subst P (sym (eqb-true number first here)) all.0 | inr there ↦ each_of P numbers all.1 number there ]

@@ -17,8 +17,8 @@ use Rattle.class_tree.specs.declared.fault.LinkRule.TheVariants.{Duplicate}
 use Rattle.class_tree.proofs.Acyclic.{all_are_placed}
 use Rattle.class_tree.proofs.ClassHolds.{class_holds}
 use Rattle.class_tree.proofs.GraphPaths.{graph_is_within, path_is_below, some_at}
-use Rattle.class_tree.proofs.InterfaceLists.{graph_len}
 use Rattle.class_tree.proofs.LinkChecks.{Remain, all_remain, remain, refused, answered}
+use Rattle.class_tree.proofs.HierarchyChecks.{as_many_nodes}
 
 -- the class files of a folder, and the headers of the library beside theirs
 abbrev pub classes_of : List ClassFile → Headers → Classes
@@ -75,6 +75,6 @@ pub classes_are_placed : (headers : Headers) (graph : Graph) (order : List ℕ) 
 classes_are_placed headers graph order in_order hold is topological node low =
     all_are_placed graph order (subst IsWithin (sym is) (graph_is_within headers)) topological
     (λ at below path.
-    let class = some_at (all_headers headers) at (omega (arith, below, ap length is, graph_len headers)) in
+    let class = some_at (all_headers headers) at (omega (arith, below, ap length is, as_many_nodes headers)) in
     (class_holds headers hold at class.0 class.1).circle ((path_is_below headers in_order at at class.0 class.0 class.1 class.1).0 (subst (λ (g : Graph). IsPath g at at) is path)))
     node low

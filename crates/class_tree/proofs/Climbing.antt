@@ -1,7 +1,7 @@
 -- The superclasses of a class, upwards.
-use Rattle.std.proofs.Common.{◌≡◌, ◌<◌, ◌≤◌, ◌+◌, ℕ, zero, suc, true, false, eqb, List, [], ◌∷◌, ◌++◌, length, Option, Some, None, IsSome, IfSome, is_some, option_and_then, ◌⊎◌, refl, sym, ap, subst, ◌∙◌, append_assoc, inl, inr, arith}
-use Rattle.std.specs.List.{AllByRecursion, IsDistinct, list_any}
-use Rattle.std.proofs.lemmas.Bool.{false≢true, or_cases, eqb-true, ne_eqb}
+use Rattle.std.proofs.Common.{◌≡◌, ◌<◌, ◌≤◌, ◌+◌, ℕ, zero, suc, false, eqb, List, [], ◌∷◌, ◌++◌, length, Option, Some, None, IsSome, IfSome, is_some, option_and_then, ◌⊎◌, refl, sym, ap, subst, ◌∙◌, append_assoc, inl, inr, arith}
+use Rattle.std.specs.List.{AllByRecursion, IsDistinct}
+use Rattle.std.proofs.lemmas.Bool.{ne_eqb}
 use Rattle.std.proofs.lemmas.List.{append-nil}
 use Rattle.std.proofs.lemmas.Map.Keys.{IsDistinct-cons}
 use Rattle.std.proofs.lemmas.Map.Steps.{length-le_from_distinct_below}
@@ -14,7 +14,7 @@ use Rattle.class_tree.specs.Nodes.{number_of, graph_of}
 use Rattle.class_tree.specs.Order.{header_at, place_of}
 use Rattle.class_tree.specs.Subtype.{IsDirectlyBelow, superclass, IsBelow, directly, onwards, IsChain, root, below}
 use Rattle.class_tree.specs.declared.place.Place.{Place}
-use Rattle.class_tree.proofs.Acyclic.{path_and_edge}
+use Rattle.class_tree.proofs.Acyclic.{path_and_edge, each_of}
 use Rattle.class_tree.proofs.ClassHolds.{named_holds}
 use Rattle.class_tree.proofs.GraphPaths.{edge_above, below_from_path}
 use Rattle.class_tree.proofs.LinkedClasses.{IsAt, class_at}
@@ -45,11 +45,6 @@ record AreMet (headers : Headers) (met : List ℕ) (place : Place) : Type 0 wher
 each_has : (P Q : ℕ → Type 0) → ((n : ℕ) → P n → Q n) → (numbers : List ℕ) → AllByRecursion P numbers → AllByRecursion Q numbers
 each_has P Q to [] all = tt
 each_has P Q to (number ∷ numbers) all = (to number all.0, each_has P Q to numbers all.1)
-
-one_has : (P : ℕ → Type 0) (numbers : List ℕ) → AllByRecursion P numbers → (number : ℕ) → list_any (eqb number) numbers ≡ true → P number
-one_has P [] all number one = absurd (false≢true one)
-one_has P (first ∷ numbers) all number one =
-    elim (or_cases _ _ one) [ inl here ↦ subst P (sym (eqb-true number first here)) all.0 | inr there ↦ one_has P numbers all.1 number there ]
 
 module _ (headers : Headers) (tree : HoldsSteps headers) where
   number_is : (place : Place) (header : Header) → header_at headers place ≡ Some header → HasNumber headers header.name (place_number headers place) header
@@ -92,7 +87,7 @@ module _ (headers : Headers) (tree : HoldsSteps headers) where
   steady zero (Some place) met many distinct within are =
       let class = class_at headers place (place_number headers place) (place_of_itself headers place are.there) are.there in
       let more = distinct_more met place class.header class.at are distinct in
-      let few = length-le_from_distinct_below (place_number headers place ∷ met) (length (all_headers headers)) more (one_has (λ one. one < length (all_headers headers)) (place_number headers place ∷ met) (class.within, within)) in
+      let few = length-le_from_distinct_below (place_number headers place ∷ met) (length (all_headers headers)) more (each_of (λ one. one < length (all_headers headers)) (place_number headers place ∷ met) (class.within, within)) in
       absurd (omega (arith, few, many))
   steady (suc fuel) (Some place) met many distinct within are =
       let class = class_at headers place (place_number headers place) (place_of_itself headers place are.there) are.there in

@@ -1,5 +1,5 @@
 -- What the classes from a number on are asked of those above them.
-use Rattle.std.proofs.Common.{◌≡◌, ◌↔◌, ◌+◌, ◌-◌, ◌<◌, ◌≤◌, ℕ, zero, suc, Bool, true, List, [], ◌∷◌, ◌++◌, length, drop, get_or, filter_map, slice_get, Some, option_map, Result, Ok, Err, refl, sym, ap, subst, ◌∙◌, append_assoc, inl, inr, arith}
+use Rattle.std.proofs.Common.{◌≡◌, ◌↔◌, ◌+◌, ◌-◌, ◌<◌, ◌≤◌, ℕ, Bool, true, List, [], ◌∷◌, ◌++◌, length, drop, get_or, filter_map, slice_get, Some, option_map, Result, Ok, Err, refl, sym, ap, subst, ◌∙◌, append_assoc, inl, inr, arith}
 use Rattle.std.proofs.lemmas.Bool.{cases_lt}
 use Rattle.std.proofs.lemmas.List.{drop_more, drop_all, length-append, length-map}
 use Rattle.std.proofs.lemmas.Option.{slice_get_within, get_or_from_slice_get, slice_get-map, same_Some}
@@ -15,7 +15,7 @@ use Rattle.class_tree.specs.Subtype.{IsBelow}
 use Rattle.class_tree.specs.Trees.{IsInOrder}
 use Rattle.class_tree.specs.declared.fault.LinkFault.{LinkFault}
 use Rattle.class_tree.specs.declared.place.Place.TheVariants.{Library}
-use Rattle.class_tree.proofs.GraphPaths.{path_is_below}
+use Rattle.class_tree.proofs.GraphPaths.{path_is_below, some_at}
 use Rattle.class_tree.proofs.LinkChecks.{Remain, all_remain, remain, refused}
 use Rattle.class_tree.proofs.Places.{class_of_number, number_of_itself, header_at_number, place_in_folder, place_in_library}
 
@@ -97,18 +97,13 @@ record Asked (headers : Headers) (number : ℕ) (result : Result (Unit {0}) Link
   is : checks_from headers number ≡ asks ++ checks_from headers (number + 1)
   told : Answers asks result
 
-item_at : {X : Type 0} (xs : List X) (i : ℕ) → i < length xs → (x : X) × (slice_get xs i ≡ Some x)
-item_at [] i within = absurd (omega arith)
-item_at (x ∷ xs) zero within = (x, refl)
-item_at (x ∷ xs) (suc i) within = item_at xs i (omega arith)
-
 asked_at : (headers : Headers) (number : ℕ) (result : Result (Unit {0}) LinkFault) → number < length (all_headers headers) → ClassAnswers headers number result → Asked headers number result
 asked_at headers number result within answers = elim (cases_lt number (length headers.folder)) [
   | inl low ↦
-      let at = item_at headers.folder number low in
+      let at = some_at headers.folder number low in
       record { asks = folder_checks headers at.0; is = from_folder headers number at.0 at.1; told = answers.folder at.0 at.1 }
   | inr high ↦
-      let at = item_at headers.library (number - length headers.folder) (omega (arith, length-append headers.folder headers.library)) in
+      let at = some_at headers.library (number - length headers.folder) (omega (arith, length-append headers.folder headers.library)) in
       record { asks = library_checks headers at.0; is = from_library headers number at.0 high at.1; told = answers.library at.0 high at.1 }
 ]
 

@@ -1,13 +1,13 @@
 -- The numbers of superinterfaces that a class has from those that it names.
 use Rattle.std.proofs.Common.{◌≡◌, ◌⊎◌, ◌+◌, ◌<◌, ◌≤◌, ◌∙◌, ℕ, Bool, List, [], ◌∷◌, ◌++◌, length, map, filter_map, get_or, set, take, drop, slice_get, Option, Some, None, IsSome, IfSome, IsTrue, is_some, unwrap_or, option_map, option_to_list, refl, sym, ap, subst, inl, inr, arith}
-use Rattle.std.specs.List.{All, AllByRecursion, cons_option}
+use Rattle.std.specs.List.{All, AllByRecursion}
 use Rattle.std.proofs.lemmas.Bool.{or_left, or_right, eq-eqb, cases_eq}
 use Rattle.std.proofs.lemmas.List.{append-nil, drop_more, take_more, take_all, take-append-drop, length-map, get_or-map, length-set, get_or-set_same, get_or-set_other}
 use Rattle.std.proofs.lemmas.List.Elements.{All-nil, All-cons, All-head, All-tail, All-set}
 use Rattle.std.proofs.lemmas.Option.{slice_get-map, slice_get_within, get_or_from_slice_get}
 use Rattle.class_model.specs.declared.header.Header.{Header}
 use Rattle.class_tree.specs.Graphs.{Graph, IsOneOf, IsTopological}
-use Rattle.class_tree.specs.Headers.{Name, Headers, all_headers, class_named, IsThere}
+use Rattle.class_tree.specs.Headers.{Name, Headers, all_headers, class_named}
 use Rattle.class_tree.specs.InterfaceNumbers.{with_number, with_numbers, with_lists, AreMarks, AreLists, AreNumbersOf, AreNumberLists}
 use Rattle.class_tree.specs.Interfaces.{each_once, IsWalk, done, next, of_root, below}
 use Rattle.class_tree.specs.Names.{is_interface}
@@ -18,20 +18,14 @@ use Rattle.class_tree.specs.Trees.{IsInOrder}
 use Rattle.class_tree.specs.declared.place.Place.{Place}
 use Rattle.class_tree.proofs.ClassHolds.{ClassHolds, class_holds}
 use Rattle.class_tree.proofs.EachOnce.{joined_same, once_numbered, names_placed}
-use Rattle.class_tree.proofs.InterfaceWalks.{class_there, walk_of_interface}
+use Rattle.class_tree.proofs.InterfaceWalks.{walk_of_interface}
 use Rattle.class_tree.proofs.NewNumbers.{with_numbers-append, as_made, all_with_numbers}
 use Rattle.class_tree.proofs.OneOf.{one_at, one_of_parts, one_of_single}
-use Rattle.class_tree.proofs.Places.{class_of_number, class_of_no_number, number_of_itself}
+use Rattle.class_tree.proofs.Places.{class_of_number, number_of_itself}
+use Rattle.class_tree.proofs.SuperNumbers.{have_numbers}
+use Rattle.class_tree.proofs.HierarchyChecks.{as_many_nodes}
 
 -- ---- names and their numbers
-
-there_numbered : (headers : Headers) (names : List Name) → AllByRecursion (IsThere headers) names → map (number_of headers) names ≡ map Some (filter_map (number_of headers) names)
-there_numbered headers [] there = refl
-there_numbered headers (name ∷ names) there = by (number_of headers name) refl (there_numbered headers names there.1)
-  where
-    by : (found : Option ℕ) → number_of headers name ≡ found → map (number_of headers) names ≡ map Some (filter_map (number_of headers) names) → found ∷ map (number_of headers) names ≡ map Some (cons_option found (filter_map (number_of headers) names))
-    by None e rest = let gone = class_of_no_number headers name e in let found = class_there headers name there.0 in absurd cc
-    by (Some number) e rest = ap (λ (others : List (Option ℕ)). Some number ∷ others) rest
 
 all_below : (headers : Headers) (names : List Name) (numbers : List ℕ) → map (number_of headers) names ≡ map Some numbers → All (λ number. number < length (all_headers headers)) numbers
 all_below headers names [] same = All-nil (λ number. number < length (all_headers headers))
@@ -93,7 +87,7 @@ module _ (headers : Headers) (hold : AllHold (hierarchy_checks headers)) (lists 
   -- a class has the numbers that the lists of those that it names give it
   pub class_numbers : IsInOrder headers → (number : ℕ) (header : Header) → slice_get (all_headers headers) number ≡ Some header → (superclass : Option ℕ) (interfaces : List ℕ) → filter_map (number_of headers) (supers header) ≡ option_to_list superclass ++ interfaces → is_some superclass ≡ is_some header.super_name → ((one : ℕ) → IsOneOf (filter_map (number_of headers) (supers header)) one → IsListed headers lists one) → AreNumbersOf headers header.name (with_numbers [] (with_lists lists interfaces ++ unwrap_or (option_map (λ one. get_or lists one []) superclass) []))
   class_numbers in_order number header there superclass interfaces parts alike listed =
-      by header.super_name refl superclass alike (there_numbered headers (supers header) holds.there ∙ ap (map Some) parts) (λ one is. listed one (subst (λ numbers. IsOneOf numbers one) (sym parts) is))
+      by header.super_name refl superclass alike (have_numbers headers (supers header) holds.there ∙ ap (map Some) parts) (λ one is. listed one (subst (λ numbers. IsOneOf numbers one) (sym parts) is))
     where
       holds : ClassHolds headers header
       holds = class_holds headers hold number header there
@@ -177,10 +171,6 @@ all_made headers order at lists marks made past all = record {
 targets : Headers → Header → List ℕ
 targets headers header = filter_map (number_of headers) (supers header)
 
-pub graph_len : (headers : Headers) → length (graph_of headers) ≡ length (all_headers headers)
-unfolding targets
-graph_len headers = length-map (all_headers headers) (targets headers)
-
 graph_at : (headers : Headers) (number : ℕ) (header : Header) → slice_get (all_headers headers) number ≡ Some header → slice_get (graph_of headers) number ≡ Some (targets headers header)
 unfolding targets
 graph_at headers number header there = slice_get-map (targets headers) (all_headers headers) number ∙ ap (option_map (targets headers)) there
@@ -193,7 +183,7 @@ module _ (headers : Headers) (hold : AllHold (hierarchy_checks headers)) (graph 
       is ∙ get_or_from_slice_get graph number (targets headers header) read (ap (λ g. slice_get g number) same ∙ graph_at headers number header there)
 
   numbered : (number : ℕ) (header : Header) → slice_get (all_headers headers) number ≡ Some header → map (number_of headers) (supers header) ≡ map Some (filter_map (number_of headers) (supers header))
-  numbered number header there = there_numbered headers (supers header) (class_holds headers hold number header there).there
+  numbered number header there = have_numbers headers (supers header) (class_holds headers hold number header there).there
 
   -- a superclass is one of them
   pub some_target : (number : ℕ) (header : Header) → slice_get (all_headers headers) number ≡ Some header → IsSome header.super_name → 0 < length (filter_map (number_of headers) (supers header))
@@ -212,7 +202,7 @@ module _ (headers : Headers) (hold : AllHold (hierarchy_checks headers)) (graph 
   module _ (order : List ℕ) (topological : IsTopological graph order) (at : ℕ) (before : at < length order) where
     -- the next number is of a class
     pub next_below : get_or order at 0 < length (all_headers headers)
-    next_below = omega (arith, topological.nodes (get_or order at 0) (one_at order at before), ap length same, graph_len headers)
+    next_below = omega (arith, topological.nodes (get_or order at 0) (one_at order at before), ap length same, as_many_nodes headers)
 
     -- those that the next class names have their lists
     pub targets_listed : (lists : List (List ℕ)) (marks : List Bool) → Made headers order at lists marks → (header : Header) → slice_get (all_headers headers) (get_or order at 0) ≡ Some header → (one : ℕ) → IsOneOf (filter_map (number_of headers) (supers header)) one → IsListed headers lists one

@@ -2,7 +2,7 @@
 use Rattle.std.proofs.Common.{◌≡◌, ◌≢◌, ◌⊎◌, ◌↔◌, Some, refl, subst, inl, inr}
 use Rattle.class_model.specs.declared.header.Header.{Header}
 use Rattle.class_tree.specs.Headers.{Name, Headers, class_named, IsThere}
-use Rattle.class_tree.specs.Subtype.{IsDirectlyBelow, superclass, interface, IsBelow, directly, onwards, IsArray, IsReferenceComponent, IsAboveArrays, IsSubtype, itself, below, of_arrays, components}
+use Rattle.class_tree.specs.Subtype.{AreComponents, none_taken, both_taken, IsDirectlyBelow, superclass, interface, IsBelow, directly, onwards, IsArray, IsReferenceComponent, IsAboveArrays, IsSubtype, itself, below, of_arrays, components}
 use Rattle.class_tree.proofs.Components.{is_array_of, same_component, not_above_arrays}
 
 -- no class has the name of an array
@@ -28,6 +28,13 @@ module _ (headers : Headers) (named : AreNoArrays headers) where
   -- arrays are as their components are
   pub components_decide : (low high low_component high_component : Name) → IsReferenceComponent low low_component → IsReferenceComponent high high_component → IsSubtype headers low high ↔ IsSubtype headers low_component high_component
   components_decide low high one other is also = (λ sub. of_components sub one other is also, λ sub. components low high one other is also sub)
+
+  pub all_components_decide : {low high one other : Name} → AreComponents low high one other → IsSubtype headers low high ↔ IsSubtype headers one other
+  all_components_decide none_taken = (λ sub. sub, λ sub. sub)
+  all_components_decide (both_taken one other one_component other_component taken is also) =
+      let before = all_components_decide taken in
+      let step = components_decide one other one_component other_component is also in
+      (λ sub. step.0 (before.0 sub), λ sub. before.1 (step.1 sub))
 
   of_array : {low high : Name} → IsSubtype headers low high → IsArray low → ((one other : Name) → IsReferenceComponent low one → ¬ IsReferenceComponent high other) → (low ≡ high) ⊎ IsAboveArrays high
   of_array (itself name) is last = inl refl

@@ -63,7 +63,7 @@ all_there headers [] numbers is = tt
 all_there headers (name ∷ names) [] is = absurd cc
 all_there headers (name ∷ names) (number ∷ numbers) is = (numbered_is_there headers name number cc, all_there headers names numbers cc)
 
-have_numbers : (headers : Headers) (names : List Name) → AllByRecursion (IsThere headers) names → map (number_of headers) names ≡ map Some (filter_map (number_of headers) names)
+pub have_numbers : (headers : Headers) (names : List Name) → AllByRecursion (IsThere headers) names → map (number_of headers) names ≡ map Some (filter_map (number_of headers) names)
 have_numbers headers [] there = refl
 have_numbers headers (name ∷ names) there = by (number_of headers name) refl (have_numbers headers names there.1)
   where

@@ -3,7 +3,7 @@ use Rattle.std.proofs.Common.{◌≡◌, ◌+◌, ◌≤◌, ℕ, List, [], ◌�
 use Rattle.std.proofs.lemmas.Cmp.{nat_list_cmp_total}
 use Rattle.std.proofs.lemmas.List.{get_or-map, length-map}
 use Rattle.std.proofs.lemmas.List.Sorted.{IsPermutation-sym, IsPermutation-trans, IsPermutation-map, IsPermutation-append, sum_by-IsPermutation}
-use Rattle.std.proofs.lemmas.List.Sums.{sum_by-cons, sum_by-append}
+use Rattle.std.proofs.lemmas.List.Sums.{sum_by-cons}
 use Rattle.std.specs.Cmp.Lexicographic.{slice_cmp}
 use Rattle.std.specs.FinMap.{nat_cmp-IsAntisymmetric, slice_cmp-IsAntisymmetric}
 use Rattle.std.specs.List.Sorted.{IsPermutation, IsSortedByKey}
@@ -13,13 +13,13 @@ use Rattle.std.specs.declared.cmp.Ordering.TheVariants.{Less, Equal, Greater}
 use Rattle.class_model.specs.Header.{header_of}
 use Rattle.class_model.specs.declared.class_file.ClassFile.{ClassFile}
 use Rattle.class_model.specs.declared.header.Header.{Header}
-use Rattle.class_tree.specs.Headers.{Name, Classes, Headers, headers_of}
+use Rattle.class_tree.specs.Headers.{Name, Classes, headers_of}
 use Rattle.class_tree.specs.Problems.{Check, Problem, of_class, IsFirstProblem}
 use Rattle.class_tree.specs.Steps.{step_checks}
 use Rattle.class_tree.specs.Trees.{AreHeadersInOrder, IsArranged, IsBefore, IsInOrder, IsProblem, IsProblemOf, times}
 use Rattle.class_tree.specs.Trees.IsProblemOf.{duplicate, step}
 use Rattle.class_tree.specs.declared.fault.LinkRule.TheVariants.{Duplicate}
-use Rattle.class_tree.proofs.Places.{has_name}
+use Rattle.class_tree.proofs.Places.{has_name, times_in_parts}
 use Rattle.class_tree.proofs.SortedOnce.{one_order}
 
 -- ---- counts
@@ -31,10 +31,6 @@ count_mapped f test (x ∷ items) =
     sum_by-cons (λ y. cond (test y) 1 0) (f x) (map f items)
     ∙ ap (λ (n : ℕ). cond (test (f x)) 1 0 + n) (count_mapped f test items)
     ∙ sym (sum_by-cons (λ y. cond (test (f y)) 1 0) x items)
-
--- how often a name stands is how often it does in the folder and in the library
-times_parts : (name : Name) (headers : Headers) → times name headers ≡ count_by (has_name name) headers.folder + count_by (has_name name) headers.library
-times_parts name headers = sum_by-append (λ header. cond (has_name name header) 1 0) headers.folder headers.library
 
 module _ (folder : List ClassFile) (library : List Header) where
   same_folder : (one other : Classes) → IsArranged folder library one → IsArranged folder library other → IsPermutation one.folder other.folder
@@ -69,11 +65,11 @@ classes_sorted classes sorted k class low within =
 
 folder_once : (classes : Classes) (name : Name) → times name (headers_of classes) ≤ 1 → count_by (λ class. bytes_eq name (class_name class)) classes.folder ≤ 1
 unfolding class_name
-folder_once classes name once = omega (arith, times_parts name (headers_of classes), count_mapped header_of (has_name name) classes.folder)
+folder_once classes name once = omega (arith, times_in_parts name (headers_of classes), count_mapped header_of (has_name name) classes.folder)
 
 library_once : (classes : Classes) (name : Name) → times name (headers_of classes) ≤ 1 → count_by (λ header. bytes_eq name (header_name header)) classes.library ≤ 1
 unfolding header_name
-library_once classes name once = omega (arith, times_parts name (headers_of classes))
+library_once classes name once = omega (arith, times_in_parts name (headers_of classes))
 
 library_sorted : (library : List Header) → AreHeadersInOrder library → IsSortedByKey header_name (slice_cmp nat_cmp) library
 unfolding header_name

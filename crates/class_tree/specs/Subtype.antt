@@ -25,6 +25,11 @@ pub data IsReferenceComponent : Name → Name → Type 0 where
   array : (component : Name) → IsArray component → IsReferenceComponent (91 ∷ component) component
   class : (component : Name) → IsReferenceComponent (91 ∷ 76 ∷ component ++ 59 ∷ []) component
 
+-- two names, and what they are where a component was taken of both, any number of times
+pub data AreComponents (low high : Name) : Name → Name → Type 0 where
+  none_taken : AreComponents low high low high
+  both_taken : (one other one_component other_component : Name) → AreComponents low high one other → IsReferenceComponent one one_component → IsReferenceComponent other other_component → AreComponents low high one_component other_component
+
 -- a class that each array is below
 abbrev pub IsAboveArrays : Name → Type 0
 IsAboveArrays name = (name ≡ object) ⊎ ((name ≡ cloneable) ⊎ (name ≡ serializable))

@@ -23,13 +23,13 @@ use crate::tree::{ClassFileList, HeaderList, Tree};
 use class_model::{ClassFile, Header};
 use std::alloc::Global;
 
-/// The hierarchy of a folder's class files and of its library's headers, in any order.
+/// The hierarchy of a folder's class files and of its library's headers, in any order (JVM Specification SE 8, 5.3.5).
 ///
 /// # Errors
 /// `Unlinked` with the first problem: the first name that stands twice; then class by class, those of the folder first, a
 /// class above it that is not there, a class of the library below one of the folder, a class above itself, a final
 /// superclass, a superclass or interface of the wrong kind; and then, where the folder has a class, what the machine
-/// needs of the library.
+/// needs of the library. `NoMemory`, where memory runs out.
 pub fn build_tree(
     alloc: Global,
     folder: ClassFileList,

@@ -4,7 +4,7 @@ ghost use Rattle.class_model.specs.declared.header.Header.{Header};
 ghost use Rattle.class_tree.specs.Headers.{Name, Headers, headers_of, class_named};
 ghost use Rattle.class_tree.specs.Names as names;
 ghost use Rattle.class_tree.specs.Order.{header_at};
-ghost use Rattle.class_tree.specs.Subtype.{IsArray, IsReferenceComponent, IsAboveArrays, IsBelow, IsSubtype};
+ghost use Rattle.class_tree.specs.Subtype.{AreComponents, IsArray, IsReferenceComponent, IsAboveArrays, IsBelow, IsSubtype};
 ghost use Rattle.class_tree.specs.Trees.{IsTree};
 
 use crate::names::{CLONEABLE, OBJECT, SERIALIZABLE};
@@ -12,7 +12,8 @@ use crate::place::Place;
 use crate::tree::Tree;
 use class_model::Text;
 
-/// Whether a class or array is below another, or is the same. Classes are named, and arrays are their descriptors.
+/// Whether a class or array is below another, or is the same (JVM Specification SE 8, 4.10 and 4.10.1.2). Classes are named, and
+/// arrays are their descriptors. It takes no memory.
 pub fn is_sub(tree: &Tree, low: &Text, high: &Text) -> bool
     ensures { IsTrue result ↔ IsSubtype (headers_of tree.now) low.now high.now }
 {
@@ -29,9 +30,9 @@ pub fn is_sub(tree: &Tree, low: &Text, high: &Text) -> bool
     }
 }
 
-// The components of two arrays, as far as both have one.
-fn innermost<'a>(low: &'a [u8], high: &'a [u8]) -> (&'a [u8], &'a [u8])
-    ensures same { (headers : Headers) → ((name : Name) (header : Header) → class_named headers name ≡ Some header → ¬ IsArray name) → IsSubtype headers low.now high.now ↔ IsSubtype headers result.0.now result.1.now }
+/// The components of two arrays, as far as both have one.
+pub fn innermost<'a>(low: &'a [u8], high: &'a [u8]) -> (&'a [u8], &'a [u8])
+    ensures taken { AreComponents low.now high.now result.0.now result.1.now }
     ensures last { (low_component high_component : Name) → IsReferenceComponent result.0.now low_component → ¬ IsReferenceComponent result.1.now high_component }
 {
     let (mut low, mut high) = (low, high);
@@ -61,7 +62,7 @@ pub fn is_array(name: &[u8]) -> bool
     name.starts_with(b"[")
 }
 
-/// Whether each array is below the class of a name.
+/// Whether each array is below the class of a name: java/lang/Object, java/lang/Cloneable and java/io/Serializable are.
 pub fn is_above_arrays(name: &[u8]) -> bool
     ensures { IsTrue result ↔ IsAboveArrays name.now }
 {

@@ -128,7 +128,7 @@ impl Tree {
         }
     }
 
-    /// The first field of a name and descriptor that the class at a place declares.
+    /// The number of the first field of a name and descriptor that the class at a place declares, counted from 0.
     pub fn field(&self, place: Place, name: &Text, desc: &Text) -> Option<usize>
         ensures { result ≡ option_and_then (λ header. member_place name.now desc.now header.fields) (header_at (headers_of self.now) place) }
     {
@@ -142,7 +142,7 @@ impl Tree {
         )
     }
 
-    /// The first method of a name and descriptor that the class at a place declares.
+    /// The number of the first method of a name and descriptor that the class at a place declares, counted from 0.
     pub fn method(&self, place: Place, name: &Text, desc: &Text) -> Option<usize>
         ensures { result ≡ option_and_then (λ header. member_place name.now desc.now header.methods) (header_at (headers_of self.now) place) }
     {

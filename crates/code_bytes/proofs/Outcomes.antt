@@ -1,6 +1,6 @@
 -- Bytes that spell an instruction are the written ones, or there are more of them.
-use Rattle.std.proofs.Common.{◌≡◌, ℕ, zero, suc, ◌+◌, ◌-◌, ◌^◌, ◌<◌, ltb, Bool, true, ◌&&◌, List, [], ◌∷◌, ◌++◌, length, w8, w16, w32, inl, inr, ◌⊎◌, sym, ap, arith}
-use Rattle.std.specs.Prelude.{ℤ, pos, negsuc, int_le, unsigned_abs, ◌+ℤ◌, FitsSigned}
+use Rattle.std.proofs.Common.{◌≡◌, ℕ, zero, suc, ◌+◌, ◌-◌, ◌^◌, ◌<◌, ltb, true, ◌&&◌, List, [], ◌∷◌, ◌++◌, length, w8, w16, w32, inl, inr, ◌⊎◌, sym, ap, arith}
+use Rattle.std.specs.Prelude.{ℤ, pos, negsuc, unsigned_abs, ◌+ℤ◌, FitsSigned}
 use Rattle.std.specs.Int.{cast_signed}
 use Rattle.std.proofs.lemmas.Int.{of_z-to_z}
 use Rattle.std.proofs.lemmas.Bool.{cases_Bool, cases_lt, ltb-true, leb-true, lt-ltb, le-ltb, le-leb, and_parts, and_from}
@@ -17,7 +17,7 @@ use Rattle.code_bytes.specs.Forms.{kind_index, is_short, int_bytes, ldc_bytes, l
 use Rattle.code_bytes.specs.Numbers.{IsU1, IsU2}
 use Rattle.code_bytes.proofs.OperandForms.{IsU4, to_of}
 use Rattle.code_bytes.proofs.Offsets.{offset_back, near_offset, target_fits}
-use Rattle.code_bytes.proofs.SpelledForms.{short_fits, byte_fits, spells_int, spells_ldc, HasLocalRows, spells_local, spells_iinc, spells_goto}
+use Rattle.code_bytes.proofs.SpelledForms.{short_fits, byte_fits, spells_int, spells_ldc, HasLocalRows, spells_local, spells_iinc, spells_goto, is_small}
 
 -- as many as the written ones, which they are if their pad bytes are zero
 pub record IsSame (at : ℕ) (instr : Instr) (written bytes : List ℕ) : Type 0 where
@@ -58,9 +58,6 @@ signed_byte_fits bits fits =
       | inl small ↦ rw (lt-ltb bits (2 ^ 7) small) (record { sfits = omega arith })
       | inr large ↦ rw (le-ltb bits (2 ^ 7) large) (record { sfits = omega arith })
     ]
-
-abbrev is_small : ℤ → Bool
-is_small number = int_le (negsuc 0) number && int_le number (pos 5)
 
 small_opcode : (number : ℤ) → is_small number ≡ true → unsigned_abs (number +ℤ pos 3) < 256
 small_opcode (pos n) small = omega (arith, leb-true n 5 small)

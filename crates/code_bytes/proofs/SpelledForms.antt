@@ -20,7 +20,7 @@ use Rattle.code_bytes.proofs.WrittenForms.{spells_read}
 
 -- ---- constants
 
-abbrev is_small : ℤ → Bool
+abbrev pub is_small : ℤ → Bool
 is_small number = int_le (negsuc 0) number && int_le number (pos 5)
 
 small_row : (n : ℕ) → n ≤ 5 → operands_in rows (n + 3) ≡ Some (Alone (Const (imms.Int (pos n))))

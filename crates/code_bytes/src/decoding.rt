@@ -14,11 +14,11 @@ use std::alloc::Global;
 const MAX_LENGTH: usize = 65_535;
 
 /// The instructions of a code, one after the other from offset 0 to its end, with their jump targets as
-/// offsets. What asks the constant pool or the number of locals is not tested.
+/// offsets in bytes (JVM Specification SE 8, 4.7.3, 4.9.1). What asks the constant pool or the number of locals is not tested.
 ///
 /// # Errors
 /// `Malformed` at an offset with the first fault: `CodeLength` at 0; then, by offset, `Opcode` and `Operand`;
-/// then, by offset, `Jump`.
+/// then, by offset, `Jump`. `NoMemory`, where memory runs out.
 pub fn decode(alloc: Global, code: &[u8]) -> Result<PlacedList, ClassFault>
     ensures told { Tells (decoding_checks code.now) (λ instrs. decoded code.now ≡ Ok instrs) result }
     ensures code { IfOk result (CodeOf code.now) }

@@ -39,7 +39,7 @@ impl Starts {
         Ok(Starts { marks })
     }
 
-    /// Whether an instruction starts at an offset.
+    /// Whether an instruction starts at an offset, in bytes.
     pub fn has(&self, at: u32) -> bool
         ensures { result ≡ is_marked self.now at }
     {

@@ -1,15 +1,10 @@
 -- The entries of units, one after the other.
-use Rattle.std.proofs.Common.{◌≡◌, inl, inr, ℕ, ◌-◌, ◌≤◌, cond, List, [], ◌∷◌, length, drop, get_or, take, Option, Some, None, IfNone, ap, ◌∙◌, arith}
+use Rattle.std.proofs.Common.{◌≡◌, ℕ, ◌-◌, ◌≤◌, cond, List, [], ◌∷◌, length, drop, get_or, take, Option, Some, None, IfNone, ap, ◌∙◌, arith}
 use Rattle.std.proofs.Math.Seq.{take-length}
-use Rattle.std.proofs.lemmas.Bool.{cases_Bool}
 use Rattle.class_model.specs.Frames.{is_wide, entries_of_units}
 use Rattle.class_model.specs.declared.frame.VType.{VType}
 use Rattle.map_frames.specs.Change.{AreApart}
-
-pub first_and_others : (type : VType) (types : List VType) → entries_of_units (type ∷ types) ≡ type ∷ entries_of_units (cond (is_wide type) (drop 1 types) types)
-unfolding entries_of_units
-first_and_others type [] = elim (cases_Bool (is_wide type)) [ inl wide ↦ rw wide | inr single ↦ rw single ]
-first_and_others type (next ∷ types) = elim (cases_Bool (is_wide type)) [ inl wide ↦ rw wide | inr single ↦ rw single ]
+use Rattle.map_frames.proofs.EntryUnits.{entries-cons}
 
 pub first_of : (units : List VType) (first : VType) (behind : List VType) → 1 ≤ length units → first ≡ get_or units 0 first
     → behind ≡ cond (is_wide first) (drop 1 (take (length units - 1) (drop 1 units))) (take (length units - 1) (drop 1 units)) → entries_of_units units ≡ first ∷ entries_of_units behind
@@ -17,7 +12,7 @@ first_of [] first behind some is behind_is = absurd (omega arith)
 first_of (type ∷ types) first behind some is behind_is =
     let count : length (type ∷ types) - 1 ≡ length types = omega arith in
     let whole : take (length (type ∷ types) - 1) types ≡ types = ap (λ (n : ℕ). take n types) count ∙ take-length types in
-    rw (behind_is, whole, is) (first_and_others type types)
+    rw (behind_is, whole, is) (entries-cons type types)
 
 pub no_entries : (units : List VType) → units ≡ [] → entries_of_units units ≡ []
 unfolding entries_of_units

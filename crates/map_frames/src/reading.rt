@@ -11,11 +11,13 @@ use class_model::{ClassFault, Frame, ListOf, PlacedFrame, PlacedFrameList, Place
 use std::alloc::Global;
 
 /// The frames that the content of a StackMapTable states for a code, each with its offset. The entry frame
-/// stands before the first. `max_locals` and `max_stack` are in units.
+/// stands before the first. `max_locals` is in local units and `max_stack` in stack units, of which a long or double takes two
+/// (JVM Specification SE 8, 4.7.4).
 ///
 /// # Errors
 /// `Malformed` at a place of `bytes` with the first fault: `FrameKind`, `FrameType`, `FrameSize` and
-/// `FramePlace` at the frame, and `Attribute` at 0 where the frames do not end with these bytes.
+/// `FramePlace` at the frame, and `Attribute` at 0 where the frames do not end with these bytes. `NoMemory`, where memory runs
+/// out.
 pub fn read_frames(
     alloc: Global,
     pool: &Pool,

@@ -18,8 +18,8 @@ use class_tree::{Tree, a_tree_is_a_hierarchy, has, is_sub};
 // the method of an array that counts as public
 const CLONE: &[u8] = b"clone";
 
-/// Whether a member that a reference through a class or array finds is accessible from a class. Through an array it is a
-/// method.
+/// Whether a member that a reference through a class or array finds is accessible from a class (JVM Specification SE 8, 5.4.4).
+/// Through an array it is a method. It takes no memory.
 pub fn accessible(tree: &Tree, from: &Text, named: &Text, found: Found) -> bool
     requires { (declared : Declared) × IsMemberFound (headers_of tree.now) named.now found declared }
     ensures { (declared : Declared) → IsMemberFound (headers_of tree.now) named.now found declared → IsTrue result ↔ IsAccessible (headers_of tree.now) from.now named.now declared }

@@ -9,11 +9,11 @@ use class_tree::{LinkFault, Tree};
 use std::alloc::Global;
 
 /// Checks that the folder of a tree is linked: first what the classes declare, and then what their methods refer to, each
-/// class in byte order of names.
+/// class in byte order of names (JVM Specification SE 8, 5.4).
 ///
 /// # Errors
 /// `Unlinked` with the first problem: the class, the member, and `Missing`, `NoAccess`, `FinalOverridden`, `NoMember` or
-/// `WrongForm`.
+/// `WrongForm`. `NoMemory`, where memory runs out.
 pub fn check_links(alloc: Global, tree: &Tree) -> Result<(), LinkFault>
     ensures { Answers (link_checks tree.now) result }
 {

@@ -26,7 +26,8 @@ const INVOKE_EXACT: &[u8] = b"invokeExact";
 /// interface in itself and among the public methods of java/lang/Object that are not static; else the one default among the
 /// superinterfaces; else the first of their methods that is neither private nor static. An instance initialiser is found in
 /// the named class alone, a method of an array in java/lang/Object, and `invoke` and `invokeExact` of
-/// java/lang/invoke/MethodHandle under every descriptor. None where there is none.
+/// java/lang/invoke/MethodHandle under every descriptor (JVM Specification SE 8, 5.4.3.3, 5.4.3.4 and 2.9). None where there is
+/// none. It takes no memory.
 pub fn find_method(tree: &Tree, class: &Text, name: &Text, desc: &Text) -> Option<Found>
     ensures { IsMethodOf (headers_of tree.now) class.now name.now desc.now result }
 {

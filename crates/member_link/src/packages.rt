@@ -2,7 +2,7 @@
 ghost use Rattle.std.specs.Prelude.{◌≡◌, ◌↔◌, IsTrue};
 ghost use Rattle.member_link.specs.Overriding.{package_of};
 
-/// Whether two classes are of the same package.
+/// Whether two classes are of the same package (JVM Specification SE 8, 5.3): a package is its name alone.
 pub fn is_same_package(one: &[u8], other: &[u8]) -> bool
     ensures { IsTrue result ↔ (package_of one.now ≡ package_of other.now) }
 {

@@ -39,7 +39,8 @@ pub enum Selected {
 }
 
 /// The method that a call of a resolved method runs on an object of a receiver's class. For `Special` the receiver is the
-/// class at which the selection starts. Selection for an array starts at java/lang/Object.
+/// class at which the selection starts. Selection for an array starts at java/lang/Object (JVM Specification SE 8, 6.5). It takes no
+/// memory.
 pub fn select(tree: &Tree, receiver: &Text, resolved: Found, form: CallForm) -> Selected
     requires { (method : Declared) × IsMethodFound (headers_of tree.now) resolved method × IsFalse (has method.member.flags STATIC) }
     ensures { (method : Declared) → IsMethodFound (headers_of tree.now) resolved method → (choice : Choice) × Selects (headers_of tree.now) receiver.now method form choice × IsChoice (headers_of tree.now) result choice }

@@ -4,7 +4,6 @@ pub mod ShuffleForms
 pub mod ClassTexts
 pub mod TypeTexts
 pub mod PoolFacts
-pub mod LastSlash
 pub mod ProtectedMembers
 pub mod OwnFields
 pub mod Chains

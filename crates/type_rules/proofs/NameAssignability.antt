@@ -3,7 +3,7 @@ use Rattle.std.proofs.Common.{◌≡◌, ◌⊎◌, ◌↔◌, Some, refl, subst
 use Rattle.class_model.specs.declared.header.Header.{Header}
 use Rattle.class_tree.specs.Headers.{Name, Headers, class_named}
 use Rattle.class_tree.specs.Hierarchy.{IsHierarchy}
-use Rattle.class_tree.specs.Subtype.{IsDirectlyBelow, superclass, interface, IsBelow, directly, onwards, IsArray, IsReferenceComponent, IsAboveArrays}
+use Rattle.class_tree.specs.Subtype.{AreComponents, none_taken, both_taken, IsDirectlyBelow, superclass, interface, IsBelow, directly, onwards, IsArray, IsReferenceComponent, IsAboveArrays}
 use Rattle.member_link.specs.Assignability.{IsNameAssignable, to_itself, to_interface, to_class_above, from_array, of_components}
 use Rattle.member_link.specs.Forms.{IsInterfaceNamed}
 use Rattle.type_rules.proofs.ReferenceComponents.{is_array_of, same_component, not_above_arrays}
@@ -35,6 +35,13 @@ module _ (headers : Headers) (hierarchy : IsHierarchy headers) where
   -- arrays are as their components are
   pub components_decide : (low high one other : Name) → IsReferenceComponent low one → IsReferenceComponent high other → IsNameAssignable headers low high ↔ IsNameAssignable headers one other
   components_decide low high one other is also = (λ whole. of_arrays whole one other is also, λ inner. of_components low high one other is also inner)
+
+  pub all_components_decide : {low high one other : Name} → AreComponents low high one other → IsNameAssignable headers low high ↔ IsNameAssignable headers one other
+  all_components_decide none_taken = (λ whole. whole, λ whole. whole)
+  all_components_decide (both_taken one other one_component other_component taken is also) =
+      let before = all_components_decide taken in
+      let step = components_decide one other one_component other_component is also in
+      (λ whole. step.0 (before.0 whole), λ inner. before.1 (step.1 inner))
 
   of_array : {low high : Name} → IsNameAssignable headers low high → IsArray low → AreInnermost low high → (low ≡ high) ⊎ IsAboveArrays high
   of_array (to_itself name) is last = inl refl

@@ -1,6 +1,6 @@
 -- The components of arrays of references.
-use Rattle.std.proofs.Common.{◌≡◌, ◌⊎◌, ◌<◌, ℕ, List, [], ◌∷◌, ◌++◌, length, get_or, drop, refl, sym, ap, ◌∙◌, inl, inr, arith}
-use Rattle.std.proofs.lemmas.List.{append_cancel_right, length-append}
+use Rattle.std.proofs.Common.{◌≡◌, ◌⊎◌, ℕ, List, [], ◌∷◌, ◌++◌, get_or, drop, refl, sym, ap, ◌∙◌, inl, inr, arith}
+use Rattle.std.proofs.lemmas.List.{append_cancel_right}
 use Rattle.class_tree.specs.Headers.{Name}
 use Rattle.class_tree.specs.Subtype.{IsArray, IsReferenceComponent, array, class, IsAboveArrays}
 
@@ -12,10 +12,6 @@ component_forms (class component) = inr refl
 pub is_array_of : {name component : Name} → IsReferenceComponent name component → IsArray name
 is_array_of (array component is) = (component, refl)
 is_array_of (class component) = (76 ∷ component ++ 59 ∷ [], refl)
-
-pub component_is_shorter : {name component : Name} → IsReferenceComponent name component → length component < length name
-component_is_shorter (array component is) = omega arith
-component_is_shorter (class component) = omega (arith, length-append component (59 ∷ []))
 
 not_both : (name one other : Name) → (IsArray one × (name ≡ 91 ∷ one)) → name ≡ 91 ∷ 76 ∷ other ++ 59 ∷ [] → ⊥
 not_both name one other deep flat =

@@ -3,8 +3,7 @@ ghost use Rattle.std.specs.Prelude.{◌≡◌, ◌≤◌, ◌↔◌, length, tak
 ghost use Rattle.std.specs.List.{list_any};
 ghost use Rattle.std.specs.Option.{option_copied};
 ghost use Rattle.class_model.specs.Code.{verification_type};
-ghost use Rattle.class_tree.specs.Headers.{Name, Headers, headers_of, class_named};
-ghost use Rattle.class_tree.specs.Hierarchy.{IsHierarchy};
+ghost use Rattle.class_tree.specs.Headers.{Name, headers_of, class_named};
 ghost use Rattle.class_tree.specs.Subtype.{IsReferenceComponent};
 ghost use Rattle.member_link.specs.Assignability.{IsAssignable, IsNameAssignable};
 ghost use Rattle.member_link.specs.Forms.{IsInterfaceNamed};
@@ -12,12 +11,12 @@ ghost use Rattle.type_rules.specs.FrameAssignability.{AreAssignable, IsFrameAssi
 
 use class_model::{FieldType, Frame, Header, LocalTypeList, VType};
 use class_tree::{
-    Tree, a_tree_is_a_hierarchy, component, has, is_above_arrays, is_array, is_below,
+    Tree, a_tree_is_a_hierarchy, has, innermost, is_above_arrays, is_array, is_below,
 };
 
 const ACC_INTERFACE: u16 = 0x0200;
 
-/// Whether a value of a type may stand where another is wanted. It takes no memory.
+/// Whether a value of a type may stand where another is wanted (JVM Specification SE 8, 4.10.1.2). It takes no memory.
 pub fn assignable(tree: &Tree, from: &VType, to: &VType) -> bool
     ensures { IsTrue result ↔ IsAssignable (headers_of tree.now) from.now to.now }
 {
@@ -62,20 +61,7 @@ fn is_name_assignable(tree: &Tree, low: &[u8], high: &[u8]) -> bool
     is_innermost_assignable(tree, low, high)
 }
 
-// The components of two arrays, as far as both have one.
-fn innermost<'a>(low: &'a [u8], high: &'a [u8]) -> (&'a [u8], &'a [u8])
-    ensures same { (headers : Headers) → IsHierarchy headers → IsNameAssignable headers low.now high.now ↔ IsNameAssignable headers result.0.now result.1.now }
-    ensures last { (low_component high_component : Name) → IsReferenceComponent result.0.now low_component → ¬ IsReferenceComponent result.1.now high_component }
-{
-    let (mut low, mut high) = (low, high);
-    while let (Some(low_component), Some(high_component)) = (component(low), component(high)) {
-        low = low_component;
-        high = high_component;
-    }
-    (low, high)
-}
-
-// The same of two that do not both have a component.
+// Whether an object of a type is assignable to another where not both have a component.
 fn is_innermost_assignable(tree: &Tree, low: &[u8], high: &[u8]) -> bool
     requires { (low_component high_component : Name) → IsReferenceComponent low.now low_component → ¬ IsReferenceComponent high.now high_component }
     ensures { IsTrue result ↔ IsNameAssignable (headers_of tree.now) low.now high.now }
@@ -109,7 +95,7 @@ fn class_of<'a>(tree: &'a Tree, name: &[u8]) -> Option<&'a Header>
     tree.header(tree.find(name)?)
 }
 
-/// Whether a frame may stand where another is stated. It takes no memory.
+/// Whether a frame may stand where another is stated (JVM Specification SE 8, 4.10.1.2). It takes no memory.
 pub fn frame_assignable(tree: &Tree, from: &Frame, to: &Frame) -> bool
     ensures { IsTrue result ↔ IsFrameAssignable (headers_of tree.now) from.now to.now }
 {

@@ -11,11 +11,12 @@ use class_tree::Tree;
 use std::alloc::Global;
 use type_rules::{TypedClass, TypedFolder, VerifyFault};
 
-/// Verifies each method with code of a linked folder: the frames that type them. There are no others.
+/// Verifies each method with code of a linked folder (JVM Specification SE 8, 4.10.1): the frames that type them. There are no
+/// others.
 ///
 /// # Errors
 /// `Unverified` where no frames type a method, with the first failure: class by class, in byte order of their names, and
-/// method by method, as `verify_method`.
+/// method by method, as `verify_method`. `NoMemory`, where memory runs out.
 pub fn verify_all(alloc: Global, tree: &Tree) -> Result<TypedFolder, VerifyFault>
     requires { IsLinked tree.now }
     ensures { FolderVerifies tree.now result }

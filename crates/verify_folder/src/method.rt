@@ -15,7 +15,8 @@ use code_bytes::a_class_file_has_read_methods;
 use std::alloc::Global;
 use type_rules::{MethodRules, TypeRule, TypedMethod, VerifyFault};
 
-/// Verifies a method with code of a linked folder: the frames that type it, one for each instruction. There are no others.
+/// Verifies a method with code of a linked folder (JVM Specification SE 8, 4.10.1.6): the frames that type it, one for each
+/// instruction. There are no others.
 ///
 /// # Errors
 /// `Unverified` where no frames type it, with the first failure: of the catch types in table order (at the start of the

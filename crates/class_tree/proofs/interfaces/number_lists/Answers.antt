@@ -7,9 +7,10 @@ use Rattle.class_tree.specs.Headers.{Headers, all_headers}
 use Rattle.class_tree.specs.InterfaceNumbers.{with_numbers, with_lists, AreNumbersOf}
 use Rattle.class_tree.specs.Nodes.{number_of}
 use Rattle.class_tree.specs.Steps.{supers}
-use Rattle.class_tree.proofs.InterfaceLists.{class_numbers, one_made, all_made, graph_len, targets_are, some_target, targets_below, next_below, targets_listed, superclass_within, interfaces_within}
+use Rattle.class_tree.proofs.InterfaceLists.{class_numbers, one_made, all_made, targets_are, some_target, targets_below, next_below, targets_listed, superclass_within, interfaces_within}
 use Rattle.class_tree.proofs.interfaces.number_lists.Goals as goal
 use Rattle.class_tree.proofs.interfaces.number_lists.Goals.{After-as_slice, After-split_supers-superclass, In_ok-list}
+use Rattle.class_tree.proofs.HierarchyChecks.{as_many_nodes}
 
 -- a number below the length is that of a class
 some_read : {R : Type 0} (found : Option (Bor R)) (items : List R) (at : ℕ) → at < length items → option_copied found ≡ slice_get items at → IsSome found
@@ -95,4 +96,4 @@ loop-number-preserved c =
 pub returns : goal.returns
 returns c =
     all_made c.args.headers.now c.args.order.now c.loop-number.number-index c.loop-number.lists.items c.loop-number.marks c.loop-number.invariant c.loop-number-test.false
-    (λ node below. c.requires.all node (omega (arith, below, graph_len c.args.headers.now, ap length c.requires.graph)))
+    (λ node below. c.requires.all node (omega (arith, below, as_many_nodes c.args.headers.now, ap length c.requires.graph)))

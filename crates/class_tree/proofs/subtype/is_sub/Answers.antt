@@ -4,7 +4,7 @@ use Rattle.std.proofs.lemmas.Slice.Eq.{bytes_eq-Decides}
 use Rattle.class_tree.specs.Headers.{Name, headers_of}
 use Rattle.class_tree.specs.Subtype.{IsArray, IsSubtype, itself}
 use Rattle.class_tree.specs.Trees.{IsTree}
-use Rattle.class_tree.proofs.Subtypes.{array_decides, class_decides}
+use Rattle.class_tree.proofs.Subtypes.{all_components_decide, array_decides, class_decides}
 use Rattle.class_tree.proofs.Superclasses.{placed}
 use Rattle.class_tree.proofs.TreeClasses.{HoldsSteps, tree_holds_steps}
 use Rattle.class_tree.proofs.WalkedNames.{directly_there}
@@ -19,7 +19,7 @@ inner : (c : After-innermost) → IsSubtype (headers_of c.args.tree.now) c.args.
 inner c =
     let headers = headers_of c.args.tree.now in
     subst (λ (low : Name). IsSubtype headers low c.args.high.now ↔ IsSubtype headers c.innermost.result.0.now c.innermost.result.1.now) c.bytes.ensures.same
-    (subst (λ (high : Name). IsSubtype headers c.bytes.result.now high ↔ IsSubtype headers c.innermost.result.0.now c.innermost.result.1.now) c.bytes-2.ensures.same (c.innermost.ensures.same headers (tree c).named))
+    (subst (λ (high : Name). IsSubtype headers c.bytes.result.now high ↔ IsSubtype headers c.innermost.result.0.now c.innermost.result.1.now) c.bytes-2.ensures.same (all_components_decide headers (tree c).named c.innermost.ensures.taken))
 
 differ : (c : Else-eq) → c.innermost.result.0.now ≢ c.innermost.result.1.now
 differ c = λ same. false≢true (sym c.if-eq.false ∙ c.eq.ensures ∙ (bytes_eq-Decides c.innermost.result.0.now c.innermost.result.1.now).1 same)

@@ -6,9 +6,9 @@ use Rattle.member_link.specs.DefaultsAt.{inherited_of, IsDefaultOf}
 use Rattle.member_link.specs.Found.{IsMethodFound}
 use Rattle.member_link.specs.declared.found.Found.{Found}
 use Rattle.member_link.proofs.DefaultMethods.{found_one, found_none, no_default, abstract_no_default, hidden_no_default, one_default}
-use Rattle.member_link.proofs.Superinterfaces.{class_there}
 use Rattle.member_link.proofs.defaults.default_of.Goals as goal
 use Rattle.member_link.proofs.defaults.default_of.Goals.{then-has-via-then-has, then-has-via-else-has+then-is_hidden}
+use Rattle.member_link.proofs.Climbed.{class_at}
 
 pub returns-in_err-found : goal.returns-in_err-found
 returns-in_err-found c = λ low high low_at high_at.
@@ -19,7 +19,7 @@ returns-in_err-found c = λ low high low_at high_at.
 
 pub is_hidden-requires-clause-interface : goal.is_hidden-requires-clause-interface
 is_hidden-requires-clause-interface c =
-    let class = class_there (headers_of c.args.tree.now) c.args.class c.requires.class in
+    let class = class_at (headers_of c.args.tree.now) c.args.class c.requires.class in
     let is = c.requires.interface class.0 class.1 in
     record { header = is.header; at = is.at; interface = is.interface }
 
