@@ -42,6 +42,13 @@ fn compare_bytes(rt: &(impl Abort + AllocGlobal), rows: &[Bytes]) -> Result<(), 
 }
 
 #[test]
+fn plain_texts(rt: HostRuntime) -> Result<(), Fail> {
+    let text = Text::of_plain(rt.alloc(), b"a/B")?;
+    assert!(rt; text.bytes() == b"a/B".as_slice());
+    Ok(())
+}
+
+#[test]
 fn lengths_of_texts(rt: HostRuntime) -> Result<(), Fail> {
     let bytes = vec![in rt.alloc(); b'a'; 65_536]?;
     let long = Text::of_bytes(rt.alloc(), &bytes);
