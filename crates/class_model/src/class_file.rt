@@ -17,7 +17,7 @@ pub struct InnerAttr {
 pub type InnerAttrList = ListOf<InnerAttr>;
 
 /// An entry of an exception table (JVM Specification SE 8, 4.7.3): the range from `start` up to and
-/// without `end`, the handler, and the index of the caught class, or 0. Offsets are in bytes.
+/// without `end`, the handler `at`, and the index of the caught class, or 0. Offsets are in bytes.
 #[derive(Clone, Copy, Debug, PartialEq, Eq)]
 pub struct Handler {
     pub start: u16,

@@ -140,7 +140,7 @@ pub fn parse_descriptor(alloc: Global, text: &Text) -> Result<Descriptor, NameFa
     Ok(Descriptor { params, result })
 }
 
-/// Whether bytes are an array type. It takes no memory.
+/// Whether bytes are an array type of at most 255 dimensions (JVM Specification SE 8, 4.3.2). It takes no memory.
 pub fn is_array_type(bytes: &[u8]) -> bool
     ensures { IsTrue result ↔ IsArrayType bytes.now }
 {

@@ -21,7 +21,7 @@ pub fn is_reference_name(bytes: &[u8]) -> bool
     is_class_name(bytes) || is_array_type(bytes)
 }
 
-/// Whether bytes are a field descriptor.
+/// Whether bytes are a field descriptor (JVM Specification SE 8, 4.3.2). It takes no memory.
 pub fn is_field_descriptor(bytes: &[u8]) -> bool
     ensures { IsTrue result ↔ IsFieldDescriptor bytes.now }
 {
@@ -32,7 +32,7 @@ pub fn is_field_descriptor(bytes: &[u8]) -> bool
 }
 
 /// How many dimensions bytes have that are the descriptor of an array, or 0 for another field type; none where
-/// they are no field type with brackets before it. There may be more than 255.
+/// they are no field type with brackets before it (JVM Specification SE 8, 4.3.2). There may be more than 255.
 pub fn dimensions(bytes: &[u8]) -> Option<usize>
     ensures some { IfSome result (λ most. (least : ℕ) → HasDimensions bytes.now least ↔ (least ≤ most)) }
     ensures none { IfNone result ((least : ℕ) → ¬ HasDimensions bytes.now least) }
@@ -44,7 +44,7 @@ pub fn dimensions(bytes: &[u8]) -> Option<usize>
     }
 }
 
-/// What a method descriptor says of a call.
+/// What a method descriptor (JVM Specification SE 8, 4.3.3) says of a call.
 #[derive(Clone, Copy, Debug, PartialEq, Eq)]
 pub struct MethodShape {
     /// The local units of the parameters, `this` not counted: at most 255.
@@ -53,7 +53,7 @@ pub struct MethodShape {
     pub is_void: bool,
 }
 
-/// The shape of the method descriptor that bytes are, or none where they are no method descriptor.
+/// The shape of the method descriptor that bytes are, or none where they are no method descriptor. It takes no memory.
 pub fn method_shape(bytes: &[u8]) -> Option<MethodShape>
     ensures descriptor { IsSome result ↔ IsMethodDescriptor bytes.now }
     ensures units { IfSome result (λ shape. (d : Descriptor) → BytesSpell bytes.now d → shape.units ≡ parameter_units d.params) }

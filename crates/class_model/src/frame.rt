@@ -7,7 +7,7 @@ use crate::memory::NoMemory;
 use crate::text::Text;
 use std::alloc::Global;
 
-/// A verification type.
+/// A verification type (JVM Specification SE 8, 4.7.4, 4.10.1.2).
 #[derive(PartialEq, Eq, Debug, Drop)]
 pub enum VType {
     Top,
@@ -19,7 +19,7 @@ pub enum VType {
     UninitThis,
     /// A class by its name, or an array by its descriptor.
     Object(Text),
-    /// An object made by the `new` at this offset and not initialised.
+    /// An object made by the `new` at this offset, in bytes, and not initialised.
     Uninit(u32),
 }
 
@@ -56,8 +56,8 @@ pub(crate) fn copy_types(alloc: Global, types: &[VType]) -> Result<Vec<VType>, N
 /// A list of verification types.
 pub type VTypeList = ListOf<VType>;
 
-/// A frame: the types of the locals by unit, where a long or double is followed by `Top`, and of the
-/// stack's entries, the lowest first.
+/// A frame (JVM Specification SE 8, 4.10.1.4): the types of the locals by unit, where a long or double is followed by `Top`,
+/// and of the stack's entries, the lowest first.
 #[derive(PartialEq, Eq, Debug, Drop)]
 pub struct Frame {
     pub locals: LocalTypeList,
@@ -83,7 +83,7 @@ impl Frame {
     }
 }
 
-/// A frame that is stated for an offset of a code.
+/// A frame that is stated (JVM Specification SE 8, 4.7.4) for an offset of a code, in bytes.
 #[derive(Debug, Drop)]
 pub struct PlacedFrame {
     pub at: u32,

@@ -20,7 +20,7 @@ use crate::upwards::{Counted, first_upwards};
 use class_model::{INIT, Member, Text};
 use class_tree::{OBJECT, Place, Tree, a_tree_is_a_hierarchy, has};
 
-/// How a method is called: by `invokevirtual`, `invokeinterface` or `invokespecial`.
+/// How a method is called: by `invokevirtual`, `invokeinterface` or `invokespecial` (JVM Specification SE 8, 6.5).
 #[derive(Clone, Copy, Debug, PartialEq, Eq)]
 pub enum CallForm {
     Virtual,

@@ -54,7 +54,10 @@ impl<'a> Model for MethodRules<'a> {
 }
 
 impl<'a> MethodRules<'a> {
-    /// The method at its numbers, which has code.
+    /// The method at its numbers, counted from 0, which has code.
+    ///
+    /// # Errors
+    /// `NoMemory`, where memory runs out.
     pub fn new(alloc: Global, tree: &'a Tree, at: MethodAt) -> Result<Self, NoMemory>
         requires linked { IsLinked tree.now }
         requires has_code { IsSome (scope_at tree.now at) }

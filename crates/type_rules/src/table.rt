@@ -27,10 +27,10 @@ const INT: Need<'static> = Need::OfKind(Kind::Int);
 const REF: Need<'static> = Need::OfKind(Kind::Ref);
 
 /// What an instruction of a method does to the frame before it: the frame with which control goes on, and the one that
-/// handlers see.
+/// handlers see (JVM Specification SE 8, 4.10.1.9).
 ///
 /// # Errors
-/// `Fails` with the first rule that fails, of `Stack`, `Local`, `Depth` and `Kind`.
+/// `Fails` with the first rule that fails, of `Stack`, `Local`, `Depth` and `Kind`; `NoMemory`, where memory runs out.
 pub fn rule(
     alloc: Global,
     tree: &Tree,
