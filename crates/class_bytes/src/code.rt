@@ -11,13 +11,14 @@ ghost use Rattle.class_bytes.specs.Cut.{home_seen, method_of, part_of};
 use crate::checks::ask;
 use crate::code_cutting::code_part;
 use crate::cut::{CutMember, CutPart};
-use crate::flags::{ACC_STATIC, has};
 use crate::frames::check_inners;
 use crate::handlers::check_handlers;
 use crate::home::Home;
 use crate::method_code::MethodCode;
 use crate::operands::check_operands;
-use class_model::{ClassFault, FileRule, PlacedList, Pool, method_shape, parameters_are_spelled};
+use class_model::{
+    ACC_STATIC, ClassFault, FileRule, PlacedList, Pool, has, method_shape, parameters_are_spelled,
+};
 use code_bytes::decode;
 use std::alloc::Global;
 

@@ -12,10 +12,13 @@ ghost use Rattle.class_bytes.specs.Parts.{attrs_len, fields_len};
 
 use crate::checks::{ask, ask_text};
 use crate::cut::{CutAttr, CutMember};
-use crate::flags::{ACC_INTERFACE, ACC_STATIC, has, one_visibility};
+use crate::flags::one_visibility;
 use crate::names::CONSTANT_VALUE;
 use crate::signatures::Signatures;
-use class_model::{ClassFault, Const, FileRule, Pool, is_field_descriptor, is_field_name};
+use class_model::{
+    ACC_INTERFACE, ACC_STATIC, ClassFault, Const, FileRule, Pool, has, is_field_descriptor,
+    is_field_name,
+};
 use std::alloc::Global;
 
 /// Checks the fields of a class with these flags, the first of which stands at this place, and answers the

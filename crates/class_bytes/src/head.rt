@@ -7,13 +7,9 @@ ghost use Rattle.class_bytes.specs.Cut.{class_of};
 ghost use Rattle.class_bytes.specs.Parts.{head_checks, head_len};
 
 use crate::cut::CutBody;
-use class_model::{ClassFault, FileRule, Pool, is_class_name};
-
-const ACC_FINAL: u16 = 0x0010;
-
-const ACC_INTERFACE: u16 = 0x0200;
-
-const ACC_ABSTRACT: u16 = 0x0400;
+use class_model::{
+    ACC_ABSTRACT, ACC_FINAL, ACC_INTERFACE, ClassFault, FileRule, Pool, is_class_name,
+};
 
 /// Checks the head, whose flags stand at this place, and answers the place behind the interfaces.
 pub(crate) fn check_head(pool: &Pool, body: &CutBody<'_>, at: u64) -> Result<u64, ClassFault>

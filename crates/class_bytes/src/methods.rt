@@ -18,13 +18,13 @@ ghost use Rattle.class_bytes.specs.Shapes.{IsShape};
 use crate::checks::{ask, ask_text};
 use crate::code::check_code;
 use crate::cut::{CutAttr, CutMember};
-use crate::flags::{ACC_ABSTRACT, ACC_INTERFACE, ACC_NATIVE, ACC_STATIC, has, one_visibility};
+use crate::flags::one_visibility;
 use crate::home::Home;
 use crate::names::{CODE, is_named};
 use crate::signatures::Signatures;
 use class_model::{
-    CLINIT, ClassFault, FileRule, INIT, MethodShape, Pool, a_descriptor_of_a_text, is_method_name,
-    method_shape,
+    ACC_ABSTRACT, ACC_INTERFACE, ACC_NATIVE, ACC_STATIC, CLINIT, ClassFault, FileRule, INIT,
+    MethodShape, Pool, a_descriptor_of_a_text, has, is_method_name, method_shape,
 };
 use code_bytes::is_text;
 use std::alloc::Global;

@@ -6,6 +6,7 @@ mod class_file;
 mod descriptor;
 mod descriptor_bytes;
 mod fault;
+mod flags;
 mod frame;
 mod header;
 mod instr;
@@ -32,6 +33,10 @@ pub use descriptor_bytes::{
     MethodShape, dimensions, is_field_descriptor, is_reference_name, method_shape,
 };
 pub use fault::{ClassFault, FileRule};
+pub use flags::{
+    ACC_ABSTRACT, ACC_FINAL, ACC_INTERFACE, ACC_NATIVE, ACC_PRIVATE, ACC_PROTECTED, ACC_PUBLIC,
+    ACC_STATIC, ACC_SUPER, has,
+};
 pub use frame::{Frame, PlacedFrame, PlacedFrameList, VType, VTypeList};
 pub use header::{Header, Member, MemberList, TextList};
 pub use instr::{Imm, Instr, Pair, PairList, Placed, PlacedList, TargetList};

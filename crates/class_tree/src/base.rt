@@ -21,11 +21,13 @@ use crate::graph::reaches;
 use crate::headers::Headers;
 use crate::hierarchy::is_outside;
 use crate::names::{
-    ACC_PUBLIC, ACC_STATIC, CLONEABLE, METHOD_HANDLE, METHOD_TYPE, OBJECT, SERIALIZABLE, THROWABLE,
-    base_names, has, is_interface, machine_throwables,
+    CLONEABLE, METHOD_HANDLE, METHOD_TYPE, OBJECT, SERIALIZABLE, THROWABLE, base_names,
+    is_interface, machine_throwables,
 };
 use crate::question::ask_named;
-use class_model::{ClassFile, Const, Header, INIT, ListOf, Member, NoMemory, Pool};
+use class_model::{
+    ACC_PUBLIC, ACC_STATIC, ClassFile, Const, Header, INIT, ListOf, Member, NoMemory, Pool, has,
+};
 use std::alloc::Global;
 
 /// Asks the library for what the machine needs.

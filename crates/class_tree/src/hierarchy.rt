@@ -15,10 +15,10 @@ ghost use Rattle.class_tree.specs.Trees.{IsInOrder};
 use crate::fault::{LinkFault, LinkRule};
 use crate::graph::reaches;
 use crate::headers::Headers;
-use crate::names::{ACC_FINAL, OBJECT, has, is_interface};
+use crate::names::{OBJECT, is_interface};
 use crate::place::Place;
 use crate::question::ask;
-use class_model::{Header, ListOf, NoMemory};
+use class_model::{ACC_FINAL, Header, ListOf, NoMemory, has};
 use std::alloc::Global;
 
 /// Asks each class of the folder, and then each of the library, of those above it. The order is of as many classes as

@@ -27,7 +27,7 @@ pub use build::build_tree;
 pub use chains::chain;
 pub use fault::{LinkFault, LinkRule};
 pub use laws::{a_folder_is_told_once, a_tree_is_a_hierarchy};
-pub use names::{METHOD_HANDLE, METHOD_TYPE, OBJECT, THROWABLE, has, machine_throwables};
+pub use names::{METHOD_HANDLE, METHOD_TYPE, OBJECT, THROWABLE, machine_throwables};
 pub use place::Place;
 pub use question::ask;
 pub use subtype::{component, innermost, is_above_arrays, is_array, is_below, is_sub};

@@ -1,9 +1,8 @@
-//! Names of classes that linking knows (JVM Specification SE 8, 4.10.1.2 and 6.5), and what flags say.
+//! Names of classes that linking knows (JVM Specification SE 8, 4.10.1.2 and 6.5).
 ghost use Rattle.std.specs.Prelude.{◌≡◌, map};
-ghost use Rattle.class_model.specs.Members as members;
 ghost use Rattle.class_tree.specs.Names as names;
 
-use class_model::Header;
+use class_model::{ACC_INTERFACE, Header, has};
 
 /// The class that each other class is below.
 pub const OBJECT: &[u8] = b"java/lang/Object";
@@ -65,21 +64,6 @@ pub fn machine_throwables() -> &'static [&'static [u8]]
     ensures { map (λ name. name.now) result.now ≡ names.machine_throwables }
 {
     &MACHINE_THROWABLES
-}
-
-pub(crate) const ACC_PUBLIC: u16 = 0x0001;
-
-pub(crate) const ACC_STATIC: u16 = 0x0008;
-
-pub(crate) const ACC_FINAL: u16 = 0x0010;
-
-const ACC_INTERFACE: u16 = 0x0200;
-
-/// Whether a flag is set.
-pub fn has(flags: u16, mask: u16) -> bool
-    ensures { result ≡ members.has flags mask }
-{
-    flags & mask != 0
 }
 
 /// Whether a class is an interface.

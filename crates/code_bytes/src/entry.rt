@@ -12,12 +12,10 @@ ghost use Rattle.code_bytes.specs.Entry.{class_entry, this_entries};
 
 use crate::descriptor::method_descriptor;
 use class_model::{
-    ClassFile, CodePart, FieldType, Frame, INIT, ListOf, LocalTypeList, Method, NoMemory, Pool,
-    Text, VType,
+    ACC_STATIC, ClassFile, CodePart, FieldType, Frame, INIT, ListOf, LocalTypeList, Method,
+    NoMemory, Pool, Text, VType,
 };
 use std::alloc::Global;
-
-const ACC_STATIC: u16 = 0x0008;
 
 /// The frame that a method's code begins with: `this` and the parameters, a long or double followed by `Top`, and `Top` in
 /// the other locals.

@@ -1,17 +1,13 @@
 //! What look-up, selection, access and linking answer, as texts.
-
-use class_model::Text;
+use class_model::{ACC_STATIC, Text, has};
 use class_notation::Input;
-use class_tree::{LinkFault, Tree, has};
+use class_tree::{LinkFault, Tree};
 use member_link::{
     CallForm, Found, Selected, accessible, check_links, find_field, find_method, select,
 };
 use std::alloc::Global;
 use std::process::Abort;
 use std::test::Fail;
-
-// The flag of members that are static.
-const ACC_STATIC: u16 = 0x0008;
 
 /// The hierarchy of a folder and what the library has besides, each with ` | ` between classes.
 pub(crate) fn tree_of(alloc: Global, folder: &str, library: &str) -> Result<Tree, Fail> {

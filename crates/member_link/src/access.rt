@@ -8,12 +8,12 @@ ghost use Rattle.member_link.specs.Access.{IsClassAccessible, IsAccessible, IsAt
 ghost use Rattle.member_link.specs.DeclaredMembers.{Declared};
 ghost use Rattle.member_link.specs.Found.{IsMemberFound};
 
-use crate::flags::{ACC_PRIVATE, ACC_PROTECTED, ACC_PUBLIC, ACC_STATIC, is_package_access};
+use crate::flags::is_package_access;
 use crate::found::Found;
 use crate::names::is_array;
 use crate::packages::is_same_package;
-use class_model::{Header, Text};
-use class_tree::{Tree, a_tree_is_a_hierarchy, has, is_sub};
+use class_model::{ACC_PRIVATE, ACC_PROTECTED, ACC_PUBLIC, ACC_STATIC, Header, Text, has};
+use class_tree::{Tree, a_tree_is_a_hierarchy, is_sub};
 
 // the method of an array that counts as public
 const CLONE: &[u8] = b"clone";

@@ -16,12 +16,12 @@ ghost use Rattle.member_link.specs.Found.{IsMethodFound};
 
 use crate::access::is_class_accessible;
 use crate::ask::ask_at;
-use crate::flags::{ACC_FINAL, is_inherited};
+use crate::flags::is_inherited;
 use crate::found::Found;
 use crate::names::{is_descriptor_there, is_field_type_there};
 use crate::overriding::{Method, any_above, method_at, overrides_method};
-use class_model::Header;
-use class_tree::{LinkFault, LinkRule, Place, Tree, a_tree_is_a_hierarchy, ask, has};
+use class_model::{ACC_FINAL, Header, has};
+use class_tree::{LinkFault, LinkRule, Place, Tree, a_tree_is_a_hierarchy, ask};
 use std::alloc::Global;
 
 /// Asks of each class of the folder that those above it are accessible, that the classes in descriptors are there, and that

@@ -11,11 +11,11 @@ ghost use Rattle.member_link.specs.DefaultsAt.{IsDefaultOf, IsHidden, IsInterfac
 ghost use Rattle.member_link.specs.DefaultsOf.{AreDefaults};
 ghost use Rattle.member_link.specs.Found.{AreSame, IsMethodFound};
 
-use crate::flags::{ACC_ABSTRACT, is_inherited};
+use crate::flags::is_inherited;
 use crate::found::Found;
 use crate::own::own_method;
-use class_model::Text;
-use class_tree::{Place, Tree, a_tree_is_a_hierarchy, has};
+use class_model::{ACC_ABSTRACT, Text, has};
+use class_tree::{Place, Tree, a_tree_is_a_hierarchy};
 
 /// How many maximally specific methods that are not abstract there are.
 #[derive(Clone, Copy)]

@@ -4,21 +4,7 @@ ghost use Rattle.class_model.specs.Members as members;
 ghost use Rattle.class_model.specs.declared.header.Member.{Member};
 ghost use Rattle.member_link.specs.DeclaredMembers as declared;
 
-use class_tree::has;
-
-pub(crate) const ACC_PUBLIC: u16 = 0x0001;
-
-pub(crate) const ACC_PRIVATE: u16 = 0x0002;
-
-pub(crate) const ACC_PROTECTED: u16 = 0x0004;
-
-pub(crate) const ACC_STATIC: u16 = 0x0008;
-
-pub(crate) const ACC_FINAL: u16 = 0x0010;
-
-pub(crate) const ACC_INTERFACE: u16 = 0x0200;
-
-pub(crate) const ACC_ABSTRACT: u16 = 0x0400;
+use class_model::{ACC_PRIVATE, ACC_PROTECTED, ACC_PUBLIC, ACC_STATIC, has};
 
 /// Whether a method is neither private nor static: classes below inherit or override it.
 pub(crate) fn is_inherited(flags: u16) -> bool

@@ -9,10 +9,9 @@ ghost use Rattle.member_link.specs.NeededForms.{IsFieldForm, IsMethodForm};
 ghost use Rattle.member_link.specs.References.{Reference};
 ghost use Rattle.member_link.specs.Resolutions.{IsCallee};
 
-use crate::flags::{ACC_ABSTRACT, ACC_INTERFACE, ACC_PRIVATE, ACC_STATIC};
 use crate::resolution::{Callee, Referent};
-use class_model::{Const, Header, Text};
-use class_tree::{Tree, a_tree_is_a_hierarchy, has};
+use class_model::{ACC_ABSTRACT, ACC_INTERFACE, ACC_PRIVATE, ACC_STATIC, Const, Header, Text, has};
+use class_tree::{Tree, a_tree_is_a_hierarchy};
 
 // The opcodes of the calls that need a form of their own.
 const INVOKESPECIAL: u8 = 183;

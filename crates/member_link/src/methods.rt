@@ -10,13 +10,12 @@ ghost use Rattle.member_link.specs.Methods as methods;
 ghost use Rattle.member_link.specs.Methods.{CountsFor, FindsInClass, FindsInInterfaces, IsPolymorphic};
 
 use crate::defaults::{DefaultMethods, defaults, first_inherited};
-use crate::flags::ACC_INTERFACE;
 use crate::found::Found;
 use crate::names::is_array;
 use crate::own::own_method;
 use crate::upwards::{Counted, first_upwards};
-use class_model::{INIT, Member, Text};
-use class_tree::{METHOD_HANDLE, OBJECT, Place, Tree, has};
+use class_model::{ACC_INTERFACE, INIT, Member, Text, has};
+use class_tree::{METHOD_HANDLE, OBJECT, Place, Tree};
 
 const INVOKE: &[u8] = b"invoke";
 

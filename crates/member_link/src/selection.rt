@@ -13,12 +13,11 @@ ghost use Rattle.member_link.specs.Selection.{Choice, Chooses, ChoosesDefault, S
 ghost use Rattle.member_link.specs.SelectionSteps.{CountsFrom, IsFixed, choice_by};
 
 use crate::defaults::{DefaultMethods, defaults};
-use crate::flags::{ACC_ABSTRACT, ACC_INTERFACE, ACC_PRIVATE, ACC_PUBLIC};
 use crate::found::Found;
 use crate::names::is_array;
 use crate::upwards::{Counted, first_upwards};
-use class_model::{INIT, Member, Text};
-use class_tree::{OBJECT, Place, Tree, a_tree_is_a_hierarchy, has};
+use class_model::{ACC_ABSTRACT, ACC_INTERFACE, ACC_PRIVATE, ACC_PUBLIC, INIT, Member, Text, has};
+use class_tree::{OBJECT, Place, Tree, a_tree_is_a_hierarchy};
 
 /// How a method is called: by `invokevirtual`, `invokeinterface` or `invokespecial` (JVM Specification SE 8, 6.5).
 #[derive(Clone, Copy, Debug, PartialEq, Eq)]

@@ -10,12 +10,11 @@ ghost use Rattle.member_link.specs.DeclaredMembers.{Declared};
 ghost use Rattle.member_link.specs.Found.{AreSame, IsMethodFound};
 ghost use Rattle.member_link.specs.Upwards.{FirstUpwards};
 
-use crate::flags::{ACC_PUBLIC, ACC_STATIC};
 use crate::found::Found;
 use crate::overriding::overrides;
 use crate::own::own_method;
-use class_model::Text;
-use class_tree::{OBJECT, Place, Tree, has};
+use class_model::{ACC_PUBLIC, ACC_STATIC, Text, has};
+use class_tree::{OBJECT, Place, Tree};
 
 /// Which methods count on the way up.
 #[derive(Clone, Copy)]

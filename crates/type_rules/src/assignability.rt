@@ -9,12 +9,8 @@ ghost use Rattle.member_link.specs.Assignability.{IsAssignable, IsNameAssignable
 ghost use Rattle.member_link.specs.Forms.{IsInterfaceNamed};
 ghost use Rattle.type_rules.specs.FrameAssignability.{AreAssignable, IsFrameAssignable, is_uninit_this};
 
-use class_model::{FieldType, Frame, Header, LocalTypeList, VType};
-use class_tree::{
-    Tree, a_tree_is_a_hierarchy, has, innermost, is_above_arrays, is_array, is_below,
-};
-
-const ACC_INTERFACE: u16 = 0x0200;
+use class_model::{ACC_INTERFACE, FieldType, Frame, Header, LocalTypeList, VType, has};
+use class_tree::{Tree, a_tree_is_a_hierarchy, innermost, is_above_arrays, is_array, is_below};
 
 /// Whether a value of a type may stand where another is wanted (JVM Specification SE 8, 4.10.1.2). It takes no memory.
 pub fn assignable(tree: &Tree, from: &VType, to: &VType) -> bool

@@ -14,14 +14,12 @@ ghost use Rattle.type_rules.specs.References.{reference_meant};
 use crate::assignability::is_object_of;
 use crate::method_rules::MethodRules;
 use crate::reference::Reference;
-use class_model::VType;
-use class_tree::{Tree, has, is_array, is_below};
+use class_model::{ACC_PROTECTED, VType, has};
+use class_tree::{Tree, is_array, is_below};
 use member_link::{
     Found, a_look_up_finds_one_field, a_look_up_finds_one_method, find_field, find_method,
     is_same_package,
 };
-
-const ACC_PROTECTED: u16 = 0x0004;
 
 const CLONE: &[u8] = b"clone";
 

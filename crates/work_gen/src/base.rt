@@ -4,8 +4,9 @@ ghost use Rattle.work_gen.specs.BaseLibrary.{IsBaseLibrary};
 ghost use Rattle.work_gen.specs.Values as values;
 
 use crate::classes::{keeper, memberless, object, throwable};
-use crate::flags::{ACC_ABSTRACT, ACC_FINAL, ACC_INTERFACE, ACC_PUBLIC, ACC_SUPER};
-use class_model::{ListOf, NoMemory};
+use class_model::{
+    ACC_ABSTRACT, ACC_FINAL, ACC_INTERFACE, ACC_PUBLIC, ACC_SUPER, ListOf, NoMemory,
+};
 use class_tree::{ClassFileList, METHOD_HANDLE, OBJECT, THROWABLE, machine_throwables};
 use std::alloc::Global;
 

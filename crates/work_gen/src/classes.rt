@@ -3,9 +3,11 @@ ghost use Rattle.std.specs.Prelude.{◌≡◌, [], ◌∷◌, ◌++◌, Some, No
 ghost use Rattle.class_model.specs.ModifiedUtf8.{IsText};
 ghost use Rattle.work_gen.specs.Values as values;
 
-use crate::flags::{ACC_NATIVE, ACC_PROTECTED, ACC_PUBLIC, ACC_STATIC, ACC_SUPER};
 use crate::parts::{class_of, code_of, constructor, native, push_class, push_text};
-use class_model::{ClassFile, Const, INIT, ListOf, NoMemory, Pool};
+use class_model::{
+    ACC_NATIVE, ACC_PROTECTED, ACC_PUBLIC, ACC_STATIC, ACC_SUPER, ClassFile, Const, INIT, ListOf,
+    NoMemory, Pool,
+};
 use class_tree::OBJECT;
 use std::alloc::Global;
 

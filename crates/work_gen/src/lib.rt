@@ -3,7 +3,6 @@
 
 mod base;
 mod classes;
-mod flags;
 mod parts;
 
 pub use base::base_library;

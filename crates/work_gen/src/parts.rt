@@ -5,9 +5,9 @@ ghost use Rattle.class_model.specs.declared.class_file.Attr.TheVariants as attrs
 ghost use Rattle.class_model.specs.declared.pool.Const.TheVariants as consts;
 ghost use Rattle.work_gen.specs.Values as values;
 
-use crate::flags::ACC_PUBLIC;
 use class_model::{
-    Attr, ByteList, ClassFile, CodePart, Const, ListOf, Method, MethodList, NoMemory, Pool, Text,
+    ACC_PUBLIC, Attr, ByteList, ClassFile, CodePart, Const, ListOf, Method, MethodList, NoMemory,
+    Pool, Text,
 };
 use std::alloc::Global;
 
