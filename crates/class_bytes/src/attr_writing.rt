@@ -1,8 +1,9 @@
 //! Writing attributes.
-ghost use Rattle.std.specs.Prelude.{◌≡◌, ◌≤◌, ◌++◌, length, OnOk};
+ghost use Rattle.std.specs.Prelude.{◌≡◌, ◌≤◌, ◌++◌, length, OnOk, OnErr};
 ghost use Rattle.std.specs.List.{flat_map};
 ghost use Rattle.class_model.specs.Spelling.{u2, raw_bytes, inner_bytes, handler_bytes, code_part_bytes, attr_bytes, attrs_bytes};
 ghost use Rattle.class_bytes.specs.Counts.{FitsContent, FitsInner, FitsInners, FitsPart, FitsAttr, FitsAttrs};
+ghost use Rattle.pool_bytes.specs.Appended.{Grows};
 
 use class_model::{
     Attr, AttrList, CodePart, Handler, HandlerList, InnerAttrList, NoMemory, push_u2, push_u4,
@@ -11,7 +12,8 @@ use class_model::{
 /// Appends the number of attributes, and the attributes.
 pub(crate) fn push_attrs(out: &mut Vec<u8>, attrs: &AttrList) -> Result<(), NoMemory>
     requires { FitsAttrs attrs.now }
-    ensures { OnOk result (out.new.items ≡ out.old.items ++ attrs_bytes attrs.now) }
+    ensures ok { OnOk result (out.new.items ≡ out.old.items ++ attrs_bytes attrs.now) }
+    ensures err { OnErr result (Grows out.old.items out.new.items) }
 {
     let attrs = attrs.as_slice();
     push_u2(out, attrs.len() as u16)?;
@@ -24,7 +26,8 @@ pub(crate) fn push_attrs(out: &mut Vec<u8>, attrs: &AttrList) -> Result<(), NoMe
 // Appends an attribute.
 fn push_attr(out: &mut Vec<u8>, attr: &Attr) -> Result<(), NoMemory>
     requires { FitsAttr attr.now }
-    ensures { OnOk result (out.new.items ≡ out.old.items ++ attr_bytes attr.now) }
+    ensures ok { OnOk result (out.new.items ≡ out.old.items ++ attr_bytes attr.now) }
+    ensures err { OnErr result (Grows out.old.items out.new.items) }
 {
     match attr {
         Attr::Raw { name, bytes } => push_raw(out, *name, bytes.as_slice()),
@@ -39,7 +42,8 @@ fn push_attr(out: &mut Vec<u8>, attr: &Attr) -> Result<(), NoMemory>
 // Appends an attribute of this content: its name, length and content (JVM Specification SE 8, 4.7).
 fn push_raw(out: &mut Vec<u8>, name: u16, content: &[u8]) -> Result<(), NoMemory>
     requires { FitsContent content.now }
-    ensures { OnOk result (out.new.items ≡ out.old.items ++ raw_bytes name content.now) }
+    ensures ok { OnOk result (out.new.items ≡ out.old.items ++ raw_bytes name content.now) }
+    ensures err { OnErr result (Grows out.old.items out.new.items) }
 {
     push_u2(out, name)?;
     push_u4(out, content.len() as u32)?;
@@ -62,7 +66,8 @@ fn part_len(part: &CodePart) -> u32
 // Appends the content of a Code attribute (4.7.3).
 fn push_code_part(out: &mut Vec<u8>, part: &CodePart) -> Result<(), NoMemory>
     requires { FitsPart part.now }
-    ensures { OnOk result (out.new.items ≡ out.old.items ++ code_part_bytes part.now) }
+    ensures ok { OnOk result (out.new.items ≡ out.old.items ++ code_part_bytes part.now) }
+    ensures err { OnErr result (Grows out.old.items out.new.items) }
 {
     push_u2(out, part.max_stack)?;
     push_u2(out, part.max_locals)?;
@@ -75,7 +80,8 @@ fn push_code_part(out: &mut Vec<u8>, part: &CodePart) -> Result<(), NoMemory>
 // Appends the number of handlers, and the handlers.
 fn push_handlers(out: &mut Vec<u8>, handlers: &HandlerList) -> Result<(), NoMemory>
     requires { length handlers.now ≤ 65535 }
-    ensures { OnOk result (out.new.items ≡ out.old.items ++ (u2 (length handlers.now) ++ flat_map handler_bytes handlers.now)) }
+    ensures ok { OnOk result (out.new.items ≡ out.old.items ++ (u2 (length handlers.now) ++ flat_map handler_bytes handlers.now)) }
+    ensures err { OnErr result (Grows out.old.items out.new.items) }
 {
     let handlers = handlers.as_slice();
     push_u2(out, handlers.len() as u16)?;
@@ -87,7 +93,8 @@ fn push_handlers(out: &mut Vec<u8>, handlers: &HandlerList) -> Result<(), NoMemo
 
 // Appends an entry of an exception table.
 fn push_handler(out: &mut Vec<u8>, handler: &Handler) -> Result<(), NoMemory>
-    ensures { OnOk result (out.new.items ≡ out.old.items ++ handler_bytes handler.now) }
+    ensures ok { OnOk result (out.new.items ≡ out.old.items ++ handler_bytes handler.now) }
+    ensures err { OnErr result (Grows out.old.items out.new.items) }
 {
     push_u2(out, handler.start)?;
     push_u2(out, handler.end)?;
@@ -98,7 +105,8 @@ fn push_handler(out: &mut Vec<u8>, handler: &Handler) -> Result<(), NoMemory>
 // Appends the number of attributes of a Code attribute, and the attributes.
 fn push_inner_attrs(out: &mut Vec<u8>, attrs: &InnerAttrList) -> Result<(), NoMemory>
     requires { FitsInners attrs.now }
-    ensures { OnOk result (out.new.items ≡ out.old.items ++ (u2 (length attrs.now) ++ flat_map inner_bytes attrs.now)) }
+    ensures ok { OnOk result (out.new.items ≡ out.old.items ++ (u2 (length attrs.now) ++ flat_map inner_bytes attrs.now)) }
+    ensures err { OnErr result (Grows out.old.items out.new.items) }
 {
     let attrs = attrs.as_slice();
     push_u2(out, attrs.len() as u16)?;

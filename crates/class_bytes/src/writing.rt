@@ -1,8 +1,9 @@
 //! Writing a class file.
-ghost use Rattle.std.specs.Prelude.{◌≡◌, ◌≤◌, ◌++◌, length, IfOk, OnOk};
+ghost use Rattle.std.specs.Prelude.{◌≡◌, ◌≤◌, ◌++◌, length, IfOk, OnOk, OnErr};
 ghost use Rattle.std.specs.List.{flat_map};
 ghost use Rattle.class_model.specs.Spelling.{u2, u2s, field_bytes, method_bytes, class_bytes};
 ghost use Rattle.class_bytes.specs.Counts.{FitsField, FitsFields, FitsMethod, FitsMethods, FitsCounts};
+ghost use Rattle.pool_bytes.specs.Appended.{Grows};
 
 use crate::attr_writing::push_attrs;
 use crate::cut::MAGIC;
@@ -29,10 +30,11 @@ pub fn write_class(alloc: Global, class: &ClassFile) -> Result<ByteList, NoMemor
 /// Appends the bytes of a class file (JVM Specification SE 8, 4.1), each list of which fits its count.
 ///
 /// # Errors
-/// `NoMemory`, where memory runs out; some of the bytes may then be appended.
+/// `NoMemory`, where memory runs out; some bytes may then be appended behind those that stood there.
 pub fn push_class(out: &mut Vec<u8>, class: &ClassFile) -> Result<(), NoMemory>
     requires { FitsCounts class.now }
-    ensures { OnOk result (out.new.items ≡ out.old.items ++ class_bytes class.now) }
+    ensures ok { OnOk result (out.new.items ≡ out.old.items ++ class_bytes class.now) }
+    ensures err { OnErr result (Grows out.old.items out.new.items) }
 {
     push_u4(out, MAGIC)?;
     push_u2(out, class.minor)?;
@@ -44,13 +46,15 @@ pub fn push_class(out: &mut Vec<u8>, class: &ClassFile) -> Result<(), NoMemory>
     push_interfaces(out, &class.interfaces)?;
     push_fields(out, &class.fields)?;
     push_methods(out, &class.methods)?;
-    push_attrs(out, &class.attrs)
+    push_attrs(out, &class.attrs)?;
+    Ok(())
 }
 
 // Appends the number of interfaces, and their indices.
 fn push_interfaces(out: &mut Vec<u8>, interfaces: &IndexList) -> Result<(), NoMemory>
     requires { length interfaces.now ≤ 65535 }
-    ensures { OnOk result (out.new.items ≡ out.old.items ++ (u2 (length interfaces.now) ++ u2s interfaces.now)) }
+    ensures ok { OnOk result (out.new.items ≡ out.old.items ++ (u2 (length interfaces.now) ++ u2s interfaces.now)) }
+    ensures err { OnErr result (Grows out.old.items out.new.items) }
 {
     let interfaces = interfaces.as_slice();
     push_u2(out, interfaces.len() as u16)?;
@@ -63,7 +67,8 @@ fn push_interfaces(out: &mut Vec<u8>, interfaces: &IndexList) -> Result<(), NoMe
 // Appends the number of fields, and the fields.
 fn push_fields(out: &mut Vec<u8>, fields: &FieldList) -> Result<(), NoMemory>
     requires { FitsFields fields.now }
-    ensures { OnOk result (out.new.items ≡ out.old.items ++ (u2 (length fields.now) ++ flat_map field_bytes fields.now)) }
+    ensures ok { OnOk result (out.new.items ≡ out.old.items ++ (u2 (length fields.now) ++ flat_map field_bytes fields.now)) }
+    ensures err { OnErr result (Grows out.old.items out.new.items) }
 {
     let fields = fields.as_slice();
     push_u2(out, fields.len() as u16)?;
@@ -76,7 +81,8 @@ fn push_fields(out: &mut Vec<u8>, fields: &FieldList) -> Result<(), NoMemory>
 // Appends a field (JVM Specification SE 8, 4.5).
 fn push_field(out: &mut Vec<u8>, field: &Field) -> Result<(), NoMemory>
     requires { FitsField field.now }
-    ensures { OnOk result (out.new.items ≡ out.old.items ++ field_bytes field.now) }
+    ensures ok { OnOk result (out.new.items ≡ out.old.items ++ field_bytes field.now) }
+    ensures err { OnErr result (Grows out.old.items out.new.items) }
 {
     push_u2(out, field.flags)?;
     push_u2(out, field.name)?;
@@ -87,7 +93,8 @@ fn push_field(out: &mut Vec<u8>, field: &Field) -> Result<(), NoMemory>
 // Appends the number of methods, and the methods.
 fn push_methods(out: &mut Vec<u8>, methods: &MethodList) -> Result<(), NoMemory>
     requires { FitsMethods methods.now }
-    ensures { OnOk result (out.new.items ≡ out.old.items ++ (u2 (length methods.now) ++ flat_map method_bytes methods.now)) }
+    ensures ok { OnOk result (out.new.items ≡ out.old.items ++ (u2 (length methods.now) ++ flat_map method_bytes methods.now)) }
+    ensures err { OnErr result (Grows out.old.items out.new.items) }
 {
     let methods = methods.as_slice();
     push_u2(out, methods.len() as u16)?;
@@ -100,7 +107,8 @@ fn push_methods(out: &mut Vec<u8>, methods: &MethodList) -> Result<(), NoMemory>
 // Appends a method (JVM Specification SE 8, 4.6).
 fn push_method(out: &mut Vec<u8>, method: &Method) -> Result<(), NoMemory>
     requires { FitsMethod method.now }
-    ensures { OnOk result (out.new.items ≡ out.old.items ++ method_bytes method.now) }
+    ensures ok { OnOk result (out.new.items ≡ out.old.items ++ method_bytes method.now) }
+    ensures err { OnErr result (Grows out.old.items out.new.items) }
 {
     push_u2(out, method.flags)?;
     push_u2(out, method.name)?;

@@ -6,3 +6,4 @@ pub mod PoolReads
 pub mod RawPush
 pub mod AnswerParts
 pub mod TextParts
+pub mod Moves

@@ -1,4 +1,5 @@
 pub mod Appended
+pub mod Behind
 pub mod Entries
 pub mod Items
 pub mod Raw

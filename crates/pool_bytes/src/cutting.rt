@@ -4,6 +4,7 @@ ghost use Rattle.class_model.specs.Answers.{Takes};
 ghost use Rattle.class_model.specs.Cutting.{pool_at, fields_at, u2_pair_at};
 ghost use Rattle.class_model.specs.Cutting as cutting;
 ghost use Rattle.class_model.specs.Pool.{entries_of};
+ghost use Rattle.pool_bytes.specs.Behind.{IsBehind};
 ghost use Rattle.pool_bytes.specs.Entries.{indices_of, is_number_tag, entry_at};
 ghost use Rattle.pool_bytes.specs.Entries as entries;
 
@@ -28,7 +29,8 @@ pub fn cut_pool<'a>(
     major: u16,
     cursor: &mut Cursor<'a>,
 ) -> Result<RawPool<'a>, ClassFault>
-    ensures { Takes (pool_at major cursor.old) cursor.new result }
+    ensures taken { Takes (pool_at major cursor.old) cursor.new result }
+    ensures behind { IsBehind cursor.old cursor.new }
 {
     let at = cursor.at();
     let count = cursor.u2()?;
@@ -48,7 +50,7 @@ pub fn cut_pool<'a>(
 
 // The constant at an index of a pool of this count: its tag, which is tested before what follows, and its
 // fields.
-#[tactic(auto, unfolding(crate::specs::Entries::entry_at))]
+#[tactic(auto, unfolding(crate::specs::Entries::entry_at), using(crate::proofs::Moves::stays, crate::proofs::Moves::u1_then))]
 fn entry<'a>(
     major: u16,
     index: u16,
@@ -57,6 +59,7 @@ fn entry<'a>(
 ) -> Result<RawConst<'a>, ClassFault>
     requires { index < count }
     ensures taken { Takes (entry_at major index count cursor.old) cursor.new result }
+    ensures behind { IsBehind cursor.old cursor.new }
     ensures within { IfOk result (λ constant. index + length (entries_of constant) ≤ count) }
 {
     let at = cursor.at();
@@ -93,6 +96,7 @@ fn is_tag(major: u16, tag: u8) -> bool
 // The constant of a known tag, from behind the tag.
 fn fields<'a>(tag: u8, cursor: &mut Cursor<'a>) -> Result<RawConst<'a>, ClassFault>
     ensures taken { Takes (fields_at tag cursor.old) cursor.new result }
+    ensures behind { IsBehind cursor.old cursor.new }
     ensures units { IfOk result (λ constant. length (entries_of constant) ≡ indices_of tag) }
 {
     match tag {
@@ -105,9 +109,10 @@ fn fields<'a>(tag: u8, cursor: &mut Cursor<'a>) -> Result<RawConst<'a>, ClassFau
 }
 
 // The text of a Utf8 constant, behind its length.
-#[tactic(auto, unfolding(class_model::specs::Cutting::fields_at))]
+#[tactic(auto, unfolding(class_model::specs::Cutting::fields_at), using(crate::proofs::Moves::stays, crate::proofs::Moves::u2_then, crate::proofs::Moves::bytes_then))]
 fn text<'a>(cursor: &mut Cursor<'a>) -> Result<RawConst<'a>, ClassFault>
     ensures taken { Takes (fields_at 1 cursor.old) cursor.new result }
+    ensures behind { IsBehind cursor.old cursor.new }
     ensures units { IfOk result (λ constant. length (entries_of constant) ≡ 1) }
 {
     let len = cursor.u2()?;
@@ -116,10 +121,11 @@ fn text<'a>(cursor: &mut Cursor<'a>) -> Result<RawConst<'a>, ClassFault>
 }
 
 // A constant of one number, or a method handle.
-#[tactic(auto, unfolding(class_model::specs::Cutting::fields_at))]
+#[tactic(auto, unfolding(class_model::specs::Cutting::fields_at), using(crate::proofs::Moves::stays, crate::proofs::Moves::u1_then, crate::proofs::Moves::u2_then, crate::proofs::Moves::u4_then, crate::proofs::Moves::u8_then))]
 fn number(tag: u8, cursor: &mut Cursor<'_>) -> Result<Const, ClassFault>
     requires { is_number_tag tag ≡ true }
     ensures taken { Takes (fields_at tag cursor.old) cursor.new result }
+    ensures behind { IsBehind cursor.old cursor.new }
     ensures units { IfOk result (λ constant. length (entries_of constant) ≡ indices_of tag) }
 {
     match tag {
@@ -143,6 +149,7 @@ fn member(tag: u8, cursor: &mut Cursor<'_>) -> Result<Const, ClassFault>
     requires no_text { tag ≢ 1 }
     requires no_number { is_number_tag tag ≡ false }
     ensures taken { Takes (fields_at tag cursor.old) cursor.new result }
+    ensures behind { IsBehind cursor.old cursor.new }
     ensures units { IfOk result (λ constant. length (entries_of constant) ≡ indices_of tag) }
 {
     let (first, second) = u2_pair(cursor)?;
@@ -156,8 +163,10 @@ fn member(tag: u8, cursor: &mut Cursor<'_>) -> Result<Const, ClassFault>
 }
 
 // Two numbers of two bytes.
+#[tactic(auto, using(crate::proofs::Moves::stays, crate::proofs::Moves::u2_then))]
 fn u2_pair(cursor: &mut Cursor<'_>) -> Result<(u16, u16), ClassFault>
-    ensures { Takes (u2_pair_at cursor.old) cursor.new result }
+    ensures taken { Takes (u2_pair_at cursor.old) cursor.new result }
+    ensures behind { IsBehind cursor.old cursor.new }
 {
     let first = cursor.u2()?;
     Ok((first, cursor.u2()?))

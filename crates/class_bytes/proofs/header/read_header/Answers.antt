@@ -34,14 +34,14 @@ returns-in_err-raw c =
     let at = goal.at.returns-in_err-raw c in
     let p = err_from_is_err_and c.from_residual-in_err-raw.result c.from_residual-in_err-raw.ensures.1 in
     rw (p.1, p.2)
-    (pool_refused c.args.bytes.now (version_of c.in_ok-version.version) c.cut_version.new.cursor (begins at.In_ok-version) (c.is_library_version.ensures.0 c.if-not-is_library_version.false) c.cut_pool.new.cursor c.in_err-raw.field-0.0 c.in_err-raw.ensures)
+    (pool_refused c.args.bytes.now (version_of c.in_ok-version.version) c.cut_version.new.cursor (begins at.In_ok-version) (c.is_library_version.ensures.0 c.if-not-is_library_version.false) c.cut_pool.new.cursor c.in_err-raw.field-0.0 c.in_err-raw.ensures.taken)
 
 pub returns-in_err-head : goal.returns-in_err-head
 returns-in_err-head c =
     let at = goal.at.returns-in_err-head c in
     let p = err_from_is_err_and c.from_residual-in_err-head.result c.from_residual-in_err-head.ensures.1 in
     rw (p.1, p.2)
-    (body_refused c.args.bytes.now (version_of c.in_ok-version.version) c.cut_version.new.cursor (begins at.In_ok-version) (c.is_library_version.ensures.0 c.if-not-is_library_version.false) c.in_ok-raw.raw c.cut_pool.new.cursor c.in_ok-raw.ensures c.in_err-head.field-0.0 c.in_err-head.ensures)
+    (body_refused c.args.bytes.now (version_of c.in_ok-version.version) c.cut_version.new.cursor (begins at.In_ok-version) (c.is_library_version.ensures.0 c.if-not-is_library_version.false) c.in_ok-raw.raw c.cut_pool.new.cursor c.in_ok-raw.ensures.taken c.in_err-head.field-0.0 c.in_err-head.ensures)
 
 -- ---- what was cut
 
@@ -53,13 +53,13 @@ stands c =
     let bytes = are_bytes c.args.bytes.now (λ i. omega (arith, c.type_inv.bytes i)) in
     let first = begins at.In_ok-version in
     let is = c.is_library_version.ensures.0 c.if-not-is_library_version.false in
-    let whole = of c.args.bytes.now version c.cut_version.new.cursor first is c.in_ok-raw.raw c.cut_pool.new.cursor c.in_ok-raw.ensures c.in_ok-head.head c.in_ok-head.ensures in
-    let cut = is_cut c.args.bytes.now version c.cut_version.new.cursor first is c.in_ok-raw.raw c.cut_pool.new.cursor c.in_ok-raw.ensures c.in_ok-head.head c.in_ok-head.ensures in
+    let whole = of c.args.bytes.now version c.cut_version.new.cursor first is c.in_ok-raw.raw c.cut_pool.new.cursor c.in_ok-raw.ensures.taken c.in_ok-head.head c.in_ok-head.ensures in
+    let cut = is_cut c.args.bytes.now version c.cut_version.new.cursor first is c.in_ok-raw.raw c.cut_pool.new.cursor c.in_ok-raw.ensures.taken c.in_ok-head.head c.in_ok-head.ensures in
     let spelled = c.a_cut_class_is_spelled.ensures c.args.bytes.now version c.cut_version.new.cursor whole.class bytes first cut in
     let left = version_left c.args.bytes.now (version, c.cut_version.new.cursor) bytes first in
-    let ends = (c.a_cut_pool_is_spelled.ensures version.major c.cut_version.new.cursor c.cut_pool.new.cursor c.in_ok-raw.raw left c.in_ok-raw.ensures).1 in (
+    let ends = (c.a_cut_pool_is_spelled.ensures version.major c.cut_version.new.cursor c.cut_pool.new.cursor c.in_ok-raw.raw left c.in_ok-raw.ensures.taken).1 in (
       c.at-flags_at.ensures.place ∙ flags_place c.in_ok-raw.raw c.cut_version.new.cursor c.cut_pool.new.cursor spelled.1 ends,
-      within c.args.bytes.now version c.cut_version.new.cursor first is c.in_ok-raw.raw c.cut_pool.new.cursor c.in_ok-raw.ensures c.in_ok-head.head c.in_ok-head.ensures spelled.0,
+      within c.args.bytes.now version c.cut_version.new.cursor first is c.in_ok-raw.raw c.cut_pool.new.cursor c.in_ok-raw.ensures.taken c.in_ok-head.head c.in_ok-head.ensures spelled.0,
     )
 
 pub check_texts-requires : goal.check_texts-requires
@@ -75,7 +75,7 @@ returns-in_err-check_texts c =
     let at = goal.at.returns-in_err-check_texts c in
     let p = err_from_is_err_and c.from_residual-in_err-check_texts.result c.from_residual-in_err-check_texts.ensures.1 in
     rw (p.1, p.2)
-    (text_refused c.args.bytes.now (version_of c.in_ok-version.version) c.cut_version.new.cursor (begins at.In_ok-version) (c.is_library_version.ensures.0 c.if-not-is_library_version.false) c.in_ok-raw.raw c.cut_pool.new.cursor c.in_ok-raw.ensures
+    (text_refused c.args.bytes.now (version_of c.in_ok-version.version) c.cut_version.new.cursor (begins at.In_ok-version) (c.is_library_version.ensures.0 c.if-not-is_library_version.false) c.in_ok-raw.raw c.cut_pool.new.cursor c.in_ok-raw.ensures.taken
     c.in_ok-head.head c.in_ok-head.ensures c.in_err-check_texts.field-0.0 c.in_err-check_texts.ensures.told)
 
 pub returns : goal.returns
@@ -85,5 +85,5 @@ returns c =
     let head = c.in_ok-head.head in
     let pool = c.in_ok-raw.raw in
     let asked = λ (n : ℕ). Tells (cut_header_checks pool n head) (λ (header : Header). header ≡ header_in pool head) c.own_header.result in
-    told c.args.bytes.now (version_of c.in_ok-version.version) c.cut_version.new.cursor (begins at.In_ok-version) (c.is_library_version.ensures.0 c.if-not-is_library_version.false) pool c.cut_pool.new.cursor c.in_ok-raw.ensures
+    told c.args.bytes.now (version_of c.in_ok-version.version) c.cut_version.new.cursor (begins at.In_ok-version) (c.is_library_version.ensures.0 c.if-not-is_library_version.false) pool c.cut_pool.new.cursor c.in_ok-raw.ensures.taken
     head c.in_ok-head.ensures c.in_ok-check_texts.ensures.told.0 c.own_header.result (subst asked place c.own_header.ensures)

@@ -34,14 +34,14 @@ returns-in_err-raw-clause-told c =
     let at = goal.at.returns-in_err-raw-clause-told c in
     let p = err_from_is_err_and c.from_residual-in_err-raw.result c.from_residual-in_err-raw.ensures.1 in
     rw (p.1, p.2)
-    (pool_refused c.args.bytes.now (version_of c.in_ok-version.version) c.cut_version.new.cursor (head at.In_ok-version) (c.is_read.ensures.0 c.if-not-is_read.false) c.cut_pool.new.cursor c.in_err-raw.field-0.0 c.in_err-raw.ensures)
+    (pool_refused c.args.bytes.now (version_of c.in_ok-version.version) c.cut_version.new.cursor (head at.In_ok-version) (c.is_read.ensures.0 c.if-not-is_read.false) c.cut_pool.new.cursor c.in_err-raw.field-0.0 c.in_err-raw.ensures.taken)
 
 pub returns-in_err-body-clause-told : goal.returns-in_err-body-clause-told
 returns-in_err-body-clause-told c =
     let at = goal.at.returns-in_err-body-clause-told c in
     let p = err_from_is_err_and c.from_residual-in_err-body.result c.from_residual-in_err-body.ensures.1 in
     rw (p.1, p.2)
-    (body_refused c.args.bytes.now (version_of c.in_ok-version.version) c.cut_version.new.cursor (head at.In_ok-version) (c.is_read.ensures.0 c.if-not-is_read.false) c.in_ok-raw.raw c.cut_pool.new.cursor c.in_ok-raw.ensures
+    (body_refused c.args.bytes.now (version_of c.in_ok-version.version) c.cut_version.new.cursor (head at.In_ok-version) (c.is_read.ensures.0 c.if-not-is_read.false) c.in_ok-raw.raw c.cut_pool.new.cursor c.in_ok-raw.ensures.taken
     c.in_err-body.field-0.0 (c.in_err-body.ensures c.in_ok-raw.raw))
 
 -- ---- what was cut
@@ -51,10 +51,10 @@ check_class-requires-clause-place c =
     let version = version_of c.in_ok-version.version in
     let bytes = are_bytes c.args.bytes.now (λ i. omega (arith, c.type_inv.bytes i)) in
     let at = goal.at.check_class-requires-clause-place c in
-    let whole = is_cut c.args.bytes.now version c.cut_version.new.cursor (head at.In_ok-version) (c.is_read.ensures.0 c.if-not-is_read.false) c.in_ok-raw.raw c.cut_pool.new.cursor c.in_ok-raw.ensures
+    let whole = is_cut c.args.bytes.now version c.cut_version.new.cursor (head at.In_ok-version) (c.is_read.ensures.0 c.if-not-is_read.false) c.in_ok-raw.raw c.cut_pool.new.cursor c.in_ok-raw.ensures.taken
     (class_of c.in_ok-raw.raw c.in_ok-body.body) (c.in_ok-body.ensures c.in_ok-raw.raw) in
     let eight = (c.a_cut_class_is_spelled.ensures c.args.bytes.now version c.cut_version.new.cursor (class_of c.in_ok-raw.raw c.in_ok-body.body) bytes (head at.In_ok-version) whole).1 in
-    let ends = (c.a_cut_pool_is_spelled.ensures version.major c.cut_version.new.cursor c.cut_pool.new.cursor c.in_ok-raw.raw (version_left c.args.bytes.now (version, c.cut_version.new.cursor) bytes (head at.In_ok-version)) c.in_ok-raw.ensures).1 in
+    let ends = (c.a_cut_pool_is_spelled.ensures version.major c.cut_version.new.cursor c.cut_pool.new.cursor c.in_ok-raw.raw (version_left c.args.bytes.now (version, c.cut_version.new.cursor) bytes (head at.In_ok-version)) c.in_ok-raw.ensures.taken).1 in
     omega (arith, c.at-flags_at.ensures.place, eight, ends)
 
 pub check_class-requires-clause-room : goal.check_class-requires-clause-room
@@ -63,9 +63,9 @@ check_class-requires-clause-room c =
     let class = class_of c.in_ok-raw.raw c.in_ok-body.body in
     let bytes = are_bytes c.args.bytes.now (λ i. omega (arith, c.type_inv.bytes i)) in
     let at = goal.at.check_class-requires-clause-room c in
-    let cut = is_cut c.args.bytes.now version c.cut_version.new.cursor (head at.In_ok-version) (c.is_read.ensures.0 c.if-not-is_read.false) c.in_ok-raw.raw c.cut_pool.new.cursor c.in_ok-raw.ensures class (c.in_ok-body.ensures c.in_ok-raw.raw) in
+    let cut = is_cut c.args.bytes.now version c.cut_version.new.cursor (head at.In_ok-version) (c.is_read.ensures.0 c.if-not-is_read.false) c.in_ok-raw.raw c.cut_pool.new.cursor c.in_ok-raw.ensures.taken class (c.in_ok-body.ensures c.in_ok-raw.raw) in
     let spelled = c.a_cut_class_is_spelled.ensures c.args.bytes.now version c.cut_version.new.cursor class bytes (head at.In_ok-version) cut in
-    let ends = (c.a_cut_pool_is_spelled.ensures version.major c.cut_version.new.cursor c.cut_pool.new.cursor c.in_ok-raw.raw (version_left c.args.bytes.now (version, c.cut_version.new.cursor) bytes (head at.In_ok-version)) c.in_ok-raw.ensures).1 in
+    let ends = (c.a_cut_pool_is_spelled.ensures version.major c.cut_version.new.cursor c.cut_pool.new.cursor c.in_ok-raw.raw (version_left c.args.bytes.now (version, c.cut_version.new.cursor) bytes (head at.In_ok-version)) c.in_ok-raw.ensures.taken).1 in
     omega (arith, c.at-flags_at.ensures.place, spelled.1, ends, ap length spelled.0, class_len class)
 
 pub returns-in_err-pool-clause-told : goal.returns-in_err-pool-clause-told
@@ -74,7 +74,7 @@ returns-in_err-pool-clause-told c =
     let at = goal.at.returns-in_err-pool-clause-told c in
     let p = err_from_is_err_and c.from_residual-in_err-pool.result c.from_residual-in_err-pool.ensures.1 in
     rw (p.1, p.2)
-    (check_refused c.args.bytes.now (version_of c.in_ok-version.version) c.cut_version.new.cursor (head at.In_ok-version) (c.is_read.ensures.0 c.if-not-is_read.false) c.in_ok-raw.raw c.cut_pool.new.cursor c.in_ok-raw.ensures
+    (check_refused c.args.bytes.now (version_of c.in_ok-version.version) c.cut_version.new.cursor (head at.In_ok-version) (c.is_read.ensures.0 c.if-not-is_read.false) c.in_ok-raw.raw c.cut_pool.new.cursor c.in_ok-raw.ensures.taken
     class (c.in_ok-body.ensures c.in_ok-raw.raw) (λ (pool : Constants). pool ≡ c.in_ok-raw.raw) c.in_err-pool.field-0.0 c.in_err-pool.ensures)
 
 pub returns-clause-told : goal.returns-clause-told
@@ -82,7 +82,7 @@ returns-clause-told c =
     let class = class_of c.in_ok-raw.raw c.in_ok-body.body in
     let at = goal.at.returns-clause-told c in
     let same = c.in_ok-enter.ensures ∙ ap (λ (pool : Constants). entered (class_of pool c.in_ok-body.body)) c.in_ok-pool.ensures.1 in
-    is_class c.args.bytes.now (version_of c.in_ok-version.version) c.cut_version.new.cursor (head at.In_ok-version) (c.is_read.ensures.0 c.if-not-is_read.false) c.in_ok-raw.raw c.cut_pool.new.cursor c.in_ok-raw.ensures
+    is_class c.args.bytes.now (version_of c.in_ok-version.version) c.cut_version.new.cursor (head at.In_ok-version) (c.is_read.ensures.0 c.if-not-is_read.false) c.in_ok-raw.raw c.cut_pool.new.cursor c.in_ok-raw.ensures.taken
     class (c.in_ok-body.ensures c.in_ok-raw.raw) c.in_ok-pool.ensures.0 c.in_ok-enter.field-0 same
 
 pub returns-clause-spelled : goal.returns-clause-spelled
@@ -92,7 +92,7 @@ returns-clause-spelled c =
     let at = goal.at.returns-clause-spelled c in
     let same = c.in_ok-enter.ensures ∙ ap (λ (pool : Constants). entered (class_of pool c.in_ok-body.body)) c.in_ok-pool.ensures.1 in
     let read =
-    is_class c.args.bytes.now (version_of c.in_ok-version.version) c.cut_version.new.cursor (head at.In_ok-version) (c.is_read.ensures.0 c.if-not-is_read.false) c.in_ok-raw.raw c.cut_pool.new.cursor c.in_ok-raw.ensures
+    is_class c.args.bytes.now (version_of c.in_ok-version.version) c.cut_version.new.cursor (head at.In_ok-version) (c.is_read.ensures.0 c.if-not-is_read.false) c.in_ok-raw.raw c.cut_pool.new.cursor c.in_ok-raw.ensures.taken
     class (c.in_ok-body.ensures c.in_ok-raw.raw) c.in_ok-pool.ensures.0 c.in_ok-enter.field-0 same in
     c.a_class_file_is_spelled.ensures c.args.bytes.now c.in_ok-enter.field-0 bytes read
 
@@ -102,7 +102,7 @@ returns-clause-fits c =
     let bytes = are_bytes c.args.bytes.now (λ i. omega (arith, c.type_inv.bytes i)) in
     let at = goal.at.returns-clause-fits c in
     let left = version_left c.args.bytes.now (version, c.cut_version.new.cursor) bytes (head at.In_ok-version) in
-    let spelled = (c.a_cut_pool_is_spelled.ensures version.major c.cut_version.new.cursor c.cut_pool.new.cursor c.in_ok-raw.raw left c.in_ok-raw.ensures).0 in
+    let spelled = (c.a_cut_pool_is_spelled.ensures version.major c.cut_version.new.cursor c.cut_pool.new.cursor c.in_ok-raw.raw left c.in_ok-raw.ensures.taken).0 in
     let behind = bytes_behind (pool_bytes c.in_ok-raw.raw) c.cut_pool.new.cursor.bytes (subst IsBytes spelled left) in
     let class = class_of c.in_ok-raw.raw c.in_ok-body.body in
     let same = c.in_ok-enter.ensures ∙ ap (λ (pool : Constants). entered (class_of pool c.in_ok-body.body)) c.in_ok-pool.ensures.1 in

@@ -6,7 +6,7 @@ use Rattle.pool_bytes.proofs.reading.read_pool.Goals as goal
 use Rattle.pool_bytes.proofs.reading.read_pool.Goals.{In_ok-raw}
 
 taken : (c : In_ok-raw) → pool_at 52 (rest_at c.args.bytes.now c.args.at) ≡ Ok (c.in_ok-raw.raw, c.cut_pool.new.cursor)
-taken c = ap (pool_at 52) (sym c.new-cursor.ensures) ∙ c.in_ok-raw.ensures
+taken c = ap (pool_at 52) (sym c.new-cursor.ensures) ∙ c.in_ok-raw.ensures.taken
 
 pub check-requires : goal.check-requires
 check-requires c =
