@@ -15,4 +15,4 @@ mod questions;
 pub use head::Head;
 pub use input::Input;
 pub use notation::OBJECT;
-pub use questions::superclasses;
+pub use questions::{last_method, superclasses};

@@ -1,18 +1,18 @@
 //! What the rule of an instruction answers, as texts.
-ghost use Rattle.std.specs.Prelude.{◌≡◌, IsSome, IsTrue, Some};
+ghost use Rattle.std.specs.Prelude.{◌≡◌, Some};
 ghost use Rattle.member_link.specs.Linked.{IsLinked};
 ghost use Rattle.type_rules.specs.Rule.{FitsPool};
-ghost use Rattle.type_rules.specs.Scope.{code_of, scope_at};
+ghost use Rattle.type_rules.specs.Scope.{scope_at};
 
 use crate::frame_text::{frame_of, text_of};
-use class_model::{Attr, Frame, MethodAt, Placed, Text};
-use class_notation::Input;
-use class_tree::{Place, Tree};
+use class_model::{Frame, MethodAt, Placed, Text};
+use class_notation::{Input, last_method};
+use class_tree::Tree;
 use member_link::check_links;
 use std::alloc::Global;
 use std::process::Abort;
 use std::test::Fail;
-use type_rules::{MethodRules, RuleFault, Ruled, rule};
+use type_rules::{MethodRules, RuleFault, Ruled, has_code, rule};
 
 /// A method whose instructions are asked.
 #[derive(Clone, Copy)]
@@ -61,7 +61,8 @@ impl Asked {
         let folder = method.folder;
         let text = format!(in alloc; "{folder}, {uses}")?;
         let tree = Input::of(alloc, &text, method.library)?.build(alloc)?;
-        let at = last_method(alloc, &tree, method.class)?;
+        let class = Text::of_bytes(alloc, method.class.as_bytes())?;
+        let at = last_method(&tree, &class);
         Ok(Asked { tree, at })
     }
 
@@ -108,44 +109,6 @@ fn answer_of(
     } else {
         Ok(format!(in alloc; "{told}, and of the tree {same}")?)
     }
-}
-
-// Whether a method of the folder is there and has code.
-fn has_code(tree: &Tree, at: MethodAt) -> bool
-    ensures { IsTrue result → IsSome (scope_at tree.now at) }
-{
-    let Some(class) = tree.folder().get(at.class) else {
-        return false;
-    };
-    let Some(method) = class.methods.get(at.method) else {
-        return false;
-    };
-    is_with_code(method.attrs.as_slice())
-}
-
-// Whether code is among a method's attributes.
-fn is_with_code(attrs: &[Attr]) -> bool
-    ensures { IsTrue result → IsSome (code_of attrs.now) }
-{
-    match attrs {
-        [Attr::Code { .. }, ..] => true,
-        [_, others @ ..] => is_with_code(others),
-        [] => false,
-    }
-}
-
-// The last method of a class of the folder.
-fn last_method(alloc: Global, tree: &Tree, class: &str) -> Result<Option<MethodAt>, Fail> {
-    let name = Text::of_bytes(alloc, class.as_bytes())?;
-    let Some(Place::Folder(place)) = tree.place(&name) else {
-        return Ok(None);
-    };
-    Ok(
-        tree.folder().get(place).map(|class| MethodAt {
-            class: place,
-            method: class.methods.len().wrapping_sub(1),
-        }),
-    )
 }
 
 // The frame behind an instruction, `end`, or the rule that fails. Handlers see the locals before it, and no stack.

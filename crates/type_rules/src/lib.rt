@@ -7,6 +7,7 @@ mod arithmetic;
 mod arrays;
 mod assignability;
 mod calls;
+mod code;
 mod constants;
 mod descriptors;
 mod fault;
@@ -30,6 +31,7 @@ mod table;
 mod typed;
 
 pub use assignability::{assignable, frame_assignable};
+pub use code::{code_of, has_code};
 pub use fault::{RuleFault, TypeRule, VerifyFault};
 pub use laws::{
     a_failing_method_has_no_frames, a_method_has_one_typing, a_typed_folder_types_each_method,

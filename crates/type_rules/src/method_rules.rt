@@ -11,13 +11,14 @@ ghost use Rattle.type_rules.specs.MemberRows.{result_of};
 ghost use Rattle.type_rules.specs.NewClasses.{class_made};
 ghost use Rattle.type_rules.specs.Offsets.{IsIndexOf};
 ghost use Rattle.type_rules.specs.Rule.{FitsPool};
-ghost use Rattle.type_rules.specs.Scope.{class_of_new, code_of, current, instructions, is_init, own_descriptor, scope_at, scope_of};
+ghost use Rattle.type_rules.specs.Scope.{class_of_new, current, instructions, is_init, own_descriptor, scope_at, scope_of};
 
+use crate::code::code_of;
 use crate::descriptors::a_descriptor_is_read_back;
 use crate::offsets::OffsetIndex;
 use class_model::{
-    Attr, ClassFile, CodePart, Descriptor, FieldType, Header, INIT, Instr, Method, MethodAt,
-    NoMemory, Placed, PlacedList, Text,
+    ClassFile, CodePart, Descriptor, FieldType, Header, INIT, Instr, Method, MethodAt, NoMemory,
+    Placed, PlacedList, Text,
 };
 use class_tree::{Place, Tree};
 use code_bytes::{a_class_file_has_read_methods, instructions_of, is_text, method_descriptor};
@@ -198,18 +199,6 @@ fn of_method<'a>(
         index,
         descriptor,
     })
-}
-
-// The first code among attributes.
-fn code_of(attrs: &[Attr]) -> Option<&CodePart>
-    ensures { option_copied result ≡ code_of attrs.now }
-{
-    for attr in attrs {
-        if let Attr::Code { part, .. } = attr {
-            return Some(part);
-        }
-    }
-    None
 }
 
 // The instructions by their offsets.

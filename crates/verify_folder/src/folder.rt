@@ -9,7 +9,7 @@ use crate::method::verify_method;
 use class_model::{Attr, ClassFile, MethodAt};
 use class_tree::Tree;
 use std::alloc::Global;
-use type_rules::{TypedClass, TypedFolder, VerifyFault};
+use type_rules::{TypedClass, TypedFolder, VerifyFault, code_of};
 
 /// Verifies each method with code of a linked folder (JVM Specification SE 8, 4.10.1): the frames that type them. There are no
 /// others.
@@ -73,10 +73,5 @@ fn verify_class(
 fn has_code(attrs: &[Attr]) -> bool
     ensures { result ≡ is_some (code_of attrs.now) }
 {
-    for attr in attrs {
-        if let Attr::Code { .. } = attr {
-            return true;
-        }
-    }
-    false
+    code_of(attrs).is_some()
 }

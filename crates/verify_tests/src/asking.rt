@@ -1,13 +1,13 @@
 //! What verifying a method answers, as texts.
-use crate::code_of::{has_code, is_method};
+use crate::methods::is_method;
 use class_model::{MethodAt, NoMemory, Text};
-use class_notation::Input;
-use class_tree::{Place, Tree};
+use class_notation::{Input, last_method};
+use class_tree::Tree;
 use member_link::check_links;
 use std::alloc::Global;
 use std::process::Abort;
 use std::test::Fail;
-use type_rules::{TypedMethod, VerifyFault};
+use type_rules::{TypedMethod, VerifyFault, has_code};
 use verify_folder::{verify_all, verify_method};
 
 /// A method that is verified.
@@ -54,7 +54,8 @@ pub(crate) fn compare_one(
 
 // What verifying the last method of a class answers, alone and with its folder.
 fn answer(alloc: Global, tree: &Tree, class: &str) -> Result<String, Fail> {
-    let Some(at) = last_method(alloc, tree, class)? else {
+    let class = Text::of_bytes(alloc, class.as_bytes())?;
+    let Some(at) = last_method(tree, &class) else {
         return Ok(String::from_str(alloc, "no method")?);
     };
     if !has_code(tree, at) {
@@ -81,20 +82,6 @@ fn answer(alloc: Global, tree: &Tree, class: &str) -> Result<String, Fail> {
             }
         }
     }
-}
-
-// The last method of a class of the folder.
-fn last_method(alloc: Global, tree: &Tree, class: &str) -> Result<Option<MethodAt>, Fail> {
-    let name = Text::of_bytes(alloc, class.as_bytes())?;
-    let Some(Place::Folder(place)) = tree.place(&name) else {
-        return Ok(None);
-    };
-    Ok(
-        tree.folder().get(place).map(|class| MethodAt {
-            class: place,
-            method: class.methods.len().wrapping_sub(1),
-        }),
-    )
 }
 
 // The number of a method's frames, which are those of its folder.

@@ -1,7 +1,6 @@
 ghost use Rattle.member_link.specs.Linked.{IsLinked};
 
 use crate::asking::text_of_failure;
-use crate::code_of::has_code;
 use class_model::{ClassFile, MethodAt};
 use class_notation::Input;
 use class_tree::{Place, Tree};
@@ -9,7 +8,7 @@ use member_link::check_links;
 use std::alloc::Global;
 use std::process::Abort;
 use std::test::Fail;
-use type_rules::TypedFolder;
+use type_rules::{TypedFolder, has_code};
 use verify_folder::{verify_all, verify_method};
 
 // The classes of a folder, and what verifying it answers: the name of each with the numbers of its methods' frames, and `-`

@@ -7,8 +7,6 @@ mod asking;
 #[cfg(test)]
 mod catch_tests;
 #[cfg(test)]
-mod code_of;
-#[cfg(test)]
 mod end_tests;
 #[cfg(test)]
 mod folder_tests;
@@ -18,6 +16,8 @@ mod handler_tests;
 mod init_tests;
 #[cfg(test)]
 mod merge_tests;
+#[cfg(test)]
+mod methods;
 #[cfg(test)]
 mod new_tests;
 #[cfg(test)]
