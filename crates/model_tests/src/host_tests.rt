@@ -28,6 +28,13 @@ const READ: [(&str, u64, &str); 3] = [
     ("D.class", 0, ""),
 ];
 
+/// Names and bytes that are written, one after the other.
+const WRITTEN: [(&str, &str); 3] = [
+    ("a/b/C.class", "first"),
+    ("D.class", "second, and longer"),
+    ("a/b/C.class", "third"),
+];
+
 /// Names that a root does not hold.
 const NOT_THERE: [&str; 4] = ["C.class", "a", "a/b/C.clas", "a/b/C.class2"];
 
@@ -47,10 +54,9 @@ fn write_two<H: Host>(
     host: &mut H,
     root: &str,
 ) -> Result<(), Fail> {
-    let alloc = rt.alloc();
-    host.write(alloc, root, "a/b/C.class", b"first")?;
-    host.write(alloc, root, "D.class", b"second, and longer")?;
-    host.write(alloc, root, "a/b/C.class", b"third")?;
+    for (name, text) in &WRITTEN {
+        host.write(rt.alloc(), root, name, text.as_bytes())?;
+    }
     Ok(())
 }
 
@@ -124,16 +130,17 @@ fn memory_tells(rt: HostRuntime) -> Result<(), Fail> {
 /// Checks that a call of each kind is refused, and a read of a name that is not there told.
 fn refuses_each(rt: &(impl Abort + AllocGlobal), host: &mut MemoryHost) {
     let alloc = rt.alloc();
-    let listed = host.list(alloc, "in", 9);
-    assert!(rt; matches!(listed, Err(HostFail::Failed)));
-    let read = host.read(alloc, "in", "C.class", 9);
-    assert!(rt; matches!(read, Err(HostFail::Failed)));
-    let written = host.write(alloc, "in", "C.class", b"new");
-    assert!(rt; matches!(written, Err(HostFail::Failed)));
-    let printed = host.print(alloc, b"lost");
-    assert!(rt; matches!(printed, Err(HostFail::Failed)));
+    is_refused(rt, host.list(alloc, "in", 9));
+    is_refused(rt, host.read(alloc, "in", "C.class", 9));
+    is_refused(rt, host.write(alloc, "in", "C.class", b"new"));
+    is_refused(rt, host.print(alloc, b"lost"));
     let absent = host.read(alloc, "in", "D.class", 9);
     assert!(rt; matches!(absent, Err(HostFail::Absent)));
+}
+
+/// Checks that a call was refused.
+fn is_refused<T: Drop>(rt: &impl Abort, answer: Result<T, HostFail>) {
+    assert!(rt; matches!(answer, Err(HostFail::Failed)));
 }
 
 #[test]

@@ -1,4 +1,4 @@
-use class_model::{Frame, ListOf, LocalTypeList, Text, VType};
+use class_model::{Frame, ListOf, LocalTypeList, Text, VType, VTypeList};
 use std::process::Abort;
 use std::test::Fail;
 
@@ -52,12 +52,21 @@ fn frames_are_compared(rt: HostRuntime) -> Result<(), Fail> {
         locals: changed,
         stack: ListOf::from_vec(vec![in rt.alloc(); VType::Object(name)]?),
     };
-    has_other_locals(&rt, &frame, &other);
+    assert!(rt; frame.is_same(&frame) && has_other_locals(&frame, &other));
     Ok(())
 }
 
-// Checks that two frames have the same stack and other locals.
-fn has_other_locals(rt: &impl Abort, frame: &Frame, other: &Frame) {
-    assert!(rt; frame.is_same(frame) && !frame.is_same(other));
-    assert!(rt; frame.stack == other.stack && frame.locals != other.locals);
+// Whether two frames have the same stack and other locals.
+fn has_other_locals(frame: &Frame, other: &Frame) -> bool {
+    are_equal(&frame.stack, &other.stack)
+        && differ(&frame.locals, &other.locals)
+        && !frame.is_same(other)
+}
+
+fn are_equal(one: &VTypeList, other: &VTypeList) -> bool {
+    one == other
+}
+
+fn differ(one: &LocalTypeList, other: &LocalTypeList) -> bool {
+    one != other
 }
