@@ -69,8 +69,12 @@ const OTHER_NAMES: [&str; 4] = ["A.class.txt", "A.Class", "A.clas", "class"];
 
 #[test]
 fn a_file_of_another_name_is_copied(rt: HostRuntime) -> Result<(), Fail> {
-    for name in &OTHER_NAMES {
-        is_copied(&rt, name)?;
+    are_copied(&rt, &OTHER_NAMES)
+}
+
+fn are_copied(rt: &(impl Abort + AllocGlobal), names: &[&str]) -> Result<(), Fail> {
+    for name in names {
+        is_copied(rt, name)?;
     }
     Ok(())
 }

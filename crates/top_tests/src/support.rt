@@ -1,6 +1,6 @@
 //! What the tests share: hosts, words and outcomes.
 use crate::base_library::put_base_library;
-use class_model::ListOf;
+use class_model::{ListOf, Member, Text};
 use host_tree::{HostCall, MemoryHost};
 use pea_top::{Status, pea};
 use std::alloc::Global;
@@ -43,22 +43,25 @@ pub(crate) fn words_of(alloc: Global, line: &str) -> Result<Vec<String>, Fail> {
 /// The status of a call, as text.
 fn outcome(alloc: Global, line: &str, host: &mut MemoryHost) -> Result<String, Fail> {
     let words = words_of(alloc, line)?;
-    Ok(match pea(alloc, &words, host) {
+    let status = pea(alloc, &words, host);
+    text_of(alloc, &status)
+}
+
+fn text_of(alloc: Global, status: &Status) -> Result<String, Fail> {
+    match status {
         Status::Malformed { name, at, rule } => {
-            format!(in alloc; "Malformed {} {at} {rule:?}", name.as_str())?
+            Ok(format!(in alloc; "Malformed {} {at} {rule:?}", name.as_str())?)
         }
         Status::Version { name, major, minor } => {
-            format!(in alloc; "Version {} {major} {minor}", name.as_str())?
+            Ok(format!(in alloc; "Version {} {major} {minor}", name.as_str())?)
         }
         Status::Unlinked {
             class,
             member,
             rule,
         } => {
-            let class = shown(class.bytes());
-            let name = shown(member.name.bytes());
-            let desc = shown(member.desc.bytes());
-            format!(in alloc; "Unlinked '{class}' '{name}' '{desc}' {rule:?}")?
+            let place = place_of(alloc, class, member)?;
+            Ok(format!(in alloc; "Unlinked {place} {rule:?}")?)
         }
         Status::Unverified {
             class,
@@ -66,13 +69,19 @@ fn outcome(alloc: Global, line: &str, host: &mut MemoryHost) -> Result<String, F
             offset,
             rule,
         } => {
-            let class = shown(class.bytes());
-            let name = shown(method.name.bytes());
-            let desc = shown(method.desc.bytes());
-            format!(in alloc; "Unverified '{class}' '{name}' '{desc}' {offset} {rule:?}")?
+            let place = place_of(alloc, class, method)?;
+            Ok(format!(in alloc; "Unverified {place} {offset} {rule:?}")?)
         }
-        status => format!(in alloc; "{status:?}")?,
-    })
+        status => Ok(format!(in alloc; "{status:?}")?),
+    }
+}
+
+/// The names of a class and of a member, and the member's descriptor.
+fn place_of(alloc: Global, class: &Text, member: &Member) -> Result<String, Fail> {
+    let class = shown(class.bytes());
+    let name = shown(member.name.bytes());
+    let desc = shown(member.desc.bytes());
+    Ok(format!(in alloc; "'{class}' '{name}' '{desc}'")?)
 }
 
 /// A text of ASCII letters.
