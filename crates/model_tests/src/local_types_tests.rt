@@ -13,7 +13,7 @@ const CHANGED: [usize; 8] = [0, 2, 254, 255, 256, 257, 512, 599];
 const COPIED: [usize; 5] = [0, 255, 256, 257, 299];
 
 fn uninit(at: usize) -> VType {
-    VType::Uninit((at & 0xFFFF) as u32)
+    VType::Uninit(u32::try_from(at).unwrap_or(u32::MAX))
 }
 
 // So many units, each with its index.

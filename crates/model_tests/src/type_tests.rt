@@ -1,4 +1,4 @@
-use class_model::{Frame, ListOf, LocalTypeList, Text, VType, VTypeList};
+use class_model::{Frame, ListOf, LocalTypeList, Text, VType};
 use std::process::Abort;
 use std::test::Fail;
 
@@ -58,15 +58,5 @@ fn frames_are_compared(rt: HostRuntime) -> Result<(), Fail> {
 
 // Whether two frames have the same stack and other locals.
 fn has_other_locals(frame: &Frame, other: &Frame) -> bool {
-    are_equal(&frame.stack, &other.stack)
-        && differ(&frame.locals, &other.locals)
-        && !frame.is_same(other)
-}
-
-fn are_equal(one: &VTypeList, other: &VTypeList) -> bool {
-    one == other
-}
-
-fn differ(one: &LocalTypeList, other: &LocalTypeList) -> bool {
-    one != other
+    frame.stack == other.stack && frame.locals != other.locals && !frame.is_same(other)
 }
