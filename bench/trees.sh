@@ -25,7 +25,8 @@ growth() { ratio "$2" "($1 < 1 ? 1 : $1)"; }
 counted() { echo $(($(instructions "$1" "$2" "$3") - $(instructions "$1" "$2" 0))); }
 
 runs=${RUNS:-9}
-builds=20
+# as many classes are built at each size, so that one noise falls on all
+built=800000
 questions=1000000
 asked=20000
 sizes="5000 10000 20000"
@@ -36,15 +37,15 @@ turn() { least_ms[$*]=$(least "${least_ms[$*]:-999999}" "$(processor_ms "$bench"
 
 for _ in $(seq 1 "$runs"); do
     for count in $sizes; do
-        turn read "$count" "$builds"
-        turn build "$count" "$builds"
+        turn read "$count" $((built / count))
+        turn build "$count" $((built / count))
         for word in few ask; do
             turn "$word" "$count" 0
             turn "$word" "$count" "$questions"
         done
     done
-    turn chain 40000 "$builds"
-    turn build 40000 "$builds"
+    turn chain 40000 $((built / 40000))
+    turn build 40000 $((built / 40000))
 done
 
 # beyond WORD COUNT: the time of the questions of this word
@@ -53,6 +54,7 @@ beyond() { echo $((least_ms[$1 $2 $questions] - least_ms[$1 $2 0])); }
 first_few_ms=
 for count in $sizes; do
     times=$((count / 5000))
+    builds=$((built / count))
     build_ms=$((least_ms[build $count $builds] - least_ms[read $count $builds]))
     few_ms=$(beyond few "$count")
     all_ms=$(beyond ask "$count")
@@ -60,9 +62,9 @@ for count in $sizes; do
         first_build_ms=$build_ms
         first_few_ms=$few_ms
     fi
-    echo "$count classes: built in $build_ms ms, $builds times; $questions questions about 1,000 of them in $few_ms ms, about all in $all_ms ms"
-    wanted "building takes $(growth "$first_build_ms" "$build_ms") times the first's time (in proportion: $times; half as much again is let pass)" \
-        "$build_ms <= $times * 1.5 * $first_build_ms"
+    echo "$count classes: built $builds times in $build_ms ms; $questions questions about 1,000 of them in $few_ms ms, about all in $all_ms ms"
+    wanted "a class is built in $(growth "$first_build_ms" "$build_ms") times the first's time (half as much again is let pass)" \
+        "$build_ms <= 1.5 * $first_build_ms"
     wanted "questions take $(growth "$first_few_ms" "$few_ms") times the first's time (half as much again is let pass)" "$few_ms <= 1.5 * $first_few_ms"
     if command -v valgrind >/dev/null; then
         build=$((($(instructions build "$count" 1) - $(instructions read "$count" 1)) / count))
@@ -78,6 +80,7 @@ for count in $sizes; do
     fi
 done
 
+builds=$((built / 40000))
 chain_ms=${least_ms[chain 40000 $builds]}
 tree_ms=${least_ms[build 40000 $builds]}
 slower=$(growth "$tree_ms" "$chain_ms")
