@@ -1,24 +1,38 @@
 #!/usr/bin/env bash
 # Links generated class files: folders of 1,000, 2,000 and 4,000 classes with seven times as many of a library, many times
-# over. Linking is to take less than a second of processor time for the largest, and time in proportion to the classes. Prints
-# what is wanted and what came, the least time of some runs each, and fails where a want is not met.
+# over. Linking is to take less than a second of processor time for the largest, and time in proportion to the classes. The sizes
+# take turns, and the least time of each counts. Prints what is wanted and what came, and fails where a want is not met.
 set -eu
 cd "$(dirname "$0")/.."
 . bench/measures.sh
 (cd crates/link_bench && rt check && rt run -- link 1 1) >/dev/null
 bench=$PWD/crates/link_bench/out/link_bench
 
-links=5
+# as many classes are linked at each size, so that one noise falls on all
+linked=80000
+sizes="1000 2000 4000"
+
+declare -A least_ms
+# turn WORDS..: one run of these words, whose time counts if it is the least yet
+turn() { least_ms[$*]=$(least "${least_ms[$*]:-999999}" "$(processor_ms "$bench" "$@")"); }
+
+for _ in $(seq 1 "$runs"); do
+    for count in $sizes; do
+        turn read "$count" 1
+        turn link "$count" $((linked / count))
+    done
+done
+
 first=
-for times in 1 2 4; do
-    count=$((1000 * times))
-    read_ms=$(measure read "$count" 1)
-    link_ms=$(($(measure link "$count" "$links") - read_ms))
+for count in $sizes; do
+    links=$((linked / count))
+    read_ms=${least_ms[read $count 1]}
+    link_ms=$((least_ms[link $count $links] - read_ms))
     one_ms=$((link_ms / links))
-    if [ -z "$first" ]; then first=$one_ms; fi
-    growth=$(awk "BEGIN { one = $first < 1 ? 1 : $first; printf \"%.2f\", $one_ms / one }")
+    if [ -z "$first" ]; then first=$link_ms; fi
+    growth=$(ratio "$link_ms" "$first")
     echo "$count classes and $((7 * count)) of a library: read and built in $read_ms ms, linked in $one_ms ms"
-    wanted "linking $growth times the first (in proportion: $times; at most half as much again is wanted)" "$growth <= $times * 1.5"
+    wanted "a class is linked in $growth times the first's time (half as much again is let pass)" "$link_ms <= 1.5 * $first"
     wanted "linked in less than a second" "$one_ms < 1000"
 done
 exit "$failed"
