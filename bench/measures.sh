@@ -42,3 +42,13 @@ measure() {
     done
     echo "$best"
 }
+
+declare -A least_ms
+# turn WORDS..: one run of $bench with these words, whose time in least_ms[WORDS..] counts if it is the least yet
+turn() { least_ms[$*]=$(least "${least_ms[$*]:-999999}" "$(processor_ms "$bench" "$@")"); }
+
+# instructions WORDS..: how many instructions one run of $bench takes
+instructions() {
+    valgrind --tool=callgrind --callgrind-out-file=/dev/null "$bench" "$@" 2>&1 >/dev/null |
+        awk '/Collected/ { print $NF }'
+}

@@ -12,12 +12,6 @@ cd "$(dirname "$0")/.."
 (cd crates/tree_bench && rt check && rt run -- read 1 1) >/dev/null
 bench=$PWD/crates/tree_bench/out/tree_bench
 
-# instructions WORDS..: how many instructions one run takes
-instructions() {
-    valgrind --tool=callgrind --callgrind-out-file=/dev/null "$bench" "$@" 2>&1 >/dev/null |
-        awk '/Collected/ { print $NF }'
-}
-
 # growth ONE OTHER: how many times the first the other is
 growth() { ratio "$2" "($1 < 1 ? 1 : $1)"; }
 
@@ -30,10 +24,6 @@ built=800000
 questions=1000000
 asked=20000
 sizes="5000 10000 20000"
-
-declare -A least_ms
-# turn WORDS..: one run of these words, whose time counts if it is the least yet
-turn() { least_ms[$*]=$(least "${least_ms[$*]:-999999}" "$(processor_ms "$bench" "$@")"); }
 
 for _ in $(seq 1 "$runs"); do
     for count in $sizes; do
