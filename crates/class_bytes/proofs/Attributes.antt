@@ -15,7 +15,7 @@ use Rattle.class_bytes.specs.declared.cut.CutAttr.{CutAttr}
 use Rattle.class_bytes.proofs.Asking.{Remain, remain, refused}
 
 -- The attributes before this place hold, and whether one of them has the name; these are left.
-pub record Checked (pool : Constants) (name : List ℕ) (asks : List Attr → ℕ → Attr → List Check) (whole : List Check) (end : ℕ) (has_one : Bool) (place : ℕ) (left : List CutAttr) : Type 0 where
+pub record Checked (pool : Constants) (name : List ℕ) (asks : List Attr → ℕ → Attr → List (Check Fault)) (whole : List (Check Fault)) (end : ℕ) (has_one : Bool) (place : ℕ) (left : List CutAttr) : Type 0 where
   pub before : List Attr
   pub named : has_one ≡ has_named pool name before
   pub remain : Remain whole (attrs_checks asks before place (attrs_of left))
@@ -34,7 +34,7 @@ or_false true = refl
 or_false false = refl
 
 -- the next of them
-module _ (pool : Constants) (name : List ℕ) (asks : List Attr → ℕ → Attr → List Check) (whole : List Check) (end : ℕ) (has_one : Bool) (place : ℕ) (attrs : List CutAttr) (index : ℕ) (none : CutAttr) (within : index < length attrs) (so_far : Checked pool name asks whole end has_one place (drop index attrs)) where
+module _ (pool : Constants) (name : List ℕ) (asks : List Attr → ℕ → Attr → List (Check Fault)) (whole : List (Check Fault)) (end : ℕ) (has_one : Bool) (place : ℕ) (attrs : List CutAttr) (index : ℕ) (none : CutAttr) (within : index < length attrs) (so_far : Checked pool name asks whole end has_one place (drop index attrs)) where
   abbrev pub next : CutAttr
   next = get_or attrs index none
 
@@ -49,7 +49,7 @@ module _ (pool : Constants) (name : List ℕ) (asks : List Attr → ℕ → Attr
       let ends : place + attrs_len (attrs_of (next ∷ others)) ≡ end = rw first_left at so_far.ends in
       omega (arith, attr_len next, length-append (attr_bytes (attr_of next)) (flat_map attr_bytes (attrs_of others)))
 
-  abbrev its_checks : List Check
+  abbrev its_checks : List (Check Fault)
   its_checks = asks so_far.before place (attr_of next)
 
   abbrev Tells_next : Result Bool ClassFault → Type 0

@@ -20,7 +20,7 @@ use Rattle.class_bytes.proofs.Attributes.{Checked, refuses, one_more}
 use Rattle.class_bytes.proofs.Kept.{eq_sym}
 
 -- the refusal says nothing of a value
-pub refused_too : {X Y : Type 0} (checks : List Check) (Is : X → Type 0) (Other : Y → Type 0) (e : ClassFault) → Tells checks Is (Err e) → Tells checks Other (Err e)
+pub refused_too : {X Y : Type 0} (checks : List (Check Fault)) (Is : X → Type 0) (Other : Y → Type 0) (e : ClassFault) → Tells checks Is (Err e) → Tells checks Other (Err e)
 refused_too checks Is Other (Malformed at rule) told = told
 refused_too checks Is Other NoMemory told = told
 refused_too checks Is Other (Version major minor) told = told
@@ -63,13 +63,13 @@ again b at NoMemory told = tt
 again b at (Version major minor) told = told
 
 module _ (pool : Constants) (before : List Attr) (at : ℕ) (attr : CutAttr) (named : is_named pool bootstrap_methods (attr_of attr) ≡ true) (there : IsSome (utf8_at pool attr.name)) (is_again : Bool) (same : is_again ≡ has_named pool bootstrap_methods before) where
-  abbrev name_check : Check
+  abbrev name_check : Check Fault
   name_check = attr_name_check pool at (attr_of attr)
 
-  abbrev twice_check : Check
+  abbrev twice_check : Check Fault
   twice_check = check at rules.Twice (IsFalse (has_named pool bootstrap_methods before))
 
-  abbrev table : List Check
+  abbrev table : List (Check Fault)
   table = bootstrap_table_checks pool at (bootstraps attr.content.now)
 
   in_parts : class_attr_checks pool before at (attr_of attr) ≡ name_check ∷ twice_check ∷ table
@@ -79,7 +79,7 @@ module _ (pool : Constants) (before : List Attr) (at : ℕ) (attr : CutAttr) (na
   IsOwn own = own ≡ own_count pool (attr_of attr)
 
   whole_told : (result : Result (Option ℕ) ClassFault) → Tells (name_check ∷ twice_check ∷ table) IsOwn result → Tells (class_attr_checks pool before at (attr_of attr)) IsOwn result
-  whole_told result told = subst (λ (checks : List Check). Tells checks IsOwn result) (sym in_parts) told
+  whole_told result told = subst (λ (checks : List (Check Fault)). Tells checks IsOwn result) (sym in_parts) told
 
   pub twice_refused : (e : ClassFault) → Tells {X = Unit {0}} (check at rules.Twice (IsTrue (not is_again)) ∷ []) (λ done. Unit {0}) (Err e) → Tells (class_attr_checks pool before at (attr_of attr)) IsOwn (Err e)
   twice_refused e told =
@@ -100,7 +100,7 @@ module _ (pool : Constants) (before : List Attr) (at : ℕ) (attr : CutAttr) (na
 -- ---- one attribute after the other
 
 -- The attributes before this place hold, and what was found in them; these are left.
-pub record AttrsChecked (pool : Constants) (whole : List Check) (end : ℕ) (attrs : List Attr) (found : Option ℕ) (place : ℕ) (left : List CutAttr) : Type 0 where
+pub record AttrsChecked (pool : Constants) (whole : List (Check Fault)) (end : ℕ) (attrs : List Attr) (found : Option ℕ) (place : ℕ) (left : List CutAttr) : Type 0 where
   pub checked : Checked pool bootstrap_methods (class_attr_checks pool) whole end (is_some found) place left
   pub counted : bootstrap_count pool attrs ≡ unwrap_or found (bootstrap_count pool (attrs_of left))
 
@@ -120,7 +120,7 @@ is_own pool attr = by_name (is_named pool bootstrap_methods attr) refl where
   by_name false e = rw e refl
 
 -- the next of them
-module _ (pool : Constants) (whole : List Check) (end : ℕ) (found : Option ℕ) (place : ℕ) (attrs : List CutAttr) (index : ℕ) (none : CutAttr) (within : index < length attrs) (so_far : AttrsChecked pool whole end (attrs_of attrs) found place (drop index attrs)) where
+module _ (pool : Constants) (whole : List (Check Fault)) (end : ℕ) (found : Option ℕ) (place : ℕ) (attrs : List CutAttr) (index : ℕ) (none : CutAttr) (within : index < length attrs) (so_far : AttrsChecked pool whole end (attrs_of attrs) found place (drop index attrs)) where
   abbrev next : CutAttr
   next = get_or attrs index none
 

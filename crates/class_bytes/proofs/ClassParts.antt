@@ -29,13 +29,13 @@ attrs_at at c = methods_at at c + 2 + methods_len c.methods
 abbrev pub home : ClassFile → Home
 home c = record { pool = c.pool; major = c.major; flags = c.flags; name = class_at c.pool c.this_class }
 
-abbrev pub fields_part : ℕ → ClassFile → List Check
+abbrev pub fields_part : ℕ → ClassFile → List (Check Fault)
 fields_part at c = fields_checks c.pool c.flags [] (fields_at at c + 2) c.fields
 
-abbrev pub methods_part : ℕ → ClassFile → List Check
+abbrev pub methods_part : ℕ → ClassFile → List (Check Fault)
 methods_part at c = methods_checks (home c) [] (methods_at at c + 2) c.methods
 
-abbrev pub attrs_part : ℕ → ClassFile → List Check
+abbrev pub attrs_part : ℕ → ClassFile → List (Check Fault)
 attrs_part at c = attrs_checks (class_attr_checks c.pool) [] (attrs_at at c + 2) c.attrs
 
 module _ (at : ℕ) (c : ClassFile) where
@@ -61,7 +61,7 @@ module _ (at : ℕ) (c : ClassFile) where
 
 -- ---- the whole
 
-grouped : (a b c d e f g h i : List Check) → a ++ b ++ c ++ d ++ e ++ f ++ g ++ h ++ i ≡ a ++ ((b ++ c ++ d ++ e ++ (f ++ (g ++ h))) ++ i)
+grouped : (a b c d e f g h i : List (Check Fault)) → a ++ b ++ c ++ d ++ e ++ f ++ g ++ h ++ i ≡ a ++ ((b ++ c ++ d ++ e ++ (f ++ (g ++ h))) ++ i)
 grouped a b c d e f g h i = simp append_assoc
 
 -- the place of the flags
@@ -76,19 +76,19 @@ three_parts c =
     (attrs_part (flags_at c) c) (bootstrap_index_checks (bootstrap_count c.pool c.attrs) 10 c.pool)
 
 -- a fault is the first of equal checks, whatever a value would have been
-pub same_fault : {X Y : Type 0} (checks others : List Check) (Is : X → Type 0) (Other : Y → Type 0) (e : ClassFault) → checks ≡ others → Tells checks Is (Err e) → Tells others Other (Err e)
-same_fault checks others Is Other (Malformed at rule) same told = subst (λ (c : List Check). IsFirstFault c (fault at rule)) same told
+pub same_fault : {X Y : Type 0} (checks others : List (Check Fault)) (Is : X → Type 0) (Other : Y → Type 0) (e : ClassFault) → checks ≡ others → Tells checks Is (Err e) → Tells others Other (Err e)
+same_fault checks others Is Other (Malformed at rule) same told = subst (λ (c : List (Check Fault)). IsFirstFault c (fault at rule)) same told
 same_fault checks others Is Other NoMemory same told = tt
 same_fault checks others Is Other (Version major minor) same told = told
 
 module _ (c : ClassFile) where
-  abbrev entries : List Check
+  abbrev entries : List (Check Fault)
   entries = entries_checks c.major c.pool 10 c.pool
 
-  abbrev behind : List Check
+  abbrev behind : List (Check Fault)
   behind = behind_checks (flags_at c) c
 
-  abbrev dynamics : List Check
+  abbrev dynamics : List (Check Fault)
   dynamics = bootstrap_index_checks (bootstrap_count c.pool c.attrs) 10 c.pool
 
   pub entries_stop : {X Y : Type 0} (Is : X → Type 0) (Other : Y → Type 0) (e : ClassFault) → Tells (entries_checks c.major c.pool 10 c.pool) Is (Err e) → Tells (class_file_checks c) Other (Err e)

@@ -11,7 +11,7 @@ use Rattle.class_bytes.specs.CodeParts.{handler_checks}
 use Rattle.class_bytes.proofs.Asking.{Remain, remain, refused}
 
 -- the next of them
-module _ (pool : Constants) (code : List Placed) (len : ℕ) (whole : List Check) (place : ℕ) (handlers : List Handler) (index : ℕ) (none : Handler) (within : index < length handlers) (left : Remain whole (handlers_checks pool code len place (drop index handlers))) where
+module _ (pool : Constants) (code : List Placed) (len : ℕ) (whole : List (Check Fault)) (place : ℕ) (handlers : List Handler) (index : ℕ) (none : Handler) (within : index < length handlers) (left : Remain whole (handlers_checks pool code len place (drop index handlers))) where
   abbrev next : Handler
   next = get_or handlers index none
 

@@ -16,13 +16,13 @@ use Rattle.class_bytes.specs.Parts.{attrs_len}
 use Rattle.class_bytes.proofs.Asking.{goes_on}
 
 -- the same answer, of which something else is said
-pub tells_too : {X : Type 0} (checks : List Check) (Is Other : X → Type 0) → ((x : X) → Is x → Other x) → (result : Result X ClassFault) → Tells checks Is result → Tells checks Other result
+pub tells_too : {X : Type 0} (checks : List (Check Fault)) (Is Other : X → Type 0) → ((x : X) → Is x → Other x) → (result : Result X ClassFault) → Tells checks Is result → Tells checks Other result
 tells_too checks Is Other then (Ok x) told = (told.0, then x told.1)
 tells_too checks Is Other then (Err (Malformed at rule)) told = told
 tells_too checks Is Other then (Err NoMemory) told = told
 tells_too checks Is Other then (Err (Version major minor)) told = told
 
-abbrev pub field_front : Constants → ℕ → List Signature → ℕ → Field → List Check
+abbrev pub field_front : Constants → ℕ → List Signature → ℕ → Field → List (Check Fault)
 field_front pool class_flags before at field =
     check at rules.Flags (IsTrue (fits_field class_flags field.flags))
     ∷ check at rules.Twice (IsFalse (stands_before pool before (field_signature field)))

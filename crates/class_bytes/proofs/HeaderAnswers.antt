@@ -36,19 +36,19 @@ module _ (pool : Constants) (at : ℕ) (head : CutHeader) where
   methods_at = fields_at + members_len head.fields + 2
 
   -- the parts
-  abbrev names : List Check
+  abbrev names : List (Check Fault)
   names = class_name_checks pool (at + 2) head.this_class
 
-  abbrev supers : List Check
+  abbrev supers : List (Check Fault)
   supers = super_checks pool (at + 4) head.super_class
 
-  abbrev interfaces : List Check
+  abbrev interfaces : List (Check Fault)
   interfaces = interfaces_checks pool (at + 8) head.interfaces
 
-  abbrev fields : List Check
+  abbrev fields : List (Check Fault)
   fields = members_checks kinds.Field pool fields_at head.fields
 
-  abbrev methods : List Check
+  abbrev methods : List (Check Fault)
   methods = members_checks kinds.Method pool methods_at head.methods
 
   abbrev IsHeader : Header → Type 0

@@ -4,16 +4,16 @@ use Rattle.std.specs.List.{flat_map}
 use Rattle.class_model.specs.Answers.{Answers, Gives, Takes, Tells}
 use Rattle.class_model.specs.Checks.{Check, Fault, fault, AllHold, IsFirstFault, asked_of}
 use Rattle.class_model.specs.Cutting.{Rest, Version, version_at, pool_at, class_file_at, uncut}
-use Rattle.class_model.specs.Header.{HeaderOf, IsLibraryVersion, header_checks}
+use Rattle.class_model.specs.Header.{FirstHeaderFault, HeaderOf, IsLibraryVersion, header_checks, texts_checks}
+use Rattle.class_model.specs.Header.FirstHeaderFault.{in_head, behind}
 use Rattle.class_model.specs.Pool.{Constants}
 use Rattle.class_model.specs.Spelling.{u2, entry_bytes, pool_bytes, class_bytes}
 use Rattle.class_model.specs.declared.class_file.ClassFile.{ClassFile}
 use Rattle.class_model.specs.declared.fault.ClassFault.{ClassFault}
 use Rattle.class_model.specs.declared.fault.ClassFault.TheVariants as faults
 use Rattle.class_model.specs.declared.header.Header.{Header}
-use Rattle.class_model.specs.Header.{texts_checks}
 use Rattle.class_bytes.specs.HeaderParts.{cut_header_at, cut_header, header_len, cut_header_checks, header_in}
-use Rattle.class_bytes.specs.Reading.{FirstHeaderFault, in_head, behind, IsHeaderReadOf}
+use Rattle.class_bytes.specs.Reading.{IsHeaderReadOf}
 use Rattle.class_bytes.specs.declared.header_cutting.CutHeader.{CutHeader}
 use Rattle.class_bytes.proofs.Asking.{both_hold, goes_on, stops}
 use Rattle.class_bytes.proofs.Bodies.{behind_pool}
@@ -66,7 +66,7 @@ module _ (bytes : List ℕ) (version : Version) (rest : Rest) (begins : version_
           let len : header_len head ≡ header_len (cut_header of.class) = ap header_len of.head_is in
           omega (arith, ap length spelled, class_len of.class, header_within of.class, entries, len)
 
-      abbrev asked : List Check
+      abbrev asked : List (Check Fault)
       asked = texts_checks 10 pool ++ cut_header_checks pool (flags_at pool) head
 
       same_asked : asked ≡ header_checks of.class
@@ -74,7 +74,7 @@ module _ (bytes : List ℕ) (version : Version) (rest : Rest) (begins : version_
 
       refused : (e : ClassFault) → Tells asked (λ (header : Header). header ≡ header_in pool head) (Err e) → IsHeaderReadOf bytes (Err e)
       refused (faults.Malformed at rule) told =
-          let first : IsFirstFault (header_checks of.class) (fault at rule) = subst (λ (checks : List Check). IsFirstFault checks (fault at rule)) same_asked told in
+          let first : IsFirstFault (header_checks of.class) (fault at rule) = subst (λ (checks : List (Check Fault)). IsFirstFault checks (fault at rule)) same_asked told in
           behind version rest (fault at rule) begins is (subst (λ (r : Result ClassFile Fault). IsFirstFault (asked_of r header_checks) (fault at rule)) (sym is_cut) first)
       refused faults.NoMemory told = tt
       refused (faults.Version major minor) told = absurd told

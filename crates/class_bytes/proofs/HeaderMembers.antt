@@ -29,7 +29,7 @@ AreOwn pool members end own = (own.0 ≡ map (member_in pool) members) × (own.1
 
 -- the next member is refused
 pub next_refused : (kind : MemberKind) (pool : Constants) (members : List MemberHead) (index : ℕ) (other : MemberHead) → index < length members
-    → {whole : List Check} (place end : ℕ) → Remain whole (members_checks kind pool place (drop index members)) → (e : ClassFault)
+    → {whole : List (Check Fault)} (place end : ℕ) → Remain whole (members_checks kind pool place (drop index members)) → (e : ClassFault)
     → Tells (member_checks kind pool place (get_or members index other)) (IsOwn pool (get_or members index other)) (Err e)
     → Tells whole (AreOwn pool members end) (Err e)
 next_refused kind pool members index other within place end left e told =

@@ -43,7 +43,7 @@ header_within c = omega (arith, fields_long c.fields, methods_long c.methods)
 -- ---- checks
 
 -- those of the members of a class file
-abbrev pub all_fields : Constants → ℕ → List Field → List Check
+abbrev pub all_fields : Constants → ℕ → List Field → List (Check Fault)
 all_fields pool at [] = []
 all_fields pool at (field ∷ fields) =
     check (at + 2) rules.Index (IsSome (utf8_at pool field.name))
@@ -52,7 +52,7 @@ all_fields pool at (field ∷ fields) =
     ∷ check (at + 4) rules.Descriptor (IfSome (utf8_at pool field.desc) IsFieldDescriptor)
     ∷ all_fields pool (at + length (field_bytes field)) fields
 
-abbrev pub all_methods : Constants → ℕ → List Method → List Check
+abbrev pub all_methods : Constants → ℕ → List Method → List (Check Fault)
 all_methods pool at [] = []
 all_methods pool at (method ∷ methods) =
     check (at + 2) rules.Index (IsSome (utf8_at pool method.name))
@@ -64,16 +64,16 @@ all_methods pool at (method ∷ methods) =
 same_fields : (pool : Constants) (at : ℕ) (fields : List Field) → all_fields pool at fields ≡ members_checks kinds.Field pool at (map field_head fields)
 same_fields pool at [] = refl
 same_fields pool at (field ∷ fields) =
-    ap (λ (others : List Check). field_head_checks pool at (field_head field) ++ others)
+    ap (λ (others : List (Check Fault)). field_head_checks pool at (field_head field) ++ others)
     (ap (λ (n : ℕ). all_fields pool (at + n) fields) (field_len field) ∙ same_fields pool (at + (8 + attrs_len field.attrs)) fields)
 
 same_methods : (pool : Constants) (at : ℕ) (methods : List Method) → all_methods pool at methods ≡ members_checks kinds.Method pool at (map method_head methods)
 same_methods pool at [] = refl
 same_methods pool at (method ∷ methods) =
-    ap (λ (others : List Check). method_head_checks pool at (method_head method) ++ others)
+    ap (λ (others : List (Check Fault)). method_head_checks pool at (method_head method) ++ others)
     (ap (λ (n : ℕ). all_methods pool (at + n) methods) (method_len method) ∙ same_methods pool (at + (8 + attrs_len method.attrs)) methods)
 
-grouped : (t n s i f m : List Check) → t ++ n ++ s ++ i ++ f ++ m ≡ t ++ (n ++ (s ++ (i ++ (f ++ m))))
+grouped : (t n s i f m : List (Check Fault)) → t ++ n ++ s ++ i ++ f ++ m ≡ t ++ (n ++ (s ++ (i ++ (f ++ m))))
 grouped t n s i f m = simp append_assoc
 
 abbrev pub flags_at : Constants → ℕ
@@ -89,8 +89,8 @@ same_checks c =
     let interfaces = interfaces_checks pool (flags_at c.pool + 8) c.interfaces in
     let methods : ℕ → ℕ = λ n. fields + 2 + n + 2 in
     grouped texts names supers interfaces (all_fields pool (fields + 2) c.fields) (all_methods pool (methods (fields_len c.fields)) c.methods)
-    ∙ ap (λ (f : List Check). texts ++ (names ++ (supers ++ (interfaces ++ (f ++ all_methods pool (methods (fields_len c.fields)) c.methods))))) (same_fields pool (fields + 2) c.fields)
-    ∙ ap (λ (m : List Check). texts ++ (names ++ (supers ++ (interfaces ++ (members_checks kinds.Field pool (fields + 2) (map field_head c.fields) ++ m)))))
+    ∙ ap (λ (f : List (Check Fault)). texts ++ (names ++ (supers ++ (interfaces ++ (f ++ all_methods pool (methods (fields_len c.fields)) c.methods))))) (same_fields pool (fields + 2) c.fields)
+    ∙ ap (λ (m : List (Check Fault)). texts ++ (names ++ (supers ++ (interfaces ++ (members_checks kinds.Field pool (fields + 2) (map field_head c.fields) ++ m)))))
     (ap (λ (n : ℕ). all_methods pool (methods n) c.methods) (fields_long c.fields) ∙ same_methods pool (methods (members_len (map field_head c.fields))) c.methods)
 
 -- ---- what is kept

@@ -25,7 +25,7 @@ use Rattle.class_bytes.proofs.PoolAlone.{IsAlone, pool_alone}
 -- ---- the parts of what a class file is asked
 
 -- those that a header is asked too, and the pool
-record Asked (pool name super interface field method : List Check) : Type 0 where
+record Asked (pool name super interface field method : List (Check Fault)) : Type 0 where
   entries : AllHold pool
   names : AllHold name
   supers : AllHold super
@@ -33,7 +33,7 @@ record Asked (pool name super interface field method : List Check) : Type 0 wher
   fields : AllHold field
   methods : AllHold method
 
-parts : (entries flags names supers interfaces fields methods attrs dynamic : List Check) → AllHold (entries ++ flags ++ names ++ supers ++ interfaces ++ fields ++ methods ++ attrs ++ dynamic) → Asked entries names supers interfaces fields methods
+parts : (entries flags names supers interfaces fields methods attrs dynamic : List (Check Fault)) → AllHold (entries ++ flags ++ names ++ supers ++ interfaces ++ fields ++ methods ++ attrs ++ dynamic) → Asked entries names supers interfaces fields methods
 parts entries flags names supers interfaces fields methods attrs dynamic all =
     let eight = first_holds (entries ++ flags ++ names ++ supers ++ interfaces ++ fields ++ methods ++ attrs) dynamic all in
     let seven = first_holds (entries ++ flags ++ names ++ supers ++ interfaces ++ fields ++ methods) attrs eight in

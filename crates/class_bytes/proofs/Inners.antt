@@ -14,7 +14,7 @@ use Rattle.class_bytes.specs.declared.cut.CutAttr.{CutAttr}
 use Rattle.class_bytes.proofs.Asking.{Remain, remain, refused}
 
 -- The attributes before this place hold, and whether one of them is a StackMapTable; these are left.
-pub record InnersChecked (s : Setting) (entry : Frame) (whole : List Check) (end : ℕ) (has_table : Bool) (place : ℕ) (left : List CutAttr) : Type 0 where
+pub record InnersChecked (s : Setting) (entry : Frame) (whole : List (Check Fault)) (end : ℕ) (has_table : Bool) (place : ℕ) (left : List CutAttr) : Type 0 where
   pub remain : Remain whole (inners_checks s entry has_table place (inners_of left))
   pub ends : place + inners_len (inners_of left) ≡ end
 
@@ -22,7 +22,7 @@ inner_len : (attr : CutAttr) → length (inner_bytes (inner_of attr)) ≡ 6 + le
 inner_len attr = omega arith
 
 -- the next of them
-module _ (s : Setting) (entry : Frame) (whole : List Check) (end : ℕ) (has_table : Bool) (place : ℕ) (attrs : List CutAttr) (index : ℕ) (none : CutAttr) (within : index < length attrs) (so_far : InnersChecked s entry whole end has_table place (drop index attrs)) where
+module _ (s : Setting) (entry : Frame) (whole : List (Check Fault)) (end : ℕ) (has_table : Bool) (place : ℕ) (attrs : List CutAttr) (index : ℕ) (none : CutAttr) (within : index < length attrs) (so_far : InnersChecked s entry whole end has_table place (drop index attrs)) where
   abbrev next : CutAttr
   next = get_or attrs index none
 
@@ -41,7 +41,7 @@ module _ (s : Setting) (entry : Frame) (whole : List Check) (end : ℕ) (has_tab
   pub inner_below : {limit : ℕ} → end < limit → place + 6 + length next.content.now < limit
   inner_below below = omega (arith, its_len)
 
-  abbrev its_checks : List Check
+  abbrev its_checks : List (Check Fault)
   its_checks = inner_checks s entry has_table place (inner_of next)
 
   abbrev IsTable : Bool → Type 0

@@ -29,6 +29,5 @@ pub mod HeaderAnswers
 pub mod HeaderCuts
 pub mod HeaderSame
 pub mod HeaderFiles
-pub mod HeaderLaws
 pub mod PoolAlone
 pub mod HeaderToo

@@ -21,9 +21,9 @@ signature_of member = record { name = member.name; desc = member.desc }
 
 -- What is asked of a member and of members from a place on, and how many bytes they take.
 pub record Kind : Type 1 where
-  pub asks : List Signature → ℕ → CutMember → List Check
+  pub asks : List Signature → ℕ → CutMember → List (Check Fault)
   pub len : CutMember → ℕ
-  pub all : List Signature → ℕ → List CutMember → List Check
+  pub all : List Signature → ℕ → List CutMember → List (Check Fault)
   pub len_all : List CutMember → ℕ
   pub first : (before : List Signature) (at : ℕ) (member : CutMember) (others : List CutMember) → all before at (member ∷ others) ≡ asks before at member ++ all (before ++ signature_of member ∷ []) (at + len member) others
   pub len_first : (member : CutMember) (others : List CutMember) → len_all (member ∷ others) ≡ len member + len_all others
@@ -49,14 +49,14 @@ method_kind home = record {
 }
 
 -- The members before this place hold, and their signatures are kept; these are left.
-pub record MembersChecked (pool : Constants) (kind : Kind) (whole : List Check) (end : ℕ) (kept : Signatures) (place : ℕ) (left : List CutMember) : Type 0 where
+pub record MembersChecked (pool : Constants) (kind : Kind) (whole : List (Check Fault)) (end : ℕ) (kept : Signatures) (place : ℕ) (left : List CutMember) : Type 0 where
   pub before : List Signature
   pub knows : Knows pool before kept
   pub remain : Remain whole (kind.all before place left)
   pub ends : place + kind.len_all left ≡ end
 
 -- the next of them
-module _ (pool : Constants) (kind : Kind) (whole : List Check) (end : ℕ) (kept : Signatures) (place : ℕ) (members : List CutMember) (index : ℕ) (member : CutMember) (within : index < length members) (is : member ≡ get_or members index member) (so_far : MembersChecked pool kind whole end kept place (drop index members)) where
+module _ (pool : Constants) (kind : Kind) (whole : List (Check Fault)) (end : ℕ) (kept : Signatures) (place : ℕ) (members : List CutMember) (index : ℕ) (member : CutMember) (within : index < length members) (is : member ≡ get_or members index member) (so_far : MembersChecked pool kind whole end kept place (drop index members)) where
   abbrev others : List CutMember
   others = drop (index + 1) members
 

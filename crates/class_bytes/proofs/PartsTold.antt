@@ -22,7 +22,7 @@ use Rattle.class_bytes.specs.declared.home.Home.{Home}
 use Rattle.class_bytes.specs.declared.method_code.MethodCode.{MethodCode}
 use Rattle.class_bytes.proofs.Asking.{goes_on, stops}
 
-abbrev TellsDone : List Check → Result (Unit {0}) ClassFault → Type 0
+abbrev TellsDone : List (Check Fault) → Result (Unit {0}) ClassFault → Type 0
 TellsDone checks result = Tells checks (λ done. Unit {0}) result
 
 -- ---- behind the instructions
@@ -31,19 +31,19 @@ module _ (code : MethodCode) (start : ℕ) where
   abbrev table : ℕ
   table = start + length code.part.now.code.now + 2
 
-  abbrev operands_of : List Placed → List Check
+  abbrev operands_of : List Placed → List (Check Fault)
   operands_of instrs = operand_checks start code.home.now.pool.now code.home.now.major code.part.now.max_locals instrs
 
-  abbrev handlers_of : List Handler → List Check
+  abbrev handlers_of : List Handler → List (Check Fault)
   handlers_of handlers = handlers_checks code.home.now.pool.now code.instrs.now (length code.part.now.code.now) table handlers
 
-  abbrev operands : List Check
+  abbrev operands : List (Check Fault)
   operands = operands_of code.instrs.now
 
-  abbrev handlers : List Check
+  abbrev handlers : List (Check Fault)
   handlers = handlers_of code.part.now.handlers
 
-  abbrev inners : List Check
+  abbrev inners : List (Check Fault)
   inners = inners_checks (setting_of_code code) (entry_frame_of code) false (table + 8 * length code.part.now.handlers + 2) (part_of code.part.now).attrs
 
   pub operands_refused : (instrs : List Placed) → instrs ≡ code.instrs.now → (e : ClassFault) → TellsDone (operands_of instrs) (Err e) → TellsDone (parts_checks code start) (Err e)
@@ -60,12 +60,12 @@ module _ (code : MethodCode) (start : ℕ) where
 
 -- ---- the instructions
 
-first_of_all : (start : ℕ) (sequence : Result (List Placed) Fault) (asks : List Placed → List Check) (f : Fault) → ((instrs : List Placed) → IsFirstFault (jump_checks start instrs instrs) f → IsFirstFault (asks instrs) f)
+first_of_all : (start : ℕ) (sequence : Result (List Placed) Fault) (asks : List Placed → List (Check Fault)) (f : Fault) → ((instrs : List Placed) → IsFirstFault (jump_checks start instrs instrs) f → IsFirstFault (asks instrs) f)
     → IsFirstFault (asked_of (at_place start sequence) (λ instrs. jump_checks start instrs instrs)) f → IsFirstFault (asked_of (at_place start sequence) asks) f
 first_of_all start (Ok instrs) asks f begins first = begins instrs first
 first_of_all start (Err g) asks f begins first = first
 
-four_parts : (a b c d : List Check) → a ++ (b ++ (c ++ d)) ≡ ((a ++ b) ++ c) ++ d
+four_parts : (a b c d : List (Check Fault)) → a ++ (b ++ (c ++ d)) ≡ ((a ++ b) ++ c) ++ d
 four_parts a b c d = sym (append_assoc a b (c ++ d)) ∙ sym (append_assoc (a ++ b) c d)
 
 module _ (home : Home) (method : CutMember) (cut : CutPart) (at : ℕ) where
@@ -75,31 +75,31 @@ module _ (home : Home) (method : CutMember) (cut : CutPart) (at : ℕ) where
   abbrev begin : ℕ
   begin = at + 14
 
-  abbrev whole : List Check
+  abbrev whole : List (Check Fault)
   whole = part_checks (home_seen home) (method_of method) at part
 
-  abbrev front : List Check
+  abbrev front : List (Check Fault)
   front =
       check (at + 10) rules.CodeLength (IsTrue (nat_lt 0 (length part.code) && nat_lt (length part.code) 65536))
       ∷ check (at + 8) rules.Locals (IfSome (utf8_at home.pool.now method.desc) (λ text. units_at_call method.flags text ≤ part.max_locals))
       ∷ []
 
-  asks : List Placed → List Check
+  asks : List Placed → List (Check Fault)
   asks instrs = instructions_checks (home_seen home) (method_of method) at part instrs
 
   -- behind the jumps
-  abbrev its_operands : List Placed → List Check
+  abbrev its_operands : List Placed → List (Check Fault)
   its_operands instrs = operand_checks begin home.pool.now home.major part.max_locals instrs
 
-  abbrev its_handlers : List Placed → List Check
+  abbrev its_handlers : List Placed → List (Check Fault)
   its_handlers instrs = handlers_checks home.pool.now instrs (length part.code) (begin + length part.code + 2) part.handlers
 
-  abbrev its_inners : List Placed → List Check
+  abbrev its_inners : List Placed → List (Check Fault)
   its_inners instrs =
       let s : Setting = record { pool = home.pool.now; max_locals = part.max_locals; max_stack = part.max_stack; code = instrs } in
       inners_checks s (entry_of (home_seen home) (method_of method) part) false (begin + length part.code + 2 + 8 * length part.handlers + 2) part.attrs
 
-  abbrev behind : List Placed → List Check
+  abbrev behind : List Placed → List (Check Fault)
   behind instrs = its_operands instrs ++ (its_handlers instrs ++ its_inners instrs)
 
   asks_are : (instrs : List Placed) → asks instrs ≡ jump_checks begin instrs instrs ++ behind instrs

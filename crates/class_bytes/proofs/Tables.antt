@@ -12,12 +12,12 @@ use Rattle.class_bytes.proofs.Asking.{Remain, remain, refused}
 -- ---- one method after the other
 
 -- The methods before this place hold; these are left.
-pub record MethodsChecked (pool : Constants) (whole : List Check) (end : ℕ) (place : ℕ) (left : List CutBootstrap) : Type 0 where
+pub record MethodsChecked (pool : Constants) (whole : List (Check Fault)) (end : ℕ) (place : ℕ) (left : List CutBootstrap) : Type 0 where
   pub remain : Remain whole (bootstraps_checks pool place (bootstraps_of left))
   pub ends : place + bootstraps_len (bootstraps_of left) ≡ end
 
 -- the next of them
-module _ (pool : Constants) (whole : List Check) (end : ℕ) (place : ℕ) (methods : List CutBootstrap) (index : ℕ) (method : CutBootstrap) (within : index < length methods) (is : method ≡ get_or methods index method) (so_far : MethodsChecked pool whole end place (drop index methods)) where
+module _ (pool : Constants) (whole : List (Check Fault)) (end : ℕ) (place : ℕ) (methods : List CutBootstrap) (index : ℕ) (method : CutBootstrap) (within : index < length methods) (is : method ≡ get_or methods index method) (so_far : MethodsChecked pool whole end place (drop index methods)) where
   abbrev others : List CutBootstrap
   others = drop (index + 1) methods
 
@@ -30,7 +30,7 @@ module _ (pool : Constants) (whole : List Check) (end : ℕ) (place : ℕ) (meth
   ends : place + bootstraps_len (bootstraps_of (method ∷ others)) ≡ end
   ends = rw first_left at so_far.ends
 
-  abbrev its_checks : List Check
+  abbrev its_checks : List (Check Fault)
   its_checks = bootstrap_checks pool place (bootstrap_of method)
 
   left : Remain whole (its_checks ++ bootstraps_checks pool (place + 4 + 2 * length method.arguments) (bootstraps_of others))

@@ -20,7 +20,7 @@ bootstraps_len [] = 0
 bootstraps_len (method ∷ methods) = 4 + 2 * length method.arguments + bootstraps_len methods
 
 -- what one bootstrap method is asked, which stands at a place
-abbrev pub bootstrap_checks : Constants → ℕ → Bootstrap → List Check
+abbrev pub bootstrap_checks : Constants → ℕ → Bootstrap → List (Check Fault)
 bootstrap_checks pool at method = check at rules.Index (IsHandle (constant_at pool method.handle)) ∷ arguments_checks pool (at + 4) method.arguments
 
 -- a table could be cut, and has so many methods

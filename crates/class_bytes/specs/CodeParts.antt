@@ -31,22 +31,22 @@ abbrev pub at_place : ℕ → Result (List Placed) Fault → Result (List Placed
 at_place start (Ok instrs) = Ok instrs
 at_place start (Err f) = Err (fault (start + f.at) f.rule)
 
-abbrev pub decoded_checks : ℕ → List ℕ → List Check
+abbrev pub decoded_checks : ℕ → List ℕ → List (Check Fault)
 decoded_checks start code = asked_of (at_place start (decoded code)) (λ instrs. jump_checks start instrs instrs)
 
 -- an entry of an exception table
-abbrev pub handler_checks : Constants → List Placed → ℕ → ℕ → Handler → List Check
+abbrev pub handler_checks : Constants → List Placed → ℕ → ℕ → Handler → List (Check Fault)
 handler_checks pool code len at handler =
     check at rules.Range (IsRange code len handler)
     ∷ check (at + 6) rules.Index ((handler.catch_type ≡ 0) ⊎ IsClassAt pool handler.catch_type)
     ∷ []
 
 -- the content of a StackMapTable, whose attribute stands at the place
-abbrev pub table_checks : Setting → Frame → ℕ → List ℕ → List Check
+abbrev pub table_checks : Setting → Frame → ℕ → List ℕ → List (Check Fault)
 table_checks s entry at content = asked_of (in_table at (stack_map_table_at s entry content)) (λ frames. [])
 
 -- an attribute of a code, behind a StackMapTable or not
-abbrev pub inner_checks : Setting → Frame → Bool → ℕ → InnerAttr → List Check
+abbrev pub inner_checks : Setting → Frame → Bool → ℕ → InnerAttr → List (Check Fault)
 inner_checks s entry had at attr =
     check at rules.Index (IsSome (utf8_at s.pool attr.name))
     ∷ asked_if (inner_is_named s.pool stack_map_table attr) (check at rules.Twice (IsFalse had) ∷ table_checks s entry at attr.bytes)
@@ -60,7 +60,7 @@ abbrev pub entry_frame_of : MethodCode → Frame
 entry_frame_of code = entry_of (home_seen code.home.now) (method_of code.method.now) (part_of code.part.now)
 
 -- its operands, its exception table and its attributes; the code begins at the place
-abbrev pub parts_checks : MethodCode → ℕ → List Check
+abbrev pub parts_checks : MethodCode → ℕ → List (Check Fault)
 parts_checks code start =
     let part = part_of code.part.now in
     let table = start + length part.code + 2 in

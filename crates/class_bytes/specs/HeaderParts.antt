@@ -79,7 +79,7 @@ cut_header c = record {
 -- ---- checks, each part from its place on
 
 -- the name and the descriptor of a field, and of a method
-abbrev pub field_head_checks : Constants → ℕ → MemberHead → List Check
+abbrev pub field_head_checks : Constants → ℕ → MemberHead → List (Check Fault)
 field_head_checks pool at field =
     check (at + 2) rules.Index (IsSome (utf8_at pool field.name))
     ∷ check (at + 2) rules.Name (IfSome (utf8_at pool field.name) IsFieldName)
@@ -87,7 +87,7 @@ field_head_checks pool at field =
     ∷ check (at + 4) rules.Descriptor (IfSome (utf8_at pool field.desc) IsFieldDescriptor)
     ∷ []
 
-abbrev pub method_head_checks : Constants → ℕ → MemberHead → List Check
+abbrev pub method_head_checks : Constants → ℕ → MemberHead → List (Check Fault)
 method_head_checks pool at method =
     check (at + 2) rules.Index (IsSome (utf8_at pool method.name))
     ∷ check (at + 2) rules.Name (IfSome (utf8_at pool method.name) (λ name. IsMethodName name × InitIsVoid name (utf8_at pool method.desc)))
@@ -95,12 +95,12 @@ method_head_checks pool at method =
     ∷ check (at + 4) rules.Descriptor (IfSome (utf8_at pool method.desc) (IsDescriptorOf method.flags))
     ∷ []
 
-abbrev pub member_checks : MemberKind → Constants → ℕ → MemberHead → List Check
+abbrev pub member_checks : MemberKind → Constants → ℕ → MemberHead → List (Check Fault)
 member_checks kinds.Field pool at member = field_head_checks pool at member
 member_checks kinds.Method pool at member = method_head_checks pool at member
 
 -- members one after the other, and how many bytes they take
-abbrev pub members_checks : MemberKind → Constants → ℕ → List MemberHead → List Check
+abbrev pub members_checks : MemberKind → Constants → ℕ → List MemberHead → List (Check Fault)
 members_checks kind pool at [] = []
 members_checks kind pool at (member ∷ members) = member_checks kind pool at member ++ members_checks kind pool (at + (8 + member.attrs)) members
 
@@ -113,7 +113,7 @@ abbrev pub header_len : CutHeader → ℕ
 header_len head = 8 + 2 * length head.interfaces + (2 + members_len head.fields) + (2 + members_len head.methods)
 
 -- all of these, the flags of the class at the place
-abbrev pub cut_header_checks : Constants → ℕ → CutHeader → List Check
+abbrev pub cut_header_checks : Constants → ℕ → CutHeader → List (Check Fault)
 cut_header_checks pool at head =
     let fields = at + 8 + 2 * length head.interfaces in
     let methods = fields + 2 + members_len head.fields in

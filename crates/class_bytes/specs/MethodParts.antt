@@ -8,7 +8,7 @@ use Rattle.class_model.specs.PoolChecks.{utf8_at, InitIsVoid}
 use Rattle.class_model.specs.declared.class_file.Method.{Method}
 use Rattle.class_model.specs.declared.fault.FileRule.TheVariants as rules
 
-abbrev pub signature_checks : Constants → ℕ → Method → List Check
+abbrev pub signature_checks : Constants → ℕ → Method → List (Check Fault)
 signature_checks pool at method =
     check (at + 2) rules.Index (IsSome (utf8_at pool method.name))
     ∷ check (at + 2) rules.Name (IfSome (utf8_at pool method.name) (λ name. IsMethodName name × InitIsVoid name (utf8_at pool method.desc)))

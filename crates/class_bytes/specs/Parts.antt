@@ -41,7 +41,7 @@ body_at version pool rest = do
   }) else Err (fault attrs.1.at rules.Extra)
 
 -- the flags, the class, its superclass and its interfaces; the place is that of the flags
-abbrev pub head_checks : Constants → ℕ → ClassFile → List Check
+abbrev pub head_checks : Constants → ℕ → ClassFile → List (Check Fault)
 head_checks pool at c =
     (check at rules.Flags (IsTrue (fits_class c.flags)) ∷ [])
     ++ class_name_checks pool (at + 2) c.this_class
@@ -67,7 +67,7 @@ abbrev pub behind_len : ClassFile → ℕ
 behind_len c = head_len c + (2 + fields_len c.fields) + (2 + methods_len c.methods) + (2 + attrs_len c.attrs)
 
 -- what that is asked, with the flags at this place
-abbrev pub behind_checks : ℕ → ClassFile → List Check
+abbrev pub behind_checks : ℕ → ClassFile → List (Check Fault)
 behind_checks at c =
     let fields = at + 8 + 2 * length c.interfaces in
     let methods = fields + 2 + fields_len c.fields in

@@ -1,10 +1,8 @@
 -- What reading a class file answers, and what reading a header of one.
-use Rattle.std.specs.Prelude.{◌≡◌, List, ℕ, Result, Ok, Err}
-use Rattle.class_model.specs.Checks.{Fault, fault, IsFirstFault}
+use Rattle.std.specs.Prelude.{List, ℕ, Result, Ok, Err}
+use Rattle.class_model.specs.Checks.{fault}
 use Rattle.class_model.specs.ClassOf.{ClassOf, FirstFault, IsOtherVersion}
-use Rattle.class_model.specs.Cutting as Versions
-use Rattle.class_model.specs.Cutting.{Rest, version_at, uncut}
-use Rattle.class_model.specs.Header.{IsLibraryVersion, library_file_checks, HeaderOf}
+use Rattle.class_model.specs.Header.{FirstHeaderFault, HeaderOf, IsNoLibraryVersion}
 use Rattle.class_model.specs.declared.class_file.ClassFile.{ClassFile}
 use Rattle.class_model.specs.declared.header.Header.{Header}
 use Rattle.class_model.specs.declared.fault.ClassFault.{ClassFault}
@@ -16,18 +14,6 @@ IsReadOf bytes (Ok class) = ClassOf bytes class
 IsReadOf bytes (Err (Malformed at rule)) = FirstFault bytes (fault at rule)
 IsReadOf bytes (Err (Version major minor)) = IsOtherVersion bytes (record { minor = minor; major = major })
 IsReadOf bytes (Err NoMemory) = Unit {0}
-
--- The first fault of the bytes of a library's class file: in the magic and version, or of a version that is read and then
--- the first check of a header that fails.
-pub data FirstHeaderFault (bytes : List ℕ) : Fault → Type 0 where
-  in_head : (f : Fault) → version_at (uncut bytes) ≡ Err f → FirstHeaderFault bytes f
-  behind : (version : Versions.Version) (rest : Rest) (f : Fault) → version_at (uncut bytes) ≡ Ok (version, rest) → IsLibraryVersion version → IsFirstFault (library_file_checks version rest) f → FirstHeaderFault bytes f
-
--- the bytes are of a version that is not read of a library
-pub record IsNoLibraryVersion (bytes : List ℕ) (version : Versions.Version) : Type 0 where
-  pub rest : Rest
-  pub head : version_at (uncut bytes) ≡ Ok (version, rest)
-  pub other : ¬ IsLibraryVersion version
 
 -- the header that the bytes have, their first fault, their version that is not read, or want of memory
 abbrev pub IsHeaderReadOf : List ℕ → Result Header ClassFault → Type 0

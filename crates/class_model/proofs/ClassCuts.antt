@@ -1,12 +1,13 @@
 -- A class file that is cut from bytes, with the Code of its methods entered, is spelled by them.
-use Rattle.std.proofs.Common.{◌≡◌, ◌==◌, ℕ, Bool, true, false, cond, eqb, List, [], ◌∷◌, ◌++◌, length, map, Option, Some, None, Ok, Err, refl, sym, ap, subst, ◌∙◌}
+use Rattle.std.proofs.Common.{◌≡◌, ◌==◌, ℕ, Bool, true, false, eqb, List, [], ◌∷◌, ◌++◌, length, map, Option, Some, None, Ok, refl, sym, ap, subst, ◌∙◌}
 use Rattle.std.specs.List.{flat_map}
 use Rattle.std.proofs.lemmas.Bool.{eqb-true}
 use Rattle.std.proofs.lemmas.List.{append-nil, nil_from_length, length-map}
 use Rattle.class_model.specs.Checks.{fault}
 use Rattle.class_model.specs.ClassOf.{entered, entered_attr, entered_method, ClassOf}
 use Rattle.class_model.specs.Code.{handler_at, inner_at, part_at, code_part}
-use Rattle.class_model.specs.Cutting.{IsBytes, Rest, Cut, Version, attr_at, field_at, method_at, version_at, class_file_at, uncut, whole}
+use Rattle.class_model.specs.Cutting.{IsBytes, Rest, Version, attr_at, field_at, method_at, version_at, class_file_at, uncut}
+use Rattle.class_model.specs.Laws.Cuts.{whole_some, IsBytes-parts, guard_true, bind_ok}
 use Rattle.class_model.specs.Members.{is_named}
 use Rattle.class_model.specs.Methods.{code}
 use Rattle.class_model.specs.Pool.{Constants}
@@ -17,7 +18,7 @@ use Rattle.class_model.specs.declared.class_file.ClassFile.{ClassFile}
 use Rattle.class_model.specs.declared.class_file.CodePart.{CodePart}
 use Rattle.class_model.specs.declared.class_file.Method.{Method}
 use Rattle.class_model.specs.declared.fault.FileRule.TheVariants as rules
-use Rattle.class_model.proofs.Cuts.{IsBytes-parts, IsSpelledBy, Always, Takes, takes_none, step, made, guard_true, bind_ok, bytes_spelled, u2_spelled, u4_spelled, counted_spelled}
+use Rattle.class_model.proofs.Cuts.{IsSpelledBy, Always, Takes, takes_none, step, made, bytes_spelled, u2_spelled, u4_spelled, counted_spelled}
 use Rattle.class_model.proofs.PoolCuts.{pool_spelled}
 
 -- ---- attributes and members
@@ -90,14 +91,6 @@ part_spelled = record {
 -- a text that was taken to the end
 takes_all : (bytes text : List ℕ) (after : Rest) → Takes (uncut bytes) text after → eqb (length after.bytes) 0 ≡ true → bytes ≡ text
 takes_all bytes text after takes none = takes.parts ∙ ap (λ (t : List ℕ). text ++ t) (nil_from_length after.bytes (eqb-true _ _ none)) ∙ append-nil text
-
--- a content that was cut to its end
-whole_some : (r : Cut CodePart) (part : CodePart) → whole r ≡ Some part → (x : CodePart × Rest) × (r ≡ Ok x) × (eqb (length x.1.bytes) 0 ≡ true) × (x.0 ≡ part)
-whole_some (Ok x) part e = let g = some_of (eqb (length x.1.bytes) 0) x.0 part e in (x, refl, g.0, g.1) where
-  some_of : (b : Bool) (p q : CodePart) → cond b (Some p) None ≡ Some q → (b ≡ true) × (p ≡ q)
-  some_of true p q e = (refl, cc)
-  some_of false p q e = absurd cc
-whole_some (Err f) part e = absurd cc
 
 code_is_spelled : (bytes : List ℕ) (part : CodePart) → IsBytes bytes → code_part bytes ≡ Some part → code_part_bytes part ≡ bytes
 code_is_spelled bytes part fits e =

@@ -4,12 +4,13 @@ use Rattle.std.proofs.lemmas.Bool.Decides.{nat_tests}
 use Rattle.std.proofs.lemmas.List.{take_at, drop_at, length-replicate}
 use Rattle.std.proofs.lemmas.List.Sums.{take_while-cons}
 use Rattle.std.specs.List.{flat_map, AllByRecursion}
+use Rattle.class_model.specs.Laws.Descriptors.{class_text, array_head}
 use Rattle.class_model.specs.Names.{IsClassName}
 use Rattle.class_model.specs.Descriptors.{named_text, field_type_text, IsElementType, IsArrayType, IsFieldType, SpellsDescriptor, result_text, descriptor_text, brackets, element_len, type_len, type_of, types_before, parameters_of}
 use Rattle.class_model.specs.declared.descriptor.FieldType.{FieldType}
 use Rattle.class_model.specs.declared.descriptor.FieldType.TheVariants.{Byte, Char, Short, Bool as Boolean, Int, Long, Float, Double, Named}
 use Rattle.class_model.specs.declared.descriptor.Descriptor.{Descriptor}
-use Rattle.class_model.proofs.DescriptorGrammar.{LacksSemicolon, name_lacks, class_text, array_head, LacksBracket, element_lacks, FieldForm, field_form, begins_type, begins}
+use Rattle.class_model.proofs.DescriptorGrammar.{LacksSemicolon, name_lacks, LacksBracket, element_lacks, FieldForm, field_form, begins_type, begins}
 
 -- ---- how long a type is
 

@@ -1,5 +1,5 @@
 -- What is cut from the front of bytes is spelled by the bytes that it took.
-use Rattle.std.proofs.Common.{◌≡◌, ℕ, zero, suc, ◌+◌, ◌^◌, ◌<◌, ◌≤◌, Bool, true, false, cond, ltb, List, [], ◌∷◌, ◌++◌, length, get_or, take, drop, Result, Ok, Err, refl, sym, ap, subst, ◌∙◌, append_assoc, arith}
+use Rattle.std.proofs.Common.{◌≡◌, ℕ, zero, suc, ◌+◌, ◌^◌, ◌<◌, ◌≤◌, ltb, List, [], ◌∷◌, ◌++◌, length, take, Result, Ok, refl, sym, ap, subst, ◌∙◌, append_assoc, arith}
 use Rattle.std.specs.Int.{Width, w16, w32, w64, byte_len, from_be_bytes, to_be_bytes}
 use Rattle.std.specs.List.{flat_map}
 use Rattle.std.proofs.lemmas.Bool.{ltb-false}
@@ -7,29 +7,11 @@ use Rattle.std.proofs.lemmas.List.{take-append-drop, length-append, length-take}
 use Rattle.std.proofs.lemmas.Nat.{be_bytes_2, be_bytes_4, be_bytes_8}
 use Rattle.class_model.specs.Checks.{Fault, fault, ◌>>=◌}
 use Rattle.class_model.specs.Cutting.{IsBytes, Rest, Cut, behind, bytes_at, number_at, u1_at, u2_at, u4_at, u2_pair_at, many_at, counted_at}
+use Rattle.class_model.specs.Laws.Cuts.{below_byte, IsBytes-take, IsBytes-drop, bind_ok, done, same_done, guard_false}
 use Rattle.class_model.specs.Spelling.{u2, u4}
 use Rattle.class_model.specs.declared.fault.FileRule.TheVariants as rules
 
 -- ---- bytes
-
-pub below_byte : (bytes : List ℕ) → IsBytes bytes → (i : ℕ) → get_or bytes i 0 < 256
-below_byte [] h i = omega arith
-below_byte (b ∷ bytes) h zero = h.0
-below_byte (b ∷ bytes) h (suc i) = below_byte bytes h.1 i
-
-IsBytes-take : (n : ℕ) (bytes : List ℕ) → IsBytes bytes → IsBytes (take n bytes)
-IsBytes-take zero bytes h = tt
-IsBytes-take (suc n) [] h = tt
-IsBytes-take (suc n) (b ∷ bytes) h = (h.0, IsBytes-take n bytes h.1)
-
-IsBytes-drop : (n : ℕ) (bytes : List ℕ) → IsBytes bytes → IsBytes (drop n bytes)
-IsBytes-drop zero bytes h = h
-IsBytes-drop (suc n) [] h = tt
-IsBytes-drop (suc n) (b ∷ bytes) h = IsBytes-drop n bytes h.1
-
-pub IsBytes-parts : (a b : List ℕ) → IsBytes (a ++ b) → IsBytes a × IsBytes b
-IsBytes-parts [] b h = (tt, h)
-IsBytes-parts (x ∷ a) b h = let parts = IsBytes-parts a b h.1 in ((h.0, parts.0), parts.1)
 
 -- ---- parts
 
@@ -57,11 +39,6 @@ pub record IsSpelledBy {X : Type 0} (part : Rest → Cut X) (spell : X → List 
 abbrev pub Always : {X : Type 0} → X → Type 0
 Always x = Unit {0}
 
--- the value of a step that did not fail
-pub bind_ok : {A B : Type 0} (r : Result A Fault) (f : A → Result B Fault) (y : B) → (r >>= f) ≡ Ok y → (x : A) × (r ≡ Ok x) × (f x ≡ Ok y)
-bind_ok (Ok x) f y e = (x, refl, e)
-bind_ok (Err d) f y e = absurd cc
-
 -- one part more was cut, behind a text
 pub record Step {X Y : Type 0} (from : Rest) (text : List ℕ) (spell : X → List ℕ) (Holds : X → Type 0) (f : X × Rest → Result Y Fault) (y : Y) : Type 0 where
   pub got : X × Rest
@@ -75,26 +52,11 @@ step {part = part} {spell = spell} spelled {from = from} {text = text} {rest = r
     let took = spelled.takes rest got.0 so_far.fits got.1 in
     record { got = got.0; goes_on = got.2; takes = Takes-then from text rest (spell got.0.0) got.0.1 so_far took.0; holds = took.1 }
 
-abbrev pub done : {Y : Type 0} → Y → Result Y Fault
-done y = Ok y
-
-same_done : {Y : Type 0} (x y : Y) → done x ≡ done y → x ≡ y
-same_done x y e = cc
-
 -- the last step makes a value that is spelled so
 pub made : {Y : Type 0} (spell : Y → List ℕ) (Holds : Y → Type 0) (from : Rest) (x y : Y × Rest) → Takes from (spell x.0) x.1 → Holds x.0 → done x ≡ done y → Takes from (spell y.0) y.1 × Holds y.0
 made {Y = Y} spell Holds from x y takes holds e = subst (λ (z : Y × Rest). Takes from (spell z.0) z.1 × Holds z.0) (same_done x y e) (takes, holds)
 
 -- ---- numbers
-
--- a test that did not fail
-pub guard_false : {A : Type 0} (b : Bool) (d : Fault) (x y : A) → cond b (Err d) (Ok x) ≡ Ok y → (b ≡ false) × (x ≡ y)
-guard_false true d x y e = absurd cc
-guard_false false d x y e = (refl, cc)
-
-pub guard_true : {A : Type 0} (b : Bool) (d : Fault) (x y : A) → cond b (Ok x) (Err d) ≡ Ok y → (b ≡ true) × (x ≡ y)
-guard_true true d x y e = (refl, cc)
-guard_true false d x y e = absurd cc
 
 abbrev IsBytesOf : ℕ → List ℕ → Type 0
 IsBytesOf count bytes = (length bytes ≡ count) × IsBytes bytes

@@ -1,15 +1,15 @@
 -- Method descriptors are decided.
 use Rattle.std.proofs.Common.{◌≡◌, ◌≢◌, ◌⊎◌, inl, inr, ℕ, suc, zero, ◌+◌, ◌≤◌, List, [], ◌∷◌, ◌++◌, length, Option, Some, None, IfSome, refl, sym, ap, subst, ◌∙◌, arith, append_assoc, length-append}
-use Rattle.std.specs.List.{flat_map, AllByRecursion}
+use Rattle.std.specs.List.{flat_map}
 use Rattle.std.proofs.lemmas.Bool.{cases_eq}
 use Rattle.std.proofs.lemmas.List.{append-nil}
-use Rattle.class_model.specs.Descriptors.{field_type_text, IsFieldType, parameter_units, result_text, IsDescriptor, SpellsDescriptor}
+use Rattle.class_model.specs.Descriptors.{field_type_text, parameter_units, result_text, IsDescriptor, SpellsDescriptor}
 use Rattle.class_model.specs.DescriptorParts.{TypeAt, TypesAt}
+use Rattle.class_model.specs.Laws.Descriptors.{bytes_spell}
 use Rattle.class_model.specs.Methods.{this_units, IsDescriptorOf}
 use Rattle.class_model.specs.Names.{init}
 use Rattle.class_model.specs.PoolChecks.{IsTypeName, IsFieldDescriptor, BytesSpell, IsMethodDescriptor, ReturnsVoid, InitIsVoid}
 use Rattle.class_model.specs.declared.descriptor.FieldType.{FieldType}
-use Rattle.class_model.specs.declared.descriptor.FieldType.TheVariants.{Named}
 use Rattle.class_model.specs.declared.descriptor.Descriptor.{Descriptor}
 use Rattle.class_model.proofs.Decisions.{Decision, mapped, both, three, either, implied, at_most, equal_bytes, each, if_some}
 use Rattle.class_model.proofs.DecidedTypes.{one_type, no_type, type_shorter, type_front, field_descriptor, field_type}
@@ -170,21 +170,6 @@ pub init_is_void : (name : List ℕ) (descriptor : Option (List ℕ)) → Decisi
 init_is_void name descriptor = if_some (λ bytes. implied (equal_bytes name init) (implied (method_descriptor bytes) (returns_void bytes))) descriptor
 
 -- texts
-
-named : (type : FieldType) → IsFieldType type → IsTypeName type
-named (Named name) h = h.1
-named other h = tt
-
-named_types : (types : List FieldType) → AllByRecursion IsFieldType types → AllByRecursion IsTypeName types
-named_types [] h = tt
-named_types (type ∷ types) h = (named type h.0, named_types types h.1)
-
-named_result : (result : Option FieldType) → IfSome result IsFieldType → IfSome result IsTypeName
-named_result None h = tt
-named_result (Some type) h = named type h
-
-bytes_spell : (bytes : List ℕ) (d : Descriptor) → SpellsDescriptor bytes d → BytesSpell bytes d
-bytes_spell bytes d s = record { params = named_types d.params s.is_descriptor.params; units = s.is_descriptor.units; result = named_result d.result s.is_descriptor.result; spelled = s.spelled }
 
 is_descriptor : (d : Descriptor) → Decision (IsDescriptor d)
 is_descriptor d = mapped

@@ -2,7 +2,7 @@
 use Rattle.std.proofs.Common.{inl, inr, ℕ, ◌+◌, ◌*◌, ◌==◌, ◌&&◌, not, List, [], ◌∷◌, ◌++◌, length, Option, Some, None}
 use Rattle.std.specs.Prelude.{codes}
 use Rattle.std.proofs.lemmas.Bool.{cases_eq}
-use Rattle.class_model.specs.Checks.{Check}
+use Rattle.class_model.specs.Checks.{Check, Fault}
 use Rattle.class_model.specs.Instructions.{u2_in}
 use Rattle.class_model.specs.Members.{Signature, has, STATIC, is_named, attrs_checks, attr_name, class_name_checks, super_checks, interfaces_checks, constant_value, IsConstantOf, IsConstantValue, field_attr_checks, field_checks, raw_content}
 use Rattle.class_model.specs.Methods.{Home, code, code_content, method_attr_checks, method_checks, Bootstrap, IsHandle, IsArgument, arguments_checks, bootstraps_checks, bootstrap_table_checks, bootstrap_methods, bootstraps, class_attr_checks}
@@ -35,7 +35,7 @@ interfaces pool at (index ∷ indices) = decided-append (class_name_checks pool 
 
 -- ---- attributes
 
-pub attributes : (asks : List Attr → ℕ → Attr → List Check) → ((before : List Attr) (at : ℕ) (attr : Attr) → AllDecided (asks before at attr)) → (before : List Attr) (at : ℕ) (attrs : List Attr) → AllDecided (attrs_checks asks before at attrs)
+pub attributes : (asks : List Attr → ℕ → Attr → List (Check Fault)) → ((before : List Attr) (at : ℕ) (attr : Attr) → AllDecided (asks before at attr)) → (before : List Attr) (at : ℕ) (attrs : List Attr) → AllDecided (attrs_checks asks before at attrs)
 attributes asks decides before at [] = tt
 attributes asks decides before at (attr ∷ attrs) =
     decided-append (asks before at attr) _ (decides before at attr) (attributes asks decides (before ++ attr ∷ []) (at + length (attr_bytes attr)) attrs)

@@ -4,7 +4,7 @@ use Rattle.std.proofs.lemmas.Bool.{cases_eq}
 use Rattle.class_model.specs.Code.{IsLoadable, IsLoadable2, IsDynamicConstant, CountsArguments, IsCalled, FitsArray, FitsLocal, OperandFits}
 use Rattle.class_model.specs.Descriptors.{SpellsDescriptor, parameter_units}
 use Rattle.class_model.specs.Pool.{Constants, constant_at}
-use Rattle.class_model.specs.PoolChecks.{class_at, IsFieldConstant, IsMethodConstant, IsInterfaceConstant}
+use Rattle.class_model.specs.PoolChecks.{class_at}
 use Rattle.class_model.specs.declared.descriptor.Descriptor.{Descriptor}
 use Rattle.class_model.specs.declared.descriptor.Kind.{Kind}
 use Rattle.class_model.specs.declared.descriptor.Kind.TheVariants as kinds
@@ -14,7 +14,7 @@ use Rattle.class_model.specs.declared.pool.Const.{Const}
 use Rattle.class_model.specs.declared.pool.Const.TheVariants as consts
 use Rattle.class_model.proofs.Decisions.{Decision, both, three, either, denied, at_most, if_some}
 use Rattle.class_model.proofs.DecidedDescriptors.{each_one, spelled_descriptor}
-use Rattle.class_model.proofs.DecidedPool.{class_named}
+use Rattle.class_model.proofs.DecidedPool.{class_named, is_field, is_method, is_interface_method}
 use Rattle.class_model.proofs.DecidedTypes.{array_type, has_dimensions}
 use Rattle.class_model.proofs.Parameters.{one_descriptor}
 
@@ -34,21 +34,9 @@ loadable2 (Some (consts.Long number)) = inl tt
 loadable2 (Some (consts.Double bits)) = inl tt
 loadable2 other = inr (λ h. h)
 
-field_constant : (constant : Option Const) → Decision (IsFieldConstant constant)
-field_constant (Some (consts.Fieldref class member)) = inl tt
-field_constant other = inr (λ h. h)
-
 dynamic_constant : (constant : Option Const) → Decision (IsDynamicConstant constant)
 dynamic_constant (Some (consts.InvokeDynamic bootstrap member)) = inl tt
 dynamic_constant other = inr (λ h. h)
-
-method_constant : (constant : Option Const) → Decision (IsMethodConstant constant)
-method_constant (Some (consts.Methodref class member)) = inl tt
-method_constant other = inr (λ h. h)
-
-interface_constant : (constant : Option Const) → Decision (IsInterfaceConstant constant)
-interface_constant (Some (consts.InterfaceMethodref class member)) = inl tt
-interface_constant other = inr (λ h. h)
 
 -- ---- calls and arrays
 
@@ -61,9 +49,9 @@ counts_arguments descriptor count = if_some (counts count) descriptor
 called : (pool : Constants) (major opcode method count : ℕ) → Decision (IsCalled pool major opcode method count)
 called pool major opcode method count =
     let constant = constant_at pool method in
-    either (both (cases_eq opcode 182) (method_constant constant))
-    (either (three (cases_eq opcode 185) (interface_constant constant) (counts_arguments _ count))
-    (both (either (cases_eq opcode 183) (cases_eq opcode 184)) (either (method_constant constant) (both (cases_eq major 52) (interface_constant constant)))))
+    either (both (cases_eq opcode 182) (is_method constant))
+    (either (three (cases_eq opcode 185) (is_interface_method constant) (counts_arguments _ count))
+    (both (either (cases_eq opcode 183) (cases_eq opcode 184)) (either (is_method constant) (both (cases_eq major 52) (is_interface_method constant)))))
 
 fits_array : (name : List ℕ) → Decision (FitsArray name)
 fits_array name = either
@@ -83,10 +71,10 @@ operand_fits pool major max_locals (Ldc2 index) = loadable2 (constant_at pool in
 operand_fits pool major max_locals (Load kind local) = fits_local max_locals kind local
 operand_fits pool major max_locals (Store kind local) = fits_local max_locals kind local
 operand_fits pool major max_locals (Iinc local by) = fits_local max_locals kinds.Int local
-operand_fits pool major max_locals (GetStatic index) = field_constant (constant_at pool index)
-operand_fits pool major max_locals (PutStatic index) = field_constant (constant_at pool index)
-operand_fits pool major max_locals (GetField index) = field_constant (constant_at pool index)
-operand_fits pool major max_locals (PutField index) = field_constant (constant_at pool index)
+operand_fits pool major max_locals (GetStatic index) = is_field (constant_at pool index)
+operand_fits pool major max_locals (PutStatic index) = is_field (constant_at pool index)
+operand_fits pool major max_locals (GetField index) = is_field (constant_at pool index)
+operand_fits pool major max_locals (PutField index) = is_field (constant_at pool index)
 operand_fits pool major max_locals (Invoke opcode method count) = called pool major opcode method count
 operand_fits pool major max_locals (Dynamic index) = dynamic_constant (constant_at pool index)
 operand_fits pool major max_locals (New index) = class_named pool index

@@ -52,15 +52,15 @@ methodref at pool class member = (
 
 -- ---- method handles
 
-is_field : (constant : Option Const) → Decision (IsFieldConstant constant)
+pub is_field : (constant : Option Const) → Decision (IsFieldConstant constant)
 is_field (Some (Fieldref class member)) = inl tt
 is_field other = inr (λ h. h)
 
-is_method : (constant : Option Const) → Decision (IsMethodConstant constant)
+pub is_method : (constant : Option Const) → Decision (IsMethodConstant constant)
 is_method (Some (Methodref class member)) = inl tt
 is_method other = inr (λ h. h)
 
-is_interface_method : (constant : Option Const) → Decision (IsInterfaceConstant constant)
+pub is_interface_method : (constant : Option Const) → Decision (IsInterfaceConstant constant)
 is_interface_method (Some (InterfaceMethodref class member)) = inl tt
 is_interface_method other = inr (λ h. h)
 

@@ -3,6 +3,7 @@ use Rattle.std.proofs.Common.{◌≡◌, ◌⊎◌, inl, inr, ℕ, suc, ◌<◌,
 use Rattle.std.proofs.lemmas.Bool.{cases_eq}
 use Rattle.std.proofs.lemmas.List.{append-nil}
 use Rattle.class_model.specs.Code.{HasDimensions}
+use Rattle.class_model.specs.Laws.Descriptors.{array_text}
 use Rattle.class_model.specs.Names.{IsClassName}
 use Rattle.class_model.specs.Descriptors.{field_type_text, IsElementType, IsArrayType, IsReferenceName, IsFieldType}
 use Rattle.class_model.specs.DescriptorParts.{base_type_of, ClassNameAt, ElementAt, BracketsAt, ArrayAt, TypeAt}
@@ -11,7 +12,7 @@ use Rattle.class_model.specs.declared.descriptor.FieldType.{FieldType}
 use Rattle.class_model.specs.declared.descriptor.FieldType.TheVariants.{Named}
 use Rattle.class_model.proofs.Decisions.{Decision, mapped, both, either, at_most}
 use Rattle.class_model.proofs.DecidedNames.{class_name, text}
-use Rattle.class_model.proofs.DescriptorGrammar.{LacksSemicolon, one_split, name_lacks, array_text, element_form, one_element, one_count, element_lacks, one_array, FieldForm, named_form, one_form, element_of_class, element_of_base, no_element, no_class, array_of_element, element_of_array, at_whole, whole_array, begins_type, begins}
+use Rattle.class_model.proofs.DescriptorGrammar.{LacksSemicolon, one_split, name_lacks, element_form, one_element, one_count, element_lacks, one_array, FieldForm, named_form, one_form, element_of_class, element_of_base, no_element, no_class, array_of_element, element_of_array, at_whole, whole_array, begins_type, begins}
 
 -- ---- a class name up to a semicolon
 

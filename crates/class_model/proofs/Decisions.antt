@@ -82,24 +82,24 @@ is_some (Some x) = inl refl
 
 -- ---- checks
 
-abbrev pub AllDecided : List Check → Type 0
+abbrev pub AllDecided : List (Check Fault) → Type 0
 AllDecided [] = Unit {0}
 AllDecided (c ∷ checks) = Decision c.holds × AllDecided checks
 
-pub decided-append : (checks others : List Check) → AllDecided checks → AllDecided others → AllDecided (checks ++ others)
+pub decided-append : (checks others : List (Check Fault)) → AllDecided checks → AllDecided others → AllDecided (checks ++ others)
 decided-append [] others h k = k
 decided-append (c ∷ checks) others h k = (h.0, decided-append checks others h.1 k)
 
-pub decided_if : (test : Bool) (checks : List Check) → AllDecided checks → AllDecided (asked_if test checks)
+pub decided_if : (test : Bool) (checks : List (Check Fault)) → AllDecided checks → AllDecided (asked_if test checks)
 decided_if true checks h = h
 decided_if false checks h = tt
 
-pub decided_of : {X : Type 0} (part : Result X Fault) (asks : X → List Check) → ((x : X) → AllDecided (asks x)) → AllDecided (asked_of part asks)
+pub decided_of : {X : Type 0} (part : Result X Fault) (asks : X → List (Check Fault)) → ((x : X) → AllDecided (asks x)) → AllDecided (asked_of part asks)
 decided_of (Ok x) asks decides = decides x
 decided_of (Err f) asks decides = (inr (λ h. h), tt)
 
 -- all checks hold, or one is the first that does not
-pub settled : (checks : List Check) → AllDecided checks → AllHold checks ⊎ ((f : Fault) × IsFirstFault checks f)
+pub settled : (checks : List (Check Fault)) → AllDecided checks → AllHold checks ⊎ ((f : Fault) × IsFirstFault checks f)
 settled [] h = inl tt
 settled (c ∷ checks) h =
     elim h.0 [
@@ -107,5 +107,5 @@ settled (c ∷ checks) h =
         | inl others ↦ inl (holds, others)
         | inr first ↦ inr (first.0, inr (holds, first.1))
       ]
-      | inr fails ↦ inr (fault c.at c.rule, inl (fails, refl))
+      | inr fails ↦ inr (c.fault, inl (fails, refl))
     ]

@@ -5,13 +5,13 @@ use Rattle.std.proofs.lemmas.Bool.{eqb-true}
 use Rattle.std.proofs.lemmas.Bool.Decides.{nat_tests}
 use Rattle.std.specs.List.{AllByRecursion, join_with_byte}
 use Rattle.class_model.specs.ModifiedUtf8.{IsText}
+use Rattle.class_model.specs.Laws.Descriptors.{class_text, array_head, array_text}
 use Rattle.class_model.specs.Names.{IsNameByte, IsUnqualifiedName, IsClassName}
 use Rattle.class_model.specs.Descriptors.{named_text, field_type_text, IsElementType, IsArrayType, IsReferenceName, IsFieldType, SpellsFieldType}
 use Rattle.class_model.specs.DescriptorParts.{base_type_of, ClassNameAt, ElementAt, BracketsAt, ArrayAt, FieldTypeAt}
 use Rattle.class_model.specs.declared.descriptor.FieldType.{FieldType}
 use Rattle.class_model.specs.declared.descriptor.FieldType.TheVariants.{Byte, Char, Short, Bool as Boolean, Int, Long, Float, Double, Named}
 use Rattle.class_model.proofs.TextParts.{name_is_text}
-use Rattle.class_model.proofs.ClassNames.{rest_of_name, join-front}
 
 -- A class name has no semicolon.
 abbrev pub LacksSemicolon : List ℕ → Type 0
@@ -60,37 +60,6 @@ name_before bytes end within found before name rest at =
 pub no_semicolon : (bytes : List ℕ) → ((k : ℕ) → k < length bytes → get_or bytes k 0 ≢ 59) → (name rest : List ℕ) → ¬ ClassNameAt bytes name rest
 no_semicolon bytes none name rest at =
     none (length name) (omega (arith, ap length at.spelled, length-append name (59 ∷ rest))) (rw at.spelled (get_or_at name 59 rest 0 (length name) refl))
-
--- what a class name begins with
-record Head (name : List ℕ) : Type 0 where
-  pub first : ℕ
-  pub more : List ℕ
-  pub is : name ≡ first ∷ more
-  pub no_bracket : first ≢ 91
-
-head_of_front : (name front : List ℕ) (parts : List (List ℕ)) → front ≢ [] → AllByRecursion IsNameByte front → name ≡ join_with_byte 47 (front ∷ parts) → Head name
-head_of_front name [] parts some named joined = absurd (some refl)
-head_of_front name (first ∷ front) parts some named joined = record { first = first; more = join_with_byte 47 (front ∷ parts); is = joined ∙ join-front first front parts; no_bracket = named.0.no_bracket }
-
-name_head : (name : List ℕ) → IsClassName name → Head name
-name_head name is_name = let rest = rest_of_name name is_name in head_of_front name rest.front rest.parts (rest.some refl) rest.named rest.joined
-
-no_bracket_text : (first : ℕ) (more : List ℕ) → first ≢ 91 → named_text (first ∷ more) ≡ 76 ∷ (first ∷ more ++ 59 ∷ [])
-no_bracket_text first more other = grind (arith, nat_tests)
-
-pub class_text : (name : List ℕ) → IsClassName name → named_text name ≡ 76 ∷ (name ++ 59 ∷ [])
-class_text name is_name = let head = name_head name is_name in rw head.is (no_bracket_text head.first head.more head.no_bracket)
-
--- an array type begins with a bracket
-some_brackets : (count : ℕ) (rest : List ℕ) → 1 ≤ count → (more : List ℕ) × (replicate count 91 ++ rest ≡ 91 ∷ more)
-some_brackets zero rest some = absurd (omega arith)
-some_brackets (suc count) rest some = (replicate count 91 ++ rest, refl)
-
-pub array_head : (text : List ℕ) → IsArrayType text → (more : List ℕ) × (text ≡ 91 ∷ more)
-array_head text is_array = let h = some_brackets is_array.dimensions (field_type_text is_array.element) is_array.some in (h.0, is_array.spelled ∙ h.1)
-
-pub array_text : (text : List ℕ) → IsArrayType text → named_text text ≡ text
-array_text text is_array = let h = array_head text is_array in rw h.1 refl
 
 -- A field type that is no array is a base type or a class.
 pub record IsBase (byte : ℕ) (type : FieldType) : Type 0 where

@@ -5,11 +5,12 @@ use Rattle.std.proofs.lemmas.List.{append-nil, nil_from_length}
 use Rattle.std.proofs.lemmas.List.Sums.{sum_by-cons, sum_by_push, sum_by-append}
 use Rattle.class_model.specs.Descriptors.{field_type_text, kind_of, units_of, parameter_units, result_text}
 use Rattle.class_model.specs.DescriptorParts.{ElementAt, ArrayAt, TypeAt, TypeUnitsAt, TypesAt, UnitsAt}
+use Rattle.class_model.specs.Laws.Descriptors.{array_head, array_text}
 use Rattle.class_model.specs.PoolChecks.{IsFieldDescriptor, BytesSpell, IsMethodDescriptor, ReturnsVoid}
 use Rattle.class_model.specs.declared.descriptor.FieldType.{FieldType}
 use Rattle.class_model.specs.declared.descriptor.FieldType.TheVariants.{Byte, Char, Short, Bool as Boolean, Int, Long, Float, Double, Named}
 use Rattle.class_model.specs.declared.descriptor.Descriptor.{Descriptor}
-use Rattle.class_model.proofs.DescriptorGrammar.{array_head, array_text, element_lacks}
+use Rattle.class_model.proofs.DescriptorGrammar.{element_lacks}
 use Rattle.class_model.proofs.DecidedTypes.{one_type, type_of_element, type_shorter, no_type_front, descriptor_at_whole}
 use Rattle.class_model.proofs.DecidedDescriptors.{first_at, others_at, put_first, one_params, Outcome, outcome_form, one_outcome, params_of, made}
 

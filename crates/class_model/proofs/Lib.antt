@@ -1,12 +1,10 @@
 pub mod Units
 pub mod TextParts
-pub mod PlainTexts
 pub mod Constants
 pub mod ClassNames
 pub mod DescriptorGrammar
 pub mod Parameters
 pub mod Variants
-pub mod PoolPush
 pub mod InstructionLaws
 pub mod ClassLaws
 pub mod Cuts

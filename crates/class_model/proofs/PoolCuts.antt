@@ -6,15 +6,16 @@ use Rattle.std.proofs.lemmas.Bool.{cases_eq, and_parts}
 use Rattle.std.proofs.lemmas.Bool.Decides.{nat_tests}
 use Rattle.std.proofs.lemmas.Grind.{flat_map-append}
 use Rattle.std.proofs.lemmas.Int.{of_z-to_z}
-use Rattle.std.proofs.lemmas.List.{append-nil}
 use Rattle.class_model.specs.Checks.{fault, ◌>>=◌}
 use Rattle.class_model.specs.Cutting.{IsBytes, Rest, Cut, is_tag, fields_at, entries_at, pool_at}
+use Rattle.class_model.specs.Laws.Cuts.{bind_ok, done, guard_false, guard_true}
+use Rattle.class_model.specs.Laws.Pools.{entry_spelled}
 use Rattle.class_model.specs.Pool.{Constants, entries_of}
 use Rattle.class_model.specs.Spelling.{u2, u4, constant_bytes, entry_bytes, pool_bytes}
 use Rattle.class_model.specs.declared.fault.FileRule.TheVariants as rules
 use Rattle.class_model.specs.declared.pool.Const.{Const}
 use Rattle.class_model.specs.declared.pool.Const.TheVariants.{Utf8, Integer, Float, Long, Double, Class, String, Fieldref, Methodref, InterfaceMethodref, NameAndType, MethodHandle, MethodType, InvokeDynamic}
-use Rattle.class_model.proofs.Cuts.{IsSpelledBy, Always, Takes, takes_none, bind_ok, step, done, made, guard_false, guard_true, bytes_spelled, u1_spelled, u2_spelled, u4_spelled, u8_spelled, u2_pair_spelled, Takes-then}
+use Rattle.class_model.proofs.Cuts.{IsSpelledBy, Always, Takes, takes_none, step, made, bytes_spelled, u1_spelled, u2_spelled, u4_spelled, u8_spelled, u2_pair_spelled, Takes-then}
 
 -- ---- one constant
 
@@ -132,11 +133,6 @@ constant_cut major tag known =
     or_tag IsCut tag 18 invoke_dynamic_cut (λ n18. absurd (grind (arith, nat_tests))))))))))))))))
 
 -- ---- the entries
-
--- the entries of a constant have its bytes
-entry_spelled : (c : Const) → flat_map entry_bytes (entries_of c) ≡ constant_bytes c
-entry_spelled (Long number) = append-nil (constant_bytes (Long number))
-entry_spelled c = append-nil (constant_bytes c)
 
 -- the tag is known, and that of a long or double does not stand at the last index
 abbrev may_stand : ℕ → ℕ → ℕ → ℕ → Bool

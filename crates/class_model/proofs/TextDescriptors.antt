@@ -1,13 +1,13 @@
 -- The names in a method descriptor that is a text are texts.
 use Rattle.std.proofs.Common.{◌≡◌, ◌==◌, ℕ, ◌+◌, ◌<◌, ◌≤◌, Bool, true, false, List, [], ◌∷◌, ◌++◌, length, IfSome, Option, Some, None, inl, inr, refl, sym, ap, subst, ◌∙◌, arith, append_assoc, length-append}
 use Rattle.std.specs.List.{flat_map, AllByRecursion}
-use Rattle.class_model.specs.Descriptors.{named_text, field_type_text, IsFieldType, IsReferenceName, result_text, SpellsDescriptor}
+use Rattle.class_model.specs.Descriptors.{named_text, field_type_text, IsFieldType, result_text, SpellsDescriptor}
 use Rattle.class_model.specs.ModifiedUtf8.{IsText, IsModifiedUtf8, unit_bytes}
+use Rattle.class_model.specs.Laws.Descriptors.{array_text, class_text}
 use Rattle.class_model.specs.PoolChecks.{IsTypeName, BytesSpell}
 use Rattle.class_model.specs.declared.descriptor.Descriptor.{Descriptor}
 use Rattle.class_model.specs.declared.descriptor.FieldType.{FieldType}
 use Rattle.class_model.specs.declared.descriptor.FieldType.TheVariants.{Byte, Char, Short, Bool as boolean, Int, Long, Float, Double, Named}
-use Rattle.class_model.proofs.DescriptorGrammar.{array_text, class_text}
 use Rattle.class_model.proofs.TextParts.{before-ascii, name_is_text}
 use Rattle.class_model.proofs.Units.{Follows, spells_one, utf8_after}
 

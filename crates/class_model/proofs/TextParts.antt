@@ -2,7 +2,8 @@
 use Rattle.std.proofs.Common.{◌≡◌, ℕ, ◌+◌, ◌/◌, ◌%◌, ◌^◌, ◌<◌, inl, inr, List, [], ◌∷◌, ◌++◌, length, arith, ap, length-append}
 use Rattle.std.specs.List.{flat_map, AllByRecursion}
 use Rattle.class_model.specs.ModifiedUtf8.{IsText, IsModifiedUtf8, IsCodeUnit, unit_bytes}
-use Rattle.class_model.proofs.Units.{OneByte, TwoBytes, ThreeBytes, unit_forms, utf8_none, utf8_before, utf8_after}
+use Rattle.class_model.specs.Laws.Texts.{OneByte, TwoBytes, ThreeBytes, unit_forms}
+use Rattle.class_model.proofs.Units.{utf8_none, utf8_before, utf8_after}
 
 -- before an ASCII byte, where what comes after its first code unit is modified UTF-8 before that
 module _ (last unit : ℕ) (low : last < 0x80) (fits : unit < 2 ^ 16) (units more rest : List ℕ) (shorter : (bytes : List ℕ) → bytes ++ last ∷ more ≡ rest → IsModifiedUtf8 bytes) where

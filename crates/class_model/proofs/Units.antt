@@ -1,47 +1,8 @@
 -- Which bytes spell a code unit, and what stands after it.
 use Rattle.std.proofs.Common.{◌≡◌, ℕ, ◌+◌, ◌-◌, ◌*◌, ◌/◌, ◌%◌, ◌^◌, ◌<◌, ◌≤◌, ◌⊎◌, inl, inr, List, [], ◌∷◌, ◌++◌, length, arith, refl, sym, ap, subst, ◌∙◌}
 use Rattle.std.specs.List.{flat_map, AllByRecursion}
-use Rattle.std.proofs.lemmas.Bool.{cases_lt}
-use Rattle.std.proofs.lemmas.Bool.Decides.{nat_tests}
+use Rattle.class_model.specs.Laws.Texts.{one_byte, two_bytes, three_bytes, unit_forms}
 use Rattle.class_model.specs.ModifiedUtf8.{IsCodeUnit, IsModifiedUtf8, unit_bytes}
-
--- A code unit's bytes, by how many they are.
-pub record OneByte (unit : ℕ) : Type 0 where
-  pub low : 0 < unit
-  pub high : unit < 0x80
-  pub bytes : unit_bytes unit ≡ unit ∷ []
-
-pub record TwoBytes (unit : ℕ) : Type 0 where
-  pub low : (unit ≡ 0) ⊎ (0x80 ≤ unit)
-  pub high : unit < 0x800
-  pub bytes : unit_bytes unit ≡ (0xC0 + unit / 0x40) ∷ (0x80 + unit % 0x40) ∷ []
-
-pub record ThreeBytes (unit : ℕ) : Type 0 where
-  pub low : 0x800 ≤ unit
-  pub bytes : unit_bytes unit ≡ (0xE0 + unit / 0x1000) ∷ (0x80 + unit / 0x40 % 0x40) ∷ (0x80 + unit % 0x40) ∷ []
-
-one_byte : (unit : ℕ) → 0 < unit → unit < 0x80 → OneByte unit
-one_byte unit low high = record { low = low; high = high; bytes = grind (arith, nat_tests) }
-
-pub two_bytes : (unit : ℕ) → (unit ≡ 0) ⊎ (0x80 ≤ unit) → unit < 0x800 → TwoBytes unit
-two_bytes unit low high = record { low = low; high = high; bytes = grind (arith, nat_tests) }
-
-three_bytes : (unit : ℕ) → 0x800 ≤ unit → ThreeBytes unit
-three_bytes unit low = record { low = low; bytes = grind (arith, nat_tests) }
-
--- each code unit has one of the three forms
-pub unit_forms : (unit : ℕ) → OneByte unit ⊎ (TwoBytes unit ⊎ ThreeBytes unit)
-unit_forms unit =
-    elim (cases_lt 0 unit) [
-      | inr zero ↦ inr (inl (two_bytes unit (inl (omega arith)) (omega arith)))
-      | inl some ↦ elim (cases_lt unit 0x80) [
-        | inl low ↦ inl (one_byte unit some low)
-        | inr more ↦ elim (cases_lt unit 0x800) [
-          | inl middle ↦ inr (inl (two_bytes unit (inr more) middle))
-          | inr high ↦ inr (inr (three_bytes unit high))
-        ]
-      ]
-    ]
 
 -- some code unit has these bytes
 abbrev pub Spells : List ℕ → Type 0

@@ -28,12 +28,12 @@ TakesBytes cut after (Err NoMemory) = Unit {0}
 TakesBytes cut after (Err (Version major minor)) = ⊥
 
 -- every check holds and the value is this, or the first fault
-abbrev pub Tells : {X : Type 0} → List Check → (X → Type 0) → Result X ClassFault → Type 0
+abbrev pub Tells : {X : Type 0} → List (Check Fault) → (X → Type 0) → Result X ClassFault → Type 0
 Tells checks Is (Ok x) = AllHold checks × Is x
 Tells checks Is (Err (Malformed at rule)) = IsFirstFault checks (fault at rule)
 Tells checks Is (Err NoMemory) = Unit {0}
 Tells checks Is (Err (Version major minor)) = ⊥
 
 -- every check holds, or this is the first fault
-abbrev pub Answers : {X : Type 0} → List Check → Result X ClassFault → Type 0
+abbrev pub Answers : {X : Type 0} → List (Check Fault) → Result X ClassFault → Type 0
 Answers checks result = Tells checks (λ _. Unit {0}) result

@@ -21,14 +21,14 @@ use Rattle.class_model.specs.declared.pool.Const.TheVariants.{InvokeDynamic}
 -- ---- members, one after the other from a place on
 
 -- fields (4.5), behind those of these names
-abbrev pub fields_checks : Constants → ℕ → List Signature → ℕ → List Field → List Check
+abbrev pub fields_checks : Constants → ℕ → List Signature → ℕ → List Field → List (Check Fault)
 fields_checks pool flags before at [] = []
 fields_checks pool flags before at (field ∷ fields) =
     field_checks pool flags before at field
     ++ fields_checks pool flags (before ++ field_signature field ∷ []) (at + length (field_bytes field)) fields
 
 -- methods (4.6), behind those of these names
-abbrev pub methods_checks : Home → List Signature → ℕ → List Method → List Check
+abbrev pub methods_checks : Home → List Signature → ℕ → List Method → List (Check Fault)
 methods_checks home before at [] = []
 methods_checks home before at (method ∷ methods) =
     method_checks home before at method
@@ -37,7 +37,7 @@ methods_checks home before at (method ∷ methods) =
 -- ---- the pool and the bootstrap methods
 
 -- each InvokeDynamic constant names one of so many bootstrap methods (4.4.10)
-abbrev pub bootstrap_index_checks : ℕ → ℕ → Constants → List Check
+abbrev pub bootstrap_index_checks : ℕ → ℕ → Constants → List (Check Fault)
 bootstrap_index_checks count at [] = []
 bootstrap_index_checks count at (None ∷ entries) = bootstrap_index_checks count at entries
 bootstrap_index_checks count at (Some (InvokeDynamic bootstrap member) ∷ entries) =
@@ -48,7 +48,7 @@ bootstrap_index_checks count at (Some constant ∷ entries) = bootstrap_index_ch
 
 -- What is asked of a class file that was cut out of bytes, in this order: the pool; the head, the fields, the
 -- methods and the attributes; the invokedynamic constants.
-abbrev pub class_file_checks : ClassFile → List Check
+abbrev pub class_file_checks : ClassFile → List (Check Fault)
 class_file_checks c =
     let pool = c.pool in
     let flags = 10 + length (flat_map entry_bytes pool) in
@@ -107,7 +107,7 @@ pub record IsOtherVersion (bytes : List ℕ) (version : Version) : Type 0 where
   pub other : ¬ IsReadVersion version
 
 -- what is asked of bytes behind a version that is read
-abbrev pub checks_behind : Version → Rest → List Check
+abbrev pub checks_behind : Version → Rest → List (Check Fault)
 checks_behind version rest = asked_of (class_file_at version rest) class_file_checks
 
 -- The first fault of bytes: in the magic and version, or of a version that is read and then the first check that

@@ -152,13 +152,13 @@ OperandFits pool major max_locals other = Unit {0}
 -- ---- the code
 
 -- each target is the start of an instruction
-abbrev pub jump_checks : ℕ → List Placed → List Placed → List Check
+abbrev pub jump_checks : ℕ → List Placed → List Placed → List (Check Fault)
 jump_checks start code [] = []
 jump_checks start code (p ∷ others) =
     check (start + p.at) rules.Jump (IsTrue (list_all (is_start code) (targets p.instr))) ∷ jump_checks start code others
 
 -- the operands of each instruction fit
-abbrev pub operand_checks : ℕ → Constants → ℕ → ℕ → List Placed → List Check
+abbrev pub operand_checks : ℕ → Constants → ℕ → ℕ → List Placed → List (Check Fault)
 operand_checks start pool major max_locals [] = []
 operand_checks start pool major max_locals (p ∷ others) =
     check (start + p.at) rules.Operand (OperandFits pool major max_locals p.instr) ∷ operand_checks start pool major max_locals others
@@ -172,7 +172,7 @@ pub record IsRange (code : List Placed) (len : ℕ) (handler : Handler) : Type 0
   pub at : IsTrue (is_start code handler.at)
 
 -- the exception table, from the place of its first entry on
-abbrev pub handlers_checks : Constants → List Placed → ℕ → ℕ → List Handler → List Check
+abbrev pub handlers_checks : Constants → List Placed → ℕ → ℕ → List Handler → List (Check Fault)
 handlers_checks pool code len at [] = []
 handlers_checks pool code len at (handler ∷ handlers) =
     check at rules.Range (IsRange code len handler)
@@ -199,7 +199,7 @@ in_table at (Ok x) = Ok x
 in_table at (Err f) = Err (table_fault at f)
 
 -- The attributes of a code, from a place on: one StackMapTable at most, whose frames are read.
-abbrev pub inners_checks : Setting → Frame → Bool → ℕ → List InnerAttr → List Check
+abbrev pub inners_checks : Setting → Frame → Bool → ℕ → List InnerAttr → List (Check Fault)
 inners_checks s entry had at [] = []
 inners_checks s entry had at (attr ∷ attrs) =
     check at rules.Index (IsSome (utf8_at s.pool attr.name))

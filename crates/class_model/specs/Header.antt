@@ -1,9 +1,9 @@
 -- The header of a library's class file: what is kept of it, with lighter checks (JVM Specification SE 8, 4.1 to 4.6).
 -- Attributes are skipped by their length. Of the pool its texts alone are asked, and of the rest the names,
 -- descriptors and indices of the head and of the members.
-use Rattle.std.specs.Prelude.{◌≡◌, ◌⊎◌, ◌+◌, ◌*◌, ◌≤◌, ℕ, List, [], ◌∷◌, ◌++◌, length, map, Option, Some, None, Ok, IfSome, IsSome}
+use Rattle.std.specs.Prelude.{◌≡◌, ◌⊎◌, ◌+◌, ◌*◌, ◌≤◌, ℕ, List, [], ◌∷◌, ◌++◌, length, map, Some, None, Ok, Err, IfSome, IsSome}
 use Rattle.std.specs.List.{flat_map}
-use Rattle.class_model.specs.Checks.{Check, check, AllHold, asked_of}
+use Rattle.class_model.specs.Checks.{Check, Fault, check, AllHold, IsFirstFault, asked_of}
 use Rattle.class_model.specs.Cutting.{Rest, Version, uncut, version_at, class_file_at}
 use Rattle.class_model.specs.Members.{class_name_checks, super_checks, interfaces_checks}
 use Rattle.class_model.specs.Methods.{IsDescriptorOf}
@@ -21,14 +21,14 @@ use Rattle.class_model.specs.declared.header.Member.{Member}
 use Rattle.class_model.specs.declared.pool.Const.TheVariants.{Utf8}
 
 -- the texts of a pool, from the place of its first entry on
-abbrev pub texts_checks : ℕ → Constants → List Check
+abbrev pub texts_checks : ℕ → Constants → List (Check Fault)
 texts_checks at [] = []
 texts_checks at (None ∷ entries) = texts_checks at entries
 texts_checks at (Some (Utf8 text) ∷ entries) = check at rules.Text (IsModifiedUtf8 text) ∷ texts_checks (at + length (constant_bytes (Utf8 text))) entries
 texts_checks at (Some constant ∷ entries) = texts_checks (at + length (constant_bytes constant)) entries
 
 -- the name and the descriptor of a field
-abbrev field_name_checks : Constants → ℕ → List Field → List Check
+abbrev field_name_checks : Constants → ℕ → List Field → List (Check Fault)
 field_name_checks pool at [] = []
 field_name_checks pool at (field ∷ fields) =
     check (at + 2) rules.Index (IsSome (utf8_at pool field.name))
@@ -38,7 +38,7 @@ field_name_checks pool at (field ∷ fields) =
     ∷ field_name_checks pool (at + length (field_bytes field)) fields
 
 -- the name and the descriptor of a method
-abbrev method_name_checks : Constants → ℕ → List Method → List Check
+abbrev method_name_checks : Constants → ℕ → List Method → List (Check Fault)
 method_name_checks pool at [] = []
 method_name_checks pool at (method ∷ methods) =
     check (at + 2) rules.Index (IsSome (utf8_at pool method.name))
@@ -48,7 +48,7 @@ method_name_checks pool at (method ∷ methods) =
     ∷ method_name_checks pool (at + length (method_bytes method)) methods
 
 -- what is asked of a library's class file that was cut out of bytes
-abbrev pub header_checks : ClassFile → List Check
+abbrev pub header_checks : ClassFile → List (Check Fault)
 header_checks c =
     let pool = c.pool in
     let flags = 10 + length (flat_map entry_bytes pool) in
@@ -97,5 +97,17 @@ pub record HeaderOf (bytes : List ℕ) (header : Header) : Type 0 where
   pub is : header ≡ header_of cut
 
 -- what is asked of the bytes behind a version that is read
-abbrev pub library_file_checks : Version → Rest → List Check
+abbrev pub library_file_checks : Version → Rest → List (Check Fault)
 library_file_checks version rest = asked_of (class_file_at version rest) header_checks
+
+-- The first fault of the bytes of a library's class file: in the magic and version, or of a version that is read and then
+-- the first check of a header that fails.
+pub data FirstHeaderFault (bytes : List ℕ) : Fault → Type 0 where
+  in_head : (f : Fault) → version_at (uncut bytes) ≡ Err f → FirstHeaderFault bytes f
+  behind : (version : Version) (rest : Rest) (f : Fault) → version_at (uncut bytes) ≡ Ok (version, rest) → IsLibraryVersion version → IsFirstFault (library_file_checks version rest) f → FirstHeaderFault bytes f
+
+-- the bytes are of a version that is not read of a library
+pub record IsNoLibraryVersion (bytes : List ℕ) (version : Version) : Type 0 where
+  pub rest : Rest
+  pub head : version_at (uncut bytes) ≡ Ok (version, rest)
+  pub other : ¬ IsLibraryVersion version

@@ -17,3 +17,4 @@ pub mod ClassOf
 pub mod Header
 pub mod Answers
 pub mod Stated
+pub mod Laws

@@ -3,7 +3,7 @@
 -- then the name, the descriptor and the attributes.
 use Rattle.std.specs.Prelude.{◌≡◌, ◌==◌, ◌&&◌, ◌||◌, not, ◌+◌, ℕ, Bool, false, List, [], ◌∷◌, ◌++◌, length, bit_and, bytes_eq, codes, Option, Some, IfSome, IsSome, IsTrue, IsFalse}
 use Rattle.std.specs.List.{list_any}
-use Rattle.class_model.specs.Checks.{Check, check, asked_if}
+use Rattle.class_model.specs.Checks.{Check, check, asked_if, Fault}
 use Rattle.class_model.specs.Instructions.{u2_in}
 use Rattle.class_model.specs.Names.{IsClassName, IsFieldName}
 use Rattle.class_model.specs.Pool.{Constants, constant_at}
@@ -99,28 +99,28 @@ stands_before pool before member = list_any (same_signature pool member) before
 -- ---- attributes
 
 -- Attributes one after the other, from the place of the first on; each is asked with those before it.
-abbrev pub attrs_checks : (List Attr → ℕ → Attr → List Check) → List Attr → ℕ → List Attr → List Check
+abbrev pub attrs_checks : (List Attr → ℕ → Attr → List (Check Fault)) → List Attr → ℕ → List Attr → List (Check Fault)
 attrs_checks asks before at [] = []
 attrs_checks asks before at (attr ∷ attrs) =
     asks before at attr ++ attrs_checks asks (before ++ attr ∷ []) (at + length (attr_bytes attr)) attrs
 
 -- the name of an attribute is a text
-abbrev pub attr_name_check : Constants → ℕ → Attr → Check
+abbrev pub attr_name_check : Constants → ℕ → Attr → Check Fault
 attr_name_check pool at attr = check at rules.Index (IsSome (utf8_at pool (attr_name attr)))
 
 -- ---- the head of the class file
 
 -- the index names a class by a class name; at a place
-abbrev pub class_name_checks : Constants → ℕ → ℕ → List Check
+abbrev pub class_name_checks : Constants → ℕ → ℕ → List (Check Fault)
 class_name_checks pool at index =
     check at rules.Index (IsSome (class_at pool index)) ∷ check at rules.Name (IfSome (class_at pool index) IsClassName) ∷ []
 
 -- a superclass, or none
-abbrev pub super_checks : Constants → ℕ → ℕ → List Check
+abbrev pub super_checks : Constants → ℕ → ℕ → List (Check Fault)
 super_checks pool at index = asked_if (not (index == 0)) (class_name_checks pool at index)
 
 -- the direct superinterfaces, from the place of the first on
-abbrev pub interfaces_checks : Constants → ℕ → List ℕ → List Check
+abbrev pub interfaces_checks : Constants → ℕ → List ℕ → List (Check Fault)
 interfaces_checks pool at [] = []
 interfaces_checks pool at (index ∷ indices) = class_name_checks pool at index ++ interfaces_checks pool (at + 2) indices
 
@@ -150,7 +150,7 @@ raw_content (Raw name bytes) = bytes
 raw_content (Code name part) = []
 
 -- an attribute of a field: the ConstantValue of one that is static stands once and fits
-abbrev pub field_attr_checks : Constants → Field → List Attr → ℕ → Attr → List Check
+abbrev pub field_attr_checks : Constants → Field → List Attr → ℕ → Attr → List (Check Fault)
 field_attr_checks pool field before at attr =
     attr_name_check pool at attr
     ∷ asked_if (has field.flags STATIC && is_named pool constant_value attr)
@@ -162,7 +162,7 @@ abbrev pub field_signature : Field → Signature
 field_signature field = record { name = field.name; desc = field.desc }
 
 -- a field at a place, behind fields of these names
-abbrev pub field_checks : Constants → ℕ → List Signature → ℕ → Field → List Check
+abbrev pub field_checks : Constants → ℕ → List Signature → ℕ → Field → List (Check Fault)
 field_checks pool class_flags before at field =
     check at rules.Flags (IsTrue (fits_field class_flags field.flags))
     ∷ check at rules.Twice (IsFalse (stands_before pool before (field_signature field)))

@@ -1,5 +1,5 @@
 -- What methods and the attributes of the class are asked (JVM Specification SE 8, 4.6, 4.7.3, 4.7.23), in file order.
-use Rattle.std.specs.Prelude.{◌==◌, ◌&&◌, ◌||◌, not, ◌+◌, ◌*◌, ◌≤◌, nat_lt, ℕ, Bool, false, List, [], ◌∷◌, ◌++◌, length, codes, Option, Some, None, Result, Ok, Err, IfSome, IsSome, IsTrue, IsFalse, if◌then◌else◌}
+use Rattle.std.specs.Prelude.{◌&&◌, ◌||◌, not, ◌+◌, ◌*◌, ◌≤◌, nat_lt, ℕ, Bool, false, List, [], ◌∷◌, ◌++◌, length, codes, Option, Some, None, Result, Ok, Err, IfSome, IsSome, IsTrue, IsFalse, if◌then◌else◌}
 use Rattle.class_model.specs.Checks.{Check, check, Fault, fault, asked_of, asked_if, ◌>>=◌}
 use Rattle.class_model.specs.Code.{code_part, jump_checks, operand_checks, handlers_checks, inners_checks, entry_frame}
 use Rattle.class_model.specs.Cutting.{Rest, Cut, whole, u2_at, counted_at}
@@ -89,7 +89,7 @@ entry_of home method part =
     (parameters_of (text_or_empty (utf8_at home.pool method.desc))) part.max_locals
 
 -- what is asked of a code's instructions, its exception table and its attributes; at is the place of the attribute
-abbrev pub instructions_checks : Home → Method → ℕ → CodePart → List Placed → List Check
+abbrev pub instructions_checks : Home → Method → ℕ → CodePart → List Placed → List (Check Fault)
 instructions_checks home method at part instrs =
     let start = at + 14 in
     let table = start + length part.code + 2 in
@@ -101,14 +101,14 @@ instructions_checks home method at part instrs =
     ++ inners_checks setting (entry_of home method part) false inners part.attrs
 
 -- what is asked of the parts of a Code attribute at a place
-abbrev pub part_checks : Home → Method → ℕ → CodePart → List Check
+abbrev pub part_checks : Home → Method → ℕ → CodePart → List (Check Fault)
 part_checks home method at part =
     check (at + 10) rules.CodeLength (IsTrue (nat_lt 0 (length part.code) && nat_lt (length part.code) 65536))
     ∷ check (at + 8) rules.Locals (IfSome (utf8_at home.pool method.desc) (λ text. units_at_call method.flags text ≤ part.max_locals))
     ∷ asked_of (placed_at (at + 14) (decoded part.code)) (instructions_checks home method at part)
 
 -- what is asked of the content of a Code attribute: that its structure fills it, and then of its parts
-abbrev pub content_checks : Home → Method → ℕ → Option CodePart → List Check
+abbrev pub content_checks : Home → Method → ℕ → Option CodePart → List (Check Fault)
 content_checks home method at None = check at rules.Attribute ⊥ ∷ []
 content_checks home method at (Some part) = part_checks home method at part
 
@@ -118,7 +118,7 @@ code_content (Raw name bytes) = code_part bytes
 code_content (Code name part) = Some part
 
 -- an attribute of a method: Code stands once
-abbrev pub method_attr_checks : Home → Method → List Attr → ℕ → Attr → List Check
+abbrev pub method_attr_checks : Home → Method → List Attr → ℕ → Attr → List (Check Fault)
 method_attr_checks home method before at attr =
     attr_name_check home.pool at attr
     ∷ asked_if (is_named home.pool code attr)
@@ -135,7 +135,7 @@ abbrev lacks_code : Method → Bool
 lacks_code method = has method.flags ABSTRACT || has method.flags NATIVE
 
 -- a method at a place, behind methods of these names
-abbrev pub method_checks : Home → List Signature → ℕ → Method → List Check
+abbrev pub method_checks : Home → List Signature → ℕ → Method → List (Check Fault)
 method_checks home before at method =
     check at rules.Flags (IsTrue (fits_method home method))
     ∷ check at rules.Twice (IsFalse (stands_before home.pool before (method_signature method)))
@@ -183,12 +183,12 @@ IsArgument (Some (consts.MethodType descriptor)) = Unit {0}
 IsArgument other = ⊥
 
 -- the arguments of a bootstrap method, from the place of the first on
-abbrev pub arguments_checks : Constants → ℕ → List ℕ → List Check
+abbrev pub arguments_checks : Constants → ℕ → List ℕ → List (Check Fault)
 arguments_checks pool at [] = []
 arguments_checks pool at (index ∷ indices) = check at rules.Index (IsArgument (constant_at pool index)) ∷ arguments_checks pool (at + 2) indices
 
 -- bootstrap methods, from the place of the first on
-abbrev pub bootstraps_checks : Constants → ℕ → List Bootstrap → List Check
+abbrev pub bootstraps_checks : Constants → ℕ → List Bootstrap → List (Check Fault)
 bootstraps_checks pool at [] = []
 bootstraps_checks pool at (b ∷ others) =
     check at rules.Index (IsHandle (constant_at pool b.handle))
@@ -196,7 +196,7 @@ bootstraps_checks pool at (b ∷ others) =
     ++ bootstraps_checks pool (at + 4 + 2 * length b.arguments) others
 
 -- the content of a BootstrapMethods attribute at a place
-abbrev pub bootstrap_table_checks : Constants → ℕ → Option (List Bootstrap) → List Check
+abbrev pub bootstrap_table_checks : Constants → ℕ → Option (List Bootstrap) → List (Check Fault)
 bootstrap_table_checks pool at None = check at rules.Attribute ⊥ ∷ []
 bootstrap_table_checks pool at (Some methods) = bootstraps_checks pool (at + 8) methods
 
@@ -205,7 +205,7 @@ abbrev pub bootstrap_methods : List ℕ
 bootstrap_methods = codes "BootstrapMethods"
 
 -- an attribute of the class: BootstrapMethods stands once, and its counts and indices fit
-abbrev pub class_attr_checks : Constants → List Attr → ℕ → Attr → List Check
+abbrev pub class_attr_checks : Constants → List Attr → ℕ → Attr → List (Check Fault)
 class_attr_checks pool before at attr =
     attr_name_check pool at attr
     ∷ asked_if (is_named pool bootstrap_methods attr)

@@ -3,7 +3,7 @@
 -- nothing of its kind, that is the lower entry's own fault. A fault stands at the constant's tag.
 use Rattle.std.specs.Prelude.{◌≡◌, ◌≢◌, ◌⊎◌, ℕ, ◌+◌, ◌≤◌, List, [], ◌∷◌, ◌++◌, length, Option, Some, None, IfSome, IsSome, option_and_then}
 use Rattle.std.specs.List.{AllByRecursion}
-use Rattle.class_model.specs.Checks.{Check, check}
+use Rattle.class_model.specs.Checks.{Check, check, Fault}
 use Rattle.class_model.specs.Descriptors.{IsReferenceName, field_type_text, descriptor_text, parameter_units}
 use Rattle.class_model.specs.ModifiedUtf8.{IsModifiedUtf8}
 use Rattle.class_model.specs.Names.{init, clinit, IsUnqualifiedName, IsMethodName, IsFieldName}
@@ -110,16 +110,16 @@ abbrev pub IsCalledName : Option (List ℕ) → List ℕ → Type 0
 IsCalledName descriptor name = IsMethodName name × (name ≢ clinit) × InitIsVoid name descriptor
 
 -- the name of a class or an array's descriptor (4.4.1)
-abbrev pub class_checks : ℕ → Constants → ℕ → List Check
+abbrev pub class_checks : ℕ → Constants → ℕ → List (Check Fault)
 class_checks at pool name =
     check at rules.Index (IsSome (utf8_at pool name)) ∷ check at rules.Name (IfSome (utf8_at pool name) IsReferenceName) ∷ []
 
 -- the text of a string (4.4.3)
-abbrev pub string_checks : ℕ → Constants → ℕ → List Check
+abbrev pub string_checks : ℕ → Constants → ℕ → List (Check Fault)
 string_checks at pool text = check at rules.Index (IsSome (utf8_at pool text)) ∷ []
 
 -- a field reference (4.4.2)
-abbrev pub fieldref_checks : ℕ → Constants → ℕ → ℕ → List Check
+abbrev pub fieldref_checks : ℕ → Constants → ℕ → ℕ → List (Check Fault)
 fieldref_checks at pool class member =
     check at rules.Index (IsClassAt pool class × IsNameAndTypeAt pool member)
     ∷ check at rules.Name (IfSome (name_at pool member) IsFieldName)
@@ -127,7 +127,7 @@ fieldref_checks at pool class member =
     ∷ []
 
 -- a method reference, of a class or an interface (4.4.2)
-abbrev pub methodref_checks : ℕ → Constants → ℕ → ℕ → List Check
+abbrev pub methodref_checks : ℕ → Constants → ℕ → ℕ → List (Check Fault)
 methodref_checks at pool class member =
     check at rules.Index (IsClassAt pool class × IsNameAndTypeAt pool member)
     ∷ check at rules.Name (IfSome (name_at pool member) (IsCalledName (descriptor_at pool member)))
@@ -135,7 +135,7 @@ methodref_checks at pool class member =
     ∷ []
 
 -- a name and its descriptor (4.4.6)
-abbrev pub name_and_type_checks : ℕ → Constants → ℕ → ℕ → List Check
+abbrev pub name_and_type_checks : ℕ → Constants → ℕ → ℕ → List (Check Fault)
 name_and_type_checks at pool name descriptor =
     check at rules.Index (IsSome (utf8_at pool name) × IsSome (utf8_at pool descriptor))
     ∷ check at rules.Name (IfSome (utf8_at pool name) (FitsDescriptor (utf8_at pool descriptor)))
@@ -143,12 +143,12 @@ name_and_type_checks at pool name descriptor =
     ∷ []
 
 -- a method's descriptor (4.4.9)
-abbrev pub method_type_checks : ℕ → Constants → ℕ → List Check
+abbrev pub method_type_checks : ℕ → Constants → ℕ → List (Check Fault)
 method_type_checks at pool descriptor =
     check at rules.Index (IsSome (utf8_at pool descriptor)) ∷ check at rules.Descriptor (IfSome (utf8_at pool descriptor) IsMethodDescriptor) ∷ []
 
 -- the name and the descriptor of a dynamic call (4.4.10)
-abbrev pub dynamic_checks : ℕ → Constants → ℕ → List Check
+abbrev pub dynamic_checks : ℕ → Constants → ℕ → List (Check Fault)
 dynamic_checks at pool member =
     check at rules.Index (IsNameAndTypeAt pool member)
     ∷ check at rules.Name (IfSome (name_at pool member) (λ name. IsMethodName name × InitIsVoid name (descriptor_at pool member)))
@@ -196,11 +196,11 @@ RefersWell major pool kind reference =
     ⊎ ((kind ≡ 9) × IsInterfaceConstant constant × IfSome name (λ n. n ≢ init)))))
 
 -- a method handle (4.4.8)
-abbrev pub handle_checks : ℕ → ℕ → Constants → ℕ → ℕ → List Check
+abbrev pub handle_checks : ℕ → ℕ → Constants → ℕ → ℕ → List (Check Fault)
 handle_checks major at pool kind reference = check at rules.Index (RefersWell major pool kind reference) ∷ []
 
 -- a constant at a place, in a class file of this major version
-abbrev pub constant_checks : ℕ → Constants → ℕ → Const → List Check
+abbrev pub constant_checks : ℕ → Constants → ℕ → Const → List (Check Fault)
 constant_checks major pool at (Utf8 text) = check at rules.Text (IsModifiedUtf8 text) ∷ []
 constant_checks major pool at (Integer number) = []
 constant_checks major pool at (Float bits) = []
@@ -217,7 +217,7 @@ constant_checks major pool at (MethodType descriptor) = method_type_checks at po
 constant_checks major pool at (InvokeDynamic bootstrap member) = dynamic_checks at pool member
 
 -- entries one after the other, from a place on
-abbrev pub entries_checks : ℕ → Constants → ℕ → Constants → List Check
+abbrev pub entries_checks : ℕ → Constants → ℕ → Constants → List (Check Fault)
 entries_checks major pool at [] = []
 entries_checks major pool at (None ∷ entries) = entries_checks major pool at entries
 entries_checks major pool at (Some constant ∷ entries) =

@@ -4,12 +4,14 @@ ghost use Rattle.class_model.specs.Checks.{Fault};
 ghost use Rattle.class_model.specs.ClassOf.{ClassOf, FirstFault, IsOtherVersion};
 ghost use Rattle.class_model.specs.Cutting.{IsBytes, Rest, Version, version_at, class_file_at, pool_at, uncut};
 ghost use Rattle.class_model.specs.Descriptors.{SpellsFieldType, SpellsDescriptor, parameters_of};
+ghost use Rattle.class_model.specs.Header.{FirstHeaderFault, HeaderOf, IsNoLibraryVersion};
 ghost use Rattle.class_model.specs.Instructions.{IsSpelling};
 ghost use Rattle.class_model.specs.ModifiedUtf8.{IsText};
 ghost use Rattle.class_model.specs.Pool.{Constants};
 ghost use Rattle.class_model.specs.PoolChecks.{BytesSpell};
 ghost use Rattle.class_model.specs.Spelling.{class_bytes, pool_bytes};
 ghost use Rattle.class_model.specs.declared.class_file.ClassFile.{ClassFile};
+ghost use Rattle.class_model.specs.declared.header.Header.{Header};
 ghost use Rattle.class_model.specs.declared.instr.Instr.{Instr};
 ghost use Rattle.class_model.specs.declared.descriptor.FieldType.{FieldType};
 ghost use Rattle.class_model.specs.declared.descriptor.Descriptor.{Descriptor};
@@ -62,6 +64,17 @@ pub fn a_class_file_is_spelled()
 /// Bytes are a class file, or of a version that is not read, or have a first fault.
 pub fn each_file_is_told()
     ensures { (bytes : List ℕ) → ((class : ClassFile) × ClassOf bytes class) ⊎ (((version : Version) × IsOtherVersion bytes version) ⊎ ((f : Fault) × FirstFault bytes f)) }
+{}
+
+/// The bytes of a library's class file are told in one way: by their header, by their first fault, or by their version
+/// that is not read.
+pub fn a_library_file_is_told_once()
+    ensures header { (bytes : List ℕ) (one other : Header) → HeaderOf bytes one → HeaderOf bytes other → one ≡ other }
+    ensures fault { (bytes : List ℕ) (one other : Fault) → FirstHeaderFault bytes one → FirstHeaderFault bytes other → one ≡ other }
+    ensures version { (bytes : List ℕ) (one other : Version) → IsNoLibraryVersion bytes one → IsNoLibraryVersion bytes other → one ≡ other }
+    ensures no_fault { (bytes : List ℕ) (header : Header) (f : Fault) → HeaderOf bytes header → ¬ FirstHeaderFault bytes f }
+    ensures no_other { (bytes : List ℕ) (header : Header) (v : Version) → HeaderOf bytes header → ¬ IsNoLibraryVersion bytes v }
+    ensures other_no_fault { (bytes : List ℕ) (v : Version) (f : Fault) → IsNoLibraryVersion bytes v → ¬ FirstHeaderFault bytes f }
 {}
 
 /// A constant pool that is cut from bytes is spelled by those that it took.

@@ -89,6 +89,10 @@ impl Text {
     }
 
     /// The text of bytes that are known to be one, which it copies.
+    ///
+    /// # Errors
+    ///
+    /// `NoMemory` where the copy can't be allocated.
     pub fn of_text(alloc: Global, bytes: &[u8]) -> Result<Text, NoMemory>
         requires { IsText bytes.now }
         ensures { IfOk result (λ text. text ≡ bytes.now) }
@@ -97,7 +101,11 @@ impl Text {
         Ok(Text { bytes })
     }
 
-    /// The text of bytes from 1 to 7F, which it copies: each of them spells a code unit by itself (4.4.7).
+    /// The text of at most 65,535 bytes from 1 to 7F, which it copies: each of them spells a code unit by itself (4.4.7).
+    ///
+    /// # Errors
+    ///
+    /// `NoMemory` where the copy can't be allocated.
     pub fn of_plain(alloc: Global, bytes: &[u8]) -> Result<Text, NoMemory>
         requires { IsTrue (is_plain_text bytes.now) }
         ensures { IfOk result (λ text. text ≡ bytes.now) }

@@ -2,6 +2,7 @@
 use Rattle.std.proofs.Common.{◌≡◌, ◌⊎◌, Bool, true, false, List, [], ◌∷◌, ◌++◌, map, Result, Ok, Err, IsSome, IsTrue, sym, subst, inl, inr, append_assoc}
 use Rattle.std.specs.List.{list_any}
 use Rattle.std.specs.Option.{IfSome}
+use Rattle.class_model.specs.Checks.{Check, asked_each, asked_if, AllHold}
 use Rattle.class_model.specs.Header.{header_of}
 use Rattle.class_model.specs.declared.class_file.ClassFile.{ClassFile}
 use Rattle.class_model.specs.declared.header.Header.{Header}
@@ -9,7 +10,7 @@ use Rattle.class_model.specs.declared.pool.Const.{Const}
 use Rattle.class_tree.specs.Answers.{Answers}
 use Rattle.class_tree.specs.Headers.{Name, Headers, class_named, named, IsThere}
 use Rattle.class_tree.specs.Names.{object, throwable, serializable, cloneable, method_handle, method_type, base_names, machine_throwables, is_interface}
-use Rattle.class_tree.specs.Problems.{Check, check, asked_each, asked_if, AllHold}
+use Rattle.class_tree.specs.Problems.{check}
 use Rattle.class_tree.specs.Steps.{base_checks, has_constant, is_method_handle, is_method_type, HasOneConstructor}
 use Rattle.class_tree.specs.Subtype.{IsBelow}
 use Rattle.class_tree.specs.declared.fault.LinkFault.{LinkFault}
@@ -18,38 +19,38 @@ use Rattle.class_tree.specs.declared.fault.LinkRule.TheVariants as rules
 use Rattle.class_tree.proofs.LinkChecks.{Remain, all_remain, remain}
 
 -- a class of this name is in the library
-abbrev pub library_check : Headers → Name → List Check
+abbrev pub library_check : Headers → Name → List (Check Problem)
 library_check headers name = check name rules.Missing (IsSome (named name headers.library)) ∷ []
 
-abbrev pub names_checks : Headers → List Check
+abbrev pub names_checks : Headers → List (Check Problem)
 names_checks headers = asked_each (library_check headers) base_names
 
 -- java/lang/Throwable is one of the classes that each library has
 pub throwable_in_library : (headers : Headers) → AllHold (names_checks headers) → IsSome (named throwable headers.library)
 throwable_in_library headers h = h.1.1.1.1.1.1.1.1.1.1.1.1.1.1.1.0
 
-abbrev pub object_checks : Headers → List Check
+abbrev pub object_checks : Headers → List (Check Problem)
 object_checks headers = check object rules.NoMember (IfSome (class_named headers object) HasOneConstructor) ∷ []
 
 -- the class of this name is a throwable
-abbrev pub throwable_check : Headers → Name → List Check
+abbrev pub throwable_check : Headers → Name → List (Check Problem)
 throwable_check headers name = check name rules.KindOfSuper (IsBelow headers name throwable) ∷ []
 
-abbrev pub throwables_checks : Headers → List Check
+abbrev pub throwables_checks : Headers → List (Check Problem)
 throwables_checks headers = asked_each (throwable_check headers) machine_throwables
 
-abbrev pub interfaces_checks : Headers → List Check
+abbrev pub interfaces_checks : Headers → List (Check Problem)
 interfaces_checks headers =
     asked_each (λ name. check name rules.KindOfSuper (IfSome (class_named headers name) (λ header. IsTrue (is_interface header))) ∷ []) (serializable ∷ cloneable ∷ [])
 
 -- a class is there if the folder has a constant that needs it
-abbrev pub need_checks : Headers → List ClassFile → (Const → Bool) → Name → List Check
+abbrev pub need_checks : Headers → List ClassFile → (Const → Bool) → Name → List (Check Problem)
 need_checks headers folder test name = asked_if (list_any (has_constant test) folder) (check name rules.Missing (IsThere headers name) ∷ [])
 
-abbrev pub handle_checks : Headers → List ClassFile → List Check
+abbrev pub handle_checks : Headers → List ClassFile → List (Check Problem)
 handle_checks headers folder = need_checks headers folder is_method_handle method_handle
 
-abbrev pub type_checks : Headers → List ClassFile → List Check
+abbrev pub type_checks : Headers → List ClassFile → List (Check Problem)
 type_checks headers folder = need_checks headers folder is_method_type method_type
 
 -- a class that is there answers what asks for it, whether it is needed or not
@@ -68,27 +69,27 @@ need_told headers folder test name needed result (inr is) told =
 
 -- ---- the parts in turn
 
-regrouped : (a b c d e f : List Check) → ((((a ++ b) ++ c) ++ d) ++ e) ++ f ≡ a ++ (b ++ (c ++ (d ++ (e ++ f))))
+regrouped : (a b c d e f : List (Check Problem)) → ((((a ++ b) ++ c) ++ d) ++ e) ++ f ≡ a ++ (b ++ (c ++ (d ++ (e ++ f))))
 regrouped a b c d e f = simp append_assoc
 
-abbrev pub from_handles : Headers → List ClassFile → List Check
+abbrev pub from_handles : Headers → List ClassFile → List (Check Problem)
 from_handles headers folder = handle_checks headers folder ++ type_checks headers folder
 
-abbrev pub from_interfaces : Headers → List ClassFile → List Check
+abbrev pub from_interfaces : Headers → List ClassFile → List (Check Problem)
 from_interfaces headers folder = interfaces_checks headers ++ from_handles headers folder
 
-abbrev pub from_throwables : Headers → List ClassFile → List Check
+abbrev pub from_throwables : Headers → List ClassFile → List (Check Problem)
 from_throwables headers folder = throwables_checks headers ++ from_interfaces headers folder
 
-abbrev pub from_object : Headers → List ClassFile → List Check
+abbrev pub from_object : Headers → List ClassFile → List (Check Problem)
 from_object headers folder = object_checks headers ++ from_throwables headers folder
 
-abbrev pub from_names : Headers → List ClassFile → List Check
+abbrev pub from_names : Headers → List ClassFile → List (Check Problem)
 from_names headers folder = names_checks headers ++ from_object headers folder
 
 module _ (headers : Headers) (folder : List ClassFile) (same : headers.folder ≡ map header_of folder) where
   -- what is left of the checks
-  abbrev pub Left : List Check → Type 0
+  abbrev pub Left : List (Check Problem) → Type 0
   Left left = Remain (base_checks (record { folder = folder; library = headers.library })) left
 
   pub at_names : Left (from_names headers folder)

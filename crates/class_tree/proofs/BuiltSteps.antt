@@ -1,6 +1,7 @@
 -- The steps of building a hierarchy, one after the other.
 use Rattle.std.proofs.Common.{◌≡◌, ◌<◌, ◌≤◌, ◌==◌, ℕ, false, List, [], ◌∷◌, map, length, Err, IsTrue, sym, ap, subst, inl, inr, arith}
 use Rattle.std.proofs.lemmas.Bool.{true≢false, ne_eqb}
+use Rattle.class_model.specs.Checks.{AllHold}
 use Rattle.class_model.specs.Header.{header_of}
 use Rattle.class_model.specs.declared.class_file.ClassFile.{ClassFile}
 use Rattle.class_model.specs.declared.header.Header.{Header}
@@ -8,7 +9,7 @@ use Rattle.class_tree.specs.Answers.{Answers}
 use Rattle.class_tree.specs.Graphs.{Graph, IsOneOf, IsPath, IsWithin, IsTopological}
 use Rattle.class_tree.specs.Headers.{Name, Classes, Headers, headers_of, all_headers}
 use Rattle.class_tree.specs.Nodes.{graph_of, IsLinksOf}
-use Rattle.class_tree.specs.Problems.{AllHold, check}
+use Rattle.class_tree.specs.Problems.{check}
 use Rattle.class_tree.specs.Steps.{hierarchy_checks, base_checks, step_checks}
 use Rattle.class_tree.specs.Trees.{IsBefore, IsInOrder, IsProblemOf, duplicate, step, times}
 use Rattle.class_tree.specs.declared.fault.LinkFault.{LinkFault}

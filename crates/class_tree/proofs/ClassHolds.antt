@@ -1,9 +1,9 @@
 -- What the checks of a hierarchy say of each of its classes.
 use Rattle.std.proofs.Common.{◌≡◌, ℕ, zero, suc, List, [], ◌∷◌, ◌++◌, slice_get, Some, subst}
 use Rattle.std.specs.List.{AllByRecursion}
+use Rattle.class_model.specs.Checks.{Check, AllHold, asked_each}
 use Rattle.class_model.specs.declared.header.Header.{Header}
 use Rattle.class_tree.specs.Headers.{Name, Headers, all_headers, class_named, IsThere}
-use Rattle.class_tree.specs.Problems.{Check, AllHold, asked_each}
 use Rattle.class_tree.specs.Steps.{supers, FitsKinds, folder_checks, library_checks, hierarchy_checks}
 use Rattle.class_tree.specs.Subtype.{IsBelow}
 use Rattle.class_tree.proofs.Places.{number_of_class}
@@ -14,15 +14,15 @@ pub record ClassHolds (headers : Headers) (header : Header) : Type 0 where
   pub circle : ¬ IsBelow headers header.name header.name
   pub kinds : FitsKinds headers header
 
-pub front_holds : (a b : List Check) → AllHold (a ++ b) → AllHold a
+pub front_holds : (a b : List (Check Problem)) → AllHold (a ++ b) → AllHold a
 front_holds [] b h = tt
 front_holds (c ∷ a) b h = (h.0, front_holds a b h.1)
 
-pub back_holds : (a b : List Check) → AllHold (a ++ b) → AllHold b
+pub back_holds : (a b : List (Check Problem)) → AllHold (a ++ b) → AllHold b
 back_holds [] b h = h
 back_holds (c ∷ a) b h = back_holds a b h.1
 
-each_holds : (P : Header → Type 0) (asks : Header → List Check) → ((header : Header) → AllHold (asks header) → P header) → (list : List Header) → AllHold (asked_each asks list) → (number : ℕ) (header : Header) → slice_get list number ≡ Some header → P header
+each_holds : (P : Header → Type 0) (asks : Header → List (Check Problem)) → ((header : Header) → AllHold (asks header) → P header) → (list : List Header) → AllHold (asked_each asks list) → (number : ℕ) (header : Header) → slice_get list number ≡ Some header → P header
 each_holds P asks told [] h number header there = absurd cc
 each_holds P asks told (first ∷ list) h zero header there = subst P (cc) (told first (front_holds (asks first) (asked_each asks list) h))
 each_holds P asks told (first ∷ list) h (suc number) header there = each_holds P asks told list (back_holds (asks first) (asked_each asks list) h) number header there

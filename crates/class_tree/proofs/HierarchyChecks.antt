@@ -3,13 +3,13 @@ use Rattle.std.proofs.Common.{◌≡◌, ◌↔◌, ◌+◌, ◌-◌, ◌<◌, �
 use Rattle.std.proofs.lemmas.Bool.{cases_lt}
 use Rattle.std.proofs.lemmas.List.{drop_more, drop_all, length-append, length-map}
 use Rattle.std.proofs.lemmas.Option.{slice_get_within, get_or_from_slice_get, slice_get-map, same_Some}
+use Rattle.class_model.specs.Checks.{Check, asked_each, AllHold}
 use Rattle.class_model.specs.declared.header.Header.{Header}
 use Rattle.class_tree.specs.Answers.{Answers}
 use Rattle.class_tree.specs.Graphs.{Graph, IsPath}
 use Rattle.class_tree.specs.Headers.{Name, Headers, all_headers}
 use Rattle.class_tree.specs.Nodes.{graph_of, number_of, place_at}
 use Rattle.class_tree.specs.Order.{header_at}
-use Rattle.class_tree.specs.Problems.{Check, asked_each, AllHold}
 use Rattle.class_tree.specs.Steps.{supers, folder_checks, library_checks, hierarchy_checks}
 use Rattle.class_tree.specs.Subtype.{IsBelow}
 use Rattle.class_tree.specs.Trees.{IsInOrder}
@@ -61,7 +61,7 @@ same_in_library headers number header other there behind is =
 
 -- ---- the classes from a number on
 
-abbrev pub checks_from : Headers → ℕ → List Check
+abbrev pub checks_from : Headers → ℕ → List (Check Problem)
 checks_from headers number = asked_each (folder_checks headers) (drop number headers.folder) ++ asked_each (library_checks headers) (drop (number - length headers.folder) headers.library)
 
 pub begin : (headers : Headers) → Remain (hierarchy_checks headers) (checks_from headers 0)
@@ -93,7 +93,7 @@ pub record ClassAnswers (headers : Headers) (number : ℕ) (result : Result (Uni
 
 -- what one class is asked, and then the rest
 record Asked (headers : Headers) (number : ℕ) (result : Result (Unit {0}) LinkFault) : Type 1 where
-  asks : List Check
+  asks : List (Check Problem)
   is : checks_from headers number ≡ asks ++ checks_from headers (number + 1)
   told : Answers asks result
 
@@ -107,17 +107,17 @@ asked_at headers number result within answers = elim (cases_lt number (length he
       record { asks = library_checks headers at.0; is = from_library headers number at.0 high at.1; told = answers.library at.0 high at.1 }
 ]
 
-pub one_more : {whole : List Check} (headers : Headers) (number : ℕ) → number < length (all_headers headers) → Remain whole (checks_from headers number) → ClassAnswers headers number (Ok tt) → Remain whole (checks_from headers (number + 1))
+pub one_more : {whole : List (Check Problem)} (headers : Headers) (number : ℕ) → number < length (all_headers headers) → Remain whole (checks_from headers number) → ClassAnswers headers number (Ok tt) → Remain whole (checks_from headers (number + 1))
 one_more {whole} headers number within left answers =
     let asked = asked_at headers number (Ok tt) within answers in
     remain asked.asks (checks_from headers (number + 1)) (subst (Remain whole) asked.is left) asked.told
 
-pub one_refused : {whole : List Check} (headers : Headers) (number : ℕ) (e : LinkFault) → number < length (all_headers headers) → Remain whole (checks_from headers number) → ClassAnswers headers number (Err e) → Answers {X = Unit {0}} whole (Err e)
+pub one_refused : {whole : List (Check Problem)} (headers : Headers) (number : ℕ) (e : LinkFault) → number < length (all_headers headers) → Remain whole (checks_from headers number) → ClassAnswers headers number (Err e) → Answers {X = Unit {0}} whole (Err e)
 one_refused {whole} headers number e within left answers =
     let asked = asked_at headers number (Err e) within answers in
     refused asked.asks (checks_from headers (number + 1)) e (subst (Remain whole) asked.is left) asked.told
 
-pub none_left : {whole : List Check} (headers : Headers) (number : ℕ) → length (all_headers headers) ≤ number → Remain whole (checks_from headers number) → AllHold whole
+pub none_left : {whole : List (Check Problem)} (headers : Headers) (number : ℕ) → length (all_headers headers) ≤ number → Remain whole (checks_from headers number) → AllHold whole
 none_left {whole} headers number end left =
     let count = length-append headers.folder headers.library in
     let none : checks_from headers number ≡ [] = rw (drop_all number headers.folder (omega (arith, count)), drop_all (number - length headers.folder) headers.library (omega (arith, count))) refl in

@@ -5,6 +5,7 @@ use Rattle.std.proofs.lemmas.Bool.{or_left, or_right, eq-eqb, cases_eq}
 use Rattle.std.proofs.lemmas.List.{append-nil, drop_more, take_more, take_all, take-append-drop, length-map, get_or-map, length-set, get_or-set_same, get_or-set_other}
 use Rattle.std.proofs.lemmas.List.Elements.{All-nil, All-cons, All-head, All-tail, All-set}
 use Rattle.std.proofs.lemmas.Option.{slice_get-map, slice_get_within, get_or_from_slice_get}
+use Rattle.class_model.specs.Checks.{AllHold}
 use Rattle.class_model.specs.declared.header.Header.{Header}
 use Rattle.class_tree.specs.Graphs.{Graph, IsOneOf, IsTopological}
 use Rattle.class_tree.specs.Headers.{Name, Headers, all_headers, class_named}
@@ -12,7 +13,6 @@ use Rattle.class_tree.specs.InterfaceNumbers.{with_number, with_numbers, with_li
 use Rattle.class_tree.specs.Interfaces.{each_once, IsWalk, done, next, of_root, below}
 use Rattle.class_tree.specs.Names.{is_interface}
 use Rattle.class_tree.specs.Nodes.{number_of, graph_of, place_at, AreInterfaceLists}
-use Rattle.class_tree.specs.Problems.{AllHold}
 use Rattle.class_tree.specs.Steps.{supers, hierarchy_checks}
 use Rattle.class_tree.specs.Trees.{IsInOrder}
 use Rattle.class_tree.specs.declared.place.Place.{Place}

@@ -4,11 +4,11 @@ use Rattle.std.specs.List.{AllByRecursion, list_any}
 use Rattle.std.proofs.lemmas.Bool.{or_left}
 use Rattle.std.proofs.lemmas.List.{append-nil}
 use Rattle.std.proofs.lemmas.Slice.Eq.{bytes_eq-Decides}
+use Rattle.class_model.specs.Checks.{AllHold}
 use Rattle.class_model.specs.declared.header.Header.{Header}
 use Rattle.class_tree.specs.Headers.{Name, Headers, class_named, IsThere}
 use Rattle.class_tree.specs.Interfaces.{IsWalk, done, next, IsInterfaceWalk, of_root, below}
 use Rattle.class_tree.specs.Names.{object, is_interface}
-use Rattle.class_tree.specs.Problems.{AllHold}
 use Rattle.class_tree.specs.Steps.{supers, hierarchy_checks}
 use Rattle.class_tree.specs.Subtype.{IsDirectlyBelow, superclass, interface, IsBelow, directly, onwards}
 use Rattle.class_tree.proofs.ClassHolds.{named_holds}

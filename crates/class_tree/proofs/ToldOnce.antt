@@ -10,11 +10,12 @@ use Rattle.std.specs.List.Sorted.{IsPermutation, IsSortedByKey}
 use Rattle.std.specs.Ordering.{nat_cmp, is_lt, ordering_reverse}
 use Rattle.std.specs.declared.cmp.Ordering.{Ordering}
 use Rattle.std.specs.declared.cmp.Ordering.TheVariants.{Less, Equal, Greater}
+use Rattle.class_model.specs.Checks.{Check, IsFirstFault}
 use Rattle.class_model.specs.Header.{header_of}
 use Rattle.class_model.specs.declared.class_file.ClassFile.{ClassFile}
 use Rattle.class_model.specs.declared.header.Header.{Header}
 use Rattle.class_tree.specs.Headers.{Name, Classes, headers_of}
-use Rattle.class_tree.specs.Problems.{Check, Problem, of_class, IsFirstProblem}
+use Rattle.class_tree.specs.Problems.{Problem, of_class}
 use Rattle.class_tree.specs.Steps.{step_checks}
 use Rattle.class_tree.specs.Trees.{AreHeadersInOrder, IsArranged, IsBefore, IsInOrder, IsProblem, IsProblemOf, times}
 use Rattle.class_tree.specs.Trees.IsProblemOf.{duplicate, step}
@@ -90,7 +91,7 @@ one_arrangement folder library one other a in_order b =
 
 -- ---- one problem
 
-one_first : (checks : List Check) (one other : Problem) → IsFirstProblem checks one → IsFirstProblem checks other → one ≡ other
+one_first : (checks : List (Check Problem)) (one other : Problem) → IsFirstFault checks one → IsFirstFault checks other → one ≡ other
 one_first [] one other h k = absurd h
 one_first (c ∷ checks) one other (inl a) (inl b) = a.1 ∙ sym b.1
 one_first (c ∷ checks) one other (inl a) (inr b) = absurd (a.0 b.0)
@@ -107,7 +108,7 @@ record Twice (classes : Classes) (problem : Problem) : Type 0 where
 -- a first check that fails, where no name stands twice
 record Fails (classes : Classes) (problem : Problem) : Type 0 where
   pub in_order : IsInOrder (headers_of classes)
-  pub first : IsFirstProblem (step_checks classes) problem
+  pub first : IsFirstFault (step_checks classes) problem
 
 problem_form : (classes : Classes) (problem : Problem) → IsProblemOf classes problem → Twice classes problem ⊎ Fails classes problem
 problem_form classes _ (duplicate name twice first) = inl (record { name = name; is = refl; twice = twice; first = first })
@@ -141,6 +142,6 @@ one_problem folder library one other a b =
         | inl twice ↦ absurd (not_both b.classes a.classes (λ name. sym (same name)) other one twice fails)
         | inr also ↦
             let classes = one_arrangement folder library a.classes b.classes a.arranged fails.in_order b.arranged in
-            one_first (step_checks a.classes) one other fails.first (subst (λ (c : Classes). IsFirstProblem (step_checks c) other) (sym classes) also.first)
+            one_first (step_checks a.classes) one other fails.first (subst (λ (c : Classes). IsFirstFault (step_checks c) other) (sym classes) also.first)
       ]
     ]

@@ -2,6 +2,7 @@
 use Rattle.std.proofs.Common.{◌≡◌, ◌≢◌, ◌+◌, ◌*◌, ℕ, zero, suc, List, [], ◌∷◌, ◌++◌, length, map, slice_get, Option, Some, None, IsSome, IfSome, IsTrue, refl, sym, ◌∙◌, subst}
 use Rattle.std.specs.List.{AllByRecursion, flat_map, join_with_byte}
 use Rattle.class_model.specs.Checks as checks
+use Rattle.class_model.specs.Checks.{AllHold}
 use Rattle.class_model.specs.ClassOf.{ClassOf, fields_checks, methods_checks, bootstrap_index_checks}
 use Rattle.class_model.specs.Header.{header_of}
 use Rattle.class_model.specs.Members.{fits_class, class_name_checks, super_checks, interfaces_checks, attrs_checks}
@@ -13,7 +14,6 @@ use Rattle.class_model.specs.declared.class_file.ClassFile.{ClassFile}
 use Rattle.class_model.specs.declared.fault.FileRule.TheVariants as rules
 use Rattle.class_model.specs.declared.header.Header.{Header}
 use Rattle.class_tree.specs.Headers.{Name, Classes, Headers, headers_of, class_named, IsClassFile, IsLibraryClass}
-use Rattle.class_tree.specs.Problems.{AllHold}
 use Rattle.class_tree.specs.Steps.{hierarchy_checks}
 use Rattle.class_tree.specs.Subtype.{IsArray}
 use Rattle.class_tree.specs.Trees.{IsInOrder, IsTree}

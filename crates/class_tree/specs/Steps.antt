@@ -3,6 +3,7 @@
 -- order of names, and no name stands twice.
 use Rattle.std.specs.Prelude.{◌≡◌, ◌≢◌, ◌&&◌, not, Bool, true, false, List, [], ◌∷◌, ◌++◌, Option, Some, None, IfSome, IsSome, IsTrue, IsFalse, codes}
 use Rattle.std.specs.List.{AllByRecursion, list_any}
+use Rattle.class_model.specs.Checks.{Check, asked_each, asked_if}
 use Rattle.class_model.specs.Members.{has, FINAL, PUBLIC, STATIC}
 use Rattle.class_model.specs.Names.{init}
 use Rattle.class_model.specs.declared.class_file.ClassFile.{ClassFile}
@@ -12,7 +13,7 @@ use Rattle.class_model.specs.declared.pool.Const.{Const}
 use Rattle.class_model.specs.declared.pool.Const.TheVariants.{MethodHandle, MethodType}
 use Rattle.class_tree.specs.Headers.{Name, Classes, Headers, headers_of, named, class_named, IsThere}
 use Rattle.class_tree.specs.Names.{object, cloneable, serializable, throwable, method_handle, method_type, machine_throwables, base_names, is_interface, is_member, times_named}
-use Rattle.class_tree.specs.Problems.{Check, check, asked_each, asked_if}
+use Rattle.class_tree.specs.Problems.{check}
 use Rattle.class_tree.specs.Subtype.{IsBelow}
 use Rattle.class_tree.specs.declared.fault.LinkRule.TheVariants as rules
 
@@ -42,7 +43,7 @@ abbrev pub IsOutside : Headers → Name → Type 0
 IsOutside headers name = named name headers.folder ≡ None
 
 -- what a class of the folder is asked
-abbrev pub folder_checks : Headers → Header → List Check
+abbrev pub folder_checks : Headers → Header → List (Check Problem)
 folder_checks headers header =
     check header.name rules.Missing (AllByRecursion (IsThere headers) (supers header))
     ∷ check header.name rules.Circle (¬ IsBelow headers header.name header.name)
@@ -51,7 +52,7 @@ folder_checks headers header =
     ∷ []
 
 -- what a class of the library is asked
-abbrev pub library_checks : Headers → Header → List Check
+abbrev pub library_checks : Headers → Header → List (Check Problem)
 library_checks headers header =
     check header.name rules.Missing (AllByRecursion (IsThere headers) (supers header))
     ∷ check header.name rules.LibraryLeans (AllByRecursion (IsOutside headers) (supers header))
@@ -59,7 +60,7 @@ library_checks headers header =
     ∷ check header.name rules.KindOfSuper (FitsKinds headers header)
     ∷ []
 
-abbrev pub hierarchy_checks : Headers → List Check
+abbrev pub hierarchy_checks : Headers → List (Check Problem)
 hierarchy_checks headers = asked_each (folder_checks headers) headers.folder ++ asked_each (library_checks headers) headers.library
 
 -- ---- what the machine needs of its library
@@ -89,11 +90,11 @@ is_method_type (MethodType descriptor) = true
 is_method_type other = false
 
 -- where a constant of the folder passes the test, a class is there
-abbrev pub needed_class_checks : (Const → Bool) → Name → Classes → List Check
+abbrev pub needed_class_checks : (Const → Bool) → Name → Classes → List (Check Problem)
 needed_class_checks test name classes =
     asked_if (list_any (has_constant test) classes.folder) (check name rules.Missing (IsThere (headers_of classes) name) ∷ [])
 
-abbrev pub base_checks : Classes → List Check
+abbrev pub base_checks : Classes → List (Check Problem)
 base_checks classes =
     let headers = headers_of classes in
     asked_each (λ name. check name rules.Missing (IsSome (named name classes.library)) ∷ []) base_names
@@ -105,8 +106,8 @@ base_checks classes =
 
 -- ---- the whole
 
-abbrev pub step_checks : Classes → List Check
+abbrev pub step_checks : Classes → List (Check Problem)
 step_checks classes = hierarchy_checks (headers_of classes) ++ of_folder classes.folder where
-  of_folder : List ClassFile → List Check
+  of_folder : List ClassFile → List (Check Problem)
   of_folder [] = []
   of_folder (class ∷ folder) = base_checks classes

@@ -4,11 +4,12 @@ use Rattle.std.specs.List.{AllByRecursion}
 use Rattle.std.specs.Ordering.{nat_cmp}
 use Rattle.std.specs.Cmp.Lexicographic.{slice_cmp}
 use Rattle.std.specs.declared.cmp.Ordering.TheVariants.{Less}
+use Rattle.class_model.specs.Checks.{AllHold, IsFirstFault}
 use Rattle.class_model.specs.Header.{header_of}
 use Rattle.class_model.specs.declared.class_file.ClassFile.{ClassFile}
 use Rattle.class_model.specs.declared.header.Header.{Header}
 use Rattle.class_tree.specs.Headers.{Name, Classes, Headers, headers_of, all_headers, IsClassFile, IsLibraryClass}
-use Rattle.class_tree.specs.Problems.{Problem, of_class, AllHold, IsFirstProblem}
+use Rattle.class_tree.specs.Problems.{Problem, of_class}
 use Rattle.class_tree.specs.Steps.{step_checks}
 use Rattle.class_tree.specs.declared.fault.LinkFault.{LinkFault}
 use Rattle.class_tree.specs.declared.fault.LinkFault.TheVariants.{Unlinked, NoMemory}
@@ -49,7 +50,7 @@ pub record IsArranged (folder : List ClassFile) (library : List Header) (classes
 -- check that fails.
 pub data IsProblemOf (classes : Classes) : Problem → Type 0 where
   duplicate : (name : Name) → 2 ≤ times name (headers_of classes) → ((other : Name) → IsBefore other name → times other (headers_of classes) ≤ 1) → IsProblemOf classes (of_class name Duplicate)
-  step : (problem : Problem) → IsInOrder (headers_of classes) → IsFirstProblem (step_checks classes) problem → IsProblemOf classes problem
+  step : (problem : Problem) → IsInOrder (headers_of classes) → IsFirstFault (step_checks classes) problem → IsProblemOf classes problem
 
 -- the first problem of a folder and its library, in any order
 pub record IsProblem (folder : List ClassFile) (library : List Header) (problem : Problem) : Type 0 where

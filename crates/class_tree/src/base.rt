@@ -2,6 +2,7 @@
 ghost use Rattle.std.specs.Prelude.{◌≡◌, ◌↔◌, ◌⊎◌, ◌||◌, false, [], ◌∷◌, map, Some, IfOk, IfSome, IsSome, IsTrue};
 ghost use Rattle.std.specs.List.{list_any};
 ghost use Rattle.std.specs.Option.{option_copied, option_map_or};
+ghost use Rattle.class_model.specs.Checks.{asked_each, asked_if};
 ghost use Rattle.class_model.specs.Header.{header_of};
 ghost use Rattle.class_model.specs.ModifiedUtf8.{is_plain_text};
 ghost use Rattle.class_model.specs.Names.{init};
@@ -10,7 +11,7 @@ ghost use Rattle.class_tree.specs.Answers.{Answers};
 ghost use Rattle.class_tree.specs.Headers.{Name, class_named, named, IsThere};
 ghost use Rattle.class_tree.specs.Names as names;
 ghost use Rattle.class_tree.specs.Nodes.{graph_of, number_of};
-ghost use Rattle.class_tree.specs.Problems.{asked_each, asked_if, check};
+ghost use Rattle.class_tree.specs.Problems.{check};
 ghost use Rattle.class_tree.specs.Steps.{base_checks, has_constant, is_method_handle, is_method_type, is_open_constructor, HasOneConstructor};
 ghost use Rattle.class_tree.specs.Subtype.{IsBelow};
 ghost use Rattle.class_tree.specs.Trees.{IsInOrder};

@@ -29,29 +29,29 @@ use Rattle.code_bytes.specs.Codes.{HasInstrs, HasOperands, HaveOperands, HaveFra
 
 -- ---- checks that hold
 
-pub no_fault : (checks : List Check) (f : Fault) → AllHold checks → ¬ IsFirstFault checks f
+pub no_fault : (checks : List (Check Fault)) (f : Fault) → AllHold checks → ¬ IsFirstFault checks f
 no_fault [] f hold first = first
 no_fault (c ∷ checks) f hold (inl here) = here.0 hold.0
 no_fault (c ∷ checks) f hold (inr later) = no_fault checks f hold.1 later.1
 
-front : (a b : List Check) → AllHold (a ++ b) → AllHold a
+front : (a b : List (Check Fault)) → AllHold (a ++ b) → AllHold a
 front [] b h = tt
 front (c ∷ a) b h = (h.0, front a b h.1)
 
-back : (a b : List Check) → AllHold (a ++ b) → AllHold b
+back : (a b : List (Check Fault)) → AllHold (a ++ b) → AllHold b
 back [] b h = h
 back (c ∷ a) b h = back a b h.1
 
-first_of_four : (a b c d : List Check) → AllHold (a ++ b ++ c ++ d) → AllHold a
+first_of_four : (a b c d : List (Check Fault)) → AllHold (a ++ b ++ c ++ d) → AllHold a
 first_of_four a b c d all = front a b (front (a ++ b) c (front (a ++ b ++ c) d all))
 
-second_of_four : (a b c d : List Check) → AllHold (a ++ b ++ c ++ d) → AllHold b
+second_of_four : (a b c d : List (Check Fault)) → AllHold (a ++ b ++ c ++ d) → AllHold b
 second_of_four a b c d all = back a b (front (a ++ b) c (front (a ++ b ++ c) d all))
 
-fourth_of_four : (a b c d : List Check) → AllHold (a ++ b ++ c ++ d) → AllHold d
+fourth_of_four : (a b c d : List (Check Fault)) → AllHold (a ++ b ++ c ++ d) → AllHold d
 fourth_of_four a b c d all = back (a ++ b ++ c) d all
 
-seventh_of_nine : (a b c d e f g h i : List Check) → AllHold (a ++ b ++ c ++ d ++ e ++ f ++ g ++ h ++ i) → AllHold g
+seventh_of_nine : (a b c d e f g h i : List (Check Fault)) → AllHold (a ++ b ++ c ++ d ++ e ++ f ++ g ++ h ++ i) → AllHold g
 seventh_of_nine a b c d e f g h i all =
     let abcdefgh = front (a ++ b ++ c ++ d ++ e ++ f ++ g ++ h) i all in
     let abcdefg = front (a ++ b ++ c ++ d ++ e ++ f ++ g) h abcdefgh in
@@ -216,7 +216,7 @@ part_is_read home method at part hold =
         )
 
 -- what is asked of the content of an attribute that is named Code
-abbrev named_checks : Home → Method → List Attr → ℕ → Option CodePart → List Check
+abbrev named_checks : Home → Method → List Attr → ℕ → Option CodePart → List (Check Fault)
 named_checks home method before at content = check at rules.Twice (IsFalse (has_named home.pool code before)) ∷ content_checks home method at content
 
 -- what is known of an attribute of a method

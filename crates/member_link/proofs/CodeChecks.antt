@@ -1,5 +1,6 @@
 -- What the parts of a code are asked, as they are asked one after the other.
 use Rattle.std.proofs.Common.{◌≡◌, ℕ, List, Result, Ok, Err, sym, ap, subst, ◌∙◌}
+use Rattle.class_model.specs.Checks.{asked_each, AllHold}
 use Rattle.class_model.specs.Instructions.{decoded}
 use Rattle.class_model.specs.Methods.{Home}
 use Rattle.class_model.specs.declared.class_file.CodePart.{CodePart}
@@ -8,7 +9,6 @@ use Rattle.class_model.specs.declared.class_file.Method.{Method}
 use Rattle.class_model.specs.declared.header.Member.{Member}
 use Rattle.class_model.specs.declared.instr.Placed.{Placed}
 use Rattle.class_tree.specs.Answers.{Answers}
-use Rattle.class_tree.specs.Problems.{asked_each, AllHold}
 use Rattle.class_tree.specs.declared.fault.LinkFault.{LinkFault}
 use Rattle.member_link.specs.Resolving.{Resolved, resolved_scope}
 use Rattle.member_link.specs.Uses.{UseScope, code_use_checks, instr_use_checks, instrs_checks, handler_use_checks, inner_checks}

@@ -1,13 +1,13 @@
 -- What the methods of a class file are asked, each with the member of the header that it is.
 use Rattle.std.proofs.Common.{◌≡◌, ◌+◌, ◌<◌, ℕ, List, ◌∷◌, ◌++◌, length, drop, get_or, Err, sym, subst}
 use Rattle.std.proofs.lemmas.List.{drop_more}
+use Rattle.class_model.specs.Checks.{Check, asked_each, AllHold}
 use Rattle.class_model.specs.declared.class_file.ClassFile.{ClassFile}
 use Rattle.class_model.specs.declared.class_file.Method.{Method}
 use Rattle.class_model.specs.declared.header.Header.{Header}
 use Rattle.class_model.specs.declared.header.Member.{Member}
 use Rattle.class_tree.specs.Answers.{Answers}
 use Rattle.class_tree.specs.Headers.{Headers}
-use Rattle.class_tree.specs.Problems.{Check, asked_each, AllHold}
 use Rattle.class_tree.specs.declared.fault.LinkFault.{LinkFault}
 use Rattle.member_link.specs.Resolving.{Resolved, resolved_scope}
 use Rattle.member_link.specs.Uses.{attr_checks, methods_use_checks}
@@ -17,7 +17,7 @@ use Rattle.member_link.proofs.LinkSteps.{Remain, all_remain, remain, refused}
 abbrev pub resolved : Headers → ClassFile → Header → Resolved
 resolved headers class header = record { headers = headers; pool = class.pool; from = header.name }
 
-abbrev asked_of_method : Resolved → ClassFile → Method → Member → List Check
+abbrev asked_of_method : Resolved → ClassFile → Method → Member → List (Check Problem)
 asked_of_method resolver class method member = asked_each (attr_checks (resolved_scope resolver member) (home_of class) method) method.attrs
 
 -- Methods below an index have been asked, and the resolver is that of the class.

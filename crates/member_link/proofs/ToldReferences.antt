@@ -1,12 +1,13 @@
 -- What the checks of a reference answer, by what it resolves to.
 use Rattle.std.proofs.Common.{◌≡◌, ◌↔◌, Bool, false, List, [], ◌∷◌, Option, Some, None, IsTrue, Result, Ok, Err, refl, sym, subst, inl, inr}
 use Rattle.std.proofs.lemmas.Bool.{false≢true}
+use Rattle.class_model.specs.Checks.{Check, AllHold, IsFirstFault}
 use Rattle.class_model.specs.declared.header.Member.{Member}
 use Rattle.class_model.specs.declared.pool.Const.{Const}
 use Rattle.class_model.specs.declared.pool.Const.TheVariants.{Fieldref, Methodref, InterfaceMethodref}
 use Rattle.class_tree.specs.Answers.{Answers}
 use Rattle.class_tree.specs.Headers.{Name, Headers, IsThere}
-use Rattle.class_tree.specs.Problems.{Check, Problem, AllHold, IsFirstProblem}
+use Rattle.class_tree.specs.Problems.{Problem}
 use Rattle.class_tree.specs.declared.fault.LinkFault.{LinkFault}
 use Rattle.class_tree.specs.declared.fault.LinkFault.TheVariants.{Unlinked, NoMemory}
 use Rattle.class_tree.specs.declared.fault.LinkRule.{LinkRule}
@@ -32,15 +33,15 @@ use Rattle.member_link.proofs.LinkSteps.{Remain, all_remain, passes, answered}
 abbrev problem_at : Site → LinkRule → Problem
 problem_at site rule = record { class = site.class; member = site.member; rule = rule }
 
-first_broken : (s : UseScope) (reference : Reference) (OthersAreThere : Type 0) (Finds : Option Declared → Type 0) (HasForm : Declared → Type 0) (rule : LinkRule) → FirstBroken (IsNamedThere s.headers reference.class × OthersAreThere) (IsNamedAccessible s.headers s.site.class reference.class) ((member : Declared) × Finds (Some member)) rule → IsFirstProblem (member_checks s reference OthersAreThere Finds HasForm) (problem_at s.site rule)
+first_broken : (s : UseScope) (reference : Reference) (OthersAreThere : Type 0) (Finds : Option Declared → Type 0) (HasForm : Declared → Type 0) (rule : LinkRule) → FirstBroken (IsNamedThere s.headers reference.class × OthersAreThere) (IsNamedAccessible s.headers s.site.class reference.class) ((member : Declared) × Finds (Some member)) rule → IsFirstFault (member_checks s reference OthersAreThere Finds HasForm) (problem_at s.site rule)
 first_broken s reference OthersAreThere Finds HasForm rules.Missing first = inl (first, refl)
 first_broken s reference OthersAreThere Finds HasForm rules.NoAccess first = inr (first.0, inl (first.1, refl))
 first_broken s reference OthersAreThere Finds HasForm rules.NoMember first = inr (first.0, inr (first.1, inl (first.2, refl)))
 first_broken s reference OthersAreThere Finds HasForm rule first = absurd first
 
-refused_at : (checks : List Check) (site : Site) (rule : LinkRule) (result : Result (Unit {0}) LinkFault) → IsFirstProblem checks (problem_at site rule) → Answers (asked site rule (IsTrue false) ∷ []) result → Answers checks result
+refused_at : (checks : List (Check Problem)) (site : Site) (rule : LinkRule) (result : Result (Unit {0}) LinkFault) → IsFirstFault checks (problem_at site rule) → Answers (asked site rule (IsTrue false) ∷ []) result → Answers checks result
 refused_at checks site rule (Ok x) first told = absurd (false≢true told.0)
-refused_at checks site rule (Err (Unlinked class member broken)) first (inl here) = subst (IsFirstProblem checks) (sym here.1) first
+refused_at checks site rule (Err (Unlinked class member broken)) first (inl here) = subst (IsFirstFault checks) (sym here.1) first
 refused_at checks site rule (Err (Unlinked class member broken)) first (inr later) = absurd later.1
 refused_at checks site rule (Err NoMemory) first told = tt
 
@@ -59,7 +60,7 @@ same_two one other p q (Err (Unlinked class member rule)) first second (inr (hol
 same_two one other p q (Err NoMemory) first second told = tt
 
 -- what is asked of the form
-abbrev form_checks : UseScope → Reference → (Option Declared → Type 0) → (Declared → Type 0) → List Check
+abbrev form_checks : UseScope → Reference → (Option Declared → Type 0) → (Declared → Type 0) → List (Check Problem)
 form_checks s reference Finds HasForm =
     asked s.site rules.WrongForm ((member : Declared) → Finds (Some member) → HasForm member)
     ∷ asked s.site rules.NoAccess ((member : Declared) → Finds (Some member) → IsAccessible s.headers s.site.class reference.class member)

@@ -2,11 +2,12 @@
 -- class, the class itself and then member by member.
 use Rattle.std.specs.Prelude.{◌≡◌, List, [], ◌∷◌, ◌++◌, Some, IsTrue}
 use Rattle.std.specs.List.{AllByRecursion}
+use Rattle.class_model.specs.Checks.{Check, asked_each}
 use Rattle.class_model.specs.Members.{has, FINAL}
 use Rattle.class_model.specs.declared.header.Header.{Header}
 use Rattle.class_model.specs.declared.header.Member.{Member}
 use Rattle.class_tree.specs.Headers.{Name, Headers, named, IsThere}
-use Rattle.class_tree.specs.Problems.{Check, check, asked_each}
+use Rattle.class_tree.specs.Problems.{check}
 use Rattle.class_tree.specs.Steps.{supers}
 use Rattle.class_tree.specs.declared.fault.LinkRule.{LinkRule}
 use Rattle.class_tree.specs.declared.fault.LinkRule.TheVariants as rules
@@ -21,7 +22,7 @@ pub record Site : Type 0 where
   pub member : Member
 
 -- what is asked of a member
-abbrev pub asked : Site → LinkRule → Type 0 → Check
+abbrev pub asked : Site → LinkRule → Type 0 → Check Problem
 asked site rule holds = record { problem = record { class = site.class; member = site.member; rule = rule }; holds = holds }
 
 -- the method is one of a class of the folder
@@ -36,10 +37,10 @@ OverridesNoFinal headers method = (high : Declared) → IsFolderMethod headers h
 abbrev pub site_of : Header → Member → Site
 site_of header member = record { class = header.name; member = member }
 
-abbrev pub declared_field_checks : Headers → Header → Member → List Check
+abbrev pub declared_field_checks : Headers → Header → Member → List (Check Problem)
 declared_field_checks headers header field = asked (site_of header field) rules.Missing (FieldTypeNames (IsThere headers) field.desc) ∷ []
 
-abbrev pub declared_method_checks : Headers → Header → Member → List Check
+abbrev pub declared_method_checks : Headers → Header → Member → List (Check Problem)
 declared_method_checks headers header method =
     asked (site_of header method) rules.Missing (DescriptorNames (IsThere headers) method.desc)
     ∷ asked (site_of header method) rules.FinalOverridden (OverridesNoFinal headers (declared_by header.name method))
@@ -47,7 +48,7 @@ declared_method_checks headers header method =
 
 -- the superclass and the interfaces are accessible; the classes that descriptors name are there; no final method of the
 -- folder is overridden
-abbrev pub declaration_checks : Headers → Header → List Check
+abbrev pub declaration_checks : Headers → Header → List (Check Problem)
 declaration_checks headers header =
     check header.name rules.NoAccess (AllByRecursion (IsClassAccessible headers header.name) (supers header))
     ∷ asked_each (declared_field_checks headers header) header.fields

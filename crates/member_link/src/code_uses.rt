@@ -1,10 +1,9 @@
 //! What the references of a method's code are asked: those of its instructions, the caught classes, and the classes that
 //! its stated frames name.
 ghost use Rattle.std.specs.Prelude.{◌≡◌, Ok, IfOk};
-ghost use Rattle.class_model.specs.Checks.{AllHold};
+ghost use Rattle.class_model.specs.Checks.{AllHold, asked_each};
 ghost use Rattle.class_model.specs.Instructions.{decoded};
 ghost use Rattle.class_tree.specs.Answers.{Answers};
-ghost use Rattle.class_tree.specs.Problems.{asked_each};
 ghost use Rattle.code_bytes.specs.Decoding.{decoding_checks};
 ghost use Rattle.member_link.specs.Resolving.{resolved_scope};
 ghost use Rattle.member_link.specs.Uses.{code_use_checks, handler_use_checks, instr_use_checks};

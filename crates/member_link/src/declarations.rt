@@ -1,12 +1,12 @@
 //! What the declarations of a folder's classes are asked to be linked.
 ghost use Rattle.std.specs.Prelude.{◌≡◌, ◌↔◌, Some, IfSome, IsTrue};
 ghost use Rattle.std.specs.List.{AllByRecursion};
+ghost use Rattle.class_model.specs.Checks.{asked_each};
 ghost use Rattle.class_model.specs.declared.header.Header.{Header};
 ghost use Rattle.class_tree.specs.Answers.{Answers};
 ghost use Rattle.class_tree.specs.Headers.{headers_of};
 ghost use Rattle.class_tree.specs.Hierarchy.{StandsAt};
 ghost use Rattle.class_tree.specs.Order.{header_at};
-ghost use Rattle.class_tree.specs.Problems.{asked_each};
 ghost use Rattle.class_tree.specs.Steps.{supers};
 ghost use Rattle.member_link.specs.Access.{IsClassAccessible};
 ghost use Rattle.member_link.specs.Declarations.{declaration_checks, declared_field_checks, declared_method_checks, OverridesNoFinal};

@@ -1,8 +1,8 @@
 //! The classes that the stated frames of a method's code name (JVM Specification SE 8, 4.7.4).
 ghost use Rattle.std.specs.Prelude.{◌≡◌, Ok};
+ghost use Rattle.class_model.specs.Checks.{asked_each};
 ghost use Rattle.class_model.specs.Instructions.{decoded};
 ghost use Rattle.class_tree.specs.Answers.{Answers};
-ghost use Rattle.class_tree.specs.Problems.{asked_each};
 ghost use Rattle.member_link.specs.Resolving.{resolved_scope};
 ghost use Rattle.member_link.specs.Uses.{frame_checks, inner_checks, type_checks};
 ghost use Rattle.code_bytes.specs.Codes.{IsReadMethod, home_of};

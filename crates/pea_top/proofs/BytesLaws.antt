@@ -1,10 +1,9 @@
 -- What the laws of class files and headers say of bytes that are refused.
 use Rattle.std.proofs.Common.{◌≡◌, ℕ, List, Result, Ok, ap}
-use Rattle.class_bytes.specs.Reading.{FirstHeaderFault, IsNoLibraryVersion}
 use Rattle.class_model.specs.Checks.{Fault}
 use Rattle.class_model.specs.ClassOf.{ClassOf, FirstFault, IsOtherVersion}
 use Rattle.class_model.specs.Cutting.{Rest, Version}
-use Rattle.class_model.specs.Header.{HeaderOf}
+use Rattle.class_model.specs.Header.{FirstHeaderFault, HeaderOf, IsNoLibraryVersion}
 use Rattle.class_model.specs.declared.class_file.ClassFile.{ClassFile}
 use Rattle.class_model.specs.declared.header.Header.{Header}
 use Rattle.host_tree.specs.Host.{Bytes}

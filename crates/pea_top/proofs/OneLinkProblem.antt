@@ -1,21 +1,22 @@
 -- The first problem of linking is one, and what is linked has none.
 use Rattle.std.proofs.Common.{◌≡◌, List, [], ◌∷◌, inl, inr, sym, ◌∙◌, subst, arith}
+use Rattle.class_model.specs.Checks.{Check, AllHold, IsFirstFault}
 use Rattle.class_model.specs.declared.class_file.ClassFile.{ClassFile}
 use Rattle.class_model.specs.declared.header.Header.{Header}
 use Rattle.class_tree.specs.Headers.{Classes, headers_of}
-use Rattle.class_tree.specs.Problems.{Problem, Check, AllHold, IsFirstProblem}
+use Rattle.class_tree.specs.Problems.{Problem}
 use Rattle.class_tree.specs.Trees.{IsArranged, IsInOrder, IsTree, IsProblemOf, duplicate, step, IsProblem}
 use Rattle.member_link.specs.Linked.{link_checks, IsLinked}
 use Rattle.pea_top.specs.Linking.{IsLinkProblem, of_hierarchy, of_links}
 
-one_problem_of : (checks : List Check) (one other : Problem) → IsFirstProblem checks one → IsFirstProblem checks other → one ≡ other
+one_problem_of : (checks : List (Check Problem)) (one other : Problem) → IsFirstFault checks one → IsFirstFault checks other → one ≡ other
 one_problem_of [] one other h i = absurd h
 one_problem_of (c ∷ checks) one other (inl h) (inl i) = h.1 ∙ sym i.1
 one_problem_of (c ∷ checks) one other (inl h) (inr i) = absurd (h.0 i.0)
 one_problem_of (c ∷ checks) one other (inr h) (inl i) = absurd (i.0 h.0)
 one_problem_of (c ∷ checks) one other (inr h) (inr i) = one_problem_of checks one other h.1 i.1
 
-no_problem_of : (checks : List Check) (problem : Problem) → AllHold checks → ¬ IsFirstProblem checks problem
+no_problem_of : (checks : List (Check Problem)) (problem : Problem) → AllHold checks → ¬ IsFirstFault checks problem
 no_problem_of [] problem all first = first
 no_problem_of (c ∷ checks) problem all (inl first) = first.0 all.0
 no_problem_of (c ∷ checks) problem all (inr first) = no_problem_of checks problem all.1 first.1
@@ -37,10 +38,10 @@ module _ (laws : TreeLaws) (folder : List ClassFile) (library : List Header) whe
       no_problem_of_tree (subst IsTree same tree) h.first
 
   -- the same classes are linked in one arrangement
-  links_at : (classes other : Classes) (problem : Problem) → IsArranged folder library classes → IsTree classes → IsArranged folder library other → IsFirstProblem (link_checks other) problem → IsFirstProblem (link_checks classes) problem
+  links_at : (classes other : Classes) (problem : Problem) → IsArranged folder library classes → IsTree classes → IsArranged folder library other → IsFirstFault (link_checks other) problem → IsFirstFault (link_checks classes) problem
   links_at classes other problem arranged tree other_arranged first =
       let same = laws.arranged folder library classes other arranged tree.in_order other_arranged in
-      subst (λ (at : Classes). IsFirstProblem (link_checks at) problem) (sym same) first
+      subst (λ (at : Classes). IsFirstFault (link_checks at) problem) (sym same) first
 
   pub one_link_problem : (one other : Problem) → IsLinkProblem folder library one → IsLinkProblem folder library other → one ≡ other
   one_link_problem one other (of_hierarchy h) (of_hierarchy i) = laws.problem folder library one other h i

@@ -1,10 +1,9 @@
 -- What words and files answer.
 use Rattle.std.specs.Prelude.{◌≡◌, List, Some, IsTrue}
-use Rattle.class_bytes.specs.Reading.{FirstHeaderFault, IsNoLibraryVersion}
 use Rattle.class_model.specs.Checks.{Fault, fault}
 use Rattle.class_model.specs.ClassOf.{ClassOf, FirstFault, IsOtherVersion}
 use Rattle.class_model.specs.Cutting as cutting
-use Rattle.class_model.specs.Header.{HeaderOf}
+use Rattle.class_model.specs.Header.{FirstHeaderFault, HeaderOf, IsNoLibraryVersion}
 use Rattle.class_model.specs.declared.class_file.ClassFile.{ClassFile}
 use Rattle.class_model.specs.declared.header.Header.{Header}
 use Rattle.class_tree.specs.Problems.{Problem}

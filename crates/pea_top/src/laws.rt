@@ -5,9 +5,8 @@ ghost use Rattle.pea_top.specs.Answer.{IsAnswer};
 ghost use Rattle.pea_top.specs.Words.{Word, Command, Spells};
 ghost use Rattle.pea_top.specs.declared.status.Status.{Status};
 
-use class_bytes::a_library_file_is_told_once;
 use class_model::{
-    a_class_file_has_no_fault, another_version_is_no_class_file, bytes_are_one_class_file,
+    a_class_file_has_no_fault, a_library_file_is_told_once, another_version_is_no_class_file, bytes_are_one_class_file,
     one_first_fault,
 };
 use class_tree::a_folder_is_told_once;

@@ -14,9 +14,9 @@ ghost use Rattle.pea_top.specs.declared.reading.ReadStop.TheVariants.{NoMemory a
 
 use crate::folder::{NamedFile, is_class_file};
 use crate::sharing::SharedTexts;
-use class_bytes::{a_library_file_is_told_once, push_class, read_class, read_header};
+use class_bytes::{push_class, read_class, read_header};
 use class_model::{
-    ByteList, ClassFault, ClassFile, FileRule, Header, NoMemory, a_class_file_has_no_fault,
+    a_library_file_is_told_once, ByteList, ClassFault, ClassFile, FileRule, Header, NoMemory, a_class_file_has_no_fault,
     another_version_is_no_class_file,
 };
 use class_tree::{ClassFileList, HeaderList};

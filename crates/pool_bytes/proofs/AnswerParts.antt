@@ -21,55 +21,55 @@ Answer = Result (Unit {0}) ClassFault
 
 -- ---- checks one after the other
 
-all-append : (front others : List Check) → AllHold front → AllHold others → AllHold (front ++ others)
+all-append : (front others : List (Check Fault)) → AllHold front → AllHold others → AllHold (front ++ others)
 all-append [] others all rest = rest
 all-append (c ∷ front) others all rest = (all.0, all-append front others all.1 rest)
 
-front_holds : (front others : List Check) → AllHold (front ++ others) → AllHold front
+front_holds : (front others : List (Check Fault)) → AllHold (front ++ others) → AllHold front
 front_holds [] others all = tt
 front_holds (c ∷ front) others all = (all.0, front_holds front others all.1)
 
-rest_holds : (front others : List Check) → AllHold (front ++ others) → AllHold others
+rest_holds : (front others : List (Check Fault)) → AllHold (front ++ others) → AllHold others
 rest_holds [] others all = all
 rest_holds (c ∷ front) others all = rest_holds front others all.1
 
-fault-after : (front others : List Check) (f : Fault) → AllHold front → IsFirstFault others f → IsFirstFault (front ++ others) f
+fault-after : (front others : List (Check Fault)) (f : Fault) → AllHold front → IsFirstFault others f → IsFirstFault (front ++ others) f
 fault-after [] others f all first = first
 fault-after (c ∷ front) others f all first = inr (all.0, fault-after front others f all.1 first)
 
-fault-before : (front others : List Check) (f : Fault) → IsFirstFault front f → IsFirstFault (front ++ others) f
+fault-before : (front others : List (Check Fault)) (f : Fault) → IsFirstFault front f → IsFirstFault (front ++ others) f
 fault-before [] others f first = absurd first
 fault-before (c ∷ front) others f (inl here) = inl here
 fault-before (c ∷ front) others f (inr later) = inr (later.0, fault-before front others f later.1)
 
 -- where the first hold, the others answer
-others_answer : (front others : List Check) (answer : Answer) → AllHold front → Answers others answer → Answers (front ++ others) answer
+others_answer : (front others : List (Check Fault)) (answer : Answer) → AllHold front → Answers others answer → Answers (front ++ others) answer
 others_answer front others (Ok x) all rest = (all-append front others all rest.0, tt)
 others_answer front others (Err (Malformed at rule)) all rest = fault-after front others _ all rest
 others_answer front others (Err NoMemory) all rest = tt
 others_answer front others (Err (Version major minor)) all rest = rest
 
 -- where one of the first fails, they answer
-first_answer : (front others : List Check) (fault : ClassFault) → Answers {X = Unit {0}} front (Err fault) → Answers {X = Unit {0}} (front ++ others) (Err fault)
+first_answer : (front others : List (Check Fault)) (fault : ClassFault) → Answers {X = Unit {0}} front (Err fault) → Answers {X = Unit {0}} (front ++ others) (Err fault)
 first_answer front others (Malformed at rule) answer = fault-before front others _ answer
 first_answer front others NoMemory answer = tt
 first_answer front others (Version major minor) answer = answer
 
 -- a ? passes on the fault
-pub passed_on : (checks : List Check) (answer : Answer) (fault : ClassFault) → IsErrAnd answer (λ e. e ≡ fault) → Answers {X = Unit {0}} checks (Err fault) → Answers checks answer
+pub passed_on : (checks : List (Check Fault)) (answer : Answer) (fault : ClassFault) → IsErrAnd answer (λ e. e ≡ fault) → Answers {X = Unit {0}} checks (Err fault) → Answers checks answer
 passed_on checks (Ok x) fault is answers = absurd is
 passed_on checks (Err e) fault is answers = subst (λ (f : ClassFault). Answers {X = Unit {0}} checks (Err f)) (sym is) answers
 
 -- ---- the entries
 
 -- checks of entries are those of their constants, one after the other
-pub record ByConstant (checks : ℕ → Constants → List Check) (one : ℕ → Const → List Check) : Type 1 where
+pub record ByConstant (checks : ℕ → Constants → List (Check Fault)) (one : ℕ → Const → List (Check Fault)) : Type 1 where
   pub nil : (at : ℕ) → checks at [] ≡ []
   pub none : (at : ℕ) (rest : Constants) → checks at (None ∷ rest) ≡ checks at rest
   pub some : (at : ℕ) (constant : Const) (rest : Constants) → checks at (Some constant ∷ rest) ≡ one at constant ++ checks (at + length (constant_bytes constant)) rest
 
 -- What is answered to the entries that are left is answered to all.
-pub record Left (checks : ℕ → Constants → List Check) (at place : ℕ) (pool rest : Constants) : Type 0 where
+pub record Left (checks : ℕ → Constants → List (Check Fault)) (at place : ℕ) (pool rest : Constants) : Type 0 where
   pub answers : (answer : Answer) → Answers (checks place rest) answer → Answers (checks at pool) answer
   pub fits : place + length (flat_map entry_bytes rest) < 2 ^ 64
 
@@ -79,7 +79,7 @@ entry_at (entry ∷ pool) zero lt = refl
 entry_at (entry ∷ pool) (suc index) lt = entry_at pool index (omega (arith, lt))
 
 -- the entry at an index, and those behind it
-module _ {checks : ℕ → Constants → List Check} {one : ℕ → Const → List Check} (by : ByConstant checks one) (at place : ℕ) (pool : Constants) (index : ℕ) (left : Left checks at place pool (drop index pool)) where
+module _ {checks : ℕ → Constants → List (Check Fault)} {one : ℕ → Const → List (Check Fault)} (by : ByConstant checks one) (at place : ℕ) (pool : Constants) (index : ℕ) (left : Left checks at place pool (drop index pool)) where
   pub at_end : length pool ≤ index → Answers {X = Unit {0}} (checks at pool) (Ok tt)
   at_end none = left.answers (Ok tt) (rw (drop_all index pool none, by.nil place) (tt, tt))
 
@@ -92,7 +92,7 @@ module _ {checks : ℕ → Constants → List Check} {one : ℕ → Const → Li
     pub at_none : None ≡ constant_at pool index → Left checks at place pool (drop (index + 1) pool)
     at_none e =
         let now = behind None e in
-        record { answers = λ answer given. now.answers answer (subst (λ (c : List Check). Answers c answer) (sym (by.none place (drop (index + 1) pool))) given); fits = now.fits }
+        record { answers = λ answer given. now.answers answer (subst (λ (c : List (Check Fault)). Answers c answer) (sym (by.none place (drop (index + 1) pool))) given); fits = now.fits }
 
     module _ (constant : Const) (e : Some constant ≡ constant_at pool index) where
       pub at_fault : (fault : ClassFault) → Answers {X = Unit {0}} (one place constant) (Err fault) → Answers {X = Unit {0}} (checks at pool) (Err fault)
@@ -100,7 +100,7 @@ module _ {checks : ℕ → Constants → List Check} {one : ℕ → Const → Li
           let now = behind (Some constant) e in
           let others = checks (place + length (constant_bytes constant)) (drop (index + 1) pool) in
           let parts = sym (by.some place constant (drop (index + 1) pool)) in
-          now.answers (Err fault) (subst (λ (c : List Check). Answers {X = Unit {0}} c (Err fault)) parts (first_answer (one place constant) others fault answer))
+          now.answers (Err fault) (subst (λ (c : List (Check Fault)). Answers {X = Unit {0}} c (Err fault)) parts (first_answer (one place constant) others fault answer))
 
       pub place_fits : place + length (constant_bytes constant) < 2 ^ 64
       place_fits = let now = behind (Some constant) e in omega (arith, now.fits, length-append (constant_bytes constant) (flat_map entry_bytes (drop (index + 1) pool)))
@@ -110,7 +110,7 @@ module _ {checks : ℕ → Constants → List Check} {one : ℕ → Const → Li
           let now = behind (Some constant) e in
           let others = drop (index + 1) pool in
           record {
-            answers = λ answer given. now.answers answer (subst (λ (c : List Check). Answers c answer) (sym (by.some place constant others)) (others_answer (one place constant) (checks (place + length (constant_bytes constant)) others) answer all (rw is at given)));
+            answers = λ answer given. now.answers answer (subst (λ (c : List (Check Fault)). Answers c answer) (sym (by.some place constant others)) (others_answer (one place constant) (checks (place + length (constant_bytes constant)) others) answer all (rw is at given)));
             fits = omega (arith, now.fits, is, length-append (constant_bytes constant) (flat_map entry_bytes others));
           }
 

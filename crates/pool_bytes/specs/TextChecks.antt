@@ -7,6 +7,6 @@ use Rattle.class_model.specs.declared.pool.Const.{Const}
 use Rattle.class_model.specs.declared.pool.Const.TheVariants.{Utf8}
 
 -- one constant at a place
-abbrev pub text_checks : ℕ → Const → List Check
+abbrev pub text_checks : ℕ → Const → List (Check Fault)
 text_checks at (Utf8 text) = check at rules.Text (IsModifiedUtf8 text) ∷ []
 text_checks at constant = []

@@ -2,10 +2,10 @@
 use Rattle.std.proofs.Common.{◌≡◌, inl, inr, ℕ, List, [], ◌∷◌, Option, Some, None, refl, sym, ap, subst, ◌∙◌}
 use Rattle.std.specs.List.{AllByRecursion}
 use Rattle.std.proofs.lemmas.Option.{same_Some}
+use Rattle.class_model.specs.Checks.{AllHold, Check, IsFirstFault}
 use Rattle.class_model.specs.declared.class_file.Handler.{Handler}
 use Rattle.class_model.specs.declared.frame.Frame.{Frame}
 use Rattle.class_model.specs.declared.instr.Placed.{Placed}
-use Rattle.type_rules.specs.Rule.{AllHold, Check, IsFirstToFail}
 use Rattle.type_rules.specs.Scope.{Scope, instructions}
 use Rattle.type_rules.specs.declared.fault.TypeRule.{TypeRule}
 use Rattle.type_rules.specs.Checks.{FailsAt, FailsBehind, IsTypedAt, frame_before, instr_checks}
@@ -16,12 +16,12 @@ use Rattle.type_rules.specs.Typed.{AreTyped, FailsIn, FailsInTable, IsFirstFailu
 
 -- ---- checks
 
-all_fail_none : (checks : List Check) (rule : TypeRule) → AllHold checks → ¬ IsFirstToFail checks rule
+all_fail_none : (checks : List (Check TypeRule)) (rule : TypeRule) → AllHold checks → ¬ IsFirstFault checks rule
 all_fail_none [] rule hold first = first
 all_fail_none (c ∷ checks) rule hold (inl here) = here.0 hold.0
 all_fail_none (c ∷ checks) rule hold (inr later) = all_fail_none checks rule hold.1 later.1
 
-fails_by_one : (checks : List Check) (one other : TypeRule) → IsFirstToFail checks one → IsFirstToFail checks other → one ≡ other
+fails_by_one : (checks : List (Check TypeRule)) (one other : TypeRule) → IsFirstFault checks one → IsFirstFault checks other → one ≡ other
 fails_by_one [] one other first second = absurd first
 fails_by_one (c ∷ checks) one other (inl here) (inl there) = here.1 ∙ sym there.1
 fails_by_one (c ∷ checks) one other (inl here) (inr later) = absurd (here.0 later.0)

@@ -17,11 +17,11 @@ use Rattle.member_link.specs.References.{Reference, reference_at}
 use Rattle.type_rules.specs.MemberRows.{reference_of}
 use Rattle.type_rules.specs.Signatures.{IsCallable, IsMemberDescriptor}
 
-front : (a b : List Check) → AllHold (a ++ b) → AllHold a
+front : (a b : List (Check Fault)) → AllHold (a ++ b) → AllHold a
 front [] b h = tt
 front (c ∷ a) b h = (h.0, front a b h.1)
 
-back : (a b : List Check) → AllHold (a ++ b) → AllHold b
+back : (a b : List (Check Fault)) → AllHold (a ++ b) → AllHold b
 back [] b h = h
 back (c ∷ a) b h = back a b h.1
 
@@ -41,7 +41,7 @@ asked major pool at (Some own ∷ entries) (suc index) constant hold e =
     asked major pool (at + length (constant_bytes own)) entries index constant (back (constant_checks major pool at own) (entries_checks major pool (at + length (constant_bytes own)) entries) hold) e
 
 -- the pool of a class file is asked first
-first_of_nine : (a b c d e f g h i : List Check) → AllHold (a ++ b ++ c ++ d ++ e ++ f ++ g ++ h ++ i) → AllHold a
+first_of_nine : (a b c d e f g h i : List (Check Fault)) → AllHold (a ++ b ++ c ++ d ++ e ++ f ++ g ++ h ++ i) → AllHold a
 first_of_nine a b c d e f g h i all =
     let abcdefgh = front (a ++ b ++ c ++ d ++ e ++ f ++ g ++ h) i all in
     let abcdefg = front (a ++ b ++ c ++ d ++ e ++ f ++ g) h abcdefgh in

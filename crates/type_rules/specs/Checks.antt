@@ -1,12 +1,13 @@
 -- What is asked where an instruction stands, in the order in which it is asked (JVM Specification SE 8, 4.10.1.6).
 use Rattle.std.specs.Prelude.{◌≡◌, ℕ, Bool, true, false, List, [], ◌∷◌, ◌++◌, Option, Some, None}
+use Rattle.class_model.specs.Checks.{AllHold, Check, IsFirstFault}
 use Rattle.class_model.specs.Instructions.{targets}
 use Rattle.class_model.specs.declared.class_file.Handler.{Handler}
 use Rattle.class_model.specs.declared.frame.Frame.{Frame}
 use Rattle.class_model.specs.declared.instr.Placed.{Placed}
 use Rattle.class_tree.specs.Headers.{Headers}
 use Rattle.type_rules.specs.FrameAssignability.{IsFrameAssignable}
-use Rattle.type_rules.specs.Rule.{AllHold, Check, IsFirstToFail, check, row_checks}
+use Rattle.type_rules.specs.Rule.{check, row_checks}
 use Rattle.type_rules.specs.Scope.{Scope}
 use Rattle.type_rules.specs.Table.{row_of}
 use Rattle.type_rules.specs.declared.fault.TypeRule.{TypeRule}
@@ -34,24 +35,24 @@ abbrev pub MayGoTo : Headers → Option Frame → Option Frame → Type 0
 MayGoTo headers (Some frame) (Some stated) = IsFrameAssignable headers frame stated
 MayGoTo headers frame stated = ⊥
 
-abbrev asked_if : Bool → Check → List Check
+abbrev asked_if : Bool → Check → List (Check TypeRule)
 asked_if true asked = asked ∷ []
 asked_if false asked = []
 
 -- each handler whose range has the instruction, in table order
-abbrev pub handler_checks : Scope → ℕ → Frame → List Handler → List Check
+abbrev pub handler_checks : Scope → ℕ → Frame → List Handler → List (Check TypeRule)
 handler_checks s at before [] = []
 handler_checks s at before (handler ∷ handlers) =
     asked_if (covers handler at) (check rules.Handler (MayGoTo s.headers (Some (caught_frame s before handler)) (stated_at s handler.at))) ++ handler_checks s at before handlers
 
 -- each target, in order
-abbrev pub target_checks : Scope → Option Frame → List ℕ → List Check
+abbrev pub target_checks : Scope → Option Frame → List ℕ → List (Check TypeRule)
 target_checks s behind [] = []
 target_checks s behind (target ∷ targets) = check rules.Target (MayGoTo s.headers behind (stated_at s target)) ∷ target_checks s behind targets
 
 -- ---- an instruction
 
-abbrev pub instr_checks : Scope → Option Frame → Placed → Frame → List Check
+abbrev pub instr_checks : Scope → Option Frame → Placed → Frame → List (Check TypeRule)
 instr_checks s flows placed before =
     check rules.Mismatch (MayFlowIn s.headers flows (stated_at s placed.at))
     ∷ handler_checks s placed.at before s.part.handlers
@@ -66,7 +67,7 @@ pub record IsTypedAt (s : Scope) (flows : Option Frame) (placed : Placed) (befor
 -- there is no frame before the instruction, or a check is the first that fails
 abbrev pub FailsBehind : Scope → Option Frame → Placed → TypeRule → Option Frame → Type 0
 FailsBehind s flows placed rule None = rule ≡ rules.NoFrame
-FailsBehind s flows placed rule (Some before) = IsFirstToFail (instr_checks s flows placed before) rule
+FailsBehind s flows placed rule (Some before) = IsFirstFault (instr_checks s flows placed before) rule
 
 abbrev pub FailsAt : Scope → Option Frame → Placed → TypeRule → Type 0
 FailsAt s flows placed rule = FailsBehind s flows placed rule (frame_before flows (stated_at s placed.at))

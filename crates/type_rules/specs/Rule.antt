@@ -1,6 +1,7 @@
 -- What an instruction does to a frame (JVM Specification SE 8, 4.10.1.4): the frame behind it and the one that handlers
 -- see, or the first rule that fails.
 use Rattle.std.specs.Prelude.{◌≡◌, ◌⊎◌, ◌≤◌, ℕ, List, [], ◌∷◌, ◌++◌, length, Some, None, Result, Ok, Err, if◌then◌else◌}
+use Rattle.class_model.specs.Checks.{Check, AllHold, IsFirstFault}
 use Rattle.class_model.specs.Code.{OperandFits}
 use Rattle.class_model.specs.Frames.{depth}
 use Rattle.class_model.specs.Pool.{Constants, constant_at}
@@ -20,30 +21,17 @@ use Rattle.type_rules.specs.declared.fault.TypeRule.{TypeRule}
 use Rattle.type_rules.specs.declared.fault.TypeRule.TheVariants as rules
 use Rattle.type_rules.specs.declared.ruled.Ruled.{Ruled}
 
--- ---- checks in their order
+-- ---- what is asked
 
-pub record Check : Type 1 where
-  pub rule : TypeRule
-  pub holds : Type 0
-
-abbrev pub check : TypeRule → Type 0 → Check
-check rule holds = record { rule = rule; holds = holds }
-
-abbrev pub AllHold : List Check → Type 0
-AllHold [] = Unit {0}
-AllHold (c ∷ checks) = c.holds × AllHold checks
-
--- the first check that does not hold is of this rule
-abbrev pub IsFirstToFail : List Check → TypeRule → Type 0
-IsFirstToFail [] rule = ⊥
-IsFirstToFail (c ∷ checks) rule = ((¬ c.holds) × (rule ≡ c.rule)) ⊎ (c.holds × IsFirstToFail checks rule)
+abbrev pub check : TypeRule → Type 0 → Check TypeRule
+check rule holds = record { fault = rule; holds = holds }
 
 -- ---- a row, behind a frame
 
 abbrev pub stack_behind : Frame → Row → List VType
 stack_behind f row = row.becomes (under (length row.takes) f.stack) ++ row.gives
 
-abbrev pub row_checks : Scope → Frame → Row → List Check
+abbrev pub row_checks : Scope → Frame → Row → List (Check TypeRule)
 row_checks s f row =
     check rules.Stack (AllFit s.headers row.takes (topmost (length row.takes) f.stack))
     ∷ check rules.Local row.local
@@ -61,7 +49,7 @@ ruled f row = record {
 -- what asking a row answers
 abbrev pub RowRules : Scope → Frame → Row → Result Ruled RuleFault → Type 0
 RowRules s f row (Ok result) = AllHold (row_checks s f row) × (result ≡ ruled f row)
-RowRules s f row (Err (faults.Fails rule)) = IsFirstToFail (row_checks s f row) rule
+RowRules s f row (Err (faults.Fails rule)) = IsFirstFault (row_checks s f row) rule
 RowRules s f row (Err faults.NoMemory) = Unit {0}
 
 -- ---- an instruction

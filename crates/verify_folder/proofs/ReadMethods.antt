@@ -31,7 +31,7 @@ code_has_instrs [] part all e = absurd cc
 code_has_instrs (Code name own ∷ attrs) part all e = subst (λ (p : CodePart). HasInstrs (Code 0 p)) (same_Some own part e) all.0
 code_has_instrs (Raw name bytes ∷ attrs) part all e = code_has_instrs attrs part all.1 e
 
-instrs_are : (s : Scope) (asks : List Placed → List Check) (found : Result (List Placed) Fault) → decoded s.part.code ≡ found → AllHold (asked_of found asks) → decoded s.part.code ≡ Ok (instructions s)
+instrs_are : (s : Scope) (asks : List Placed → List (Check Fault)) (found : Result (List Placed) Fault) → decoded s.part.code ≡ found → AllHold (asked_of found asks) → decoded s.part.code ≡ Ok (instructions s)
 instrs_are s asks (Ok instrs) is holds = rw is refl
 instrs_are s asks (Err fault) is holds = absurd holds.0
 

@@ -1,9 +1,10 @@
 -- An instruction is asked part by part.
 use Rattle.std.proofs.Common.{◌≡◌, List, ◌++◌, Option, Some, Ok, Err, sym, subst, append_assoc, inr}
+use Rattle.class_model.specs.Checks.{AllHold, Check}
 use Rattle.class_model.specs.Instructions.{targets}
 use Rattle.class_model.specs.declared.frame.Frame.{Frame}
 use Rattle.class_model.specs.declared.instr.Placed.{Placed}
-use Rattle.type_rules.specs.Rule.{AllHold, Check, row_checks}
+use Rattle.type_rules.specs.Rule.{row_checks}
 use Rattle.type_rules.specs.Scope.{Scope}
 use Rattle.type_rules.specs.Table.{row_of}
 use Rattle.type_rules.specs.Checks.{FailsBehind, IsTypedAt, MayFlowIn, frame_before, handler_checks, instr_checks, target_checks}
@@ -15,13 +16,13 @@ use Rattle.verify_folder.specs.declared.stop.Stop.TheVariants.{Fails, NoMemory}
 use Rattle.verify_folder.proofs.ChecksLeft.{Remain, remain, refused}
 
 module _ (s : Scope) (flows : Option Frame) (placed : Placed) (before : Frame) where
-  abbrev of_handlers : List Check
+  abbrev of_handlers : List (Check TypeRule)
   of_handlers = handler_checks s placed.at before s.part.handlers
 
-  abbrev of_row : List Check
+  abbrev of_row : List (Check TypeRule)
   of_row = row_checks s before (row_of s before placed)
 
-  abbrev of_targets : List Check
+  abbrev of_targets : List (Check TypeRule)
   of_targets = target_checks s (frame_behind s placed before) (targets placed.instr)
 
   failed : frame_before flows (stated_at s placed.at) ≡ Some before → (stop : Stop) → ChecksAnswer placed.at (instr_checks s flows placed before) (Err stop) → StepAnswers s flows placed (Err stop)

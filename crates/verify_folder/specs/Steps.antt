@@ -1,6 +1,7 @@
 -- What the parts of verification answer.
 use Rattle.std.specs.Prelude.{◌≡◌, ◌⊎◌, ◌<◌, ℕ, List, length, Option, Some, None, Result, Ok, Err}
 use Rattle.std.specs.List.{AllByRecursion}
+use Rattle.class_model.specs.Checks.{AllHold, Check, IsFirstFault}
 use Rattle.class_model.specs.Instructions.{decoded}
 use Rattle.class_model.specs.declared.class_file.Handler.{Handler}
 use Rattle.class_model.specs.declared.frame.Frame.{Frame}
@@ -9,7 +10,7 @@ use Rattle.class_model.specs.declared.instr.Placed.{Placed}
 use Rattle.class_tree.specs.Headers.{Name}
 use Rattle.class_tree.specs.Names.{throwable}
 use Rattle.code_bytes.specs.Codes.{IsReadMethod}
-use Rattle.type_rules.specs.Rule.{AllHold, Check, IsFirstToFail, row_checks, ruled}
+use Rattle.type_rules.specs.Rule.{row_checks, ruled}
 use Rattle.type_rules.specs.Scope.{Scope, instructions}
 use Rattle.type_rules.specs.Table.{row_of}
 use Rattle.type_rules.specs.declared.fault.TypeRule.TheVariants as rules
@@ -23,9 +24,9 @@ use Rattle.verify_folder.specs.declared.stop.Stop.{Stop}
 use Rattle.verify_folder.specs.declared.stop.Stop.TheVariants as stops
 
 -- checks of an instruction at an offset
-abbrev pub ChecksAnswer : ℕ → List Check → Result Unit Stop → Type 0
+abbrev pub ChecksAnswer : ℕ → List (Check TypeRule) → Result Unit Stop → Type 0
 ChecksAnswer at checks (Ok done) = AllHold checks
-ChecksAnswer at checks (Err (stops.Fails offset rule)) = (offset ≡ at) × IsFirstToFail checks rule
+ChecksAnswer at checks (Err (stops.Fails offset rule)) = (offset ≡ at) × IsFirstFault checks rule
 ChecksAnswer at checks (Err stops.NoMemory) = Unit {0}
 
 -- the exception table
@@ -46,7 +47,7 @@ BeforeAnswers s flows at (Err stops.NoMemory) = Unit {0}
 -- the row of an instruction behind a frame
 abbrev pub RowAnswers : Scope → Placed → Frame → Result Ruled Stop → Type 0
 RowAnswers s placed before (Ok result) = AllHold (row_checks s before (row_of s before placed)) × (result ≡ ruled before (row_of s before placed))
-RowAnswers s placed before (Err (stops.Fails offset rule)) = (offset ≡ placed.at) × IsFirstToFail (row_checks s before (row_of s before placed)) rule
+RowAnswers s placed before (Err (stops.Fails offset rule)) = (offset ≡ placed.at) × IsFirstFault (row_checks s before (row_of s before placed)) rule
 RowAnswers s placed before (Err stops.NoMemory) = Unit {0}
 
 -- an instruction, behind what flows into it: its frame, and what flows into the next

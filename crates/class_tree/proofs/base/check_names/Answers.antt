@@ -2,9 +2,9 @@ use Rattle.std.proofs.Common.{◌≡◌, true, List, refl, sym, ap, subst, ◌�
 use Rattle.std.specs.List.{list_all}
 use Rattle.std.proofs.lemmas.Result.{err_from_is_err_and}
 use Rattle.class_model.specs.ModifiedUtf8.{is_plain_text}
+use Rattle.class_model.specs.Checks.{asked_each}
 use Rattle.class_tree.specs.Headers.{Name}
 use Rattle.class_tree.specs.Names.{base_names}
-use Rattle.class_tree.specs.Problems.{asked_each}
 use Rattle.class_tree.proofs.BaseChecks.{library_check}
 use Rattle.class_tree.proofs.LinkChecks.{Remain, all_remain, asked_at, asked_all, passes, fails}
 use Rattle.class_tree.proofs.PlainNames.{plain_at}

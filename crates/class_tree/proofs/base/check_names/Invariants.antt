@@ -1,6 +1,6 @@
 use Rattle.std.proofs.Common.{map, drop}
+use Rattle.class_model.specs.Checks.{asked_each}
 use Rattle.class_tree.specs.Names.{base_names}
-use Rattle.class_tree.specs.Problems.{asked_each}
 use Rattle.class_tree.proofs.BaseChecks.{library_check}
 use Rattle.class_tree.proofs.LinkChecks.{Remain}
 use Rattle.class_tree.proofs.base.check_names.Given as goal

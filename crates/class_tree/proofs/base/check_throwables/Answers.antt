@@ -4,9 +4,9 @@ use Rattle.std.specs.Option.{is_some}
 use Rattle.std.proofs.lemmas.Bool.{false≢true}
 use Rattle.std.proofs.lemmas.Result.{err_from_is_err_and}
 use Rattle.class_model.specs.ModifiedUtf8.{is_plain_text}
+use Rattle.class_model.specs.Checks.{asked_each}
 use Rattle.class_tree.specs.Headers.{Name}
 use Rattle.class_tree.specs.Names.{throwable, machine_throwables}
-use Rattle.class_tree.specs.Problems.{asked_each}
 use Rattle.class_tree.proofs.BaseChecks.{throwable_check}
 use Rattle.class_tree.proofs.LinkChecks.{Remain, all_remain, asked_at, asked_all, passes, fails}
 use Rattle.class_tree.proofs.Places.{class_of_no_number}

@@ -1,6 +1,6 @@
 use Rattle.std.proofs.Common.{map, drop}
+use Rattle.class_model.specs.Checks.{asked_each}
 use Rattle.class_tree.specs.Names.{machine_throwables}
-use Rattle.class_tree.specs.Problems.{asked_each}
 use Rattle.class_tree.proofs.BaseChecks.{throwable_check}
 use Rattle.class_tree.proofs.LinkChecks.{Remain}
 use Rattle.class_tree.proofs.base.check_throwables.Given as goal

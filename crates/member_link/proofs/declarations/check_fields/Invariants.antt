@@ -1,6 +1,6 @@
 use Rattle.std.proofs.Common.{drop}
+use Rattle.class_model.specs.Checks.{asked_each}
 use Rattle.class_tree.specs.Headers.{headers_of}
-use Rattle.class_tree.specs.Problems.{asked_each}
 use Rattle.member_link.specs.Declarations.{declared_field_checks}
 use Rattle.member_link.proofs.LinkSteps.{Remain}
 use Rattle.member_link.proofs.declarations.check_fields.Given as goal

@@ -1,6 +1,6 @@
 use Rattle.std.proofs.lemmas.Result.{err_from_is_err_and}
+use Rattle.class_model.specs.Checks.{asked_each}
 use Rattle.class_tree.specs.Headers.{headers_of}
-use Rattle.class_tree.specs.Problems.{asked_each}
 use Rattle.member_link.specs.Declarations.{declaration_checks}
 use Rattle.member_link.specs.Linked.{link_checks}
 use Rattle.member_link.specs.Uses.{use_checks}

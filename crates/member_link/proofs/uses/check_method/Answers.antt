@@ -1,7 +1,7 @@
 use Rattle.std.proofs.Common.{Err, subst}
 use Rattle.std.proofs.lemmas.Result.{err_from_is_err_and}
+use Rattle.class_model.specs.Checks.{asked_each}
 use Rattle.class_tree.specs.Answers.{Answers}
-use Rattle.class_tree.specs.Problems.{asked_each}
 use Rattle.member_link.specs.Resolving.{Resolved, resolved_scope}
 use Rattle.member_link.specs.Uses.{attr_checks}
 use Rattle.code_bytes.specs.Codes.{home_of}

@@ -1,9 +1,9 @@
 use Rattle.std.proofs.Common.{Err, sym, subst, ◌∙◌}
 use Rattle.std.specs.List.{AllByRecursion}
 use Rattle.std.proofs.lemmas.Result.{err_from_is_err_and}
+use Rattle.class_model.specs.Checks.{asked_each}
 use Rattle.class_tree.specs.Answers.{Answers}
 use Rattle.class_tree.specs.Headers.{headers_of, IsClassFile}
-use Rattle.class_tree.specs.Problems.{asked_each}
 use Rattle.member_link.specs.Uses.{use_checks}
 use Rattle.member_link.proofs.EachUse.{one_asked, one_refused}
 use Rattle.member_link.proofs.FolderClasses.{methods_of_class}

@@ -1,5 +1,5 @@
 use Rattle.std.proofs.Common.{sym, ◌∙◌}
-use Rattle.class_model.proofs.PoolPush.{wide_pushed, narrow_pushed}
+use Rattle.class_model.specs.Laws.Pools.{wide_pushed, narrow_pushed}
 use Rattle.class_model.proofs.pool.Pool.push.Goals as goal
 
 pub invariant_of-self-in-Continue-branch-3 : goal.invariant_of-self-in-Continue-branch-3

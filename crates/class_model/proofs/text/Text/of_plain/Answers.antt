@@ -1,4 +1,4 @@
-use Rattle.class_model.proofs.PlainTexts.{plain_text}
+use Rattle.class_model.specs.Laws.Texts.{plain_text}
 use Rattle.class_model.proofs.text.Text.of_plain.Goals as goal
 
 pub of_text-requires : goal.of_text-requires
