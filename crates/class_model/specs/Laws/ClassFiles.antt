@@ -5,8 +5,8 @@ use Rattle.class_model.specs.Checks.{Check, Fault, check, AllHold}
 use Rattle.class_model.specs.ClassOf.{class_file_checks, fields_checks, methods_checks, bootstrap_index_checks}
 use Rattle.class_model.specs.Laws.Checks.{first_holds, others_hold}
 use Rattle.class_model.specs.Members.{fits_class, class_name_checks, super_checks, interfaces_checks, attrs_checks}
-use Rattle.class_model.specs.Methods.{Home, class_attr_checks, bootstrap_count}
-use Rattle.class_model.specs.PoolChecks.{class_at, entries_checks}
+use Rattle.class_model.specs.Methods.{class_attr_checks, bootstrap_count, home_of}
+use Rattle.class_model.specs.PoolChecks.{entries_checks}
 use Rattle.class_model.specs.Spelling.{entry_bytes, field_bytes, method_bytes}
 use Rattle.class_model.specs.declared.class_file.ClassFile.{ClassFile}
 use Rattle.class_model.specs.declared.fault.FileRule.TheVariants as rules
@@ -24,10 +24,6 @@ methods_place c = fields_place c + 2 + length (flat_map field_bytes c.fields)
 
 abbrev pub attrs_place : ClassFile → ℕ
 attrs_place c = methods_place c + 2 + length (flat_map method_bytes c.methods)
-
--- what is known of a class where its methods are asked
-abbrev pub home_of : ClassFile → Home
-home_of c = record { pool = c.pool; major = c.major; flags = c.flags; name = class_at c.pool c.this_class }
 
 -- ---- what holds of each
 
