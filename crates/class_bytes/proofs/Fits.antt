@@ -6,6 +6,8 @@ use Rattle.class_model.specs.Checks.{fault}
 use Rattle.class_model.specs.ClassOf.{entered, entered_attr, entered_method}
 use Rattle.class_model.specs.Code.{handler_at, inner_at, part_at, code_part}
 use Rattle.class_model.specs.Cutting.{IsBytes, Rest, Version, attr_at, field_at, method_at, uncut}
+use Rattle.class_model.specs.Laws.Cuts.{guard_true, whole_some}
+use Rattle.class_model.specs.Laws.Lists.{each_too}
 use Rattle.class_model.specs.Members.{is_named}
 use Rattle.class_model.specs.Methods.{code}
 use Rattle.class_model.specs.Pool.{Constants}
@@ -19,17 +21,12 @@ use Rattle.class_model.specs.declared.fault.FileRule.TheVariants as rules
 use Rattle.class_bytes.specs.Counts.{FitsContent, FitsInner, FitsInners, FitsPart, FitsAttr, FitsAttrs, FitsField, FitsMethod, FitsCounts}
 use Rattle.class_bytes.specs.Parts.{body_at}
 use Rattle.class_bytes.proofs.CutBytes.{AreBytes, Keeps, step, made, bytes_kept, u2_kept, u4_kept, IsCounted, counted_kept}
-use Rattle.class_bytes.proofs.PartLengths.{part_len, part_fills, whole_some}
-use Rattle.class_bytes.proofs.Steps.{guard_true}
+use Rattle.class_bytes.proofs.PartLengths.{part_len, part_fills}
 
 -- what each item is asked is asked of another in its place
 each_as : {X Y : Type 0} (P : X → Type 0) (Q : Y → Type 0) (f : X → Y) → ((x : X) → P x → Q (f x)) → (xs : List X) → AllByRecursion P xs → AllByRecursion Q (map f xs)
 each_as P Q f to [] all = tt
 each_as P Q f to (x ∷ xs) all = (to x all.0, each_as P Q f to xs all.1)
-
-each_too : {X : Type 0} (P Q : X → Type 0) → ((x : X) → P x → Q x) → (xs : List X) → AllByRecursion P xs → AllByRecursion Q xs
-each_too P Q to [] all = tt
-each_too P Q to (x ∷ xs) all = (to x all.0, each_too P Q to xs all.1)
 
 -- ---- parts that are cut
 

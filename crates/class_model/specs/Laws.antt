@@ -6,5 +6,6 @@ pub mod ClassFiles
 pub mod Cuts
 pub mod Descriptors
 pub mod Frames
+pub mod Lists
 pub mod Pools
 pub mod Texts

@@ -10,7 +10,7 @@ use Rattle.class_model.specs.declared.pool.Const.{Const}
 use Rattle.class_tree.specs.Answers.{Answers}
 use Rattle.class_tree.specs.Headers.{Name, Headers, class_named, named, IsThere}
 use Rattle.class_tree.specs.Names.{object, throwable, serializable, cloneable, method_handle, method_type, base_names, machine_throwables, is_interface}
-use Rattle.class_tree.specs.Problems.{check}
+use Rattle.class_tree.specs.Problems.{check, Problem}
 use Rattle.class_tree.specs.Steps.{base_checks, has_constant, is_method_handle, is_method_type, HasOneConstructor}
 use Rattle.class_tree.specs.Subtype.{IsBelow}
 use Rattle.class_tree.specs.declared.fault.LinkFault.{LinkFault}

@@ -4,6 +4,7 @@ use Rattle.std.specs.List.{AllByRecursion}
 use Rattle.class_model.specs.Checks.{Check, AllHold, asked_each}
 use Rattle.class_model.specs.declared.header.Header.{Header}
 use Rattle.class_tree.specs.Headers.{Name, Headers, all_headers, class_named, IsThere}
+use Rattle.class_tree.specs.Problems.{Problem}
 use Rattle.class_tree.specs.Steps.{supers, FitsKinds, folder_checks, library_checks, hierarchy_checks}
 use Rattle.class_tree.specs.Subtype.{IsBelow}
 use Rattle.class_tree.proofs.Places.{number_of_class}

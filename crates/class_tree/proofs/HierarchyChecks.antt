@@ -10,6 +10,7 @@ use Rattle.class_tree.specs.Graphs.{Graph, IsPath}
 use Rattle.class_tree.specs.Headers.{Name, Headers, all_headers}
 use Rattle.class_tree.specs.Nodes.{graph_of, number_of, place_at}
 use Rattle.class_tree.specs.Order.{header_at}
+use Rattle.class_tree.specs.Problems.{Problem}
 use Rattle.class_tree.specs.Steps.{supers, folder_checks, library_checks, hierarchy_checks}
 use Rattle.class_tree.specs.Subtype.{IsBelow}
 use Rattle.class_tree.specs.Trees.{IsInOrder}

@@ -1,7 +1,7 @@
 -- What the checks of a class file say of the descriptors that its constants name.
 use Rattle.std.proofs.Common.{◌≡◌, ◌+◌, ◌*◌, IsTrue, ℕ, zero, suc, List, [], ◌∷◌, ◌++◌, length, Option, Some, None, IfSome, option_and_then, option_map, refl, sym, ap, subst}
 use Rattle.std.specs.List.{flat_map}
-use Rattle.class_model.specs.Checks.{Check, check, AllHold}
+use Rattle.class_model.specs.Checks.{Check, check, AllHold, Fault}
 use Rattle.class_model.specs.ClassOf.{class_file_checks, fields_checks, methods_checks, bootstrap_index_checks}
 use Rattle.class_model.specs.Members.{fits_class, class_name_checks, super_checks, interfaces_checks, attrs_checks}
 use Rattle.class_model.specs.Methods.{Home, class_attr_checks, bootstrap_count}

@@ -10,6 +10,7 @@ use Rattle.type_rules.specs.Table.{row_of}
 use Rattle.type_rules.specs.Checks.{FailsBehind, IsTypedAt, MayFlowIn, frame_before, handler_checks, instr_checks, target_checks}
 use Rattle.type_rules.specs.Flow.{frame_behind}
 use Rattle.type_rules.specs.Stated.{stated_at}
+use Rattle.type_rules.specs.declared.fault.TypeRule.{TypeRule}
 use Rattle.verify_folder.specs.Steps.{BeforeAnswers, ChecksAnswer, RowAnswers, StepAnswers}
 use Rattle.verify_folder.specs.declared.stop.Stop.{Stop}
 use Rattle.verify_folder.specs.declared.stop.Stop.TheVariants.{Fails, NoMemory}
