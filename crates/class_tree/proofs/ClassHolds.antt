@@ -2,8 +2,10 @@
 use Rattle.std.proofs.Common.{◌≡◌, ℕ, zero, suc, List, [], ◌∷◌, ◌++◌, slice_get, Some, subst}
 use Rattle.std.specs.List.{AllByRecursion}
 use Rattle.class_model.specs.Checks.{Check, AllHold, asked_each}
+use Rattle.class_model.specs.Laws.Checks.{first_holds, others_hold}
 use Rattle.class_model.specs.declared.header.Header.{Header}
 use Rattle.class_tree.specs.Headers.{Name, Headers, all_headers, class_named, IsThere}
+use Rattle.class_tree.specs.Problems.{Problem}
 use Rattle.class_tree.specs.Steps.{supers, FitsKinds, folder_checks, library_checks, hierarchy_checks}
 use Rattle.class_tree.specs.Subtype.{IsBelow}
 use Rattle.class_tree.proofs.Places.{number_of_class}
@@ -14,18 +16,10 @@ pub record ClassHolds (headers : Headers) (header : Header) : Type 0 where
   pub circle : ¬ IsBelow headers header.name header.name
   pub kinds : FitsKinds headers header
 
-pub front_holds : (a b : List (Check Problem)) → AllHold (a ++ b) → AllHold a
-front_holds [] b h = tt
-front_holds (c ∷ a) b h = (h.0, front_holds a b h.1)
-
-pub back_holds : (a b : List (Check Problem)) → AllHold (a ++ b) → AllHold b
-back_holds [] b h = h
-back_holds (c ∷ a) b h = back_holds a b h.1
-
 each_holds : (P : Header → Type 0) (asks : Header → List (Check Problem)) → ((header : Header) → AllHold (asks header) → P header) → (list : List Header) → AllHold (asked_each asks list) → (number : ℕ) (header : Header) → slice_get list number ≡ Some header → P header
 each_holds P asks told [] h number header there = absurd cc
-each_holds P asks told (first ∷ list) h zero header there = subst P (cc) (told first (front_holds (asks first) (asked_each asks list) h))
-each_holds P asks told (first ∷ list) h (suc number) header there = each_holds P asks told list (back_holds (asks first) (asked_each asks list) h) number header there
+each_holds P asks told (first ∷ list) h zero header there = subst P (cc) (told first (first_holds (asks first) (asked_each asks list) h))
+each_holds P asks told (first ∷ list) h (suc number) header there = each_holds P asks told list (others_hold (asks first) (asked_each asks list) h) number header there
 
 pub in_either_list : (P : Header → Type 0) (front back : List Header) → ((number : ℕ) (header : Header) → slice_get front number ≡ Some header → P header) → ((number : ℕ) (header : Header) → slice_get back number ≡ Some header → P header) → (number : ℕ) (header : Header) → slice_get (front ++ back) number ≡ Some header → P header
 in_either_list P [] back f b number header there = b number header there
@@ -34,8 +28,8 @@ in_either_list P (first ∷ front) back f b (suc number) header there = in_eithe
 
 pub class_holds : (headers : Headers) → AllHold (hierarchy_checks headers) → (number : ℕ) (header : Header) → slice_get (all_headers headers) number ≡ Some header → ClassHolds headers header
 class_holds headers hold =
-    let folder = front_holds (asked_each (folder_checks headers) headers.folder) (asked_each (library_checks headers) headers.library) hold in
-    let library = back_holds (asked_each (folder_checks headers) headers.folder) (asked_each (library_checks headers) headers.library) hold in
+    let folder = first_holds (asked_each (folder_checks headers) headers.folder) (asked_each (library_checks headers) headers.library) hold in
+    let library = others_hold (asked_each (folder_checks headers) headers.folder) (asked_each (library_checks headers) headers.library) hold in
     in_either_list (ClassHolds headers) headers.folder headers.library
     (each_holds (ClassHolds headers) (folder_checks headers) (λ header h. record { there = h.0; circle = h.1.0; kinds = h.1.1.1.0.0 }) headers.folder folder)
     (each_holds (ClassHolds headers) (library_checks headers) (λ header h. record { there = h.0; circle = h.1.1.0; kinds = h.1.1.1.0 }) headers.library library)

@@ -4,19 +4,21 @@ use Rattle.std.proofs.lemmas.Bool.{cases_lt}
 use Rattle.std.proofs.lemmas.List.{drop_more, drop_all, length-append, length-map}
 use Rattle.std.proofs.lemmas.Option.{slice_get_within, get_or_from_slice_get, slice_get-map, same_Some}
 use Rattle.class_model.specs.Checks.{Check, asked_each, AllHold}
+use Rattle.class_model.specs.Laws.Checks.{Remain, all_remain, remain}
 use Rattle.class_model.specs.declared.header.Header.{Header}
 use Rattle.class_tree.specs.Answers.{Answers}
 use Rattle.class_tree.specs.Graphs.{Graph, IsPath}
 use Rattle.class_tree.specs.Headers.{Name, Headers, all_headers}
+use Rattle.class_tree.specs.Laws.Links.{refused}
 use Rattle.class_tree.specs.Nodes.{graph_of, number_of, place_at}
 use Rattle.class_tree.specs.Order.{header_at}
+use Rattle.class_tree.specs.Problems.{Problem}
 use Rattle.class_tree.specs.Steps.{supers, folder_checks, library_checks, hierarchy_checks}
 use Rattle.class_tree.specs.Subtype.{IsBelow}
 use Rattle.class_tree.specs.Trees.{IsInOrder}
 use Rattle.class_tree.specs.declared.fault.LinkFault.{LinkFault}
 use Rattle.class_tree.specs.declared.place.Place.TheVariants.{Library}
 use Rattle.class_tree.proofs.GraphPaths.{path_is_below, some_at}
-use Rattle.class_tree.proofs.LinkChecks.{Remain, all_remain, remain, refused}
 use Rattle.class_tree.proofs.Places.{class_of_number, number_of_itself, header_at_number, place_in_folder, place_in_library}
 
 -- ---- the class of a number

@@ -20,7 +20,6 @@ pub mod BaseChecks
 pub mod FoundConstants
 pub mod HierarchyChecks
 pub mod LibraryNames
-pub mod LinkChecks
 pub mod SuperNumbers
 pub mod MemberIndexes
 pub mod Climbing

@@ -1,6 +1,7 @@
 -- What a part of linking answers: every check holds, or the first problem, or want of memory.
 use Rattle.std.specs.Prelude.{List, Result, Ok, Err}
 use Rattle.class_model.specs.Checks.{Check, AllHold, IsFirstFault}
+use Rattle.class_tree.specs.Problems.{Problem}
 use Rattle.class_tree.specs.declared.fault.LinkFault.{LinkFault}
 use Rattle.class_tree.specs.declared.fault.LinkFault.TheVariants.{Unlinked, NoMemory}
 

@@ -13,7 +13,7 @@ use Rattle.class_model.specs.declared.pool.Const.{Const}
 use Rattle.class_model.specs.declared.pool.Const.TheVariants.{MethodHandle, MethodType}
 use Rattle.class_tree.specs.Headers.{Name, Classes, Headers, headers_of, named, class_named, IsThere}
 use Rattle.class_tree.specs.Names.{object, cloneable, serializable, throwable, method_handle, method_type, machine_throwables, base_names, is_interface, is_member, times_named}
-use Rattle.class_tree.specs.Problems.{check}
+use Rattle.class_tree.specs.Problems.{check, Problem}
 use Rattle.class_tree.specs.Subtype.{IsBelow}
 use Rattle.class_tree.specs.declared.fault.LinkRule.TheVariants as rules
 
