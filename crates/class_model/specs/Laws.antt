@@ -4,5 +4,6 @@ pub mod Checks
 pub mod Cuts
 pub mod Descriptors
 pub mod Frames
+pub mod Lists
 pub mod Pools
 pub mod Texts

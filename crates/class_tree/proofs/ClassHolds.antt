@@ -1,10 +1,12 @@
 -- What the checks of a hierarchy say of each of its classes.
-use Rattle.std.proofs.Common.{◌≡◌, ℕ, zero, suc, List, [], ◌∷◌, ◌++◌, slice_get, Some, subst}
+use Rattle.std.proofs.Common.{◌≡◌, ℕ, zero, suc, List, [], ◌∷◌, ◌++◌, slice_get, Some, subst, sym}
 use Rattle.std.specs.List.{AllByRecursion}
 use Rattle.class_model.specs.Checks.{Check, AllHold, asked_each}
 use Rattle.class_model.specs.Laws.Checks.{first_holds, others_hold}
 use Rattle.class_model.specs.declared.header.Header.{Header}
 use Rattle.class_tree.specs.Headers.{Name, Headers, all_headers, class_named, IsThere}
+use Rattle.class_tree.specs.Laws.Above.{IsSound, low_is_there}
+use Rattle.class_tree.specs.Laws.Headers.{class_there, own_name}
 use Rattle.class_tree.specs.Problems.{Problem}
 use Rattle.class_tree.specs.Steps.{supers, FitsKinds, folder_checks, library_checks, hierarchy_checks}
 use Rattle.class_tree.specs.Subtype.{IsBelow}
@@ -38,3 +40,12 @@ pub named_holds : (headers : Headers) → AllHold (hierarchy_checks headers) →
 named_holds headers hold name header there =
     let c = number_of_class headers name header there in
     class_holds headers hold c.0 header c.1.there
+
+pub is_sound : (headers : Headers) → AllHold (hierarchy_checks headers) → IsSound headers
+is_sound headers hold = record {
+  above = λ name header is. (named_holds headers hold name header is).there;
+  kinds = λ name header is. (named_holds headers hold name header is).kinds;
+  acyclic = λ name up.
+      let class = class_there headers name (low_is_there up) in
+      (named_holds headers hold name class.0 class.1).circle (subst (λ n. IsBelow headers n n) (sym (own_name headers name class.0 class.1)) up);
+}

@@ -8,7 +8,6 @@ pub mod Duplicates
 pub mod ClassHolds
 pub mod EachOnce
 pub mod InterfaceLists
-pub mod InterfaceWalks
 pub mod NewNumbers
 pub mod OneOf
 pub mod Acyclic

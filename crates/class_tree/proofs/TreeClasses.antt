@@ -83,18 +83,19 @@ each_library_class (first ∷ list) all (suc number) header there = each_library
 pub record HoldsSteps (headers : Headers) : Type 0 where
   pub in_order : IsInOrder headers
   pub hold : AllHold (hierarchy_checks headers)
-  pub named : (name : Name) (header : Header) → class_named headers name ≡ Some header → ¬ IsArray name
+  pub no_array : (name : Name) → IsArray name → class_named headers name ≡ None
 
 pub tree_holds_steps : (classes : Classes) → IsTree classes → HoldsSteps (headers_of classes)
 tree_holds_steps classes tree = record {
   in_order = tree.in_order;
   hold = first_holds (hierarchy_checks (headers_of classes)) _ tree.holds;
-  named = named;
+  no_array = λ name array. by name array (class_named (headers_of classes) name) refl;
 }
   where
-    named : (name : Name) (header : Header) → class_named (headers_of classes) name ≡ Some header → ¬ IsArray name
-    named name header is array =
+    by : (name : Name) → IsArray name → (found : Option Header) → class_named (headers_of classes) name ≡ found → class_named (headers_of classes) name ≡ None
+    by name array None none = none
+    by name array (Some header) is =
         let class = number_of_class (headers_of classes) name header is in
         let own = in_either_list (λ header. IsClassName header.name) (map header_of classes.folder) classes.library (each_class_file classes.folder tree.folder) (each_library_class classes.library tree.library) class.0 header class.1.there in
         let head = name_head header.name own in
-        head.no_bracket (let e : head.first ∷ head.more ≡ 91 ∷ array.0 = sym head.is ∙ class.1.same ∙ array.1 in cc)
+        absurd (head.no_bracket (let e : head.first ∷ head.more ≡ 91 ∷ array.0 = sym head.is ∙ class.1.same ∙ array.1 in cc))
