@@ -1,6 +1,5 @@
 pub mod FirstPlaces
 pub mod Places
-pub mod PlainNames
 pub mod Searches
 pub mod HeaderParts
 pub mod FirstClasses

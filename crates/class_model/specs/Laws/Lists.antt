@@ -1,6 +1,9 @@
 -- What holds of each item of a list, and what is left of a list.
-use Rattle.std.proofs.Common.{◌≡◌, ◌+◌, ℕ, zero, suc, List, [], ◌∷◌, drop, slice_get, Some, ap, subst, ◌∙◌}
-use Rattle.std.specs.List.{AllByRecursion}
+use Rattle.std.proofs.lemmas.List.Folds.{list_all-map}
+use Rattle.std.proofs.lemmas.List.Sums.{AllPass-from_list_all}
+use Rattle.std.proofs.lemmas.List.Elements.{All-get_or}
+use Rattle.std.proofs.Common.{◌≡◌, ◌+◌, ℕ, zero, suc, List, [], ◌∷◌, drop, slice_get, Some, ap, subst, ◌∙◌, Bool, true, length, map, get_or, ◌<◌, sym}
+use Rattle.std.specs.List.{AllByRecursion, list_all}
 use Rattle.std.proofs.lemmas.List.{drop_more}
 use Rattle.std.proofs.lemmas.Option.{slice_get_within, get_or_from_slice_get, same_Some}
 
@@ -14,6 +17,11 @@ pub at_index : {X : Type 0} (P : X → Type 0) (xs : List X) (i : ℕ) (x : X) �
 at_index P [] i x all is = absurd cc
 at_index P (first ∷ xs) zero x all is = subst P (same_Some first x is) all.0
 at_index P (first ∷ xs) (suc i) x all is = at_index P xs i x all.1 is
+
+-- a test that each passes, of what items are seen as
+pub passes_at : {X Y : Type 0} (test : Y → Bool) (f : X → Y) (items : List X) (i : ℕ) (d : X) → list_all test (map f items) ≡ true → i < length items → test (f (get_or items i d)) ≡ true
+passes_at test f items i d all within =
+    All-get_or (λ x. test (f x) ≡ true) items i d within (AllPass-from_list_all (λ x. test (f x)) items (sym (list_all-map test f items) ∙ all))
 
 -- what is left from an item on
 pub drop_at : {X : Type 0} (xs : List X) (i : ℕ) (x : X) → slice_get xs i ≡ Some x → drop i xs ≡ x ∷ drop (i + 1) xs

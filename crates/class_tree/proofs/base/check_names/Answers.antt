@@ -4,10 +4,10 @@ use Rattle.std.proofs.lemmas.Result.{err_from_is_err_and}
 use Rattle.class_model.specs.ModifiedUtf8.{is_plain_text}
 use Rattle.class_model.specs.Checks.{asked_each}
 use Rattle.class_model.specs.Laws.Checks.{Remain, all_remain, asked_all, passes}
+use Rattle.class_model.specs.Laws.Lists.{passes_at}
 use Rattle.class_tree.specs.Laws.Links.{fails}
 use Rattle.class_tree.specs.Names.{base_names}
 use Rattle.class_tree.proofs.BaseChecks.{library_check, asked_each-map, asked_name}
-use Rattle.class_tree.proofs.PlainNames.{plain_at}
 use Rattle.class_tree.proofs.base.check_names.Goals as goal
 
 pub loop-name-init : goal.loop-name-init
@@ -19,7 +19,7 @@ loop-name-init c =
 pub ask_named-requires : goal.ask_named-requires
 ask_named-requires c =
     let plain : list_all is_plain_text base_names ≡ true = refl in
-    plain_at (λ name. name.now) c.base_names-name-items.result.now c.loop-name.name-index _ (ap (list_all is_plain_text) c.base_names-name-items.ensures ∙ plain) c.loop-name-test.true
+    passes_at is_plain_text (λ name. name.now) c.base_names-name-items.result.now c.loop-name.name-index _ (ap (list_all is_plain_text) c.base_names-name-items.ensures ∙ plain) c.loop-name-test.true
 
 pub returns-in_err-ask_named : goal.returns-in_err-ask_named
 returns-in_err-ask_named c =
