@@ -5,6 +5,7 @@ use Rattle.std.proofs.lemmas.Bool.{false≢true, or_cases, eqb-true, ne_eqb}
 use Rattle.std.proofs.lemmas.Map.Keys.{IsDistinct-cons}
 use Rattle.std.proofs.lemmas.Map.Steps.{length-le_from_distinct_below}
 use Rattle.std.proofs.lemmas.Option.{slice_get_within}
+use Rattle.class_model.specs.Laws.Lists.{mapped_all}
 use Rattle.class_tree.specs.Graphs.{Graph, IsOneOf, IsNoneOf, IsEdge, IsPath, edge, onwards, IsWithin, IsTopological}
 use Rattle.class_tree.proofs.OneOf.{one_or_none, not_both, one_of_front, split_at}
 
@@ -40,10 +41,6 @@ pub placed_is_on_no_circle : (graph : Graph) (order : List ℕ) (node : ℕ) →
 placed_is_on_no_circle graph order node topological placed path =
     let split = split_at order node placed in
     not_both split.before node (path_before graph order topological path split.before split.after split.is) (topological.once split.before split.after node split.is)
-
-mapped_all : {X : Type 0} (P Q : X → Type 0) → ((x : X) → P x → Q x) → (xs : List X) → AllByRecursion P xs → AllByRecursion Q xs
-mapped_all P Q to [] all = tt
-mapped_all P Q to (x ∷ xs) all = (to x all.0, mapped_all P Q to xs all.1)
 
 pub each_of : (P : ℕ → Type 0) (numbers : List ℕ) → AllByRecursion P numbers → (number : ℕ) → list_any (eqb number) numbers ≡ true → P number
 each_of P [] all number one = absurd (false≢true one)

@@ -1,9 +1,11 @@
 -- What the machine needs of its library, part by part.
-use Rattle.std.proofs.Common.{◌≡◌, ◌⊎◌, Bool, true, false, List, [], ◌∷◌, ◌++◌, map, Result, Ok, Err, IsSome, IsTrue, sym, subst, inl, inr, append_assoc}
+use Rattle.std.proofs.lemmas.List.{get_or_default}
+use Rattle.std.proofs.Common.{◌≡◌, ◌⊎◌, Bool, true, false, List, [], ◌∷◌, ◌++◌, map, Result, Ok, Err, IsSome, IsTrue, sym, subst, inl, inr, append_assoc, refl, ap, ℕ, ◌+◌, ◌<◌, length, drop, get_or}
 use Rattle.std.specs.List.{list_any}
 use Rattle.std.specs.Option.{IfSome}
 use Rattle.class_model.specs.Checks.{Check, asked_each, asked_if, AllHold}
 use Rattle.class_model.specs.Header.{header_of}
+use Rattle.class_model.specs.Laws.Checks.{Remain, all_remain, remain, asked_at}
 use Rattle.class_model.specs.declared.class_file.ClassFile.{ClassFile}
 use Rattle.class_model.specs.declared.header.Header.{Header}
 use Rattle.class_model.specs.declared.pool.Const.{Const}
@@ -16,7 +18,15 @@ use Rattle.class_tree.specs.Subtype.{IsBelow}
 use Rattle.class_tree.specs.declared.fault.LinkFault.{LinkFault}
 use Rattle.class_tree.specs.declared.fault.LinkFault.TheVariants.{Unlinked, NoMemory}
 use Rattle.class_tree.specs.declared.fault.LinkRule.TheVariants as rules
-use Rattle.class_tree.proofs.LinkChecks.{Remain, all_remain, remain}
+
+-- items that are seen as others are asked what these are
+pub asked_each-map : {X Y : Type 0} (asks : X → List (Check Problem)) (f : Y → X) (ys : List Y) → asked_each asks (map f ys) ≡ asked_each (λ y. asks (f y)) ys
+asked_each-map asks f [] = refl
+asked_each-map asks f (y ∷ ys) = ap (λ (rest : List (Check Problem)). asks (f y) ++ rest) (asked_each-map asks f ys)
+
+-- what is left to ask at an item
+pub asked_name : {X : Type 0} {whole : List (Check Problem)} (asks : X → List (Check Problem)) (items : List X) (i : ℕ) (d : X) → i < length items → Remain whole (asked_each asks (drop i items)) → Remain whole (asks (get_or items i d) ++ asked_each asks (drop (i + 1) items))
+asked_name asks items i d within left = asked_at asks items i (get_or items i d) within (get_or_default items i d (get_or items i d) within) left
 
 -- a class of this name is in the library
 abbrev pub library_check : Headers → Name → List (Check Problem)

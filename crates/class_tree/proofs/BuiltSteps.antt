@@ -3,11 +3,13 @@ use Rattle.std.proofs.Common.{◌≡◌, ◌<◌, ◌≤◌, ◌==◌, ℕ, fals
 use Rattle.std.proofs.lemmas.Bool.{true≢false, ne_eqb}
 use Rattle.class_model.specs.Checks.{AllHold}
 use Rattle.class_model.specs.Header.{header_of}
+use Rattle.class_model.specs.Laws.Checks.{Remain, all_remain, remain}
 use Rattle.class_model.specs.declared.class_file.ClassFile.{ClassFile}
 use Rattle.class_model.specs.declared.header.Header.{Header}
 use Rattle.class_tree.specs.Answers.{Answers}
 use Rattle.class_tree.specs.Graphs.{Graph, IsOneOf, IsPath, IsWithin, IsTopological}
 use Rattle.class_tree.specs.Headers.{Name, Classes, Headers, headers_of, all_headers}
+use Rattle.class_tree.specs.Laws.Links.{refused, answered}
 use Rattle.class_tree.specs.Nodes.{graph_of, IsLinksOf}
 use Rattle.class_tree.specs.Problems.{check}
 use Rattle.class_tree.specs.Steps.{hierarchy_checks, base_checks, step_checks}
@@ -18,7 +20,6 @@ use Rattle.class_tree.specs.declared.fault.LinkRule.TheVariants.{Duplicate}
 use Rattle.class_tree.proofs.Acyclic.{all_are_placed}
 use Rattle.class_tree.proofs.ClassHolds.{class_holds}
 use Rattle.class_tree.proofs.GraphPaths.{graph_is_within, path_is_below, some_at}
-use Rattle.class_tree.proofs.LinkChecks.{Remain, all_remain, remain, refused, answered}
 use Rattle.class_tree.proofs.HierarchyChecks.{as_many_nodes}
 
 -- the class files of a folder, and the headers of the library beside theirs

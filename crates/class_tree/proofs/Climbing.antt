@@ -5,10 +5,12 @@ use Rattle.std.proofs.lemmas.Bool.{ne_eqb}
 use Rattle.std.proofs.lemmas.List.{append-nil}
 use Rattle.std.proofs.lemmas.Map.Keys.{IsDistinct-cons}
 use Rattle.std.proofs.lemmas.Map.Steps.{length-le_from_distinct_below}
+use Rattle.class_model.specs.Laws.Lists.{mapped_all}
 use Rattle.class_model.specs.declared.header.Header.{Header}
 use Rattle.class_tree.specs.Graphs.{IsEdge, IsPath, edge}
 use Rattle.class_tree.specs.Headers.{Name, Headers, all_headers, class_named, IsThere}
 use Rattle.class_tree.specs.Hierarchy.{climb, height, superclass_of}
+use Rattle.class_tree.specs.Laws.Headers.{super_is_there, no_superclass, superclass_is}
 use Rattle.class_tree.specs.Names.{object}
 use Rattle.class_tree.specs.Nodes.{number_of, graph_of}
 use Rattle.class_tree.specs.Order.{header_at, place_of}
@@ -19,21 +21,15 @@ use Rattle.class_tree.proofs.ClassHolds.{named_holds}
 use Rattle.class_tree.proofs.GraphPaths.{edge_above, below_from_path}
 use Rattle.class_tree.proofs.LinkedClasses.{IsAt, class_at}
 use Rattle.class_tree.proofs.Places.{HasNumber, place_number, header_of_place, number_of_itself}
-use Rattle.class_tree.proofs.Superclasses.{Placed, placed, super_is_there, place_of_itself}
+use Rattle.class_tree.proofs.Superclasses.{Placed, placed, place_of_itself}
 use Rattle.class_tree.proofs.TreeClasses.{HoldsSteps}
 
 -- a class that stands at a place, by its name
 pub named_at_place : (headers : Headers) → HoldsSteps headers → (place : Place) (header : Header) → header_at headers place ≡ Some header → class_named headers header.name ≡ Some header
 named_at_place headers tree place header at = (number_of_itself headers tree.in_order _ header (header_of_place headers place header at)).named
 
-pub no_superclass : (headers : Headers) (place : Place) (header : Header) → header_at headers place ≡ Some header → header.super_name ≡ None → superclass_of headers place ≡ None
-no_superclass headers place header at none = ap (option_and_then (λ header. option_and_then (place_of headers) header.super_name)) at ∙ ap (option_and_then (place_of headers)) none
-
 pub some_superclass : (headers : Headers) → HoldsSteps headers → (place : Place) (header : Header) → header_at headers place ≡ Some header → (name : Name) → header.super_name ≡ Some name → Placed headers name
 some_superclass headers tree place header at name some = placed headers name (super_is_there headers header name (named_holds headers tree.hold header.name header (named_at_place headers tree place header at)).there some)
-
-pub superclass_is : (headers : Headers) (place : Place) (header : Header) → header_at headers place ≡ Some header → (name : Name) → header.super_name ≡ Some name → superclass_of headers place ≡ place_of headers name
-superclass_is headers place header at name some = ap (option_and_then (λ header. option_and_then (place_of headers) header.super_name)) at ∙ ap (option_and_then (place_of headers)) some
 
 -- ---- heights
 
@@ -41,10 +37,6 @@ superclass_is headers place header at name some = ap (option_and_then (λ header
 record AreMet (headers : Headers) (met : List ℕ) (place : Place) : Type 0 where
   there : IsSome (header_at headers place)
   paths : AllByRecursion (λ one. IsPath (graph_of headers) one (place_number headers place)) met
-
-each_has : (P Q : ℕ → Type 0) → ((n : ℕ) → P n → Q n) → (numbers : List ℕ) → AllByRecursion P numbers → AllByRecursion Q numbers
-each_has P Q to [] all = tt
-each_has P Q to (number ∷ numbers) all = (to number all.0, each_has P Q to numbers all.1)
 
 module _ (headers : Headers) (tree : HoldsSteps headers) where
   number_is : (place : Place) (header : Header) → header_at headers place ≡ Some header → HasNumber headers header.name (place_number headers place) header
@@ -71,13 +63,13 @@ module _ (headers : Headers) (tree : HoldsSteps headers) where
           let up = edge_up place header at name some class in
           subst (λ (next : Option Place). IfSome next (AreMet headers (place_number headers place ∷ met))) (sym (superclass_is headers place header at name some ∙ class.is)) (record {
             there = ap is_some class.at;
-            paths = (edge _ _ up, each_has (λ one. IsPath (graph_of headers) one (place_number headers place)) (λ one. IsPath (graph_of headers) one (place_number headers class.place)) (λ one path. path_and_edge path up) met are.paths);
+            paths = (edge _ _ up, mapped_all (λ one. IsPath (graph_of headers) one (place_number headers place)) (λ one. IsPath (graph_of headers) one (place_number headers class.place)) (λ one path. path_and_edge path up) met are.paths);
           })
 
   distinct_more : (met : List ℕ) (place : Place) (header : Header) → header_at headers place ≡ Some header → AreMet headers met place → IsDistinct eqb met → IsDistinct eqb (place_number headers place ∷ met)
   distinct_more met place header at are distinct =
       IsDistinct-cons eqb (place_number headers place) met
-      (each_has (λ one. IsPath (graph_of headers) one (place_number headers place)) (λ one. eqb (place_number headers place) one ≡ false) (λ one path. ne_eqb _ one (λ same. no_circle place header at (subst (λ (n : ℕ). IsPath (graph_of headers) n (place_number headers place)) (sym same) path))) met are.paths) distinct
+      (mapped_all (λ one. IsPath (graph_of headers) one (place_number headers place)) (λ one. eqb (place_number headers place) one ≡ false) (λ one path. ne_eqb _ one (λ same. no_circle place header at (subst (λ (n : ℕ). IsPath (graph_of headers) n (place_number headers place)) (sym same) path))) met are.paths) distinct
 
   -- more fuel than there are classes left changes nothing
   steady : (fuel : ℕ) (next : Option Place) (met : List ℕ) → length (all_headers headers) ≤ length met + fuel → IsDistinct eqb met → AllByRecursion (λ one. one < length (all_headers headers)) met → IfSome next (AreMet headers met) → climb headers (suc fuel) next ≡ climb headers fuel next
@@ -108,44 +100,29 @@ module _ (headers : Headers) (tree : HoldsSteps headers) where
           (met_more [] place header at (record { there = ap is_some at; paths = tt })) in
           omega (arith, same)
 
-  -- the root is java/lang/Object
-  pub record IsRooted (name : Name) : Type 0 where
-    pub top : Header
-    pub is : class_named headers object ≡ Some top
-    pub none : top.super_name ≡ None
-    pub up : (name ≡ object) ⊎ IsBelow headers name object
-
-  rooted_at : (fuel : ℕ) (place : Place) (header : Header) → header_at headers place ≡ Some header → height headers (Some place) ≤ fuel → IsRooted header.name
+  rooted_at : (fuel : ℕ) (place : Place) (header : Header) → header_at headers place ≡ Some header → height headers (Some place) ≤ fuel → (header.name ≡ object) ⊎ IsBelow headers header.name object
   rooted_at zero place header at low = absurd (omega (arith, low, height_falls place header at))
   rooted_at (suc fuel) place header at low = by (rooted_at fuel) header.super_name refl
     where
       named : class_named headers header.name ≡ Some header
       named = named_at_place headers tree place header at
 
-      by : ((above : Place) (class : Header) → header_at headers above ≡ Some class → height headers (Some above) ≤ fuel → IsRooted class.name) → (super : Option Name) → header.super_name ≡ super → IsRooted header.name
-      by more None none =
-          let root = (named_holds headers tree.hold header.name header named).kinds.root none in
-          record { top = header; is = subst (λ n. class_named headers n ≡ Some header) root named; none = none; up = inl root }
+      by : ((above : Place) (class : Header) → header_at headers above ≡ Some class → height headers (Some above) ≤ fuel → (class.name ≡ object) ⊎ IsBelow headers class.name object) → (super : Option Name) → header.super_name ≡ super → (header.name ≡ object) ⊎ IsBelow headers header.name object
+      by more None none = inl ((named_holds headers tree.hold header.name header named).kinds.root none)
       by more (Some name) some =
           let class = some_superclass headers tree place header at name some in
           let falls = subst (λ (next : Option Place). height headers next < height headers (Some place)) (superclass_is headers place header at name some ∙ class.is) (height_falls place header at) in
-          let above = more class.place class.header class.at (omega (arith, falls, low)) in
           let step = superclass header.name name header named some in
-          record {
-            top = above.top;
-            is = above.is;
-            none = above.none;
-            up = elim above.up [
-              | inl same ↦ inr (directly header.name object (subst (IsDirectlyBelow headers header.name) (sym class.same ∙ same) step))
-              | inr up ↦ inr (onwards header.name name object step (subst (λ n. IsBelow headers n object) class.same up))
-            ];
-          }
+          elim (more class.place class.header class.at (omega (arith, falls, low))) [
+            | inl same ↦ inr (directly header.name object (subst (IsDirectlyBelow headers header.name) (sym class.same ∙ same) step))
+            | inr up ↦ inr (onwards header.name name object step (subst (λ n. IsBelow headers n object) class.same up))
+          ]
 
   -- upwards of each class is java/lang/Object
-  pub rooted : (name : Name) → IsThere headers name → IsRooted name
+  pub rooted : (name : Name) → IsThere headers name → (name ≡ object) ⊎ IsBelow headers name object
   rooted name there =
       let class = placed headers name there in
-      subst IsRooted class.same (rooted_at (height headers (Some class.place)) class.place class.header class.at (omega arith))
+      subst (λ n. (n ≡ object) ⊎ IsBelow headers n object) class.same (rooted_at (height headers (Some class.place)) class.place class.header class.at (omega arith))
 
 -- ---- chains
 

@@ -1,48 +1,16 @@
 -- The components of arrays of references.
-use Rattle.std.proofs.Common.{◌≡◌, ◌≢◌, ◌⊎◌, ◌<◌, ℕ, true, eqb, List, [], ◌∷◌, ◌++◌, length, get_or, take, drop, Option, Some, None, IfSome, IfNone, Bor, refl, sym, ap, subst, ◌∙◌, inl, inr, arith}
+use Rattle.std.proofs.Common.{◌≡◌, ◌≢◌, ◌<◌, ℕ, true, eqb, List, [], ◌∷◌, ◌++◌, length, take, drop, Option, Some, None, IfSome, IfNone, Bor, sym, ap, subst, ◌∙◌, inl, inr, arith}
 use Rattle.std.specs.Cmp.Lexicographic.{pointwise}
 use Rattle.std.specs.Option.{MatchOption}
 use Rattle.std.proofs.lemmas.Bool.{false≢true, and_parts, eqb-true}
-use Rattle.std.proofs.lemmas.List.{append_cancel_right, length-append}
+use Rattle.std.proofs.lemmas.List.{length-append}
 use Rattle.class_tree.specs.Headers.{Name}
-use Rattle.class_tree.specs.Subtype.{IsArray, IsReferenceComponent, array, class, IsAboveArrays}
-
--- how an array of references is spelled
-pub component_forms : {name component : Name} → IsReferenceComponent name component → (IsArray component × (name ≡ 91 ∷ component)) ⊎ (name ≡ 91 ∷ 76 ∷ component ++ 59 ∷ [])
-component_forms (array component is) = inl (is, refl)
-component_forms (class component) = inr refl
-
-pub is_array_of : {name component : Name} → IsReferenceComponent name component → IsArray name
-is_array_of (array component is) = (component, refl)
-is_array_of (class component) = (76 ∷ component ++ 59 ∷ [], refl)
+use Rattle.class_tree.specs.Laws.Arrays.{component_forms}
+use Rattle.class_tree.specs.Subtype.{IsArray, IsReferenceComponent, array, class}
 
 pub component_is_shorter : {name component : Name} → IsReferenceComponent name component → length component < length name
 component_is_shorter (array component is) = omega arith
 component_is_shorter (class component) = omega (arith, length-append component (59 ∷ []))
-
-not_both : (name one other : Name) → (IsArray one × (name ≡ 91 ∷ one)) → name ≡ 91 ∷ 76 ∷ other ++ 59 ∷ [] → ⊥
-not_both name one other deep flat =
-    let e : 91 ≡ 76 = ap (λ (bytes : List ℕ). get_or bytes 1 0) (sym (deep.1 ∙ ap (λ (bytes : List ℕ). 91 ∷ bytes) deep.0.1) ∙ flat) in
-    omega (arith, e)
-
--- an array has one component
-pub same_component : {name one other : Name} → IsReferenceComponent name one → IsReferenceComponent name other → one ≡ other
-same_component {name} {one} {other} is also = elim (component_forms is) [
-  | inl deep ↦ elim (component_forms also) [
-    | inl deeper ↦ ap (drop 1) (sym deep.1 ∙ deeper.1)
-    | inr flat ↦ absurd (not_both name one other deep flat)
-  ]
-  | inr flat ↦ elim (component_forms also) [
-    | inl deep ↦ absurd (not_both name other one deep flat)
-    | inr flatter ↦ append_cancel_right one other (59 ∷ []) (ap (drop 2) (sym flat ∙ flatter))
-  ]
-]
-
--- no array is above each array
-pub not_above_arrays : (name : Name) → IsArray name → ¬ IsAboveArrays name
-not_above_arrays name is (inl object) = let e : 91 ≡ 106 = ap (λ (bytes : List ℕ). get_or bytes 0 0) (sym is.1 ∙ object) in omega (arith, e)
-not_above_arrays name is (inr (inl cloneable)) = let e : 91 ≡ 106 = ap (λ (bytes : List ℕ). get_or bytes 0 0) (sym is.1 ∙ cloneable) in omega (arith, e)
-not_above_arrays name is (inr (inr serializable)) = let e : 91 ≡ 106 = ap (λ (bytes : List ℕ). get_or bytes 0 0) (sym is.1 ∙ serializable) in omega (arith, e)
 
 -- ---- cutting the component out
 

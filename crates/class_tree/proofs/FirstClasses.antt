@@ -1,5 +1,6 @@
 -- The first class in byte order of names, of two lists in that order.
-use Rattle.std.proofs.Common.{◌≡◌, ◌+◌, ◌-◌, ◌<◌, ℕ, suc, Bool, true, false, List, [], ◌∷◌, length, get_or, take, drop, count_by, refl, sym, ap, subst, ◌∙◌, arith, true≢false}
+use Rattle.std.proofs.lemmas.Bool.{false_from_ne_true}
+use Rattle.std.proofs.Common.{◌≡◌, ◌+◌, ◌-◌, ◌<◌, ℕ, suc, true, false, List, [], ◌∷◌, length, get_or, take, drop, count_by, refl, sym, ap, subst, ◌∙◌, arith, true≢false}
 use Rattle.std.proofs.lemmas.Cmp.{nat_list_cmp_total, upto}
 use Rattle.std.proofs.lemmas.List.{get_or_default, take_all}
 use Rattle.std.proofs.lemmas.List.Sorted.{ranks_by, sorted_far}
@@ -56,13 +57,9 @@ rest_in_order (header ∷ headers) rest is sorted =
     subst AreHeadersInOrder (sym same) (λ k d low within. subst (λ n. is_lt (slice_cmp nat_cmp (get_or (header ∷ headers) n d).name (get_or headers k d).name) ≡ false) {x = suc k + 1} {y = suc (k + 1)} (omega arith) (sorted (suc k) d (omega arith) (omega arith)))
 
 other_name : (name low : Name) (header : Header) → IsBefore name low → is_gt (slice_cmp nat_cmp low header.name) ≡ false → has_name name header ≡ false
-other_name name low header before later = by (has_name name header) refl
-  where
-    by : (b : Bool) → has_name name header ≡ b → b ≡ false
-    by false e = refl
-    by true e =
-        let greater : slice_cmp nat_cmp low name ≡ Greater = nat_list_cmp_total.antisymm low name ∙ ap ordering_reverse before in
-        sym (ap is_gt greater) ∙ subst (λ (found : Name). is_gt (slice_cmp nat_cmp low found) ≡ false) (same_name name header e) later
+other_name name low header before later = false_from_ne_true (has_name name header) (λ e.
+    let greater : slice_cmp nat_cmp low name ≡ Greater = nat_list_cmp_total.antisymm low name ∙ ap ordering_reverse before in
+    true≢false (sym (ap is_gt greater) ∙ subst (λ (found : Name). is_gt (slice_cmp nat_cmp low found) ≡ false) (same_name name header e) later))
 
 -- what stands before all of a list is not in it
 none_before : (name low : Name) (headers : List Header) → AreFrom low headers → IsBefore name low → count_by (has_name name) headers ≡ 0

@@ -1,4 +1,5 @@
 -- Constants that are looked for in pools, one after the other.
+use Rattle.std.proofs.Math.Bool.{or-false}
 use Rattle.std.proofs.Common.{◌≡◌, ◌||◌, ◌+◌, ◌<◌, ◌≤◌, ℕ, Bool, true, false, List, ◌∷◌, length, drop, get_or, Option, Some, None, refl, sym, ap, ◌∙◌}
 use Rattle.std.specs.List.{list_any}
 use Rattle.std.specs.Option.{option_map_or}
@@ -14,12 +15,8 @@ pub found_more : (found next here rest whole : Bool) → here ≡ (next || rest)
 found_more true next here rest whole parts is = is
 found_more false next here rest whole parts is = sym parts ∙ is
 
-nothing_more : (found : Bool) → (found || false) ≡ found
-nothing_more true = refl
-nothing_more false = refl
-
 pub all_found : (found rest whole : Bool) → rest ≡ false → (found || rest) ≡ whole → found ≡ whole
-all_found found rest whole none is = sym (nothing_more found) ∙ ap (λ (b : Bool). found || b) (sym none) ∙ is
+all_found found rest whole none is = sym (or-false found) ∙ ap (λ (b : Bool). found || b) (sym none) ∙ is
 
 -- the entries of a pool from an index on
 abbrev pub from_index : ClassFile → ℕ → ClassFile

@@ -1,13 +1,16 @@
 -- What the classes from a number on are asked of those above them.
-use Rattle.std.proofs.Common.{◌≡◌, ◌↔◌, ◌+◌, ◌-◌, ◌<◌, ◌≤◌, ℕ, Bool, true, List, [], ◌∷◌, ◌++◌, length, drop, get_or, filter_map, slice_get, Some, option_map, Result, Ok, Err, refl, sym, ap, subst, ◌∙◌, append_assoc, inl, inr, arith}
+use Rattle.std.proofs.Common.{◌≡◌, ◌↔◌, ◌+◌, ◌-◌, ◌<◌, ◌≤◌, ℕ, Bool, true, List, [], ◌++◌, length, drop, get_or, filter_map, slice_get, Some, option_map, Result, Ok, Err, refl, sym, ap, subst, ◌∙◌, append_assoc, inl, inr, arith}
 use Rattle.std.proofs.lemmas.Bool.{cases_lt}
-use Rattle.std.proofs.lemmas.List.{drop_more, drop_all, length-append, length-map}
+use Rattle.std.proofs.lemmas.List.{drop_all, length-append, length-map}
 use Rattle.std.proofs.lemmas.Option.{slice_get_within, get_or_from_slice_get, slice_get-map, same_Some}
 use Rattle.class_model.specs.Checks.{Check, asked_each, AllHold}
+use Rattle.class_model.specs.Laws.Checks.{Remain, all_remain, remain}
+use Rattle.class_model.specs.Laws.Lists.{drop_at}
 use Rattle.class_model.specs.declared.header.Header.{Header}
 use Rattle.class_tree.specs.Answers.{Answers}
 use Rattle.class_tree.specs.Graphs.{Graph, IsPath}
 use Rattle.class_tree.specs.Headers.{Name, Headers, all_headers}
+use Rattle.class_tree.specs.Laws.Links.{refused}
 use Rattle.class_tree.specs.Nodes.{graph_of, number_of, place_at}
 use Rattle.class_tree.specs.Order.{header_at}
 use Rattle.class_tree.specs.Problems.{Problem}
@@ -17,7 +20,6 @@ use Rattle.class_tree.specs.Trees.{IsInOrder}
 use Rattle.class_tree.specs.declared.fault.LinkFault.{LinkFault}
 use Rattle.class_tree.specs.declared.place.Place.TheVariants.{Library}
 use Rattle.class_tree.proofs.GraphPaths.{path_is_below, some_at}
-use Rattle.class_tree.proofs.LinkChecks.{Remain, all_remain, remain, refused}
 use Rattle.class_tree.proofs.Places.{class_of_number, number_of_itself, header_at_number, place_in_folder, place_in_library}
 
 -- ---- the class of a number
@@ -69,10 +71,6 @@ pub begin : (headers : Headers) → Remain (hierarchy_checks headers) (checks_fr
 begin headers =
     let none : 0 - length headers.folder ≡ 0 = omega arith in
     rw none (all_remain (hierarchy_checks headers))
-
-drop_at : {X : Type 0} (xs : List X) (i : ℕ) (x : X) → slice_get xs i ≡ Some x → drop i xs ≡ x ∷ drop (i + 1) xs
-drop_at xs i x is =
-    drop_more xs i x (slice_get_within xs i x is) ∙ ap (λ y. y ∷ drop (i + 1) xs) (get_or_from_slice_get xs i x x is)
 
 from_folder : (headers : Headers) (number : ℕ) (header : Header) → slice_get headers.folder number ≡ Some header → checks_from headers number ≡ folder_checks headers header ++ checks_from headers (number + 1)
 from_folder headers number header is =

@@ -1,5 +1,5 @@
 -- The classes of a tree are a hierarchy.
-use Rattle.std.proofs.Common.{◌≡◌, ◌↔◌, List, [], ◌∷◌, bytes_eq, get_or, Option, Some, None, IsTrue, is_some, option_and_then, refl, sym, ap, subst, ◌∙◌, inl, inr, arith}
+use Rattle.std.proofs.Common.{◌≡◌, ◌↔◌, List, [], ◌∷◌, bytes_eq, get_or, Some, None, IsTrue, is_some, option_and_then, refl, sym, ap, subst, ◌∙◌, inl, inr, arith}
 use Rattle.std.specs.List.{AllByRecursion, list_any}
 use Rattle.std.proofs.lemmas.Bool.{or_right}
 use Rattle.std.proofs.lemmas.Option.{slice_get-get_or}
@@ -7,20 +7,22 @@ use Rattle.class_model.specs.declared.header.Header.{Header}
 use Rattle.class_tree.specs.Headers.{Name, Classes, Headers, headers_of, class_named}
 use Rattle.class_tree.specs.Hierarchy.{StandsAt, IsHierarchy}
 use Rattle.class_tree.specs.Interfaces.{IsWalk, done, next, IsInterfaceWalk, of_root, below, AreSuperinterfaces}
+use Rattle.class_tree.specs.Laws.Above.{interface_kind}
+use Rattle.class_tree.specs.Laws.Headers.{own_name, same_class}
+use Rattle.class_tree.specs.Laws.Names.{IsOneName, one_name_first, one_of_first, one_of_either}
 use Rattle.class_tree.specs.Names.{is_interface}
 use Rattle.class_tree.specs.Nodes.{AreInterfaceLists}
 use Rattle.class_tree.specs.Order.{header_at, place_of}
-use Rattle.class_tree.specs.Subtype.{IsArray, IsBelow}
+use Rattle.class_tree.specs.Subtype.{IsBelow}
 use Rattle.class_tree.specs.Trees.{IsTree}
 use Rattle.class_tree.specs.declared.place.Place.{Place}
-use Rattle.class_tree.proofs.ClassHolds.{named_holds}
+use Rattle.class_tree.proofs.ClassHolds.{is_sound}
 use Rattle.class_tree.proofs.Climbing.{named_at_place, height_falls, rooted}
-use Rattle.class_tree.proofs.InterfaceWalks.{class_there, own_name, same_class, not_below_itself}
 use Rattle.class_tree.proofs.Places.{number_of_class, header_at_place, class_of_place}
 use Rattle.class_tree.proofs.SamePlaces.{place_of_own}
 use Rattle.class_tree.proofs.Superclasses.{placed}
 use Rattle.class_tree.proofs.TreeClasses.{HoldsSteps, tree_holds_steps}
-use Rattle.class_tree.proofs.WalkedNames.{IsOneName, one_name_first, one_of_first, one_of_either, interface_kind, low_is_there, walked_is_above, interface_is_walked, once_same}
+use Rattle.class_tree.proofs.WalkedNames.{walked_is_above, interface_is_walked, once_same}
 
 -- an interface of this name is there
 abbrev IsInterfaceThere : Headers → Name → Type 0
@@ -54,21 +56,11 @@ module _ (headers : Headers) (tree : HoldsSteps headers) where
   absent : (name : Name) → place_of headers name ≡ None → class_named headers name ≡ None
   absent name none = sym (header_at_place headers name) ∙ ap (option_and_then (header_at headers)) none
 
-  no_array : (name : Name) → IsArray name → class_named headers name ≡ None
-  no_array name array = by (class_named headers name) refl
-    where
-      by : (found : Option Header) → class_named headers name ≡ found → class_named headers name ≡ None
-      by None none = none
-      by (Some header) is = absurd (tree.named name header is array)
-
-  acyclic : (name : Name) → ¬ IsBelow headers name name
-  acyclic name up = let class = class_there headers name (low_is_there headers up) in not_below_itself headers tree.hold name class.0 class.1 up
-
   -- ---- interfaces
 
   -- the interfaces that a class names are interfaces
   own_interfaces : (name : Name) (header : Header) → class_named headers name ≡ Some header → AreInterfaces headers header.interfaces
-  own_interfaces name header is = interface_kind headers tree.hold name header is
+  own_interfaces name header is = interface_kind headers (is_sound headers tree.hold) name header is
 
   in_walk : {names walk : List Name} → IsWalk headers names walk → AreInterfaces headers names → (name : Name) → IsOneName walk name → IsInterfaceThere headers name
   in_walk done are name one = absurd (cc one)
@@ -99,8 +91,7 @@ module _ (headers : Headers) (tree : HoldsSteps headers) where
   superinterfaces class name header names are is kind = (
     λ one. walked_is_above headers are.walked name (sym (once class names are name) ∙ one),
     λ up.
-        let root = rooted headers tree class (low_is_there headers up) in
-        once class names are name ∙ interface_is_walked headers tree.hold root.top root.is root.none up header is kind are.walk are.walked,
+        once class names are name ∙ interface_is_walked headers (is_sound headers tree.hold) (rooted headers tree) up header is kind are.walk are.walked,
   )
 
   walked : (lists : List (List Place)) → AreInterfaceLists headers lists → (name : Name) (header : Header) → class_named headers name ≡ Some header → (walk : List Name) × IsInterfaceWalk headers name walk
@@ -113,15 +104,16 @@ pub classes_are_hierarchy : (classes : Classes) (lists : List (List Place)) → 
 classes_are_hierarchy classes lists tree are =
     let headers = headers_of classes in
     let steps = tree_holds_steps classes tree in
+    let sound = is_sound headers steps.hold in
     record {
       of_name = of_name headers steps;
       of_place = of_place headers steps;
       placed = stands headers steps;
       absent = absent headers steps;
-      no_array = no_array headers steps;
-      above = λ name header is. (named_holds headers steps.hold name header is).there;
-      kinds = λ name header is. (named_holds headers steps.hold name header is).kinds;
-      acyclic = acyclic headers steps;
+      no_array = steps.no_array;
+      above = sound.above;
+      kinds = sound.kinds;
+      acyclic = sound.acyclic;
       falls = height_falls headers steps;
       walked = walked headers steps lists are;
       interfaces = interfaces headers steps;

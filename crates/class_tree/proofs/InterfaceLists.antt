@@ -11,14 +11,14 @@ use Rattle.class_tree.specs.Graphs.{Graph, IsOneOf, IsTopological}
 use Rattle.class_tree.specs.Headers.{Name, Headers, all_headers, class_named}
 use Rattle.class_tree.specs.InterfaceNumbers.{with_number, with_numbers, with_lists, AreMarks, AreLists, AreNumbersOf, AreNumberLists}
 use Rattle.class_tree.specs.Interfaces.{each_once, IsWalk, done, next, of_root, below}
+use Rattle.class_tree.specs.Laws.Above.{walk_of_interface}
 use Rattle.class_tree.specs.Names.{is_interface}
 use Rattle.class_tree.specs.Nodes.{number_of, graph_of, place_at, AreInterfaceLists}
 use Rattle.class_tree.specs.Steps.{supers, hierarchy_checks}
 use Rattle.class_tree.specs.Trees.{IsInOrder}
 use Rattle.class_tree.specs.declared.place.Place.{Place}
-use Rattle.class_tree.proofs.ClassHolds.{ClassHolds, class_holds}
+use Rattle.class_tree.proofs.ClassHolds.{ClassHolds, class_holds, is_sound}
 use Rattle.class_tree.proofs.EachOnce.{joined_same, once_numbered, names_placed}
-use Rattle.class_tree.proofs.InterfaceWalks.{walk_of_interface}
 use Rattle.class_tree.proofs.NewNumbers.{with_numbers-append, as_made, all_with_numbers}
 use Rattle.class_tree.proofs.OneOf.{one_at, one_of_parts, one_of_single}
 use Rattle.class_tree.proofs.Places.{class_of_number, number_of_itself}
@@ -78,7 +78,7 @@ module _ (headers : Headers) (hold : AllHold (hierarchy_checks headers)) (lists 
       let rest = walk_names names numbers (cc) kinds.1 (λ other one. listed other (or_right _ _ one)) in
       record {
         walk = name ∷ (own.walk ++ rest.walk);
-        walked = next name class.0 names own.walk rest.walk class.1.named (walk_of_interface headers hold name class.0 own.walk class.1.named kind own.walked) rest.walked;
+        walked = next name class.0 names own.walk rest.walk class.1.named (walk_of_interface headers (is_sound headers hold) own.walked class.0 class.1.named kind) rest.walked;
         met = number ∷ (own.met ++ rest.met);
         same = let more = joined_same (number_of headers) own.walk rest.walk own.met rest.met own.same rest.same in cc;
         made = λ list. joined_made (get_or lists number []) (with_lists lists numbers) own.met rest.met (own_made headers name (get_or lists number []) own) rest.made (with_number list number);

@@ -1,6 +1,5 @@
 pub mod FirstPlaces
 pub mod Places
-pub mod PlainNames
 pub mod Searches
 pub mod HeaderParts
 pub mod FirstClasses
@@ -8,7 +7,6 @@ pub mod Duplicates
 pub mod ClassHolds
 pub mod EachOnce
 pub mod InterfaceLists
-pub mod InterfaceWalks
 pub mod NewNumbers
 pub mod OneOf
 pub mod Acyclic
@@ -20,7 +18,6 @@ pub mod BaseChecks
 pub mod FoundConstants
 pub mod HierarchyChecks
 pub mod LibraryNames
-pub mod LinkChecks
 pub mod SuperNumbers
 pub mod MemberIndexes
 pub mod Climbing

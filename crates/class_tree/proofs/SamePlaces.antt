@@ -1,29 +1,21 @@
 -- Places that are the same, and the places of names.
 use Rattle.std.proofs.Common.{◌≡◌, ◌||◌, Bool, true, false, List, [], ◌∷◌, map, bytes_eq, Some, None, option_map, is_some, refl, sym, ap, ◌∙◌}
-use Rattle.std.specs.Bool.{Decides}
 use Rattle.std.specs.List.{list_any}
-use Rattle.std.proofs.lemmas.Bool.{false≢true, eqb-true, eq-eqb}
 use Rattle.std.proofs.lemmas.Option.{none-some, same_Some}
 use Rattle.std.proofs.lemmas.Slice.Eq.{bytes_eq-Decides}
 use Rattle.class_model.specs.declared.header.Header.{Header}
 use Rattle.class_tree.specs.Headers.{Name, Headers, IsThere}
+use Rattle.class_tree.specs.Laws.Places.{same_place}
 use Rattle.class_tree.specs.Nodes.{place_at}
 use Rattle.class_tree.specs.Order.{header_at, place_of}
 use Rattle.class_tree.specs.contracts.place.PlacePartialEq.TheImpl.{ghosts}
 use Rattle.class_tree.specs.declared.place.Place.{Place}
-use Rattle.class_tree.specs.declared.place.Place.TheVariants.{Folder, Library}
 use Rattle.class_tree.proofs.Places.{place_of_number, header_of_place, number_of_itself, class_of_place}
 use Rattle.class_tree.proofs.Superclasses.{placed, place_of_itself}
 use Rattle.class_tree.proofs.TreeClasses.{HoldsSteps}
 
 abbrev pub is_place : Place → Place → Bool
 is_place place other = ghosts.eq other place
-
-pub same_place : (one other : Place) → Decides (ghosts.eq one other) (one ≡ other)
-same_place (Folder one) (Folder other) = (λ same. ap Folder (eqb-true one other same), λ same. eq-eqb one other cc)
-same_place (Library one) (Library other) = (λ same. ap Library (eqb-true one other same), λ same. eq-eqb one other cc)
-same_place (Folder one) (Library other) = (λ same. absurd (false≢true same), λ same. absurd cc)
-same_place (Library one) (Folder other) = (λ same. absurd (false≢true same), λ same. absurd cc)
 
 -- the class at a place is the class of its name
 pub place_of_own : (headers : Headers) → HoldsSteps headers → (place : Place) (header : Header) → header_at headers place ≡ Some header → place_of headers header.name ≡ Some place

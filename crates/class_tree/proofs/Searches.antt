@@ -1,6 +1,6 @@
 -- Classes in byte order of their names: sorting and searching.
-use Rattle.std.proofs.Common.{◌≡◌, ◌≤◌, ℕ, ◌+◌, map, Bool, true, false, List, length, count_by, Result, Ok, Err, refl, sym, ap, subst, ◌∙◌, inl, inr, arith}
-use Rattle.std.proofs.lemmas.Bool.{cases_lt}
+use Rattle.std.proofs.Common.{◌≡◌, ◌≤◌, ℕ, ◌+◌, map, true, false, List, length, count_by, Result, Ok, Err, refl, sym, ap, subst, ◌∙◌, inl, inr, arith, true≢false}
+use Rattle.std.proofs.lemmas.Bool.{cases_lt, false_from_ne_true}
 use Rattle.std.proofs.lemmas.Cmp.{nat_list_cmp_total}
 use Rattle.std.proofs.lemmas.List.{length-map, get_or-map}
 use Rattle.std.proofs.lemmas.List.Elements.{All-from_recursion, recursion_from_All}
@@ -33,14 +33,10 @@ equal_named name header e =
     (bytes_eq-Decides name header.name).1 (sym ((bytes_eq-Decides header.name name).0 (sym (is_eq-slice_cmp header.name name) ∙ ap is_eq e)))
 
 other_named : (name : Name) (header : Header) (order : Ordering) → is_eq order ≡ false → compared name header ≡ order → has_name name header ≡ false
-other_named name header order other e = by (has_name name header) refl
-  where
-    by : (b : Bool) → has_name name header ≡ b → b ≡ false
-    by false t = refl
-    by true t =
-        let same : header.name ≡ name = sym ((bytes_eq-Decides name header.name).0 t) in
-        let equal : is_eq (compared name header) ≡ true = is_eq-slice_cmp header.name name ∙ (bytes_eq-Decides header.name name).1 same in
-        sym equal ∙ ap is_eq e ∙ other
+other_named name header order other e = false_from_ne_true (has_name name header) (λ t.
+    let same : header.name ≡ name = sym ((bytes_eq-Decides name header.name).0 t) in
+    let equal : is_eq (compared name header) ≡ true = is_eq-slice_cmp header.name name ∙ (bytes_eq-Decides header.name name).1 same in
+    true≢false (sym equal ∙ ap is_eq e ∙ other))
 
 -- What a search for a name finds is its first place.
 pub searched : (headers : List Header) (name : Name) → AreHeadersInOrder headers → count_by (has_name name) headers ≤ 1 → (result : Result ℕ ℕ) → IsSearchInRange result (length headers) → IsBinarySearchResult (compared name) headers result → result_ok result ≡ first_place (has_name name) headers

@@ -1,23 +1,20 @@
 -- A class that is sought among the superclasses of a class, upwards.
-use Rattle.std.proofs.Common.{◌≡◌, ◌≢◌, ◌⊎◌, ◌↔◌, Option, Some, None, IsSome, IfSome, IsFalse, is_some, refl, sym, ap, subst, ◌∙◌, inl, inr}
+use Rattle.std.proofs.Common.{◌≡◌, ◌≢◌, ◌⊎◌, ◌↔◌, Option, Some, None, IsSome, IfSome, IsFalse, refl, sym, ap, subst, ◌∙◌, inl, inr}
 use Rattle.std.proofs.lemmas.Option.{same_Some}
 use Rattle.class_model.specs.declared.header.Header.{Header}
+use Rattle.class_tree.proofs.ClassHolds.{is_sound}
 use Rattle.class_tree.specs.Headers.{Name, Headers, class_named}
 use Rattle.class_tree.specs.Hierarchy.{superclass_of}
+use Rattle.class_tree.specs.Laws.Above.{IsReached, class_is_climbed}
+use Rattle.class_tree.specs.Laws.Headers.{header_there, no_superclass, superclass_is}
 use Rattle.class_tree.specs.Names.{is_interface}
 use Rattle.class_tree.specs.Order.{header_at, place_of}
 use Rattle.class_tree.specs.Subtype.{IsDirectlyBelow, superclass, IsBelow, directly, onwards}
 use Rattle.class_tree.specs.declared.place.Place.{Place}
-use Rattle.class_tree.proofs.Climbing.{superclass_there, no_superclass, some_superclass, superclass_is, named_at_place, rooted}
+use Rattle.class_tree.proofs.Climbing.{superclass_there, some_superclass, named_at_place, rooted}
 use Rattle.class_tree.proofs.SamePlaces.{place_of_own}
 use Rattle.class_tree.proofs.Superclasses.{Placed}
 use Rattle.class_tree.proofs.TreeClasses.{HoldsSteps}
-use Rattle.class_tree.proofs.WalkedNames.{class_is_climbed}
-
--- the class of the name stands at the place or is above it
-abbrev pub IsReached : Headers → Option Place → Name → Type 0
-IsReached headers None name = ⊥
-IsReached headers (Some place) name = (header : Header) × (header_at headers place ≡ Some header) × ((header.name ≡ name) ⊎ IsBelow headers header.name name)
 
 -- what is above a class is reached from its superclass
 reached_decides : (headers : Headers) → HoldsSteps headers → (place : Place) (header : Header) → header_at headers place ≡ Some header → (above : Place) (high : Header) → header_at headers above ≡ Some high → IsFalse (is_interface high) → IsBelow headers header.name high.name ↔ IsReached headers (superclass_of headers place) high.name
@@ -31,8 +28,7 @@ reached_decides headers tree place header at above high above_at kind = (to, fro
 
     to : IsBelow headers header.name high.name → IsReached headers (superclass_of headers place) high.name
     to up =
-        let root = rooted headers tree header.name (ap is_some named) in
-        let climbed = class_is_climbed headers tree.hold root.top root.is root.none up header high named (named_at_place headers tree above high above_at) kind (λ name there. (rooted headers tree name there).up) in
+        let climbed = class_is_climbed headers (is_sound headers tree.hold) (rooted headers tree) up header high named (named_at_place headers tree above high above_at) kind in
         let class = some_superclass headers tree place header at climbed.0 climbed.1 in
         subst (λ (next : Option Place). IsReached headers next high.name) (sym (at_superclass climbed.0 climbed.1 class))
         (class.header, class.at, subst (λ n. (n ≡ high.name) ⊎ IsBelow headers n high.name) (sym class.same) climbed.2)
@@ -84,10 +80,5 @@ pub sought_nowhere : (headers : Headers) (class above : Place) → IsSought head
 sought_nowhere headers class above sought low high low_at high_at kind up = (sought.decides low high low_at high_at kind).0 up
 
 -- the class at the next place
-pub header_there : (headers : Headers) (next : Option Place) (place : Place) → IfSome next (λ place. IsSome (header_at headers place)) → next ≡ Some place → (header : Header) × (header_at headers place ≡ Some header)
-header_there headers next place there is =
-    by (header_at headers place) refl (subst (λ (next : Option Place). IfSome next (λ place. IsSome (header_at headers place))) is there)
-  where
-    by : (found : Option Header) → header_at headers place ≡ found → IsSome found → (header : Header) × (header_at headers place ≡ Some header)
-    by None e some = absurd cc
-    by (Some header) e some = (header, e)
+pub next_there : (headers : Headers) (next : Option Place) (place : Place) → IfSome next (λ place. IsSome (header_at headers place)) → next ≡ Some place → (header : Header) × (header_at headers place ≡ Some header)
+next_there headers next place there is = header_there headers place (subst (λ (next : Option Place). IfSome next (λ place. IsSome (header_at headers place))) is there)

@@ -1,27 +1,15 @@
 -- Subtypes of arrays and of classes.
-use Rattle.std.proofs.Common.{◌≡◌, ◌≢◌, ◌⊎◌, ◌↔◌, Some, refl, subst, inl, inr}
-use Rattle.class_model.specs.declared.header.Header.{Header}
-use Rattle.class_tree.specs.Headers.{Name, Headers, class_named, IsThere}
-use Rattle.class_tree.specs.Subtype.{AreComponents, none_taken, both_taken, IsDirectlyBelow, superclass, interface, IsBelow, directly, onwards, IsArray, IsReferenceComponent, IsAboveArrays, IsSubtype, itself, below, of_arrays, components}
-use Rattle.class_tree.proofs.Components.{is_array_of, same_component, not_above_arrays}
+use Rattle.std.proofs.Common.{◌≡◌, ◌≢◌, ◌⊎◌, ◌↔◌, refl, subst, inl, inr, None}
+use Rattle.class_tree.specs.Headers.{Name, Headers, class_named}
+use Rattle.class_tree.specs.Laws.Above.{IsSound, class_decides}
+use Rattle.class_tree.specs.Laws.Arrays.{is_array_of, same_component, not_above_arrays, not_directly_below}
+use Rattle.class_tree.specs.Subtype.{AreComponents, none_taken, both_taken, IsBelow, IsArray, IsReferenceComponent, IsAboveArrays, IsSubtype, itself, below, of_arrays, components}
 
--- no class has the name of an array
-abbrev pub AreNoArrays : Headers → Type 0
-AreNoArrays headers = (name : Name) (header : Header) → class_named headers name ≡ Some header → ¬ IsArray name
-
-pub class_is_below : {headers : Headers} {low high : Name} → IsBelow headers low high → IsSubtype headers low high
-class_is_below (directly low high step) = below low high high step (itself high)
-class_is_below (onwards low middle high step rest) = below low middle high step (class_is_below rest)
-
-module _ (headers : Headers) (named : AreNoArrays headers) where
-  not_below : {low high : Name} → IsArray low → ¬ IsDirectlyBelow headers low high
-  not_below is (superclass low high header there some) = named low header there is
-  not_below is (interface low high header there among) = named low header there is
-
+module _ (headers : Headers) (no_array : (name : Name) → IsArray name → class_named headers name ≡ None) where
   of_components : {low high : Name} → IsSubtype headers low high → (low_component high_component : Name) → IsReferenceComponent low low_component → IsReferenceComponent high high_component → IsSubtype headers low_component high_component
   of_components (itself name) one other is also = subst (IsSubtype headers one) (same_component is also) (itself one)
-  of_components (below low middle high step rest) one other is also = absurd (not_below (is_array_of is) step)
-  of_components (of_arrays low high deep above) one other is also = absurd (not_above_arrays high (is_array_of also) above)
+  of_components (below low middle high step rest) one other is also = absurd (not_directly_below headers no_array (is_array_of is) step)
+  of_components (of_arrays low high deep above) one other is also = absurd (not_above_arrays (is_array_of also) above)
   of_components (components low high a b low_is high_is sub) one other is also =
       subst (λ n. IsSubtype headers n other) (same_component low_is is) (subst (IsSubtype headers a) (same_component high_is also) sub)
 
@@ -38,7 +26,7 @@ module _ (headers : Headers) (named : AreNoArrays headers) where
 
   of_array : {low high : Name} → IsSubtype headers low high → IsArray low → ((one other : Name) → IsReferenceComponent low one → ¬ IsReferenceComponent high other) → (low ≡ high) ⊎ IsAboveArrays high
   of_array (itself name) is last = inl refl
-  of_array (below low middle high step rest) is last = absurd (not_below is step)
+  of_array (below low middle high step rest) is last = absurd (not_directly_below headers no_array is step)
   of_array (of_arrays low high deep above) is last = inr above
   of_array (components low high one other low_is high_is sub) is last = absurd (last one other low_is high_is)
 
@@ -49,20 +37,10 @@ module _ (headers : Headers) (named : AreNoArrays headers) where
     λ sub. elim (of_array sub is last) [ inl same ↦ absurd (differ same) | inr above ↦ above ],
   )
 
-  module _ (there : (low high : Name) → IsDirectlyBelow headers low high → IsThere headers high) (no_array : (name : Name) → IsThere headers name → ¬ IsArray name) where
-    of_class : {low high : Name} → IsSubtype headers low high → ¬ IsArray low → (low ≡ high) ⊎ IsBelow headers low high
-    of_class (itself name) not = inl refl
-    of_class (below low middle high step rest) not =
-        elim (of_class rest (no_array middle (there low middle step))) [
-          | inl same ↦ inr (directly low high (subst (IsDirectlyBelow headers low) same step))
-          | inr up ↦ inr (onwards low middle high step up)
-        ]
-    of_class (of_arrays low high is above) not = absurd (not is)
-    of_class (components low high one other is also sub) not = absurd (not (is_array_of is))
-
-    -- what is above a class
-    pub class_decides : (low high : Name) → ¬ IsArray low → low ≢ high → IsBelow headers low high ↔ IsSubtype headers low high
-    class_decides low high not differ = (
-      λ up. class_is_below up,
-      λ sub. elim (of_class sub not) [ inl same ↦ absurd (differ same) | inr up ↦ up ],
-    )
+  -- what is above a class
+  pub other_class_decides : IsSound headers → (low high : Name) → ¬ IsArray low → low ≢ high → IsBelow headers low high ↔ IsSubtype headers low high
+  other_class_decides sound low high flat differ =
+      let decides = class_decides headers sound no_array low high flat in (
+        λ up. decides.1 (inr up),
+        λ sub. elim (decides.0 sub) [ inl same ↦ absurd (differ same) | inr up ↦ up ],
+      )

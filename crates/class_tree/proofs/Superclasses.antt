@@ -1,24 +1,16 @@
 -- Where classes and their superclasses stand.
-use Rattle.std.proofs.Common.{◌≡◌, ℕ, filter_map, slice_get, Option, Some, None, IsSome, option_map, option_and_then, refl, sym, ap, subst, ◌∙◌}
+use Rattle.std.proofs.Common.{◌≡◌, ℕ, filter_map, slice_get, Option, Some, None, IsSome, option_map, option_and_then, refl, sym, ap, ◌∙◌}
 use Rattle.std.specs.List.{AllByRecursion, cons_option}
 use Rattle.std.proofs.lemmas.Option.{slice_get_within}
 use Rattle.class_model.specs.declared.header.Header.{Header}
 use Rattle.class_tree.specs.Headers.{Name, Headers, class_named, IsThere}
+use Rattle.class_tree.specs.Laws.Headers.{class_there}
 use Rattle.class_tree.specs.Nodes.{number_of, place_at}
 use Rattle.class_tree.specs.Order.{header_at, place_of}
 use Rattle.class_tree.specs.Steps.{supers}
 use Rattle.class_tree.specs.declared.place.Place.{Place}
 use Rattle.class_tree.specs.declared.place.Place.TheVariants.{Folder, Library}
-use Rattle.class_tree.proofs.InterfaceWalks.{class_there}
 use Rattle.class_tree.proofs.Places.{place_number, place_in_folder, place_in_library, number_of_class, place_of_number, header_at_number}
-
--- the superclass is there
-pub super_is_there : (headers : Headers) (header : Header) (name : Name) → AllByRecursion (IsThere headers) (supers header) → header.super_name ≡ Some name → IsThere headers name
-super_is_there headers header name there is = by header.super_name there is
-  where
-    by : (super : Option Name) → AllByRecursion (IsThere headers) (supers (record header { super_name = super })) → super ≡ Some name → IsThere headers name
-    by None there is = absurd cc
-    by (Some above) there is = subst (IsThere headers) (cc) there.0
 
 -- the place of a class that is there
 pub record Placed (headers : Headers) (name : Name) : Type 0 where

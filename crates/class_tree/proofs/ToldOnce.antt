@@ -10,8 +10,9 @@ use Rattle.std.specs.List.Sorted.{IsPermutation, IsSortedByKey}
 use Rattle.std.specs.Ordering.{nat_cmp, is_lt, ordering_reverse}
 use Rattle.std.specs.declared.cmp.Ordering.{Ordering}
 use Rattle.std.specs.declared.cmp.Ordering.TheVariants.{Less, Equal, Greater}
-use Rattle.class_model.specs.Checks.{Check, IsFirstFault}
+use Rattle.class_model.specs.Checks.{IsFirstFault}
 use Rattle.class_model.specs.Header.{header_of}
+use Rattle.class_model.specs.Laws.Checks.{one_fault}
 use Rattle.class_model.specs.declared.class_file.ClassFile.{ClassFile}
 use Rattle.class_model.specs.declared.header.Header.{Header}
 use Rattle.class_tree.specs.Headers.{Name, Classes, headers_of}
@@ -91,13 +92,6 @@ one_arrangement folder library one other a in_order b =
 
 -- ---- one problem
 
-one_first : (checks : List (Check Problem)) (one other : Problem) → IsFirstFault checks one → IsFirstFault checks other → one ≡ other
-one_first [] one other h k = absurd h
-one_first (c ∷ checks) one other (inl a) (inl b) = a.1 ∙ sym b.1
-one_first (c ∷ checks) one other (inl a) (inr b) = absurd (a.0 b.0)
-one_first (c ∷ checks) one other (inr a) (inl b) = absurd (b.0 a.0)
-one_first (c ∷ checks) one other (inr a) (inr b) = one_first checks one other a.1 b.1
-
 -- a first name that stands twice
 record Twice (classes : Classes) (problem : Problem) : Type 0 where
   pub name : Name
@@ -142,6 +136,6 @@ one_problem folder library one other a b =
         | inl twice ↦ absurd (not_both b.classes a.classes (λ name. sym (same name)) other one twice fails)
         | inr also ↦
             let classes = one_arrangement folder library a.classes b.classes a.arranged fails.in_order b.arranged in
-            one_first (step_checks a.classes) one other fails.first (subst (λ (c : Classes). IsFirstFault (step_checks c) other) (sym classes) also.first)
+            one_fault (step_checks a.classes) one other fails.first (subst (λ (c : Classes). IsFirstFault (step_checks c) other) (sym classes) also.first)
       ]
     ]

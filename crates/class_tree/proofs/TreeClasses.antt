@@ -1,13 +1,15 @@
 -- What is known of each class of a hierarchy.
-use Rattle.std.proofs.Common.{◌≡◌, ◌≢◌, ◌+◌, ◌*◌, ℕ, zero, suc, List, [], ◌∷◌, ◌++◌, length, map, slice_get, Option, Some, None, IsSome, IfSome, IsTrue, refl, sym, ◌∙◌, subst}
-use Rattle.std.specs.List.{AllByRecursion, flat_map, join_with_byte}
+use Rattle.std.proofs.Common.{◌≡◌, ◌+◌, ◌*◌, ℕ, zero, suc, List, [], ◌∷◌, ◌++◌, length, map, slice_get, Option, Some, None, IsSome, IfSome, IsTrue, refl, sym, ◌∙◌, subst}
+use Rattle.std.specs.List.{AllByRecursion, flat_map}
 use Rattle.class_model.specs.Checks as checks
 use Rattle.class_model.specs.Checks.{AllHold}
 use Rattle.class_model.specs.ClassOf.{ClassOf, fields_checks, methods_checks, bootstrap_index_checks}
 use Rattle.class_model.specs.Header.{header_of}
+use Rattle.class_model.specs.Laws.Checks.{first_holds, others_hold}
+use Rattle.class_model.specs.Laws.Descriptors.{name_head}
 use Rattle.class_model.specs.Members.{fits_class, class_name_checks, super_checks, interfaces_checks, attrs_checks}
 use Rattle.class_model.specs.Methods.{Home, class_attr_checks, bootstrap_count}
-use Rattle.class_model.specs.Names.{IsClassName, IsUnqualifiedName}
+use Rattle.class_model.specs.Names.{IsClassName}
 use Rattle.class_model.specs.PoolChecks.{entries_checks, class_at}
 use Rattle.class_model.specs.Spelling.{class_bytes, entry_bytes, field_bytes, method_bytes}
 use Rattle.class_model.specs.declared.class_file.ClassFile.{ClassFile}
@@ -17,17 +19,10 @@ use Rattle.class_tree.specs.Headers.{Name, Classes, Headers, headers_of, class_n
 use Rattle.class_tree.specs.Steps.{hierarchy_checks}
 use Rattle.class_tree.specs.Subtype.{IsArray}
 use Rattle.class_tree.specs.Trees.{IsInOrder, IsTree}
-use Rattle.class_tree.proofs.ClassHolds.{front_holds, in_either_list}
+use Rattle.class_tree.proofs.ClassHolds.{in_either_list}
 use Rattle.class_tree.proofs.Places.{number_of_class}
 
 -- ---- names of classes
-
--- a class name is no array
-no_array : (name : Name) (parts : List (List ℕ)) → parts ≢ [] → AllByRecursion IsUnqualifiedName parts → name ≡ join_with_byte 47 parts → ¬ IsArray name
-no_array name [] some unqualified joined array = some refl
-no_array name ([] ∷ parts) some unqualified joined array = unqualified.0.some refl
-no_array name ((first ∷ front) ∷ []) some unqualified joined array = unqualified.0.bytes.0.no_bracket (let e = array.1 in cc)
-no_array name ((first ∷ front) ∷ (part ∷ parts)) some unqualified joined array = unqualified.0.bytes.0.no_bracket (let e = array.1 in cc)
 
 name_is_class_name : (class : ClassFile) (at : ℕ) → checks.AllHold (class_name_checks class.pool at class.this_class) → IsClassName (header_of class).name
 name_is_class_name class at hold = by (class_at class.pool class.this_class) refl hold.0 hold.1.0
@@ -38,28 +33,20 @@ name_is_class_name class at hold = by (class_at class.pool class.this_class) ref
 
 -- ---- what the checks of a class file say of its name
 
-front : (a b : List checks.Check) → checks.AllHold (a ++ b) → checks.AllHold a
-front [] b h = tt
-front (c ∷ a) b h = (h.0, front a b h.1)
-
-back : (a b : List checks.Check) → checks.AllHold (a ++ b) → checks.AllHold b
-back [] b h = h
-back (c ∷ a) b h = back a b h.1
-
-third_of_nine : (a b c d e f g h i : List checks.Check) → checks.AllHold (a ++ b ++ c ++ d ++ e ++ f ++ g ++ h ++ i) → checks.AllHold c
+third_of_nine : (a b c d e f g h i : List (checks.Check checks.Fault)) → checks.AllHold (a ++ b ++ c ++ d ++ e ++ f ++ g ++ h ++ i) → checks.AllHold c
 third_of_nine a b c d e f g h i all =
-    let abcdefgh = front (a ++ b ++ c ++ d ++ e ++ f ++ g ++ h) i all in
-    let abcdefg = front (a ++ b ++ c ++ d ++ e ++ f ++ g) h abcdefgh in
-    let abcdef = front (a ++ b ++ c ++ d ++ e ++ f) g abcdefg in
-    let abcde = front (a ++ b ++ c ++ d ++ e) f abcdef in
-    let abcd = front (a ++ b ++ c ++ d) e abcde in
-    back (a ++ b) c (front (a ++ b ++ c) d abcd)
+    let abcdefgh = first_holds (a ++ b ++ c ++ d ++ e ++ f ++ g ++ h) i all in
+    let abcdefg = first_holds (a ++ b ++ c ++ d ++ e ++ f ++ g) h abcdefgh in
+    let abcdef = first_holds (a ++ b ++ c ++ d ++ e ++ f) g abcdefg in
+    let abcde = first_holds (a ++ b ++ c ++ d ++ e) f abcdef in
+    let abcd = first_holds (a ++ b ++ c ++ d) e abcde in
+    others_hold (a ++ b) c (first_holds (a ++ b ++ c) d abcd)
 
-second_of_six : (a b c d e f : List checks.Check) → checks.AllHold (a ++ b ++ c ++ d ++ e ++ f) → checks.AllHold b
+second_of_six : (a b c d e f : List (checks.Check checks.Fault)) → checks.AllHold (a ++ b ++ c ++ d ++ e ++ f) → checks.AllHold b
 second_of_six a b c d e f all =
-    let abcde = front (a ++ b ++ c ++ d ++ e) f all in
-    let abcd = front (a ++ b ++ c ++ d) e abcde in
-    back a b (front (a ++ b) c (front (a ++ b ++ c) d abcd))
+    let abcde = first_holds (a ++ b ++ c ++ d ++ e) f all in
+    let abcd = first_holds (a ++ b ++ c ++ d) e abcde in
+    others_hold a b (first_holds (a ++ b) c (first_holds (a ++ b ++ c) d abcd))
 
 class_file_name : (bytes : List ℕ) (class : ClassFile) → ClassOf bytes class → IsClassName (header_of class).name
 class_file_name bytes class is =
@@ -96,17 +83,19 @@ each_library_class (first ∷ list) all (suc number) header there = each_library
 pub record HoldsSteps (headers : Headers) : Type 0 where
   pub in_order : IsInOrder headers
   pub hold : AllHold (hierarchy_checks headers)
-  pub named : (name : Name) (header : Header) → class_named headers name ≡ Some header → ¬ IsArray name
+  pub no_array : (name : Name) → IsArray name → class_named headers name ≡ None
 
 pub tree_holds_steps : (classes : Classes) → IsTree classes → HoldsSteps (headers_of classes)
 tree_holds_steps classes tree = record {
   in_order = tree.in_order;
-  hold = front_holds (hierarchy_checks (headers_of classes)) _ tree.holds;
-  named = named;
+  hold = first_holds (hierarchy_checks (headers_of classes)) _ tree.holds;
+  no_array = λ name array. by name array (class_named (headers_of classes) name) refl;
 }
   where
-    named : (name : Name) (header : Header) → class_named (headers_of classes) name ≡ Some header → ¬ IsArray name
-    named name header is array =
+    by : (name : Name) → IsArray name → (found : Option Header) → class_named (headers_of classes) name ≡ found → class_named (headers_of classes) name ≡ None
+    by name array None none = none
+    by name array (Some header) is =
         let class = number_of_class (headers_of classes) name header is in
         let own = in_either_list (λ header. IsClassName header.name) (map header_of classes.folder) classes.library (each_class_file classes.folder tree.folder) (each_library_class classes.library tree.library) class.0 header class.1.there in
-        no_array header.name own.parts own.some own.unqualified own.joined (array.0, class.1.same ∙ array.1)
+        let head = name_head header.name own in
+        absurd (head.no_bracket (let e : head.first ∷ head.more ≡ 91 ∷ array.0 = sym head.is ∙ class.1.same ∙ array.1 in cc))

@@ -1,48 +1,18 @@
--- What is above a class: its superinterfaces are those that are walked, and its superclasses those that are climbed.
-use Rattle.std.proofs.Common.{◌≡◌, ◌⊎◌, ◌||◌, true, false, not, cond, List, [], ◌∷◌, ◌++◌, filter, bytes_eq, Option, Some, None, IfSome, is_some, IsTrue, IsFalse, refl, sym, ap, subst, ◌∙◌, inl, inr}
-use Rattle.std.specs.List.{AllByRecursion, list_any}
-use Rattle.std.proofs.lemmas.Bool.{false≢true, both_ways, cases_Bool, or_cases, or_left, or_right}
+-- The interfaces above a class are those that are walked.
+use Rattle.std.proofs.Common.{◌≡◌, ◌⊎◌, ◌||◌, false, not, cond, List, [], ◌∷◌, ◌++◌, filter, bytes_eq, Some, IsTrue, refl, sym, ap, subst, ◌∙◌, inl, inr}
+use Rattle.std.specs.List.{list_any}
+use Rattle.std.proofs.lemmas.Bool.{both_ways, cases_Bool, or_right}
 use Rattle.std.proofs.lemmas.List.{append-nil}
-use Rattle.std.proofs.lemmas.List.Folds.{list_any-append}
 use Rattle.std.proofs.lemmas.Option.{none-some, same_Some}
 use Rattle.std.proofs.lemmas.Slice.Eq.{bytes_eq-Decides}
-use Rattle.class_model.specs.Checks.{AllHold}
 use Rattle.class_model.specs.declared.header.Header.{Header}
 use Rattle.class_tree.specs.Headers.{Name, Headers, class_named, IsThere}
 use Rattle.class_tree.specs.Interfaces.{IsWalk, done, next, IsInterfaceWalk, of_root, below, each_once}
+use Rattle.class_tree.specs.Laws.Above.{IsSound, directly_there, superclass_kind, interface_kind, above_interface, nothing_above_object}
+use Rattle.class_tree.specs.Laws.Headers.{class_there, same_class}
+use Rattle.class_tree.specs.Laws.Names.{IsOneName, one_name_first, none_of_none, one_of_first, one_of_either, one_in_front, one_in_back}
 use Rattle.class_tree.specs.Names.{object, is_interface}
-use Rattle.class_tree.specs.Steps.{supers, hierarchy_checks}
 use Rattle.class_tree.specs.Subtype.{IsDirectlyBelow, superclass, interface, IsBelow, directly, onwards}
-use Rattle.class_tree.proofs.ClassHolds.{named_holds}
-use Rattle.class_tree.proofs.GraphPaths.{names_above}
-use Rattle.class_tree.proofs.InterfaceWalks.{class_there, own_name, same_class, no_interfaces_of_object, above_interface}
-
--- a name is one of these
-abbrev pub IsOneName : List Name → Name → Type 0
-IsOneName names name = list_any (bytes_eq name) names ≡ true
-
-pub one_name_first : (name other : Name) (names : List Name) → other ≡ name → IsOneName (other ∷ names) name
-one_name_first name other names same = or_left _ _ ((bytes_eq-Decides name other).1 (sym same))
-
-none_of_none : (name : Name) → ¬ IsOneName [] name
-none_of_none name one = false≢true one
-
-pub one_of_first : (first : Name) (names : List Name) (name : Name) → IsOneName (first ∷ names) name → (first ≡ name) ⊎ IsOneName names name
-one_of_first first names name one = elim (or_cases _ _ one) [ inl here ↦ inl (sym ((bytes_eq-Decides name first).0 here)) | inr there ↦ inr there ]
-
-pub one_of_either : (front back : List Name) (name : Name) → IsOneName (front ++ back) name → IsOneName front name ⊎ IsOneName back name
-one_of_either front back name one = or_cases _ _ (sym (list_any-append (bytes_eq name) front back) ∙ one)
-
-one_in_front : (front back : List Name) (name : Name) → IsOneName front name → IsOneName (front ++ back) name
-one_in_front front back name one = list_any-append (bytes_eq name) front back ∙ or_left _ _ one
-
-one_in_back : (front back : List Name) (name : Name) → IsOneName back name → IsOneName (front ++ back) name
-one_in_back front back name one = list_any-append (bytes_eq name) front back ∙ or_right _ _ one
-
-each_of_names : (P : Name → Type 0) (names : List Name) → AllByRecursion P names → (name : Name) → IsOneName names name → P name
-each_of_names P [] all name one = absurd (none_of_none name one)
-each_of_names P (first ∷ names) all name one =
-    elim (one_of_first first names name one) [ inl here ↦ subst P here all.0 | inr there ↦ each_of_names P names all.1 name there ]
 
 -- ---- names, each once, are the same names
 
@@ -163,112 +133,34 @@ module _ (headers : Headers) where
         above = λ name some. subst (λ n. IsInterfaceWalk headers n back) (same_Some above name (sym super ∙ ap (λ (h : Header). h.super_name) same ∙ some)) more;
       }
 
--- the class is there
-pub directly_there : (headers : Headers) → AllHold (hierarchy_checks headers) → (low high : Name) → IsDirectlyBelow headers low high → IsThere headers high
-directly_there headers hold low high step =
-    let names = names_above headers step in
-    each_of_names (IsThere headers) (supers names.header) (named_holds headers hold low names.header names.is).there high names.one
+module _ (headers : Headers) (sound : IsSound headers) (rooted : (name : Name) → IsThere headers name → (name ≡ object) ⊎ IsBelow headers name object) where
+  -- what is above an interface and is an interface is walked
+  above_interface_in : {low high : Name} → IsBelow headers low high → (header above : Header) → class_named headers low ≡ Some header → IsTrue (is_interface header) → class_named headers high ≡ Some above → IsTrue (is_interface above) → (walk : List Name) → IsWalk headers header.interfaces walk → IsOneName walk high
+  above_interface_in (directly low high (superclass _ _ class class_is some)) header above is kind above_is above_kind walk walked =
+      absurd (both_ways (is_interface above) (superclass_kind headers sound low class class_is high some above above_is) above_kind)
+  above_interface_in (directly low high (interface _ _ class class_is one)) header above is kind above_is above_kind walk walked =
+      names_in_walk headers walked high (subst (λ (h : Header). IsOneName h.interfaces high) (same_class headers low class header class_is is) one)
+  above_interface_in (onwards low middle high (superclass _ _ class class_is some) rest) header above is kind above_is above_kind walk walked =
+      absurd (nothing_above_object headers sound rooted (subst (λ name. IsBelow headers name high) (above_interface headers sound low header is kind class class_is middle some) rest))
+  above_interface_in (onwards low middle high (interface _ _ class class_is one) rest) header above is kind above_is above_kind walk walked =
+      let there = class_there headers middle (directly_there headers sound (interface low middle class class_is one)) in
+      let among = subst (λ (h : Header). IsOneName h.interfaces middle) (same_class headers low class header class_is is) one in
+      let own = own_walk headers walked middle there.0 there.1 among in
+      own.within high (above_interface_in rest there.0 above there.1 (interface_kind headers sound low class class_is middle one there.0 there.1) above_is above_kind own.own own.walked)
 
-pub low_is_there : (headers : Headers) {low high : Name} → IsBelow headers low high → IsThere headers low
-low_is_there headers (directly low high step) = ap is_some (names_above headers step).is
-low_is_there headers (onwards low middle high step rest) = ap is_some (names_above headers step).is
-
-pub above_is_there : (headers : Headers) → AllHold (hierarchy_checks headers) → {low high : Name} → IsBelow headers low high → IsThere headers high
-above_is_there headers hold (directly low high step) = directly_there headers hold low high step
-above_is_there headers hold (onwards low middle high step rest) = above_is_there headers hold rest
-
-module _ (headers : Headers) (hold : AllHold (hierarchy_checks headers)) where
-  superclass_kind : (low : Name) (header : Header) → class_named headers low ≡ Some header → (name : Name) → header.super_name ≡ Some name → (above : Header) → class_named headers name ≡ Some above → IsFalse (is_interface above)
-  superclass_kind low header is name some above above_is =
-      let kind = (named_holds headers hold low header is).kinds.superclass in
-      let at = subst (λ super. IfSome super (λ name. IfSome (class_named headers name) (λ above. IsFalse (is_interface above)))) some kind in
-      subst (λ found. IfSome found (λ above. IsFalse (is_interface above))) above_is at
-
-  pub interface_kind : (low : Name) (header : Header) → class_named headers low ≡ Some header → (name : Name) → IsOneName header.interfaces name → (above : Header) → class_named headers name ≡ Some above → IsTrue (is_interface above)
-  interface_kind low header is name one above above_is =
-      let kind = each_of_names (λ name. IfSome (class_named headers name) (λ above. IsTrue (is_interface above))) header.interfaces (named_holds headers hold low header is).kinds.interfaces name one in
-      subst (λ found. IfSome found (λ above. IsTrue (is_interface above))) above_is kind
-
-  -- the superclass of an interface is java/lang/Object
-  above_of_interface : (low : Name) (header : Header) → class_named headers low ≡ Some header → IsTrue (is_interface header) → (class : Header) → class_named headers low ≡ Some class → (name : Name) → class.super_name ≡ Some name → name ≡ object
-  above_of_interface low header is kind class class_is name some =
-      let same = same_class headers low class header class_is is in
-      same_Some name object (sym some ∙ ap (λ (h : Header). h.super_name) same ∙ above_interface headers hold low header is kind)
-
-  module _ (top : Header) (top_is : class_named headers object ≡ Some top) (none : top.super_name ≡ None) where
-    nothing_directly_above : (low high : Name) → low ≡ object → ¬ IsDirectlyBelow headers low high
-    nothing_directly_above low high at (superclass _ _ header is some) =
-        let same = same_class headers object header top (subst (λ n. class_named headers n ≡ Some header) at is) top_is in
-        none-some high (sym none ∙ sym (ap (λ (h : Header). h.super_name) same) ∙ some)
-    nothing_directly_above low high at (interface _ _ header is one) =
-        let same = same_class headers object header top (subst (λ n. class_named headers n ≡ Some header) at is) top_is in
-        none_of_none high (subst (λ (names : List Name). IsOneName names high) (ap (λ (h : Header). h.interfaces) same ∙ no_interfaces_of_object headers hold top top_is) one)
-
-    nothing_above : (low high : Name) → low ≡ object → ¬ IsBelow headers low high
-    nothing_above low high at (directly _ _ step) = nothing_directly_above low high at step
-    nothing_above low high at (onwards _ middle _ step rest) = nothing_directly_above low middle at step
-
-    -- what is above an interface and is an interface is walked
-    above_interface_in : {low high : Name} → IsBelow headers low high → (header above : Header) → class_named headers low ≡ Some header → IsTrue (is_interface header) → class_named headers high ≡ Some above → IsTrue (is_interface above) → (walk : List Name) → IsWalk headers header.interfaces walk → IsOneName walk high
-    above_interface_in (directly low high (superclass _ _ class class_is some)) header above is kind above_is above_kind walk walked =
-        absurd (both_ways (is_interface above) (superclass_kind low class class_is high some above above_is) above_kind)
-    above_interface_in (directly low high (interface _ _ class class_is one)) header above is kind above_is above_kind walk walked =
-        names_in_walk headers walked high (subst (λ (h : Header). IsOneName h.interfaces high) (same_class headers low class header class_is is) one)
-    above_interface_in (onwards low middle high (superclass _ _ class class_is some) rest) header above is kind above_is above_kind walk walked =
-        absurd (nothing_above middle high (above_of_interface low header is kind class class_is middle some) rest)
-    above_interface_in (onwards low middle high (interface _ _ class class_is one) rest) header above is kind above_is above_kind walk walked =
-        let there = class_there headers middle (directly_there headers hold low middle (interface low middle class class_is one)) in
-        let among = subst (λ (h : Header). IsOneName h.interfaces middle) (same_class headers low class header class_is is) one in
-        let own = own_walk headers walked middle there.0 there.1 among in
-        own.within high (above_interface_in rest there.0 above there.1 (interface_kind low class class_is middle one there.0 there.1) above_is above_kind own.own own.walked)
-
-    -- an interface that is above a class is walked
-    pub interface_is_walked : {low high : Name} → IsBelow headers low high → (above : Header) → class_named headers high ≡ Some above → IsTrue (is_interface above) → (walk : List Name) → IsInterfaceWalk headers low walk → IsOneName walk high
-    interface_is_walked (directly low high (superclass _ _ class class_is some)) above above_is above_kind walk walked =
-        absurd (both_ways (is_interface above) (superclass_kind low class class_is high some above above_is) above_kind)
-    interface_is_walked (directly low high (interface _ _ class class_is one)) above above_is above_kind walk walked =
-        let p = parts headers walked class class_is in
-        subst (λ (l : List Name). IsOneName l high) (sym p.is) (one_in_front p.front p.back high (names_in_walk headers p.walked high one))
-    interface_is_walked (onwards low middle high (superclass _ _ class class_is some) rest) above above_is above_kind walk walked =
-        let p = parts headers walked class class_is in
-        subst (λ (l : List Name). IsOneName l high) (sym p.is) (one_in_back p.front p.back high (interface_is_walked rest above above_is above_kind p.back (p.above middle some)))
-    interface_is_walked (onwards low middle high (interface _ _ class class_is one) rest) above above_is above_kind walk walked =
-        let p = parts headers walked class class_is in
-        let there = class_there headers middle (directly_there headers hold low middle (interface low middle class class_is one)) in
-        let own = own_walk headers p.walked middle there.0 there.1 one in
-        subst (λ (l : List Name). IsOneName l high) (sym p.is)
-        (one_in_front p.front p.back high (own.within high (above_interface_in rest there.0 above there.1 (interface_kind low class class_is middle one there.0 there.1) above_is above_kind own.own own.walked)))
-
-    -- ---- superclasses
-
-    -- no class but java/lang/Object is above an interface
-    class_above_interface : {low high : Name} → IsBelow headers low high → (header above : Header) → class_named headers low ≡ Some header → IsTrue (is_interface header) → class_named headers high ≡ Some above → IsFalse (is_interface above) → high ≡ object
-    class_above_interface (directly low high (superclass _ _ class class_is some)) header above is kind above_is above_kind = above_of_interface low header is kind class class_is high some
-    class_above_interface (directly low high (interface _ _ class class_is one)) header above is kind above_is above_kind =
-        absurd (both_ways (is_interface above) above_kind (interface_kind low class class_is high one above above_is))
-    class_above_interface (onwards low middle high (superclass _ _ class class_is some) rest) header above is kind above_is above_kind =
-        absurd (nothing_above middle high (above_of_interface low header is kind class class_is middle some) rest)
-    class_above_interface (onwards low middle high (interface _ _ class class_is one) rest) header above is kind above_is above_kind =
-        let there = class_there headers middle (directly_there headers hold low middle (interface low middle class class_is one)) in
-        class_above_interface rest there.0 above there.1 (interface_kind low class class_is middle one there.0 there.1) above_is above_kind
-
-    -- what is above a class and is no interface is its superclass or above that
-    pub class_is_climbed : {low high : Name} → IsBelow headers low high → (header above : Header) → class_named headers low ≡ Some header → class_named headers high ≡ Some above → IsFalse (is_interface above) → ((name : Name) → IsThere headers name → (name ≡ object) ⊎ IsBelow headers name object) → (name : Name) × (header.super_name ≡ Some name) × ((name ≡ high) ⊎ IsBelow headers name high)
-    class_is_climbed (directly low high (superclass _ _ class class_is some)) header above is above_is kind rooted =
-        (high, ap (λ (h : Header). h.super_name) (same_class headers low header class is class_is) ∙ some, inl refl)
-    class_is_climbed (directly low high (interface _ _ class class_is one)) header above is above_is kind rooted =
-        absurd (both_ways (is_interface above) kind (interface_kind low class class_is high one above above_is))
-    class_is_climbed (onwards low middle high (superclass _ _ class class_is some) rest) header above is above_is kind rooted =
-        (middle, ap (λ (h : Header). h.super_name) (same_class headers low header class is class_is) ∙ some, inr rest)
-    class_is_climbed (onwards low middle high (interface _ _ class class_is one) rest) header above is above_is kind rooted =
-        let step = interface low middle class class_is one in
-        let there = class_there headers middle (directly_there headers hold low middle step) in
-        let at = class_above_interface rest there.0 above there.1 (interface_kind low class class_is middle one there.0 there.1) above_is kind in
-        by header.super_name refl at step
-      where
-        by : (super : Option Name) → header.super_name ≡ super → high ≡ object → IsDirectlyBelow headers low middle → (name : Name) × (header.super_name ≡ Some name) × ((name ≡ high) ⊎ IsBelow headers name high)
-        by None absent at step =
-            let holds = named_holds headers hold low header is in
-            absurd (nothing_directly_above low middle (sym (own_name headers low header is) ∙ holds.kinds.root absent) step)
-        by (Some name) some at step =
-            (name, some, subst (λ n. (name ≡ n) ⊎ IsBelow headers name n) (sym at) (rooted name (directly_there headers hold low name (superclass low name header is some))))
+  -- an interface that is above a class is walked
+  pub interface_is_walked : {low high : Name} → IsBelow headers low high → (above : Header) → class_named headers high ≡ Some above → IsTrue (is_interface above) → (walk : List Name) → IsInterfaceWalk headers low walk → IsOneName walk high
+  interface_is_walked (directly low high (superclass _ _ class class_is some)) above above_is above_kind walk walked =
+      absurd (both_ways (is_interface above) (superclass_kind headers sound low class class_is high some above above_is) above_kind)
+  interface_is_walked (directly low high (interface _ _ class class_is one)) above above_is above_kind walk walked =
+      let p = parts headers walked class class_is in
+      subst (λ (l : List Name). IsOneName l high) (sym p.is) (one_in_front p.front p.back high (names_in_walk headers p.walked high one))
+  interface_is_walked (onwards low middle high (superclass _ _ class class_is some) rest) above above_is above_kind walk walked =
+      let p = parts headers walked class class_is in
+      subst (λ (l : List Name). IsOneName l high) (sym p.is) (one_in_back p.front p.back high (interface_is_walked rest above above_is above_kind p.back (p.above middle some)))
+  interface_is_walked (onwards low middle high (interface _ _ class class_is one) rest) above above_is above_kind walk walked =
+      let p = parts headers walked class class_is in
+      let there = class_there headers middle (directly_there headers sound (interface low middle class class_is one)) in
+      let own = own_walk headers p.walked middle there.0 there.1 one in
+      subst (λ (l : List Name). IsOneName l high) (sym p.is)
+      (one_in_front p.front p.back high (own.within high (above_interface_in rest there.0 above there.1 (interface_kind headers sound low class class_is middle one there.0 there.1) above_is above_kind own.own own.walked)))

@@ -1,20 +1,28 @@
--- What holds of each in a list, and what stands at an index.
-use Rattle.std.proofs.Common.{◌≡◌, ◌+◌, ℕ, zero, suc, List, [], ◌∷◌, drop, Some, ap, subst, ◌∙◌}
+-- What holds of each item of a list, and what is left of a list.
+use Rattle.std.proofs.lemmas.List.Folds.{list_all-map}
+use Rattle.std.proofs.lemmas.List.Sums.{AllPass-from_list_all}
+use Rattle.std.proofs.lemmas.List.Elements.{All-get_or}
+use Rattle.std.proofs.Common.{◌≡◌, ◌+◌, ℕ, zero, suc, List, [], ◌∷◌, drop, slice_get, Some, ap, subst, ◌∙◌, Bool, true, length, map, get_or, ◌<◌, sym}
+use Rattle.std.specs.List.{AllByRecursion, list_all}
 use Rattle.std.proofs.lemmas.List.{drop_more}
-use Rattle.std.proofs.lemmas.Option.{get_or_from_slice_get, same_Some, slice_get_within}
-use Rattle.std.specs.List.{AllByRecursion, slice_get}
+use Rattle.std.proofs.lemmas.Option.{slice_get_within, get_or_from_slice_get, same_Some}
 
--- what follows of each holds of each too
-pub each_too : {X : Type 0} (P Q : X → Type 0) → ((x : X) → P x → Q x) → (xs : List X) → AllByRecursion P xs → AllByRecursion Q xs
-each_too P Q to [] all = tt
-each_too P Q to (x ∷ xs) all = (to x all.0, each_too P Q to xs all.1)
+-- what follows of each item
+pub mapped_all : {X : Type 0} (P Q : X → Type 0) → ((x : X) → P x → Q x) → (xs : List X) → AllByRecursion P xs → AllByRecursion Q xs
+mapped_all P Q to [] all = tt
+mapped_all P Q to (x ∷ xs) all = (to x all.0, mapped_all P Q to xs all.1)
 
--- what holds of each holds of the one at an index
-pub at_index : {X : Type 0} (P : X → Type 0) (xs : List X) (index : ℕ) (x : X) → AllByRecursion P xs → slice_get xs index ≡ Some x → P x
-at_index P [] index x all there = absurd cc
-at_index P (y ∷ xs) zero x all there = subst P (same_Some y x there) all.0
-at_index P (y ∷ xs) (suc index) x all there = at_index P xs index x all.1 there
+-- one of them
+pub at_index : {X : Type 0} (P : X → Type 0) (xs : List X) (i : ℕ) (x : X) → AllByRecursion P xs → slice_get xs i ≡ Some x → P x
+at_index P [] i x all is = absurd cc
+at_index P (first ∷ xs) zero x all is = subst P (same_Some first x is) all.0
+at_index P (first ∷ xs) (suc i) x all is = at_index P xs i x all.1 is
 
--- from an index on, the one there and those behind it
-pub drop_at : {X : Type 0} (xs : List X) (index : ℕ) (x : X) → slice_get xs index ≡ Some x → drop index xs ≡ x ∷ drop (index + 1) xs
-drop_at xs index x there = drop_more xs index x (slice_get_within xs index x there) ∙ ap (λ y. y ∷ drop (index + 1) xs) (get_or_from_slice_get xs index x x there)
+-- a test that each passes, of what items are seen as
+pub passes_at : {X Y : Type 0} (test : Y → Bool) (f : X → Y) (items : List X) (i : ℕ) (d : X) → list_all test (map f items) ≡ true → i < length items → test (f (get_or items i d)) ≡ true
+passes_at test f items i d all within =
+    All-get_or (λ x. test (f x) ≡ true) items i d within (AllPass-from_list_all (λ x. test (f x)) items (sym (list_all-map test f items) ∙ all))
+
+-- what is left from an item on
+pub drop_at : {X : Type 0} (xs : List X) (i : ℕ) (x : X) → slice_get xs i ≡ Some x → drop i xs ≡ x ∷ drop (i + 1) xs
+drop_at xs i x is = drop_more xs i x (slice_get_within xs i x is) ∙ ap (λ y. y ∷ drop (i + 1) xs) (get_or_from_slice_get xs i x x is)

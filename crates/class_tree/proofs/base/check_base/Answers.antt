@@ -1,10 +1,10 @@
 use Rattle.std.proofs.Common.{Ok, Err, refl}
 use Rattle.std.proofs.lemmas.Result.{err_from_is_err_and}
+use Rattle.class_tree.specs.Laws.Links.{refused, answered}
 use Rattle.class_tree.specs.Names.{throwable, method_handle, method_type}
 use Rattle.class_tree.specs.Steps.{is_method_handle, is_method_type}
 use Rattle.class_tree.proofs.BaseChecks as parts
 use Rattle.class_tree.proofs.LibraryNames.{in_library_is_there}
-use Rattle.class_tree.proofs.LinkChecks.{refused, answered}
 use Rattle.class_tree.proofs.base.check_base.Goals as goal
 
 pub returns-in_err-check_names : goal.returns-in_err-check_names

@@ -1,9 +1,10 @@
 use Rattle.std.proofs.Common.{◌≡◌, ◌↔◌, true}
 use Rattle.std.specs.List.{AllByRecursion}
 use Rattle.std.proofs.lemmas.Result.{err_from_is_err_and}
+use Rattle.class_model.specs.Laws.Checks.{all_remain, passes, not_so}
 use Rattle.class_tree.specs.Headers.{IsThere}
+use Rattle.class_tree.specs.Laws.Links.{fails, ends}
 use Rattle.class_tree.specs.Steps.{supers, folder_checks}
-use Rattle.class_tree.proofs.LinkChecks.{all_remain, passes, fails, ends, not_so}
 use Rattle.class_tree.proofs.SuperNumbers.{there_decides, numbers_of_all}
 use Rattle.class_tree.proofs.hierarchy.check_folder_class.Goals as goal
 use Rattle.class_tree.proofs.hierarchy.check_folder_class.Goals.{After-are_there}

@@ -1,10 +1,11 @@
 use Rattle.std.proofs.Common.{◌≡◌, ◌↔◌, true, map, Some}
 use Rattle.std.specs.List.{AllByRecursion}
 use Rattle.std.proofs.lemmas.Result.{err_from_is_err_and}
+use Rattle.class_model.specs.Laws.Checks.{all_remain, passes, not_so}
 use Rattle.class_tree.specs.Headers.{IsThere}
+use Rattle.class_tree.specs.Laws.Links.{fails, ends}
 use Rattle.class_tree.specs.Nodes.{number_of}
 use Rattle.class_tree.specs.Steps.{supers, library_checks, IsOutside}
-use Rattle.class_tree.proofs.LinkChecks.{all_remain, passes, fails, ends, not_so}
 use Rattle.class_tree.proofs.SuperNumbers.{there_decides, numbers_of_all, are_outside}
 use Rattle.class_tree.proofs.hierarchy.check_library_class.Goals as goal
 use Rattle.class_tree.proofs.hierarchy.check_library_class.Goals.{After-are_there, After-are_outside}

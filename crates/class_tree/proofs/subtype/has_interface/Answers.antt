@@ -1,6 +1,7 @@
-use Rattle.std.proofs.Common.{◌≡◌, List, map, Some, bytes_eq, IfSome, is_some, sym, ap, subst, ◌∙◌}
+use Rattle.std.proofs.Common.{◌≡◌, List, map, Some, bytes_eq, IfSome, sym, ap, subst, ◌∙◌}
 use Rattle.std.specs.List.{list_any}
 use Rattle.class_model.specs.declared.header.Header.{Header}
+use Rattle.class_tree.proofs.ClassHolds.{is_sound}
 use Rattle.class_tree.specs.Headers.{Name, headers_of}
 use Rattle.class_tree.specs.Interfaces.{AreSuperinterfaces}
 use Rattle.class_tree.specs.Order.{place_of}
@@ -18,8 +19,7 @@ returns c = λ low high low_at high_at kind.
     let same : c.contains.result ≡ list_any (bytes_eq high.name) known.1.walk =
     c.contains.ensures.value ∙ one_place headers tree c.args.interface high high_at known.0 c.superinterfaces.result.now known.2
     ∙ ap (λ (names : List Name). list_any (bytes_eq high.name) names) known.1.once ∙ once_same high.name known.1.walk in
-    let named = named_at_place headers tree c.args.interface high high_at in
-    let root = rooted headers tree low.name (ap is_some (named_at_place headers tree c.args.class low low_at)) in (
+    let named = named_at_place headers tree c.args.interface high high_at in (
       λ yes. walked_is_above headers known.1.walked high.name (sym same ∙ yes),
-      λ up. same ∙ interface_is_walked headers tree.hold root.top root.is root.none up high named kind known.1.walk known.1.walked,
+      λ up. same ∙ interface_is_walked headers (is_sound headers tree.hold) (rooted headers tree) up high named kind known.1.walk known.1.walked,
     )

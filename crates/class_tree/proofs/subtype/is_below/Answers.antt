@@ -1,25 +1,26 @@
 use Rattle.std.proofs.Common.{◌↔◌, false, IsTrue, IsFalse, is_some, sym, ap, subst, ◌∙◌}
 use Rattle.std.specs.Option.{option_map_or}
 use Rattle.std.proofs.lemmas.Bool.{false≢true}
+use Rattle.class_tree.proofs.ClassHolds.{is_sound}
 use Rattle.class_tree.specs.Headers.{Name, headers_of}
+use Rattle.class_tree.specs.Laws.Above.{low_is_there, above_is_there}
 use Rattle.class_tree.specs.Names.{is_interface}
 use Rattle.class_tree.specs.Subtype.{IsBelow}
 use Rattle.class_tree.proofs.Places.{class_of_place}
 use Rattle.class_tree.proofs.SamePlaces.{placed_is_there}
 use Rattle.class_tree.proofs.TreeClasses.{tree_holds_steps}
-use Rattle.class_tree.proofs.WalkedNames.{above_is_there, low_is_there}
 use Rattle.class_tree.proofs.subtype.is_below.Goals as goal
 
 pub returns-in_default : goal.returns-in_default
 returns-in_default c =
     let headers = headers_of c.args.tree.now in
-    (λ yes. absurd (false≢true yes), λ up. absurd (placed_is_there headers c.args.low.now (low_is_there headers up) (sym c.find.ensures.same ∙ c.in_default.is)))
+    (λ yes. absurd (false≢true yes), λ up. absurd (placed_is_there headers c.args.low.now (low_is_there up) (sym c.find.ensures.same ∙ c.in_default.is)))
 
 pub returns-in_default-find : goal.returns-in_default-find
 returns-in_default-find c =
     let headers = headers_of c.args.tree.now in
     let tree = tree_holds_steps c.args.tree.now c.find.ensures.tree in
-    (λ yes. absurd (false≢true yes), λ up. absurd (placed_is_there headers c.args.high.now (above_is_there headers tree.hold up) (sym c.find-2.ensures.same ∙ c.in_default-find.is)))
+    (λ yes. absurd (false≢true yes), λ up. absurd (placed_is_there headers c.args.high.now (above_is_there headers (is_sound headers tree.hold) up) (sym c.find-2.ensures.same ∙ c.in_default-find.is)))
 
 pub has_interface-requires-clause-class : goal.has_interface-requires-clause-class
 has_interface-requires-clause-class c =

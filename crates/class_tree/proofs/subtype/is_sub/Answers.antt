@@ -1,13 +1,12 @@
 use Rattle.std.proofs.Common.{◌≢◌, ◌↔◌, refl, sym, subst, ◌∙◌}
 use Rattle.std.proofs.lemmas.Bool.{false≢true}
 use Rattle.std.proofs.lemmas.Slice.Eq.{bytes_eq-Decides}
+use Rattle.class_tree.proofs.ClassHolds.{is_sound}
 use Rattle.class_tree.specs.Headers.{Name, headers_of}
 use Rattle.class_tree.specs.Subtype.{IsArray, IsSubtype, itself}
 use Rattle.class_tree.specs.Trees.{IsTree}
-use Rattle.class_tree.proofs.Subtypes.{all_components_decide, array_decides, class_decides}
-use Rattle.class_tree.proofs.Superclasses.{placed}
+use Rattle.class_tree.proofs.Subtypes.{all_components_decide, array_decides, other_class_decides}
 use Rattle.class_tree.proofs.TreeClasses.{HoldsSteps, tree_holds_steps}
-use Rattle.class_tree.proofs.WalkedNames.{directly_there}
 use Rattle.class_tree.proofs.subtype.is_sub.Goals as goal
 use Rattle.class_tree.proofs.subtype.is_sub.Goals.{After-innermost, Else-eq}
 
@@ -19,7 +18,7 @@ inner : (c : After-innermost) → IsSubtype (headers_of c.args.tree.now) c.args.
 inner c =
     let headers = headers_of c.args.tree.now in
     subst (λ (low : Name). IsSubtype headers low c.args.high.now ↔ IsSubtype headers c.innermost.result.0.now c.innermost.result.1.now) c.bytes.ensures.same
-    (subst (λ (high : Name). IsSubtype headers c.bytes.result.now high ↔ IsSubtype headers c.innermost.result.0.now c.innermost.result.1.now) c.bytes-2.ensures.same (all_components_decide headers (tree c).named c.innermost.ensures.taken))
+    (subst (λ (high : Name). IsSubtype headers c.bytes.result.now high ↔ IsSubtype headers c.innermost.result.0.now c.innermost.result.1.now) c.bytes-2.ensures.same (all_components_decide headers (tree c).no_array c.innermost.ensures.taken))
 
 differ : (c : Else-eq) → c.innermost.result.0.now ≢ c.innermost.result.1.now
 differ c = λ same. false≢true (sym c.if-eq.false ∙ c.eq.ensures ∙ (bytes_eq-Decides c.innermost.result.0.now c.innermost.result.1.now).1 same)
@@ -35,7 +34,7 @@ pub returns-then-is_array : goal.returns-then-is_array
 returns-then-is_array c =
     let headers = headers_of c.args.tree.now in
     let both = inner (goal.at.returns-then-is_array c).After-innermost in
-    let decides = array_decides headers (tree (goal.at.returns-then-is_array c).After-innermost).named c.innermost.result.0.now c.innermost.result.1.now (c.is_array.ensures.0 c.if-is_array.true) (differ (goal.at.returns-then-is_array c).Else-eq) c.innermost.ensures.last in
+    let decides = array_decides headers (tree (goal.at.returns-then-is_array c).After-innermost).no_array c.innermost.result.0.now c.innermost.result.1.now (c.is_array.ensures.0 c.if-is_array.true) (differ (goal.at.returns-then-is_array c).Else-eq) c.innermost.ensures.last in
     (λ yes. both.1 (decides.0 (c.is_above_arrays.ensures.0 yes)), λ sub. c.is_above_arrays.ensures.1 (decides.1 (both.0 sub)))
 
 pub returns-else-is_array : goal.returns-else-is_array
@@ -44,5 +43,5 @@ returns-else-is_array c =
     let both = inner (goal.at.returns-else-is_array c).After-innermost in
     let hierarchy = tree (goal.at.returns-else-is_array c).After-innermost in
     let no_array : ¬ IsArray c.innermost.result.0.now = λ is. false≢true (sym c.if-is_array.false ∙ c.is_array.ensures.1 is) in
-    let decides = class_decides headers hierarchy.named (directly_there headers hierarchy.hold) (λ name there. let class = placed headers name there in hierarchy.named name class.header class.named) c.innermost.result.0.now c.innermost.result.1.now no_array (differ (goal.at.returns-else-is_array c).Else-eq) in
+    let decides = other_class_decides headers hierarchy.no_array (is_sound headers hierarchy.hold) c.innermost.result.0.now c.innermost.result.1.now no_array (differ (goal.at.returns-else-is_array c).Else-eq) in
     (λ yes. both.1 (decides.0 (c.is_below.ensures.0 yes)), λ sub. c.is_below.ensures.1 (decides.1 (both.0 sub)))
