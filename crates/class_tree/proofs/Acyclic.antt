@@ -4,7 +4,6 @@ use Rattle.std.specs.List.{AllByRecursion, IsDistinct, list_any}
 use Rattle.std.proofs.lemmas.Bool.{false≢true, or_cases, eqb-true, ne_eqb}
 use Rattle.std.proofs.lemmas.Map.Keys.{IsDistinct-cons}
 use Rattle.std.proofs.lemmas.Map.Steps.{length-le_from_distinct_below}
-use Rattle.std.proofs.lemmas.Option.{slice_get_within}
 use Rattle.class_model.specs.Laws.Lists.{mapped_all}
 use Rattle.class_tree.specs.Graphs.{Graph, IsOneOf, IsNoneOf, IsEdge, IsPath, edge, onwards, IsWithin, IsTopological}
 use Rattle.class_tree.proofs.OneOf.{one_or_none, not_both, one_of_front, split_at}
@@ -15,10 +14,6 @@ use Rattle.class_tree.proofs.OneOf.{one_or_none, not_both, one_of_front, split_a
 pub path_and_edge : {graph : Graph} {from middle to : ℕ} → IsPath graph from middle → IsEdge graph middle to → IsPath graph from to
 path_and_edge (edge from middle first) last = onwards from middle _ first (edge middle _ last)
 path_and_edge (onwards from next middle first rest) last = onwards from next _ first (path_and_edge rest last)
-
-pub starts_within : {graph : Graph} {from to : ℕ} → IsPath graph from to → from < length graph
-starts_within {graph} (edge from to first) = slice_get_within graph from first.targets first.there
-starts_within {graph} (onwards from middle to first rest) = slice_get_within graph from first.targets first.there
 
 pub ends_within : {graph : Graph} {from to : ℕ} → IsPath graph from to → IsWithin graph → to < length graph
 ends_within (edge from to last) within = within from to last

@@ -1,7 +1,7 @@
 -- Names that stand twice, as classes are taken off two lists in byte order of names.
 use Rattle.std.proofs.Common.{◌≡◌, ◌+◌, ◌≤◌, ℕ, Bool, true, false, cond, bytes_eq, Option, Some, None, refl, sym, ap, subst, ◌∙◌, ◌⊎◌, inl, inr, Bor, arith, true≢false}
 use Rattle.std.proofs.lemmas.Bool.{cases_lt}
-use Rattle.std.proofs.lemmas.Cmp.{nat_list_cmp_total, tied_itself}
+use Rattle.std.proofs.lemmas.Cmp.{nat_list_cmp_total}
 use Rattle.std.proofs.lemmas.Map.Text.{is_eq-slice_cmp}
 use Rattle.std.proofs.lemmas.Slice.Eq.{bytes_eq-Decides}
 use Rattle.std.specs.Cmp.Lexicographic.{slice_cmp}
@@ -36,9 +36,6 @@ pub record IsTaken (rest : Headers) (taken : Name) (others : Headers) : Type 0 w
   pub counts : (name : Name) → times name rest ≡ times name others + once_if name taken
   pub first : (name : Name) → IsBefore name taken → times name rest ≡ 0
 
-pub all_left : (headers : Headers) → AreHeadersInOrder headers.folder → AreHeadersInOrder headers.library → AreLeft headers headers None
-all_left headers folder library = record { folder = folder; library = library; there = λ name. omega arith; kept = λ name two. omega arith; later = λ low is. absurd cc }
-
 at_most_once : (name other : Name) → once_if name other ≤ 1
 at_most_once name other = by (bytes_eq name other)
   where
@@ -60,9 +57,6 @@ once_cases name other = by (bytes_eq name other) refl
     by : (b : Bool) → bytes_eq name other ≡ b → (cond b 1 0 ≡ (0 + 0)) ⊎ (name ≡ other)
     by true e = inr ((bytes_eq-Decides name other).0 e)
     by false e = inl refl
-
-before_itself : (name : Name) → IsBefore name name → ⊥
-before_itself name before = cc (before, tied_itself nat_list_cmp_total name)
 
 -- none is left
 pub none_left : (headers rest : Headers) (last : Option Name) → AreLeft headers rest last → ((name : Name) → times name rest ≡ 0) → (name : Name) → times name headers ≤ 1

@@ -73,14 +73,6 @@ number_of_class headers name header there = by (number_of headers name) refl
         let c = class_of_number headers name number e in
         (number, subst (HasNumber headers name number) (cc (there, c.1.named)) c.1)
 
--- a class that is not there has none
-pub number_of_no_class : (headers : Headers) (name : Name) → class_named headers name ≡ None → number_of headers name ≡ None
-number_of_no_class headers name missing = by (number_of headers name) refl
-  where
-    by : (found : Option ℕ) → number_of headers name ≡ found → found ≡ None
-    by None e = refl
-    by (Some number) e = let c = class_of_number headers name number e in absurd (cc (missing, c.1.named))
-
 -- Where no name stands twice, each class has the number where it stands.
 pub number_of_itself : (headers : Headers) → IsInOrder headers → (number : ℕ) (header : Header) → slice_get (all_headers headers) number ≡ Some header → HasNumber headers header.name number header
 number_of_itself headers order number header there =

@@ -1,4 +1,4 @@
-use Rattle.std.proofs.Common.{Ok, Err, refl}
+use Rattle.std.proofs.Common.{Ok, Err}
 use Rattle.std.proofs.lemmas.Result.{err_from_is_err_and}
 use Rattle.class_tree.specs.Laws.Links.{refused, answered}
 use Rattle.class_tree.specs.Names.{throwable, method_handle, method_type}
