@@ -3,7 +3,7 @@ use Rattle.std.proofs.lemmas.List.{take_all}
 use Rattle.std.specs.List.{slice_get}
 use Rattle.class_model.specs.declared.frame.VType.{VType}
 use Rattle.map_frames.proofs.ListedUnits.{one_more, none_behind}
-use Rattle.bytes_tests.proofs.writing_tests.units_of.Goals as goal
+use Rattle.base_tests.proofs.writing_tests.units_of.Goals as goal
 
 next_copied : (types units more : List VType) (unit copy : VType) → slice_get types (length units) ≡ Some unit → copy ≡ unit → units ≡ take (length units) types → more ≡ units ++ copy ∷ [] → more ≡ take (length more) types
 next_copied types units more unit copy is same so_far pushed =

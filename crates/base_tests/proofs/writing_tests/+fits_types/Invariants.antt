@@ -1,5 +1,5 @@
 use Rattle.std.proofs.Common.{length}
-use Rattle.bytes_tests.proofs.writing_tests.+fits_types.Given as goal
+use Rattle.base_tests.proofs.writing_tests.+fits_types.Given as goal
 
 abbrev pub decreases-fits_types : goal.decreases-fits_types
 decreases-fits_types l = length l.types.now

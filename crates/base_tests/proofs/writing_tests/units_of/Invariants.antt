@@ -1,5 +1,5 @@
 use Rattle.std.proofs.Common.{◌≡◌, ◌-◌, length, take}
-use Rattle.bytes_tests.proofs.writing_tests.units_of.Given as goal
+use Rattle.base_tests.proofs.writing_tests.units_of.Given as goal
 
 abbrev pub invariant-loop-unit : goal.invariant-loop-unit
 invariant-loop-unit l = l.units ≡ take (length l.units) l.locals
