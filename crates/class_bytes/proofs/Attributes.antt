@@ -1,9 +1,13 @@
 -- Attributes checked one after the other, of which one name may stand once.
-use Rattle.std.proofs.Common.{◌≡◌, ◌||◌, ℕ, ◌+◌, Bool, true, false, List, [], ◌∷◌, ◌++◌, length, map, Result, Ok, Err, get_or, drop, refl, sym, ap, subst, ◌∙◌, arith, length-append, add-one, drop-cons, ◌<◌, ◌^◌}
+use Rattle.std.proofs.lemmas.List.{drop_more}
+use Rattle.std.proofs.Math.Bool.{or-false}
+use Rattle.std.proofs.Common.{◌≡◌, ◌||◌, ℕ, ◌+◌, Bool, List, [], ◌∷◌, ◌++◌, length, map, Result, Ok, Err, get_or, drop, refl, sym, ap, subst, ◌∙◌, arith, length-append, ◌<◌, ◌^◌}
 use Rattle.std.specs.List.{flat_map, list_any}
 use Rattle.std.proofs.lemmas.List.Folds.{list_any-append}
 use Rattle.class_model.specs.Answers.{Tells}
-use Rattle.class_model.specs.Checks.{Check}
+use Rattle.class_model.specs.Checks.{Check, Fault}
+use Rattle.class_model.specs.Laws.Answers.{refused}
+use Rattle.class_model.specs.Laws.Checks.{Remain, remain}
 use Rattle.class_model.specs.Members.{is_named, has_named, attrs_checks}
 use Rattle.class_model.specs.Pool.{Constants}
 use Rattle.class_model.specs.Spelling.{attr_bytes}
@@ -12,7 +16,6 @@ use Rattle.class_model.specs.declared.fault.ClassFault.{ClassFault}
 use Rattle.class_bytes.specs.Cut.{attr_of, attrs_of}
 use Rattle.class_bytes.specs.Parts.{attrs_len}
 use Rattle.class_bytes.specs.declared.cut.CutAttr.{CutAttr}
-use Rattle.class_bytes.proofs.Asking.{Remain, remain, refused}
 
 -- The attributes before this place hold, and whether one of them has the name; these are left.
 pub record Checked (pool : Constants) (name : List ℕ) (asks : List Attr → ℕ → Attr → List (Check Fault)) (whole : List (Check Fault)) (end : ℕ) (has_one : Bool) (place : ℕ) (left : List CutAttr) : Type 0 where
@@ -29,10 +32,6 @@ any_seen f test (item ∷ items) = ap (λ (b : Bool). test (f item) || b) (any_s
 attr_len : (attr : CutAttr) → length (attr_bytes (attr_of attr)) ≡ 6 + length attr.content.now
 attr_len attr = omega arith
 
-or_false : (b : Bool) → (b || false) ≡ b
-or_false true = refl
-or_false false = refl
-
 -- the next of them
 module _ (pool : Constants) (name : List ℕ) (asks : List Attr → ℕ → Attr → List (Check Fault)) (whole : List (Check Fault)) (end : ℕ) (has_one : Bool) (place : ℕ) (attrs : List CutAttr) (index : ℕ) (none : CutAttr) (within : index < length attrs) (so_far : Checked pool name asks whole end has_one place (drop index attrs)) where
   abbrev pub next : CutAttr
@@ -42,7 +41,7 @@ module _ (pool : Constants) (name : List ℕ) (asks : List Attr → ℕ → Attr
   others = drop (index + 1) attrs
 
   first_left : drop index attrs ≡ next ∷ others
-  first_left = drop-cons attrs index none within ∙ ap (λ (n : ℕ). next ∷ drop n attrs) (sym (add-one index))
+  first_left = drop_more attrs index none within
 
   pub next_below : end < 2 ^ 63 → place + 6 + length next.content.now < 2 ^ 63
   next_below below =
@@ -69,7 +68,7 @@ module _ (pool : Constants) (name : List ℕ) (asks : List Attr → ℕ → Attr
       let before = so_far.before ++ attr_of next ∷ [] in
       record {
         before = before;
-        named = ap (λ (b : Bool). b || is_one) so_far.named ∙ ap (λ (b : Bool). has_named pool name so_far.before || b) (here.1 ∙ sym (or_false _)) ∙ sym (list_any-append (is_named pool name) so_far.before (attr_of next ∷ []));
+        named = ap (λ (b : Bool). b || is_one) so_far.named ∙ ap (λ (b : Bool). has_named pool name so_far.before || b) (here.1 ∙ sym (or-false _)) ∙ sym (list_any-append (is_named pool name) so_far.before (attr_of next ∷ []));
         remain = subst (λ (n : ℕ). Remain whole (attrs_checks asks before (place + n) (attrs_of others))) len (remain its_checks _ left here.0);
         ends = omega (arith, length-append (attr_bytes (attr_of next)) (flat_map attr_bytes (attrs_of others)));
       }

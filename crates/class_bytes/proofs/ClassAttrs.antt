@@ -1,9 +1,12 @@
 -- The attributes of a class checked one after the other, and how many bootstrap methods the first that has any has.
-use Rattle.std.proofs.Common.{◌≡◌, ◌||◌, not, IsTrue, IsFalse, inl, inr, ℕ, ◌+◌, ◌<◌, Bool, true, false, List, [], ◌∷◌, length, get_or, drop, Option, Some, None, Result, Ok, Err, is_some, unwrap_or, refl, sym, ap, subst, ◌∙◌, add-one, drop-cons}
+use Rattle.std.proofs.lemmas.List.{drop_more}
+use Rattle.std.proofs.lemmas.Bool.{not-false}
+use Rattle.std.proofs.Common.{◌≡◌, ◌||◌, not, IsTrue, IsFalse, inl, inr, ℕ, ◌+◌, ◌<◌, Bool, true, false, List, [], ◌∷◌, length, get_or, drop, Option, Some, None, Result, Ok, Err, is_some, unwrap_or, refl, sym, ap, subst, ◌∙◌}
 use Rattle.std.specs.Option.{option_or, IsSome}
 use Rattle.std.specs.Prelude.{bytes_eq}
 use Rattle.class_model.specs.Answers.{Tells}
-use Rattle.class_model.specs.Checks.{Check, check}
+use Rattle.class_model.specs.Checks.{Check, check, Fault}
+use Rattle.class_model.specs.Laws.Answers.{goes_on, stops}
 use Rattle.class_model.specs.Members.{is_text, is_named, has_named, attr_name_check}
 use Rattle.class_model.specs.Methods.{bootstraps, bootstrap_methods, bootstrap_table_checks, class_attr_checks, bootstrap_count}
 use Rattle.class_model.specs.Pool.{Constants}
@@ -15,7 +18,6 @@ use Rattle.class_model.specs.declared.fault.FileRule.TheVariants as rules
 use Rattle.class_bytes.specs.Bootstraps.{own_count, CountsMethods}
 use Rattle.class_bytes.specs.Cut.{attr_of, attrs_of}
 use Rattle.class_bytes.specs.declared.cut.CutAttr.{CutAttr}
-use Rattle.class_bytes.proofs.Asking.{goes_on, stops}
 use Rattle.class_bytes.proofs.Attributes.{Checked, refuses, one_more}
 use Rattle.class_bytes.proofs.Kept.{eq_sym}
 
@@ -38,15 +40,11 @@ count_of pool attr count named counts = rw (named, counts.is) (ap Some (sym coun
 
 -- ---- one BootstrapMethods attribute
 
-not_false : (b : Bool) → false ≡ not b → b ≡ true
-not_false true e = refl
-not_false false e = absurd cc
-
 -- an attribute whose name is not another
 pub is_table : (pool : Constants) (attr : CutAttr) (text bytes : List ℕ) → utf8_at pool attr.name ≡ Some text → bytes ≡ text → false ≡ not (bytes_eq bytes bootstrap_methods) → is_named pool bootstrap_methods (attr_of attr) ≡ true
 is_table pool attr text bytes there same e =
     ap (λ (t : Option (List ℕ)). is_text bootstrap_methods t) there ∙ eq_sym bootstrap_methods text
-    ∙ ap (λ (t : List ℕ). bytes_eq t bootstrap_methods) (sym same) ∙ not_false (bytes_eq bytes bootstrap_methods) e
+    ∙ ap (λ (t : List ℕ). bytes_eq t bootstrap_methods) (sym same) ∙ not-false (bytes_eq bytes bootstrap_methods) (sym e)
 
 -- the name is not there yet
 not_again : (is_again is_there : Bool) → IsTrue (not is_again) → is_again ≡ is_there → IsFalse is_there
@@ -128,7 +126,7 @@ module _ (pool : Constants) (whole : List (Check Fault)) (end : ℕ) (found : Op
   others = drop (index + 1) attrs
 
   first_left : drop index attrs ≡ next ∷ others
-  first_left = drop-cons attrs index none within ∙ ap (λ (n : ℕ). next ∷ drop n attrs) (sym (add-one index))
+  first_left = drop_more attrs index none within
 
   abbrev TellsNext : Result (Option ℕ) ClassFault → Type 0
   TellsNext result = (before : List Attr) → is_some found ≡ has_named pool bootstrap_methods before → Tells (class_attr_checks pool before place (attr_of next)) (λ own. own ≡ own_count pool (attr_of next)) result

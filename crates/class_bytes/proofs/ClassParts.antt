@@ -2,8 +2,10 @@
 use Rattle.std.proofs.Common.{◌≡◌, ◌+◌, ◌*◌, ℕ, List, [], ◌∷◌, ◌++◌, length, Result, Err, IsTrue, refl, sym, subst, append_assoc}
 use Rattle.std.specs.List.{flat_map}
 use Rattle.class_model.specs.Answers.{Tells}
-use Rattle.class_model.specs.Checks.{Check, check, AllHold, IsFirstFault, fault}
+use Rattle.class_model.specs.Checks.{Check, check, AllHold, IsFirstFault, fault, Fault}
 use Rattle.class_model.specs.ClassOf.{class_file_checks, fields_checks, methods_checks, bootstrap_index_checks}
+use Rattle.class_model.specs.Laws.Answers.{goes_on, stops}
+use Rattle.class_model.specs.Laws.Checks.{both_hold}
 use Rattle.class_model.specs.Members.{fits_class, class_name_checks, super_checks, interfaces_checks, attrs_checks}
 use Rattle.class_model.specs.Methods.{Home, class_attr_checks, bootstrap_count}
 use Rattle.class_model.specs.PoolChecks.{class_at, entries_checks}
@@ -13,7 +15,6 @@ use Rattle.class_model.specs.declared.fault.ClassFault.{ClassFault}
 use Rattle.class_model.specs.declared.fault.ClassFault.TheVariants.{Malformed, Version, NoMemory}
 use Rattle.class_model.specs.declared.fault.FileRule.TheVariants as rules
 use Rattle.class_bytes.specs.Parts.{head_checks, fields_len, methods_len, behind_checks}
-use Rattle.class_bytes.proofs.Asking.{both_hold, goes_on, stops}
 
 -- ---- behind the pool
 

@@ -1,38 +1,15 @@
 -- What is cut out of bytes has a property, and bytes are left behind it.
-use Rattle.std.proofs.Common.{◌≡◌, ◌<◌, ◌≤◌, ◌^◌, ◌==◌, ℕ, zero, suc, ltb, List, [], ◌∷◌, ◌++◌, length, get_or, take, drop, Result, Ok, refl, ap, subst, arith, length-take}
+use Rattle.std.proofs.Common.{◌≡◌, ◌<◌, ◌≤◌, ◌^◌, ◌==◌, ℕ, zero, suc, ltb, List, [], ◌∷◌, length, take, Result, Ok, refl, ap, subst, arith, length-take}
 use Rattle.std.specs.Int.{Width, w16, w32, byte_len, from_be_bytes}
 use Rattle.std.specs.List.{AllByRecursion}
 use Rattle.std.proofs.lemmas.Bool.{ltb-false}
 use Rattle.class_model.specs.Checks.{Fault, fault, ◌>>=◌}
 use Rattle.class_model.specs.Cutting.{IsBytes, Rest, Version, Cut, behind, bytes_at, number_at, u2_at, u4_at, many_at, counted_at, version_at, uncut}
+use Rattle.class_model.specs.Laws.Cuts.{bind_ok, done, same_done, guard_false, guard_true, below_byte, IsBytes-take, IsBytes-drop}
 use Rattle.class_model.specs.Spelling.{magic}
 use Rattle.class_model.specs.declared.fault.FileRule.TheVariants as rules
-use Rattle.class_bytes.proofs.Steps.{bind_ok, done, same_done, guard_false, guard_true}
 
 -- ---- bytes
-
-pub are_bytes : (bytes : List ℕ) → ((i : ℕ) → get_or bytes i 0 < 256) → IsBytes bytes
-are_bytes [] h = tt
-are_bytes (b ∷ bytes) h = (h 0, are_bytes bytes (λ i. h (suc i)))
-
-below_byte : (bytes : List ℕ) → IsBytes bytes → (i : ℕ) → get_or bytes i 0 < 256
-below_byte [] h i = omega arith
-below_byte (b ∷ bytes) h zero = h.0
-below_byte (b ∷ bytes) h (suc i) = below_byte bytes h.1 i
-
-IsBytes-take : (n : ℕ) (bytes : List ℕ) → IsBytes bytes → IsBytes (take n bytes)
-IsBytes-take zero bytes h = tt
-IsBytes-take (suc n) [] h = tt
-IsBytes-take (suc n) (b ∷ bytes) h = (h.0, IsBytes-take n bytes h.1)
-
-IsBytes-drop : (n : ℕ) (bytes : List ℕ) → IsBytes bytes → IsBytes (drop n bytes)
-IsBytes-drop zero bytes h = h
-IsBytes-drop (suc n) [] h = tt
-IsBytes-drop (suc n) (b ∷ bytes) h = IsBytes-drop n bytes h.1
-
-pub bytes_behind : (front back : List ℕ) → IsBytes (front ++ back) → IsBytes back
-bytes_behind [] back h = h
-bytes_behind (b ∷ front) back h = bytes_behind front back h.1
 
 -- ---- parts
 

@@ -1,12 +1,10 @@
 -- Tests that decide what they are asked.
-use Rattle.std.proofs.Common.{◌≡◌, ◌↔◌, nat_le, nat_eq, ℕ, ◌+◌, ◌≤◌, List, [], ◌∷◌, Option, Some, None, true, IsTrue, IfSome, arith, eq-eqb, refl, ap, ◌∙◌}
+use Rattle.std.proofs.Common.{◌≡◌, ◌↔◌, nat_le, nat_eq, ℕ, ◌+◌, ◌≤◌, List, true, IsTrue, arith, eq-eqb, refl, ap, ◌∙◌}
 use Rattle.std.proofs.lemmas.Bool.{eqb-true, leb-true, le-leb}
-use Rattle.std.specs.List.{AllByRecursion}
-use Rattle.class_model.specs.Descriptors.{SpellsDescriptor, IsFieldType, parameter_units}
-use Rattle.class_model.specs.PoolChecks.{BytesSpell, IsTypeName, IsMethodDescriptor}
+use Rattle.class_model.specs.Descriptors.{SpellsDescriptor, parameter_units}
+use Rattle.class_model.specs.Laws.Descriptors.{bytes_spell}
+use Rattle.class_model.specs.PoolChecks.{BytesSpell, IsMethodDescriptor}
 use Rattle.class_model.specs.declared.descriptor.Descriptor.{Descriptor}
-use Rattle.class_model.specs.declared.descriptor.FieldType.{FieldType}
-use Rattle.class_model.specs.declared.descriptor.FieldType.TheVariants.{Named}
 use Rattle.class_bytes.specs.Parts.{CountsUnits}
 
 -- what holds exactly up to a number
@@ -14,21 +12,6 @@ pub at_most : (P : Type 0) (least most : ℕ) → (P ↔ (least ≤ most)) → I
 at_most P least most same = ((λ e. same.1 (leb-true least most e)), (λ p. le-leb least most (same.0 p)))
 
 -- ---- a descriptor that is a text
-
-named : (type : FieldType) → IsFieldType type → IsTypeName type
-named (Named name) h = h.1
-named other h = tt
-
-named_types : (types : List FieldType) → AllByRecursion IsFieldType types → AllByRecursion IsTypeName types
-named_types [] h = tt
-named_types (type ∷ types) h = (named type h.0, named_types types h.1)
-
-named_result : (result : Option FieldType) → IfSome result IsFieldType → IfSome result IsTypeName
-named_result None h = tt
-named_result (Some type) h = named type h
-
-bytes_spell : (text : List ℕ) (d : Descriptor) → SpellsDescriptor text d → BytesSpell text d
-bytes_spell text d s = record { params = named_types d.params s.is_descriptor.params; units = s.is_descriptor.units; result = named_result d.result s.is_descriptor.result; spelled = s.spelled }
 
 pub counts : (text : List ℕ) (count units : ℕ) → IsMethodDescriptor text → ((d : Descriptor) → BytesSpell text d → units ≡ parameter_units d.params) → ((d : Descriptor) → BytesSpell text d → SpellsDescriptor text d)
     → IsTrue (nat_eq count (units + 1)) ↔ CountsUnits text count

@@ -1,14 +1,15 @@
 -- The entries of an exception table checked one after the other.
 use Rattle.std.proofs.Common.{◌≡◌, ℕ, ◌+◌, ◌<◌, List, ◌∷◌, length, get_or, drop, Ok, Err, sym, ap, ◌∙◌, add-one, drop-cons}
 use Rattle.class_model.specs.Answers.{Tells}
-use Rattle.class_model.specs.Checks.{Check}
+use Rattle.class_model.specs.Checks.{Check, Fault}
 use Rattle.class_model.specs.Code.{handlers_checks}
+use Rattle.class_model.specs.Laws.Answers.{refused}
+use Rattle.class_model.specs.Laws.Checks.{Remain, remain}
 use Rattle.class_model.specs.Pool.{Constants}
 use Rattle.class_model.specs.declared.class_file.Handler.{Handler}
 use Rattle.class_model.specs.declared.fault.ClassFault.{ClassFault}
 use Rattle.class_model.specs.declared.instr.Placed.{Placed}
 use Rattle.class_bytes.specs.CodeParts.{handler_checks}
-use Rattle.class_bytes.proofs.Asking.{Remain, remain, refused}
 
 -- the next of them
 module _ (pool : Constants) (code : List Placed) (len : ℕ) (whole : List (Check Fault)) (place : ℕ) (handlers : List Handler) (index : ℕ) (none : Handler) (within : index < length handlers) (left : Remain whole (handlers_checks pool code len place (drop index handlers))) where

@@ -2,7 +2,8 @@
 use Rattle.std.proofs.Common.{◌≡◌, ℕ, ◌+◌, List, [], ◌∷◌, length, Result, Ok, Err, ◌∙◌, arith}
 use Rattle.std.specs.Prelude.{IfSome, IsSome, IsTrue, IsFalse}
 use Rattle.class_model.specs.Answers.{Tells}
-use Rattle.class_model.specs.Checks.{Check, check, AllHold}
+use Rattle.class_model.specs.Checks.{Check, check, AllHold, Fault}
+use Rattle.class_model.specs.Laws.Answers.{goes_on}
 use Rattle.class_model.specs.Members.{Signature, fits_field, stands_before, attrs_checks, field_attr_checks, field_checks, field_signature}
 use Rattle.class_model.specs.Names.{IsFieldName}
 use Rattle.class_model.specs.Pool.{Constants}
@@ -13,7 +14,6 @@ use Rattle.class_model.specs.declared.fault.ClassFault.{ClassFault}
 use Rattle.class_model.specs.declared.fault.ClassFault.TheVariants.{Malformed, Version, NoMemory}
 use Rattle.class_model.specs.declared.fault.FileRule.TheVariants as rules
 use Rattle.class_bytes.specs.Parts.{attrs_len}
-use Rattle.class_bytes.proofs.Asking.{goes_on}
 
 -- the same answer, of which something else is said
 pub tells_too : {X : Type 0} (checks : List (Check Fault)) (Is Other : X → Type 0) → ((x : X) → Is x → Other x) → (result : Result X ClassFault) → Tells checks Is result → Tells checks Other result

@@ -1,7 +1,9 @@
 -- A header checked and kept part by part.
 use Rattle.std.proofs.Common.{◌≡◌, ℕ, ◌+◌, ◌*◌, List, ◌++◌, length, map, Option, Some, Err, refl, subst}
 use Rattle.class_model.specs.Answers.{Tells}
-use Rattle.class_model.specs.Checks.{Check, AllHold}
+use Rattle.class_model.specs.Checks.{Check, AllHold, Fault}
+use Rattle.class_model.specs.Laws.Answers.{goes_on, stops}
+use Rattle.class_model.specs.Laws.Checks.{both_hold}
 use Rattle.class_model.specs.Members.{class_name_checks, super_checks, interfaces_checks}
 use Rattle.class_model.specs.Pool.{Constants}
 use Rattle.class_model.specs.PoolChecks.{class_at}
@@ -13,7 +15,6 @@ use Rattle.class_bytes.specs.declared.header_checks.MemberKind.{MemberKind}
 use Rattle.class_bytes.specs.declared.header_checks.MemberKind.TheVariants as kinds
 use Rattle.class_bytes.specs.declared.header_cutting.CutHeader.{CutHeader}
 use Rattle.class_bytes.specs.declared.header_cutting.MemberHead.{MemberHead}
-use Rattle.class_bytes.proofs.Asking.{both_hold, goes_on, stops}
 use Rattle.class_bytes.proofs.HeaderMembers.{AreOwn}
 use Rattle.class_bytes.proofs.ClassAttrs.{refused_too}
 

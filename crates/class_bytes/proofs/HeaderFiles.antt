@@ -4,8 +4,10 @@ use Rattle.std.specs.List.{flat_map}
 use Rattle.class_model.specs.Answers.{Answers, Gives, Takes, Tells}
 use Rattle.class_model.specs.Checks.{Check, Fault, fault, AllHold, IsFirstFault, asked_of}
 use Rattle.class_model.specs.Cutting.{Rest, Version, version_at, pool_at, class_file_at, uncut}
-use Rattle.class_model.specs.Header.{FirstHeaderFault, HeaderOf, IsLibraryVersion, header_checks, texts_checks}
+use Rattle.class_model.specs.Header.{FirstHeaderFault, IsLibraryVersion, header_checks, texts_checks}
 use Rattle.class_model.specs.Header.FirstHeaderFault.{in_head, behind}
+use Rattle.class_model.specs.Laws.Answers.{goes_on, stops}
+use Rattle.class_model.specs.Laws.Checks.{both_hold}
 use Rattle.class_model.specs.Pool.{Constants}
 use Rattle.class_model.specs.Spelling.{u2, entry_bytes, pool_bytes, class_bytes}
 use Rattle.class_model.specs.declared.class_file.ClassFile.{ClassFile}
@@ -15,7 +17,6 @@ use Rattle.class_model.specs.declared.header.Header.{Header}
 use Rattle.class_bytes.specs.HeaderParts.{cut_header_at, cut_header, header_len, cut_header_checks, header_in}
 use Rattle.class_bytes.specs.Reading.{IsHeaderReadOf}
 use Rattle.class_bytes.specs.declared.header_cutting.CutHeader.{CutHeader}
-use Rattle.class_bytes.proofs.Asking.{both_hold, goes_on, stops}
 use Rattle.class_bytes.proofs.Bodies.{behind_pool}
 use Rattle.class_bytes.proofs.HeaderCuts.{Whole, no_body, whole}
 use Rattle.class_bytes.proofs.WholeFiles.{class_len}

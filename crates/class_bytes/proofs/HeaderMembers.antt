@@ -1,14 +1,15 @@
 -- The members of a header checked one after the other.
 use Rattle.std.proofs.Common.{◌≡◌, ℕ, ◌+◌, ◌<◌, ◌^◌, List, ◌∷◌, length, get_or, map, drop, Err, ap, ◌∙◌, sym, arith, add-one, drop-cons}
 use Rattle.class_model.specs.Answers.{Tells}
-use Rattle.class_model.specs.Checks.{Check}
+use Rattle.class_model.specs.Checks.{Check, Fault}
+use Rattle.class_model.specs.Laws.Answers.{refused}
+use Rattle.class_model.specs.Laws.Checks.{Remain}
 use Rattle.class_model.specs.Pool.{Constants}
 use Rattle.class_model.specs.declared.fault.ClassFault.{ClassFault}
 use Rattle.class_model.specs.declared.header.Member.{Member}
 use Rattle.class_bytes.specs.HeaderParts.{member_in, member_checks, members_checks, members_len}
 use Rattle.class_bytes.specs.declared.header_checks.MemberKind.{MemberKind}
 use Rattle.class_bytes.specs.declared.header_cutting.MemberHead.{MemberHead}
-use Rattle.class_bytes.proofs.Asking.{Remain, refused}
 
 first_left : (members : List MemberHead) (index : ℕ) (other : MemberHead) → index < length members → drop index members ≡ get_or members index other ∷ drop (index + 1) members
 first_left members index other within =

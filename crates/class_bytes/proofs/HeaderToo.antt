@@ -1,16 +1,17 @@
 -- A class file that is read is read as a library's.
-use Rattle.std.proofs.Common.{◌≡◌, ◌+◌, ◌*◌, ℕ, List, [], ◌∷◌, ◌++◌, length, Some, None, IsTrue, inl, inr, ap, ◌∙◌, arith}
-use Rattle.std.specs.List.{flat_map}
+use Rattle.std.proofs.Common.{◌≡◌, ◌+◌, ℕ, List, [], ◌∷◌, ◌++◌, length, Some, None, inl, inr, ap, ◌∙◌, arith}
 use Rattle.std.proofs.lemmas.Simd.{map-map}
-use Rattle.class_model.specs.Checks.{Check, check, AllHold}
-use Rattle.class_model.specs.ClassOf.{ClassOf, IsReadVersion, fields_checks, methods_checks, bootstrap_index_checks, class_file_checks, entered, entered_method}
+use Rattle.class_model.specs.Checks.{AllHold}
+use Rattle.class_model.specs.ClassOf.{ClassOf, IsReadVersion, fields_checks, methods_checks, class_file_checks, entered, entered_method}
 use Rattle.class_model.specs.Cutting.{Version}
 use Rattle.class_model.specs.Header.{HeaderOf, IsLibraryVersion, texts_checks, header_checks, header_of}
-use Rattle.class_model.specs.Members.{Signature, fits_class, class_name_checks, super_checks, interfaces_checks, field_checks, attrs_checks, field_signature}
-use Rattle.class_model.specs.Methods.{Home, method_checks, class_attr_checks, bootstrap_count, method_signature}
+use Rattle.class_model.specs.Laws.Checks.{both_hold, first_holds, others_hold}
+use Rattle.class_model.specs.Laws.ClassFiles.{fields_place, flags_place, methods_place, parts_hold}
+use Rattle.class_model.specs.Members.{Signature, class_name_checks, super_checks, interfaces_checks, field_checks, field_signature}
+use Rattle.class_model.specs.Methods.{Home, method_checks, method_signature, home_of}
 use Rattle.class_model.specs.Pool.{Constants}
-use Rattle.class_model.specs.PoolChecks.{class_at, constant_checks, entries_checks}
-use Rattle.class_model.specs.Spelling.{constant_bytes, entry_bytes, field_bytes, method_bytes}
+use Rattle.class_model.specs.PoolChecks.{constant_checks, entries_checks}
+use Rattle.class_model.specs.Spelling.{constant_bytes, field_bytes, method_bytes}
 use Rattle.class_model.specs.declared.class_file.ClassFile.{ClassFile}
 use Rattle.class_model.specs.declared.class_file.Field.{Field}
 use Rattle.class_model.specs.declared.class_file.Method.{Method}
@@ -18,38 +19,8 @@ use Rattle.class_model.specs.declared.fault.FileRule.TheVariants as rules
 use Rattle.class_model.specs.declared.header.Member.{Member}
 use Rattle.class_model.specs.declared.pool.Const.TheVariants.{Utf8}
 use Rattle.class_bytes.specs.HeaderParts.{method_head, member_in}
-use Rattle.class_bytes.proofs.Asking.{both_hold, first_holds, others_hold}
 use Rattle.class_bytes.proofs.HeaderSame.{all_fields, all_methods}
 use Rattle.class_bytes.proofs.PoolAlone.{IsAlone, pool_alone}
-
--- ---- the parts of what a class file is asked
-
--- those that a header is asked too, and the pool
-record Asked (pool name super interface field method : List (Check Fault)) : Type 0 where
-  entries : AllHold pool
-  names : AllHold name
-  supers : AllHold super
-  interfaces : AllHold interface
-  fields : AllHold field
-  methods : AllHold method
-
-parts : (entries flags names supers interfaces fields methods attrs dynamic : List (Check Fault)) → AllHold (entries ++ flags ++ names ++ supers ++ interfaces ++ fields ++ methods ++ attrs ++ dynamic) → Asked entries names supers interfaces fields methods
-parts entries flags names supers interfaces fields methods attrs dynamic all =
-    let eight = first_holds (entries ++ flags ++ names ++ supers ++ interfaces ++ fields ++ methods ++ attrs) dynamic all in
-    let seven = first_holds (entries ++ flags ++ names ++ supers ++ interfaces ++ fields ++ methods) attrs eight in
-    let six = first_holds (entries ++ flags ++ names ++ supers ++ interfaces ++ fields) methods seven in
-    let five = first_holds (entries ++ flags ++ names ++ supers ++ interfaces) fields six in
-    let four = first_holds (entries ++ flags ++ names ++ supers) interfaces five in
-    let three = first_holds (entries ++ flags ++ names) supers four in
-    let two = first_holds (entries ++ flags) names three in
-    record {
-      entries = first_holds entries flags two;
-      names = others_hold (entries ++ flags) names three;
-      supers = others_hold (entries ++ flags ++ names) supers four;
-      interfaces = others_hold (entries ++ flags ++ names ++ supers) interfaces five;
-      fields = others_hold (entries ++ flags ++ names ++ supers ++ interfaces) fields six;
-      methods = others_hold (entries ++ flags ++ names ++ supers ++ interfaces ++ fields) methods seven;
-    }
 
 -- ---- what a header is asked
 
@@ -89,24 +60,19 @@ record Holds (c : ClassFile) : Type 0 where
 class_holds : (c : ClassFile) → AllHold (class_file_checks c) → Holds c
 class_holds c all =
     let pool = c.pool in
-    let flags = 10 + length (flat_map entry_bytes pool) in
-    let fields = flags + 8 + 2 * length c.interfaces in
-    let methods = fields + 2 + length (flat_map field_bytes c.fields) in
-    let attrs = methods + 2 + length (flat_map method_bytes c.methods) in
-    let home : Home = record { pool = pool; major = c.major; flags = c.flags; name = class_at pool c.this_class } in
-    let names = class_name_checks pool (flags + 2) c.this_class in
-    let supers = super_checks pool (flags + 4) c.super_class in
-    let interfaces = interfaces_checks pool (flags + 8) c.interfaces in
-    let asked = parts (entries_checks c.major pool 10 pool) (check flags rules.Flags (IsTrue (fits_class c.flags)) ∷ []) names supers interfaces (fields_checks pool c.flags [] (fields + 2) c.fields) (methods_checks home [] (methods + 2) c.methods) (attrs_checks (class_attr_checks pool) [] (attrs + 2) c.attrs) (bootstrap_index_checks (bootstrap_count pool c.attrs) 10 pool) all in
+    let asked = parts_hold c all in
+    let names = class_name_checks pool (flags_place c + 2) c.this_class in
+    let supers = super_checks pool (flags_place c + 4) c.super_class in
+    let interfaces = interfaces_checks pool (flags_place c + 8) c.interfaces in
     let texts = texts_checks 10 pool in
-    let own = all_fields pool (fields + 2) c.fields in
-    let others = all_methods pool (methods + 2) c.methods in
-    let three = both_hold (texts ++ names) supers (both_hold texts names (texts_hold c.major pool 10 pool asked.entries) asked.names) asked.supers in
+    let own = all_fields pool (fields_place c + 2) c.fields in
+    let others = all_methods pool (methods_place c + 2) c.methods in
+    let three = both_hold (texts ++ names) supers (both_hold texts names (texts_hold c.major pool 10 pool asked.pool) asked.this_class) asked.super_class in
     let four = both_hold (texts ++ names ++ supers) interfaces three asked.interfaces in
-    let five = both_hold (texts ++ names ++ supers ++ interfaces) own four (fields_hold pool c.flags [] (fields + 2) c.fields asked.fields) in
+    let five = both_hold (texts ++ names ++ supers ++ interfaces) own four (fields_hold pool c.flags [] (fields_place c + 2) c.fields asked.fields) in
     record {
-      entries = asked.entries;
-      header = both_hold (texts ++ names ++ supers ++ interfaces ++ own) others five (methods_hold home [] (methods + 2) c.methods asked.methods);
+      entries = asked.pool;
+      header = both_hold (texts ++ names ++ supers ++ interfaces ++ own) others five (methods_hold (home_of c) [] (methods_place c + 2) c.methods asked.methods);
     }
 
 -- ---- the whole

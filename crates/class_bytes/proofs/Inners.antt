@@ -1,17 +1,19 @@
 -- The attributes of a code checked one after the other, of which one may be a StackMapTable.
-use Rattle.std.proofs.Common.{◌≡◌, ◌||◌, ℕ, ◌+◌, ◌<◌, Bool, List, ◌∷◌, length, get_or, drop, Ok, Err, sym, ap, subst, ◌∙◌, arith, length-append, add-one, drop-cons}
+use Rattle.std.proofs.lemmas.List.{drop_more}
+use Rattle.std.proofs.Common.{◌≡◌, ◌||◌, ℕ, ◌+◌, ◌<◌, Bool, List, ◌∷◌, length, get_or, drop, Ok, Err, subst, arith, length-append}
 use Rattle.std.specs.List.{flat_map}
 use Rattle.class_model.specs.Answers.{Tells}
-use Rattle.class_model.specs.Checks.{Check}
+use Rattle.class_model.specs.Checks.{Check, Fault}
 use Rattle.class_model.specs.Code.{inners_checks, inner_is_named, stack_map_table}
 use Rattle.class_model.specs.Frames.{Setting}
+use Rattle.class_model.specs.Laws.Answers.{refused}
+use Rattle.class_model.specs.Laws.Checks.{Remain, remain}
 use Rattle.class_model.specs.Spelling.{inner_bytes}
 use Rattle.class_model.specs.declared.fault.ClassFault.{ClassFault}
 use Rattle.class_model.specs.declared.frame.Frame.{Frame}
 use Rattle.class_bytes.specs.CodeParts.{inners_len, inner_checks}
 use Rattle.class_bytes.specs.Cut.{inner_of, inners_of}
 use Rattle.class_bytes.specs.declared.cut.CutAttr.{CutAttr}
-use Rattle.class_bytes.proofs.Asking.{Remain, remain, refused}
 
 -- The attributes before this place hold, and whether one of them is a StackMapTable; these are left.
 pub record InnersChecked (s : Setting) (entry : Frame) (whole : List (Check Fault)) (end : ℕ) (has_table : Bool) (place : ℕ) (left : List CutAttr) : Type 0 where
@@ -30,7 +32,7 @@ module _ (s : Setting) (entry : Frame) (whole : List (Check Fault)) (end : ℕ) 
   others = drop (index + 1) attrs
 
   first_left : drop index attrs ≡ next ∷ others
-  first_left = drop-cons attrs index none within ∙ ap (λ (n : ℕ). next ∷ drop n attrs) (sym (add-one index))
+  first_left = drop_more attrs index none within
 
   ends_with_next : place + inners_len (inners_of (next ∷ others)) ≡ end
   ends_with_next = rw first_left at so_far.ends

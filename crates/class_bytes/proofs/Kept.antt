@@ -1,4 +1,5 @@
 -- The names and descriptors of the members so far, and of one more.
+use Rattle.std.proofs.Math.Bool.{or-false}
 use Rattle.std.proofs.Common.{◌≡◌, ◌&&◌, ◌||◌, not, cond, ℕ, Bool, true, false, List, [], ◌∷◌, ◌++◌, Option, Some, None, Bor, refl, sym, ap, ◌∙◌}
 use Rattle.std.specs.HashSet.{contains_by}
 use Rattle.std.specs.List.{list_any}
@@ -27,10 +28,6 @@ one_or true true = refl
 one_or true false = refl
 one_or false true = refl
 one_or false false = refl
-
-or_false : (b : Bool) → (b || false) ≡ b
-or_false true = refl
-or_false false = refl
 
 none_passes : {X : Type 0} (p : X → Bool) → ((x : X) → p x ≡ false) → (xs : List X) → list_any p xs ≡ false
 none_passes p none [] = refl
@@ -66,7 +63,7 @@ with_none pool member before kept lacks knows = (
   record {
     knows = λ name desc.
         let test = has_texts pool name desc in
-        knows.knows name desc ∙ sym (list_any-append test before (member ∷ []) ∙ ap (λ (b : Bool). list_any test before || (b || false)) (lacks.texts name desc) ∙ or_false (list_any test before));
+        knows.knows name desc ∙ sym (list_any-append test before (member ∷ []) ∙ ap (λ (b : Bool). list_any test before || (b || false)) (lacks.texts name desc) ∙ or-false (list_any test before));
   },
 )
 

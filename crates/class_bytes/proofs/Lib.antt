@@ -1,9 +1,7 @@
-pub mod Steps
 pub mod CutBytes
 pub mod Many
 pub mod Bodies
 pub mod Kept
-pub mod Asking
 pub mod Decides
 pub mod Attributes
 pub mod Members

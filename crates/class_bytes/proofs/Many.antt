@@ -1,28 +1,20 @@
 -- Parts cut one after the other, as many as a count says, each seen as the value that it stands for.
-use Rattle.std.proofs.Common.{◌≡◌, ℕ, suc, List, [], ◌∷◌, ◌++◌, map, Ok, Err, refl, sym, ap, subst, ◌∙◌, append_assoc}
+use Rattle.std.proofs.Common.{◌≡◌, ℕ, suc, List, [], ◌∷◌, ◌++◌, map, Ok, Err, refl, ap, subst, ◌∙◌}
 use Rattle.std.proofs.lemmas.List.{append-nil, map-append}
 use Rattle.class_model.specs.Answers.{Takes}
-use Rattle.class_model.specs.Checks.{Fault, fault, ◌>>=◌}
+use Rattle.class_model.specs.Checks.{Fault, fault}
 use Rattle.class_model.specs.Cutting.{Rest, Cut, many_at}
+use Rattle.class_model.specs.Laws.Cuts.{in_front, in_front-append}
 use Rattle.class_model.specs.declared.fault.ClassFault.{ClassFault}
 use Rattle.class_model.specs.declared.fault.ClassFault.TheVariants.{Malformed, Version, NoMemory}
 
--- what more was cut, behind what was cut before
-abbrev pub behind : {X : Type 0} → List X → Cut (List X) → Cut (List X)
-behind got (Ok others) = Ok (got ++ others.0, others.1)
-behind got (Err f) = Err f
-
 -- these parts were cut, so many are left, and they are at this rest
 pub record SoFar {X : Type 0} (part : Rest → Cut X) (whole : Cut (List X)) (left : ℕ) (got : List X) (rest : Rest) : Type 0 where
-  pub is : whole ≡ behind got (many_at part left rest)
-
-more : {X : Type 0} (got : List X) (x : X) (cut : Cut (List X)) → behind got (cut >>= λ others. Ok (x ∷ others.0, others.1)) ≡ behind (got ++ x ∷ []) cut
-more got x (Ok others) = ap (λ all. Ok (all, others.1)) (sym (append_assoc got (x ∷ []) others.0))
-more got x (Err f) = refl
+  pub is : whole ≡ in_front got (many_at part left rest)
 
 one_more : {X : Type 0} {part : Rest → Cut X} {whole : Cut (List X)} (next : ℕ) (got : List X) (rest : Rest) → SoFar part whole (suc next) got rest → (x : X) (after : Rest) → part rest ≡ Ok (x, after) → SoFar part whole next (got ++ x ∷ []) after
 unfolding many_at
-one_more {part = part} next got rest so_far x after cut = record { is = so_far.is ∙ rw cut (more got x (many_at part next after)) }
+one_more {part = part} next got rest so_far x after cut = record { is = so_far.is ∙ rw cut (in_front-append got (x ∷ []) (many_at part next after)) }
 
 -- one part more
 pub goes_on : {A X : Type 0} (f : A → X) {part : Rest → Cut X} {whole : Cut (List X)} {left : ℕ} (next : ℕ) (got : List A) {rest : Rest} → SoFar part whole left (map f got) rest → left ≡ suc next → (x : A) (after : Rest) → part rest ≡ Ok (f x, after) → SoFar part whole next (map f (got ++ x ∷ [])) after

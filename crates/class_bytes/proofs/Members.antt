@@ -2,8 +2,10 @@
 use Rattle.std.proofs.Common.{◌≡◌, ℕ, suc, ◌+◌, ◌<◌, ◌^◌, Bool, List, [], ◌∷◌, ◌++◌, length, get_or, drop, Result, Ok, Err, refl, sym, ap, subst, ◌∙◌, arith, length-append, add-one, drop-cons}
 use Rattle.std.specs.List.{flat_map}
 use Rattle.class_model.specs.Answers.{Tells}
-use Rattle.class_model.specs.Checks.{Check}
+use Rattle.class_model.specs.Checks.{Check, Fault}
 use Rattle.class_model.specs.ClassOf.{fields_checks, methods_checks}
+use Rattle.class_model.specs.Laws.Answers.{refused}
+use Rattle.class_model.specs.Laws.Checks.{Remain, remain}
 use Rattle.class_model.specs.Members.{Signature, stands_before, field_checks}
 use Rattle.class_model.specs.Methods.{Home, method_checks}
 use Rattle.class_model.specs.Pool.{Constants}
@@ -14,7 +16,6 @@ use Rattle.class_bytes.specs.Parts.{fields_len, methods_len}
 use Rattle.class_bytes.specs.Signatures.{Knows}
 use Rattle.class_bytes.specs.declared.cut.CutMember.{CutMember}
 use Rattle.class_bytes.specs.declared.signatures.Signatures.{Signatures}
-use Rattle.class_bytes.proofs.Asking.{Remain, remain, refused}
 
 abbrev pub signature_of : CutMember → Signature
 signature_of member = record { name = member.name; desc = member.desc }

@@ -1,19 +1,19 @@
 -- The parts of a Code attribute are as long as its content.
-use Rattle.std.proofs.Common.{◌≡◌, ℕ, zero, suc, ◌+◌, ◌*◌, ◌≤◌, true, ltb, eqb, List, [], ◌∷◌, ◌++◌, length, take, drop, Some, Ok, Err, refl, subst, arith, length-append, length-drop}
+use Rattle.std.proofs.Common.{◌≡◌, ℕ, zero, suc, ◌+◌, ◌*◌, ◌≤◌, ltb, List, [], ◌∷◌, ◌++◌, length, take, drop, Some, Ok, refl, subst, arith, length-append, length-drop}
 use Rattle.std.specs.Int.{Width, w16, w32, byte_len, from_be_bytes}
 use Rattle.std.specs.List.{flat_map}
 use Rattle.std.proofs.lemmas.Bool.{ltb-false, eqb-true}
 use Rattle.std.proofs.lemmas.List.{length-take}
 use Rattle.class_model.specs.Checks.{fault}
 use Rattle.class_model.specs.Code.{handler_at, inner_at, part_at, code_part}
-use Rattle.class_model.specs.Cutting.{Rest, Cut, behind, bytes_at, number_at, u2_at, u4_at, many_at, counted_at, whole}
+use Rattle.class_model.specs.Cutting.{Rest, Cut, behind, bytes_at, number_at, u2_at, u4_at, many_at, counted_at}
+use Rattle.class_model.specs.Laws.Cuts.{bind_ok, same_done, guard_false, whole_some}
 use Rattle.class_model.specs.Spelling.{u2, u4, handler_bytes, inner_bytes, code_part_bytes}
 use Rattle.class_model.specs.declared.class_file.CodePart.{CodePart}
 use Rattle.class_model.specs.declared.class_file.Handler.{Handler}
 use Rattle.class_model.specs.declared.class_file.InnerAttr.{InnerAttr}
 use Rattle.class_model.specs.declared.fault.FileRule.TheVariants as rules
 use Rattle.class_bytes.specs.CodeParts.{parts_len}
-use Rattle.class_bytes.proofs.Steps.{bind_ok, same_done, guard_false, guard_some}
 
 -- What a part cuts off has a size.
 record Spends {X : Type 0} (part : Rest → Cut X) (size : X → ℕ) : Type 0 where
@@ -132,10 +132,6 @@ part_spends = record {
       ) in
       subst (λ (z : CodePart × Rest). 8 + parts_len z.0 + length z.1.bytes ≡ length rest.bytes) (same_done (made, attrs.0.1) x attrs.2) all;
 }
-
-pub whole_some : (r : Cut CodePart) (part : CodePart) → whole r ≡ Some part → (x : CodePart × Rest) × (r ≡ Ok x) × (eqb (length x.1.bytes) 0 ≡ true) × (x.0 ≡ part)
-whole_some (Ok x) part e = let g = guard_some (eqb (length x.1.bytes) 0) x.0 part e in (x, refl, g.0, g.1)
-whole_some (Err f) part e = absurd cc
 
 pub part_fills : (content : List ℕ) (part : CodePart) → code_part content ≡ Some part → 8 + parts_len part ≡ length content
 part_fills content part e =

@@ -6,6 +6,7 @@ use Rattle.class_model.specs.Checks.{Check, check, Fault, fault, asked_of, AllHo
 use Rattle.class_model.specs.Code.{jump_checks, operand_checks, handlers_checks, inners_checks}
 use Rattle.class_model.specs.Frames.{Setting}
 use Rattle.class_model.specs.Instructions.{decoded}
+use Rattle.class_model.specs.Laws.Answers.{goes_on, stops}
 use Rattle.class_model.specs.Methods.{units_at_call, instructions_checks, part_checks, entry_of}
 use Rattle.class_model.specs.PoolChecks.{utf8_at}
 use Rattle.class_model.specs.declared.class_file.CodePart.{CodePart}
@@ -20,7 +21,6 @@ use Rattle.class_bytes.specs.declared.cut.CutMember.{CutMember}
 use Rattle.class_bytes.specs.declared.cut.CutPart.{CutPart}
 use Rattle.class_bytes.specs.declared.home.Home.{Home}
 use Rattle.class_bytes.specs.declared.method_code.MethodCode.{MethodCode}
-use Rattle.class_bytes.proofs.Asking.{goes_on, stops}
 
 abbrev TellsDone : List (Check Fault) → Result (Unit {0}) ClassFault → Type 0
 TellsDone checks result = Tells checks (λ done. Unit {0}) result

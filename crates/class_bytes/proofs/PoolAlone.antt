@@ -5,6 +5,8 @@ use Rattle.std.proofs.lemmas.List.{drop-drop}
 use Rattle.class_model.specs.Checks.{Fault, fault, AllHold, ◌>>=◌}
 use Rattle.class_model.specs.ClassOf.{ClassOf}
 use Rattle.class_model.specs.Cutting.{Rest, Version, Cut, behind, bytes_at, number_at, u1_at, u2_at, u4_at, u2_pair_at, is_tag, fields_at, entries_at, pool_at, version_at, uncut}
+use Rattle.class_model.specs.Laws.Checks.{both_hold, first_holds, others_hold}
+use Rattle.class_model.specs.Laws.Cuts.{bind_ok, done, same_done, guard_false, guard_true}
 use Rattle.class_model.specs.Pool.{Constants, entries_of}
 use Rattle.class_model.specs.PoolChecks.{RefersWell, constant_checks, entries_checks}
 use Rattle.class_model.specs.Spelling.{magic, constant_bytes}
@@ -13,9 +15,7 @@ use Rattle.class_model.specs.declared.fault.FileRule.TheVariants as rules
 use Rattle.class_model.specs.declared.pool.Const.{Const}
 use Rattle.class_model.specs.declared.pool.Const.TheVariants.{Utf8, Integer, Float, Long, Double, Class, String, Fieldref, Methodref, InterfaceMethodref, NameAndType, MethodHandle, MethodType, InvokeDynamic}
 use Rattle.pool_bytes.specs.Reading.{rest_at, pool_checks, Stands}
-use Rattle.class_bytes.proofs.Asking.{both_hold, first_holds, others_hold}
 use Rattle.class_bytes.proofs.HeaderCuts.{pool_kept}
-use Rattle.class_bytes.proofs.Steps.{bind_ok, done, same_done, guard_false, guard_true}
 
 -- ---- what version 52 gives too
 

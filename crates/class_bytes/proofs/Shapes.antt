@@ -1,37 +1,20 @@
 -- Names and descriptors of methods, by the shape of the descriptor.
-use Rattle.std.proofs.Common.{◌≡◌, ◌↔◌, ℕ, ◌+◌, Bool, true, false, not, List, [], ◌∷◌, Option, Some, None, refl, sym, ap, ◌∙◌, arith, cond, leb}
+use Rattle.std.proofs.Common.{◌≡◌, ◌↔◌, ℕ, ◌+◌, Bool, true, false, not, List, Option, Some, None, refl, sym, ap, ◌∙◌, arith, cond, leb}
 use Rattle.std.specs.Prelude.{bytes_eq, IfSome, IsSome, IsTrue}
-use Rattle.std.specs.List.{AllByRecursion}
-use Rattle.std.proofs.lemmas.Bool.{leb-true, le-leb}
+use Rattle.std.proofs.lemmas.Bool.{leb-true, le-leb, not-false}
 use Rattle.std.proofs.lemmas.Slice.Eq.{bytes_eq-Decides}
-use Rattle.class_model.specs.Descriptors.{IsFieldType, SpellsDescriptor, parameter_units}
+use Rattle.class_model.specs.Descriptors.{SpellsDescriptor, parameter_units}
+use Rattle.class_model.specs.Laws.Descriptors.{bytes_spell}
 use Rattle.class_model.specs.Members.{has, STATIC}
 use Rattle.class_model.specs.Methods.{IsDescriptorOf, this_units}
 use Rattle.class_model.specs.ModifiedUtf8.{IsText}
 use Rattle.class_model.specs.Names.{init, IsMethodName}
-use Rattle.class_model.specs.PoolChecks.{IsTypeName, IsMethodDescriptor, BytesSpell, ReturnsVoid, InitIsVoid}
+use Rattle.class_model.specs.PoolChecks.{IsMethodDescriptor, BytesSpell, ReturnsVoid, InitIsVoid}
 use Rattle.class_model.specs.declared.descriptor.Descriptor.{Descriptor}
-use Rattle.class_model.specs.declared.descriptor.FieldType.{FieldType}
-use Rattle.class_model.specs.declared.descriptor.FieldType.TheVariants.{Named}
 use Rattle.class_model.specs.declared.descriptor_bytes.MethodShape.{MethodShape}
 use Rattle.class_bytes.specs.Shapes.{HasShape, IsShape}
 
 -- ---- the bytes of a descriptor
-
-named : (type : FieldType) → IsFieldType type → IsTypeName type
-named (Named name) h = h.1
-named other h = tt
-
-named_types : (types : List FieldType) → AllByRecursion IsFieldType types → AllByRecursion IsTypeName types
-named_types [] h = tt
-named_types (type ∷ types) h = (named type h.0, named_types types h.1)
-
-named_result : (result : Option FieldType) → IfSome result IsFieldType → IfSome result IsTypeName
-named_result None h = tt
-named_result (Some type) h = named type h
-
-bytes_spell : (text : List ℕ) (d : Descriptor) → SpellsDescriptor text d → BytesSpell text d
-bytes_spell text d s = record { params = named_types d.params s.is_descriptor.params; units = s.is_descriptor.units; result = named_result d.result s.is_descriptor.result; spelled = s.spelled }
 
 -- ---- its shape
 
@@ -70,10 +53,6 @@ most_with_this flags most other is = ap (λ (b : Bool). most + cond b 0 1) (sym 
 
 -- ---- names
 
-true_by_not : (b : Bool) → false ≡ not b → b ≡ true
-true_by_not true e = refl
-true_by_not false e = absurd cc
-
 -- the name of an instance initialiser
 pub init_name : (name : List ℕ) (text : Option (List ℕ)) (shape : MethodShape) → name ≡ init → IsShape text (Some shape) → IsTrue shape.is_void ↔ InitIsVoid name text
 init_name name None shape e is = absurd cc
@@ -91,4 +70,4 @@ pub always : {P : Type 0} (b : Bool) → b ≡ true → P → IsTrue b ↔ P
 always b e p = (λ _. p, λ _. e)
 
 pub is_init : (name : List ℕ) → false ≡ not (bytes_eq name init) → name ≡ init
-is_init name e = (bytes_eq-Decides name init).0 (true_by_not (bytes_eq name init) e)
+is_init name e = (bytes_eq-Decides name init).0 (not-false (bytes_eq name init) (sym e))

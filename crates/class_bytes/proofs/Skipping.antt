@@ -7,6 +7,7 @@ use Rattle.std.proofs.lemmas.List.Concat.{flat_map-append}
 use Rattle.class_model.specs.Answers.{Takes}
 use Rattle.class_model.specs.Checks.{fault}
 use Rattle.class_model.specs.Cutting.{Rest, Cut, behind, bytes_at, u2_at, u4_at, attr_at, counted_at}
+use Rattle.class_model.specs.Laws.Cuts.{bind_ok, same_done, guard_false}
 use Rattle.class_model.specs.Spelling.{u2, u4, attr_bytes}
 use Rattle.class_model.specs.declared.class_file.Attr.{Attr}
 use Rattle.class_model.specs.declared.class_file.Attr.TheVariants.{Raw}
@@ -16,7 +17,6 @@ use Rattle.class_model.specs.declared.fault.FileRule.TheVariants as rules
 use Rattle.class_bytes.specs.HeaderParts.{skipped_at}
 use Rattle.class_bytes.specs.Parts.{attrs_len}
 use Rattle.class_bytes.proofs.Many.{SoFar, goes_on_plain, stops, is_done}
-use Rattle.class_bytes.proofs.Steps.{bind_ok, same_done, guard_false}
 
 -- ---- an attribute takes its bytes
 

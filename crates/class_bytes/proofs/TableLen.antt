@@ -4,10 +4,10 @@ use Rattle.std.specs.Int.{w16, from_be_bytes}
 use Rattle.std.proofs.lemmas.Bool.{eqb-true, ltb-false}
 use Rattle.class_model.specs.Checks.{fault, ◌>>=◌}
 use Rattle.class_model.specs.Cutting.{Rest, Cut, behind, bytes_at, u2_at, many_at, counted_at}
+use Rattle.class_model.specs.Laws.Cuts.{bind_ok, done, same_done, guard_false, guard_some}
 use Rattle.class_model.specs.Methods.{Bootstrap, bootstrap_at, bootstraps}
 use Rattle.class_model.specs.declared.fault.FileRule.TheVariants as rules
 use Rattle.class_bytes.specs.Bootstraps.{bootstraps_len}
-use Rattle.class_bytes.proofs.Steps.{bind_ok, done, same_done, guard_false, guard_some}
 
 -- So many bytes were taken from the front.
 record Took (rest : Rest) (len : ℕ) (after : Rest) : Type 0 where

@@ -1,13 +1,14 @@
 -- Bootstrap methods: how many bytes they take, and their checks one after the other.
 use Rattle.std.proofs.Common.{◌≡◌, ℕ, suc, ◌+◌, ◌*◌, ◌<◌, List, ◌∷◌, ◌++◌, length, get_or, drop, Result, Ok, Err, sym, ap, subst, ◌∙◌, arith, add-one, drop-cons}
 use Rattle.class_model.specs.Answers.{Tells}
-use Rattle.class_model.specs.Checks.{Check}
+use Rattle.class_model.specs.Checks.{Check, Fault}
+use Rattle.class_model.specs.Laws.Answers.{refused}
+use Rattle.class_model.specs.Laws.Checks.{Remain, remain}
 use Rattle.class_model.specs.Methods.{bootstraps_checks}
 use Rattle.class_model.specs.Pool.{Constants}
 use Rattle.class_model.specs.declared.fault.ClassFault.{ClassFault}
 use Rattle.class_bytes.specs.Bootstraps.{bootstrap_of, bootstraps_of, bootstraps_len, bootstrap_checks}
 use Rattle.class_bytes.specs.declared.bootstraps.CutBootstrap.{CutBootstrap}
-use Rattle.class_bytes.proofs.Asking.{Remain, remain, refused}
 
 -- ---- one method after the other
 

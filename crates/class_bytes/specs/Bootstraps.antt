@@ -1,6 +1,6 @@
 -- Bootstrap methods as the reader holds them, and how many there are (JVM Specification SE 8, 4.7.23).
 use Rattle.std.specs.Prelude.{◌≡◌, ◌+◌, ◌*◌, ℕ, List, [], ◌∷◌, length, map, Option, Some, None, if◌then◌else◌}
-use Rattle.class_model.specs.Checks.{Check, check}
+use Rattle.class_model.specs.Checks.{Check, check, Fault}
 use Rattle.class_model.specs.Members.{is_named}
 use Rattle.class_model.specs.Methods.{Bootstrap, IsHandle, arguments_checks, bootstrap_methods, bootstrap_count}
 use Rattle.class_model.specs.Pool.{Constants, constant_at}

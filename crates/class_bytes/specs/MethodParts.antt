@@ -1,6 +1,6 @@
 -- What the name and the descriptor of a method at a place are asked (JVM Specification SE 8, 4.6).
 use Rattle.std.specs.Prelude.{◌+◌, ℕ, List, [], ◌∷◌, IfSome, IsSome}
-use Rattle.class_model.specs.Checks.{Check, check}
+use Rattle.class_model.specs.Checks.{Check, check, Fault}
 use Rattle.class_model.specs.Methods.{IsDescriptorOf}
 use Rattle.class_model.specs.Names.{IsMethodName}
 use Rattle.class_model.specs.Pool.{Constants}

@@ -1,4 +1,5 @@
 -- The parameters that are cut from a descriptor's text are those that it spells.
+use Rattle.std.proofs.lemmas.Bool.{ne_eqb}
 use Rattle.std.proofs.Common.{◌≡◌, ◌≢◌, ◌==◌, inl, inr, Bool, true, false, not, cond, ℕ, zero, suc, ◌+◌, ◌<◌, ◌≤◌, List, [], ◌∷◌, ◌++◌, length, take, drop, take_while, replicate, refl, sym, ap, ◌∙◌, arith, append_assoc, length-append}
 use Rattle.std.proofs.lemmas.Bool.Decides.{nat_tests}
 use Rattle.std.proofs.lemmas.List.{take_at, drop_at, length-replicate}
@@ -23,9 +24,6 @@ stops p byte bytes e = take_while-cons p byte bytes ∙ ap (λ (b : Bool). cond 
 no_semicolon : (byte : ℕ) → byte ≢ 59 → not (byte == 59) ≡ true
 no_semicolon byte other = grind (arith, nat_tests)
 
-other_byte : (byte wanted : ℕ) → byte ≢ wanted → (byte == wanted) ≡ false
-other_byte byte wanted other = grind (arith, nat_tests)
-
 up_to_semicolon : (name more : List ℕ) → LacksSemicolon name → take_while (λ b. not (b == 59)) ((name ++ 59 ∷ []) ++ more) ≡ name
 up_to_semicolon [] more lacks = refl
 up_to_semicolon (byte ∷ name) more lacks = keeps (λ b. not (b == 59)) byte ((name ++ 59 ∷ []) ++ more) (no_semicolon byte lacks.0) ∙ ap (λ (t : List ℕ). byte ∷ t) (up_to_semicolon name more lacks.1)
@@ -46,7 +44,7 @@ element_cut (Named name) more h = class_len name more h
 
 no_brackets : (rest : List ℕ) → LacksBracket rest → brackets rest ≡ 0
 no_brackets [] lacks = refl
-no_brackets (byte ∷ rest) lacks = ap length (stops (λ b. b == 91) byte rest (other_byte byte 91 (λ e. lacks rest cc)))
+no_brackets (byte ∷ rest) lacks = ap length (stops (λ b. b == 91) byte rest (ne_eqb byte 91 (λ e. lacks rest cc)))
 
 brackets_are : (count : ℕ) (rest : List ℕ) → LacksBracket rest → brackets (replicate count 91 ++ rest) ≡ count
 brackets_are zero rest lacks = no_brackets rest lacks
@@ -104,7 +102,7 @@ front_cut left first tail front more other parts len =
     rw other (cc (taken, behind))
 
 no_parenthesis : (first : ℕ) → begins_type first ≡ true → (first == 41) ≡ false
-no_parenthesis first begins = other_byte first 41 (λ e. let never : false ≡ true = rw e at begins in absurd cc)
+no_parenthesis first begins = ne_eqb first 41 (λ e. let never : false ≡ true = rw e at begins in absurd cc)
 
 first_cut : (left : ℕ) (type : FieldType) (more : List ℕ) → FieldForm type → types_before (suc left) (field_type_text type ++ more) ≡ type ∷ types_before left more
 first_cut left type more form =

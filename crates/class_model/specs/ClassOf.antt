@@ -5,9 +5,9 @@ use Rattle.std.specs.List.{flat_map}
 use Rattle.class_model.specs.Checks.{Check, check, Fault, AllHold, IsFirstFault, asked_of}
 use Rattle.class_model.specs.Cutting.{Rest, Version, uncut, version_at, class_file_at}
 use Rattle.class_model.specs.Members.{Signature, fits_class, class_name_checks, super_checks, interfaces_checks, field_checks, attrs_checks, is_named, field_signature}
-use Rattle.class_model.specs.Methods.{Home, method_signature, method_checks, class_attr_checks, bootstrap_count, code, code_content}
+use Rattle.class_model.specs.Methods.{Home, method_signature, method_checks, class_attr_checks, bootstrap_count, code, code_content, home_of}
 use Rattle.class_model.specs.Pool.{Constants}
-use Rattle.class_model.specs.PoolChecks.{class_at, entries_checks}
+use Rattle.class_model.specs.PoolChecks.{entries_checks}
 use Rattle.class_model.specs.Spelling.{constant_bytes, entry_bytes, field_bytes, method_bytes}
 use Rattle.class_model.specs.declared.class_file.Attr.{Attr}
 use Rattle.class_model.specs.declared.class_file.Attr.TheVariants.{Raw, Code}
@@ -55,14 +55,13 @@ class_file_checks c =
     let fields = flags + 8 + 2 * length c.interfaces in
     let methods = fields + 2 + length (flat_map field_bytes c.fields) in
     let attrs = methods + 2 + length (flat_map method_bytes c.methods) in
-    let home : Home = record { pool = pool; major = c.major; flags = c.flags; name = class_at pool c.this_class } in
     entries_checks c.major pool 10 pool
     ++ (check flags rules.Flags (IsTrue (fits_class c.flags)) ∷ [])
     ++ class_name_checks pool (flags + 2) c.this_class
     ++ super_checks pool (flags + 4) c.super_class
     ++ interfaces_checks pool (flags + 8) c.interfaces
     ++ fields_checks pool c.flags [] (fields + 2) c.fields
-    ++ methods_checks home [] (methods + 2) c.methods
+    ++ methods_checks (home_of c) [] (methods + 2) c.methods
     ++ attrs_checks (class_attr_checks pool) [] (attrs + 2) c.attrs
     ++ bootstrap_index_checks (bootstrap_count pool c.attrs) 10 pool
 

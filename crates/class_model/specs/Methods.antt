@@ -9,7 +9,8 @@ use Rattle.class_model.specs.Instructions.{decoded}
 use Rattle.class_model.specs.Members.{Signature, has, STATIC, NATIVE, INTERFACE, ABSTRACT, one_visibility, is_text, is_named, has_named, stands_before, attrs_checks, attr_name_check, raw_content}
 use Rattle.class_model.specs.Names.{init, clinit, IsMethodName}
 use Rattle.class_model.specs.Pool.{Constants, constant_at}
-use Rattle.class_model.specs.PoolChecks.{utf8_at, text_or_empty, InitIsVoid}
+use Rattle.class_model.specs.PoolChecks.{utf8_at, text_or_empty, InitIsVoid, class_at}
+use Rattle.class_model.specs.declared.class_file.ClassFile.{ClassFile}
 use Rattle.class_model.specs.declared.class_file.Attr.{Attr}
 use Rattle.class_model.specs.declared.class_file.Attr.TheVariants.{Raw, Code}
 use Rattle.class_model.specs.declared.class_file.CodePart.{CodePart}
@@ -27,6 +28,9 @@ pub record Home : Type 0 where
   pub major : ℕ
   pub flags : ℕ
   pub name : Option (List ℕ)
+
+abbrev pub home_of : ClassFile → Home
+home_of c = record { pool = c.pool; major = c.major; flags = c.flags; name = class_at c.pool c.this_class }
 
 -- the name of the attribute (4.7.3)
 abbrev pub code : List ℕ

@@ -1,17 +1,17 @@
 -- What is known of each class of a hierarchy.
-use Rattle.std.proofs.Common.{◌≡◌, ◌+◌, ◌*◌, ℕ, zero, suc, List, [], ◌∷◌, ◌++◌, length, map, slice_get, Option, Some, None, IsSome, IfSome, IsTrue, refl, sym, ◌∙◌, subst}
+use Rattle.std.proofs.Common.{◌≡◌, ◌+◌, ℕ, zero, suc, List, [], ◌∷◌, ◌++◌, length, map, slice_get, Option, Some, None, IsSome, IfSome, refl, sym, ◌∙◌, subst}
 use Rattle.std.specs.List.{AllByRecursion, flat_map}
 use Rattle.class_model.specs.Checks as checks
 use Rattle.class_model.specs.Checks.{AllHold}
-use Rattle.class_model.specs.ClassOf.{ClassOf, fields_checks, methods_checks, bootstrap_index_checks}
+use Rattle.class_model.specs.ClassOf.{ClassOf}
 use Rattle.class_model.specs.Header.{header_of}
 use Rattle.class_model.specs.Laws.Checks.{first_holds, others_hold}
+use Rattle.class_model.specs.Laws.ClassFiles.{flags_place, parts_hold}
 use Rattle.class_model.specs.Laws.Descriptors.{name_head}
-use Rattle.class_model.specs.Members.{fits_class, class_name_checks, super_checks, interfaces_checks, attrs_checks}
-use Rattle.class_model.specs.Methods.{Home, class_attr_checks, bootstrap_count}
+use Rattle.class_model.specs.Members.{class_name_checks}
 use Rattle.class_model.specs.Names.{IsClassName}
-use Rattle.class_model.specs.PoolChecks.{entries_checks, class_at}
-use Rattle.class_model.specs.Spelling.{class_bytes, entry_bytes, field_bytes, method_bytes}
+use Rattle.class_model.specs.PoolChecks.{class_at}
+use Rattle.class_model.specs.Spelling.{class_bytes, entry_bytes}
 use Rattle.class_model.specs.declared.class_file.ClassFile.{ClassFile}
 use Rattle.class_model.specs.declared.fault.FileRule.TheVariants as rules
 use Rattle.class_model.specs.declared.header.Header.{Header}
@@ -33,32 +33,17 @@ name_is_class_name class at hold = by (class_at class.pool class.this_class) ref
 
 -- ---- what the checks of a class file say of its name
 
-third_of_nine : (a b c d e f g h i : List (checks.Check checks.Fault)) → checks.AllHold (a ++ b ++ c ++ d ++ e ++ f ++ g ++ h ++ i) → checks.AllHold c
-third_of_nine a b c d e f g h i all =
-    let abcdefgh = first_holds (a ++ b ++ c ++ d ++ e ++ f ++ g ++ h) i all in
-    let abcdefg = first_holds (a ++ b ++ c ++ d ++ e ++ f ++ g) h abcdefgh in
-    let abcdef = first_holds (a ++ b ++ c ++ d ++ e ++ f) g abcdefg in
-    let abcde = first_holds (a ++ b ++ c ++ d ++ e) f abcdef in
-    let abcd = first_holds (a ++ b ++ c ++ d) e abcde in
-    others_hold (a ++ b) c (first_holds (a ++ b ++ c) d abcd)
+class_file_name : (bytes : List ℕ) (class : ClassFile) → ClassOf bytes class → IsClassName (header_of class).name
+class_file_name bytes class is =
+    let c = is.cut in
+    subst (λ (c : ClassFile). IsClassName (header_of c).name) (sym is.is) (name_is_class_name c (flags_place c + 2) (parts_hold c is.holds).this_class)
 
+-- the second of six parts
 second_of_six : (a b c d e f : List (checks.Check checks.Fault)) → checks.AllHold (a ++ b ++ c ++ d ++ e ++ f) → checks.AllHold b
 second_of_six a b c d e f all =
     let abcde = first_holds (a ++ b ++ c ++ d ++ e) f all in
     let abcd = first_holds (a ++ b ++ c ++ d) e abcde in
     others_hold a b (first_holds (a ++ b) c (first_holds (a ++ b ++ c) d abcd))
-
-class_file_name : (bytes : List ℕ) (class : ClassFile) → ClassOf bytes class → IsClassName (header_of class).name
-class_file_name bytes class is =
-    let c = is.cut in
-    let pool = c.pool in
-    let flags = 10 + length (flat_map entry_bytes pool) in
-    let fields = flags + 8 + 2 * length c.interfaces in
-    let methods = fields + 2 + length (flat_map field_bytes c.fields) in
-    let attrs = methods + 2 + length (flat_map method_bytes c.methods) in
-    let home : Home = record { pool = pool; major = c.major; flags = c.flags; name = class_at pool c.this_class } in
-    let named = third_of_nine (entries_checks c.major pool 10 pool) (checks.check flags rules.Flags (IsTrue (fits_class c.flags)) ∷ []) (class_name_checks pool (flags + 2) c.this_class) (super_checks pool (flags + 4) c.super_class) (interfaces_checks pool (flags + 8) c.interfaces) (fields_checks pool c.flags [] (fields + 2) c.fields) (methods_checks home [] (methods + 2) c.methods) (attrs_checks (class_attr_checks pool) [] (attrs + 2) c.attrs) (bootstrap_index_checks (bootstrap_count pool c.attrs) 10 pool) is.holds in
-    subst (λ (c : ClassFile). IsClassName (header_of c).name) (sym is.is) (name_is_class_name c (flags + 2) named)
 
 library_name : (header : Header) → IsLibraryClass header → IsClassName header.name
 library_name header is =

@@ -3,12 +3,12 @@ use Rattle.std.proofs.Common.{◌≡◌, ℕ, suc, ◌≤◌, List, [], ◌∷�
 use Rattle.std.proofs.lemmas.List.{take_at, length-replicate}
 use Rattle.class_model.specs.Cutting.{IsBytes}
 use Rattle.class_model.specs.Instructions.{Operands, rows, operands_in, with_operands, instr_at, pad_of, IsSpelling}
+use Rattle.class_model.specs.Laws.Cuts.{u1_front}
 use Rattle.class_model.specs.declared.instr.Instr.{Instr}
 use Rattle.class_model.specs.declared.instr.Instr.TheVariants.{Nop, Table, Lookup}
 use Rattle.code_bytes.specs.Encoding.{HasSpelling, HasZeroPad, IsChosen}
 use Rattle.code_bytes.specs.Forms.{instr_bytes}
 use Rattle.code_bytes.specs.Numbers.{HasNumbers}
-use Rattle.code_bytes.proofs.Fronts.{u1_front}
 use Rattle.code_bytes.proofs.ReadForms.{reads_all}
 use Rattle.code_bytes.proofs.Sized.{ok_parts}
 use Rattle.code_bytes.proofs.SpelledInstructions.{spells_instr}

@@ -1,19 +1,11 @@
 -- Numbers at the front of bytes, and behind some.
-use Rattle.std.proofs.Common.{◌≡◌, ℕ, suc, List, ◌∷◌, ◌++◌, length, Some, Ok, arith}
+use Rattle.std.proofs.Common.{◌≡◌, ℕ, suc, List, ◌∷◌, ◌++◌, length, Some, Ok}
 use Rattle.std.proofs.lemmas.List.{drop_at}
-use Rattle.std.proofs.lemmas.Nat.{from_be_bytes-to_be_bytes_2, from_be_bytes-to_be_bytes_4}
-use Rattle.class_model.specs.Spelling.{u2, u4}
-use Rattle.class_model.specs.Instructions.{Operands, u1_in, u2_in, u4_in, with_operands}
+use Rattle.std.proofs.lemmas.Nat.{from_be_bytes-to_be_bytes_4}
+use Rattle.class_model.specs.Spelling.{u4}
+use Rattle.class_model.specs.Instructions.{Operands, u4_in, with_operands}
 use Rattle.class_model.specs.declared.instr.Instr.{Instr}
-use Rattle.code_bytes.specs.Numbers.{IsU2}
 use Rattle.code_bytes.proofs.OperandForms.{IsU4}
-
--- the number at the front of bytes
-pub u1_front : (number : ℕ) (rest : List ℕ) → u1_in (number ∷ rest) 0 ≡ number
-u1_front number rest = omega arith
-
-pub u2_front : (number : ℕ) (rest : List ℕ) → IsU2 number → u2_in (u2 number ++ rest) 0 ≡ number
-u2_front number rest fits = from_be_bytes-to_be_bytes_2 number fits
 
 pub u4_front : (number : ℕ) (rest : List ℕ) → IsU4 number → u4_in (u4 number ++ rest) 0 ≡ number
 u4_front number rest fits = from_be_bytes-to_be_bytes_4 number fits

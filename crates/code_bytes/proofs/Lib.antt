@@ -26,4 +26,3 @@ pub mod Targets
 pub mod Sizes
 pub mod Sequences
 pub mod ReadMethods
-pub mod EntryFrames

@@ -1,18 +1,20 @@
 -- The code of each method of a class file has instructions, whose constants are of the kinds that they may name, and its
 -- StackMapTable can be read.
-use Rattle.std.proofs.Common.{◌≡◌, ◌+◌, ◌*◌, ◌==◌, ◌||◌, ℕ, zero, suc, Bool, true, false, cond, List, [], ◌∷◌, ◌++◌, length, map, Option, Some, None, Result, Ok, Err, IsTrue, IsFalse, refl, sym, subst, inl, inr}
-use Rattle.std.specs.List.{AllByRecursion, flat_map}
-use Rattle.class_model.specs.Checks.{Check, Fault, fault, check, AllHold, IsFirstFault, asked_of, asked_if, ◌>>=◌}
-use Rattle.class_model.specs.ClassOf.{ClassOf, fields_checks, methods_checks, bootstrap_index_checks, entered_attr, entered_method}
+use Rattle.std.proofs.Common.{◌≡◌, ◌+◌, ◌*◌, ◌==◌, ◌||◌, ℕ, zero, suc, Bool, true, false, cond, List, [], ◌∷◌, ◌++◌, length, map, Option, Some, None, Result, Ok, Err, IsTrue, IsFalse, refl, sym, subst}
+use Rattle.std.specs.List.{AllByRecursion}
+use Rattle.class_model.specs.Checks.{Check, Fault, fault, check, AllHold, asked_of, asked_if}
+use Rattle.class_model.specs.ClassOf.{ClassOf, methods_checks, entered_attr, entered_method}
 use Rattle.class_model.specs.Code.{OperandFits, code_part, jump_checks, operand_checks, handlers_checks, inners_checks, inner_is_named, stack_map_table, table_fault}
 use Rattle.class_model.specs.Cutting.{Rest, Version, Cut, bytes_at, u2_at, u4_at, many_at, counted_at, pool_at, attr_at, field_at, method_at, class_file_at}
 use Rattle.class_model.specs.Frames.{Setting, stack_map_table_at}
 use Rattle.class_model.specs.Instructions.{decoded}
-use Rattle.class_model.specs.Members.{Signature, fits_class, is_named, has_named, class_name_checks, super_checks, interfaces_checks, attrs_checks}
-use Rattle.class_model.specs.Methods.{Home, code, entry_of, instructions_checks, part_checks, content_checks, method_attr_checks, method_checks, class_attr_checks, bootstrap_count, method_signature}
+use Rattle.class_model.specs.Laws.Checks.{first_holds, others_hold}
+use Rattle.class_model.specs.Laws.ClassFiles.{methods_place, parts_hold}
+use Rattle.class_model.specs.Laws.Cuts.{bind_ok, same_done}
+use Rattle.class_model.specs.Members.{Signature, is_named, has_named, attrs_checks}
+use Rattle.class_model.specs.Methods.{Home, code, entry_of, instructions_checks, part_checks, content_checks, method_attr_checks, method_checks, method_signature, home_of}
 use Rattle.class_model.specs.Pool.{Constants}
-use Rattle.class_model.specs.PoolChecks.{class_at, entries_checks}
-use Rattle.class_model.specs.Spelling.{inner_bytes, attr_bytes, entry_bytes, field_bytes, method_bytes}
+use Rattle.class_model.specs.Spelling.{inner_bytes, attr_bytes, method_bytes}
 use Rattle.class_model.specs.Stated.{stated_frames}
 use Rattle.class_model.specs.declared.class_file.Attr.{Attr}
 use Rattle.class_model.specs.declared.class_file.Attr.TheVariants.{Raw, Code}
@@ -27,47 +29,7 @@ use Rattle.class_model.specs.declared.instr.Placed.{Placed}
 use Rattle.code_bytes.specs.Decoding.{decoding_checks}
 use Rattle.code_bytes.specs.Codes.{HasInstrs, HasOperands, HaveOperands, HaveFrames, IsReadMethod, HasReadMethods, HasReadOperands, HasReadFrames}
 
--- ---- checks that hold
-
-pub no_fault : (checks : List (Check Fault)) (f : Fault) → AllHold checks → ¬ IsFirstFault checks f
-no_fault [] f hold first = first
-no_fault (c ∷ checks) f hold (inl here) = here.0 hold.0
-no_fault (c ∷ checks) f hold (inr later) = no_fault checks f hold.1 later.1
-
-front : (a b : List (Check Fault)) → AllHold (a ++ b) → AllHold a
-front [] b h = tt
-front (c ∷ a) b h = (h.0, front a b h.1)
-
-back : (a b : List (Check Fault)) → AllHold (a ++ b) → AllHold b
-back [] b h = h
-back (c ∷ a) b h = back a b h.1
-
-first_of_four : (a b c d : List (Check Fault)) → AllHold (a ++ b ++ c ++ d) → AllHold a
-first_of_four a b c d all = front a b (front (a ++ b) c (front (a ++ b ++ c) d all))
-
-second_of_four : (a b c d : List (Check Fault)) → AllHold (a ++ b ++ c ++ d) → AllHold b
-second_of_four a b c d all = back a b (front (a ++ b) c (front (a ++ b ++ c) d all))
-
-fourth_of_four : (a b c d : List (Check Fault)) → AllHold (a ++ b ++ c ++ d) → AllHold d
-fourth_of_four a b c d all = back (a ++ b ++ c) d all
-
-seventh_of_nine : (a b c d e f g h i : List (Check Fault)) → AllHold (a ++ b ++ c ++ d ++ e ++ f ++ g ++ h ++ i) → AllHold g
-seventh_of_nine a b c d e f g h i all =
-    let abcdefgh = front (a ++ b ++ c ++ d ++ e ++ f ++ g ++ h) i all in
-    let abcdefg = front (a ++ b ++ c ++ d ++ e ++ f ++ g) h abcdefgh in
-    back (a ++ b ++ c ++ d ++ e ++ f) g abcdefg
-
 -- ---- attributes are cut as bytes
-
-bind_ok : {A B : Type 0} (r : Result A Fault) (f : A → Result B Fault) (y : B) → (r >>= f) ≡ Ok y → (x : A) × (r ≡ Ok x) × (f x ≡ Ok y)
-bind_ok (Ok x) f y e = (x, refl, e)
-bind_ok (Err d) f y e = absurd cc
-
-abbrev done : {Y : Type 0} → Y → Result Y Fault
-done y = Ok y
-
-same_done : {Y : Type 0} (x y : Y) → done x ≡ done y → x ≡ y
-same_done x y e = cc
 
 same_behind : {Y : Type 0} (test : Bool) (d : Fault) (x y : Y) → cond test (Ok x) (Err d) ≡ Ok y → x ≡ y
 same_behind true d x y e = cc
@@ -178,7 +140,7 @@ tables_are_read s entry had at (attr ∷ attrs) h =
     let named = inner_is_named s.pool stack_map_table attr in
     let table = check at rules.Twice (IsFalse had) ∷ asked_of (in_table at (stack_map_table_at s entry attr.bytes)) (λ frames. []) in
     let others = inners_checks s entry (had || named) (at + length (inner_bytes attr)) attrs in
-    (by named (front (asked_if named table) others h.1), tables_are_read s entry (had || named) (at + length (inner_bytes attr)) attrs (back (asked_if named table) others h.1))
+    (by named (first_holds (asked_if named table) others h.1), tables_are_read s entry (had || named) (at + length (inner_bytes attr)) attrs (others_hold (asked_if named table) others h.1))
   where
     by : (named : Bool) → AllHold (asked_if named (check at rules.Twice (IsFalse had) ∷ asked_of (in_table at (stack_map_table_at s entry attr.bytes)) (λ frames. []))) → IsTrue named → (frames : List PlacedFrame) × (stack_map_table_at s entry attr.bytes ≡ Ok frames)
     by true asked is = table_is_read at (stack_map_table_at s entry attr.bytes) asked.1
@@ -210,9 +172,9 @@ part_is_read home method at part hold =
         let handlers = handlers_checks home.pool instrs (length part.code) table part.handlers in
         let attrs = table + 8 * length part.handlers + 2 in
         let inners = inners_checks setting (entry_of home method part) false attrs part.attrs in (
-          jumps_hold start instrs instrs (first_of_four jumps operands handlers inners h),
-          operands_fit start home.pool home.major part.max_locals instrs (second_of_four jumps operands handlers inners h),
-          tables_are_read setting (entry_of home method part) false attrs part.attrs (fourth_of_four jumps operands handlers inners h),
+          jumps_hold start instrs instrs (first_holds jumps operands (first_holds (jumps ++ operands) handlers (first_holds (jumps ++ operands ++ handlers) inners h))),
+          operands_fit start home.pool home.major part.max_locals instrs (others_hold jumps operands (first_holds (jumps ++ operands) handlers (first_holds (jumps ++ operands ++ handlers) inners h))),
+          tables_are_read setting (entry_of home method part) false attrs part.attrs (others_hold (jumps ++ operands ++ handlers) inners h),
         )
 
 -- what is asked of the content of an attribute that is named Code
@@ -253,8 +215,8 @@ attrs_are_read home method before at [] raw hold = record { instrs = tt; operand
 attrs_are_read home method before at (attr ∷ attrs) raw hold =
     let own = method_attr_checks home method before at attr in
     let others = attrs_checks (method_attr_checks home method) (before ++ attr ∷ []) (at + length (attr_bytes attr)) attrs in
-    let first = attr_is_read home method before at attr raw.0 (front own others hold) in
-    let rest = attrs_are_read home method (before ++ attr ∷ []) (at + length (attr_bytes attr)) attrs raw.1 (back own others hold) in
+    let first = attr_is_read home method before at attr raw.0 (first_holds own others hold) in
+    let rest = attrs_are_read home method (before ++ attr ∷ []) (at + length (attr_bytes attr)) attrs raw.1 (others_hold own others hold) in
     record { instrs = (first.instrs, rest.instrs); operands = (first.operands, rest.operands); frames = (first.frames, rest.frames) }
 
 -- ---- methods
@@ -290,8 +252,8 @@ methods_are_read home before at [] raw hold = record { read = tt; operands = tt;
 methods_are_read home before at (method ∷ methods) raw hold =
     let own = method_checks home before at method in
     let others = methods_checks home (before ++ method_signature method ∷ []) (at + length (method_bytes method)) methods in
-    let first = method_is_read home before at method raw.0 (front own others hold) in
-    let rest = methods_are_read home (before ++ method_signature method ∷ []) (at + length (method_bytes method)) methods raw.1 (back own others hold) in
+    let first = method_is_read home before at method raw.0 (first_holds own others hold) in
+    let rest = methods_are_read home (before ++ method_signature method ∷ []) (at + length (method_bytes method)) methods raw.1 (others_hold own others hold) in
     record { read = (first.read, rest.read); operands = (first.operands, rest.operands); frames = (first.frames, rest.frames) }
 
 -- the methods of a class file
@@ -303,12 +265,5 @@ pub record IsReadClass (class : ClassFile) : Type 0 where
 pub class_is_read : (bytes : List ℕ) (class : ClassFile) → ClassOf bytes class → IsReadClass class
 class_is_read bytes class is =
     let c = is.cut in
-    let pool = c.pool in
-    let flags = 10 + length (flat_map entry_bytes pool) in
-    let fields = flags + 8 + 2 * length c.interfaces in
-    let methods = fields + 2 + length (flat_map field_bytes c.fields) in
-    let attrs = methods + 2 + length (flat_map method_bytes c.methods) in
-    let home : Home = record { pool = pool; major = c.major; flags = c.flags; name = class_at pool c.this_class } in
-    let hold = seventh_of_nine (entries_checks c.major pool 10 pool) (check flags rules.Flags (IsTrue (fits_class c.flags)) ∷ []) (class_name_checks pool (flags + 2) c.this_class) (super_checks pool (flags + 4) c.super_class) (interfaces_checks pool (flags + 8) c.interfaces) (fields_checks pool c.flags [] (fields + 2) c.fields) (methods_checks home [] (methods + 2) c.methods) (attrs_checks (class_attr_checks pool) [] (attrs + 2) c.attrs) (bootstrap_index_checks (bootstrap_count pool c.attrs) 10 pool) is.holds in
-    let are = methods_are_read home [] (methods + 2) c.methods (class_cut is.version is.rest c is.is_cut) hold in
+    let are = methods_are_read (home_of c) [] (methods_place c + 2) c.methods (class_cut is.version is.rest c is.is_cut) (parts_hold c is.holds).methods in
     subst IsReadClass (sym is.is) (record { read = are.read; operands = are.operands; frames = are.frames })

@@ -5,12 +5,13 @@ use Rattle.std.specs.Int.{from_be_bytes}
 use Rattle.std.specs.List.{flat_map, AllByRecursion}
 use Rattle.std.proofs.lemmas.Bool.{leb-false}
 use Rattle.class_model.specs.Cutting.{IsBytes}
+use Rattle.class_model.specs.Laws.Cuts.{IsBytes-drop}
 use Rattle.class_model.specs.Spelling.{u4}
 use Rattle.class_model.specs.Instructions.{u4_in, targets_in, pairs_in, table_switch_at, lookup_switch_at, pad_of, span, keys_increase}
 use Rattle.class_model.specs.declared.instr.Pair.{Pair}
 use Rattle.class_model.specs.declared.instr.Instr.{Instr}
 use Rattle.class_model.specs.declared.instr.Instr.TheVariants.{Table, Lookup}
-use Rattle.code_bytes.proofs.Cutoffs.{cut_u4, no_more, drop_bytes}
+use Rattle.code_bytes.proofs.Cutoffs.{cut_u4, no_more}
 use Rattle.code_bytes.proofs.OperandForms.{IsU4, s4, to_of, ReadsTable, ReadsLookup, entry_bytes, FitsEntry, pair_of, pair_is}
 use Rattle.code_bytes.proofs.Sized.{ok_parts, not_fault, not_other_fault}
 use Rattle.code_bytes.proofs.WrittenSwitches.{same_cons, table_by, table_at_is, lookup_by, lookup_at_is}
@@ -127,7 +128,7 @@ reads_table at opcode tail instr small e =
     let by = table_by_is at bytes other low high count instr (suc (length tail)) (sym (table_at_is at bytes other low high count is_other is_low is_high refl) ∙ e) in
     let tail_long : length tail ≡ pad + 12 + 4 * count = omega (arith, by.len_is) in
     let long : length body ≡ 12 + 4 * count = omega (arith, length-drop pad tail) in
-    let cut = cut_u4 body (omega arith) (drop_bytes pad tail small) in
+    let cut = cut_u4 body (omega arith) (IsBytes-drop pad tail small) in
     let low_cut = cut_u4 behind_other (omega (arith, length-drop 4 body)) cut.are_bytes in
     let high_cut = cut_u4 behind_low (omega (arith, length-drop 4 body, length-drop 4 behind_other)) low_cut.are_bytes in
     let others_long : length behind_high ≡ 4 * count = omega (arith, length-drop 4 body, length-drop 4 behind_other, length-drop 4 behind_low) in
@@ -167,7 +168,7 @@ reads_lookup at opcode tail instr small e =
     let by = lookup_by_is at bytes other count pairs instr (suc (length tail)) (sym (lookup_at_is at bytes other count pairs is_other is_count refl) ∙ e) in
     let tail_long : length tail ≡ pad + 8 + 8 * count = omega (arith, by.len_is) in
     let long : length body ≡ 8 + 8 * count = omega (arith, length-drop pad tail) in
-    let cut = cut_u4 body (omega arith) (drop_bytes pad tail small) in
+    let cut = cut_u4 body (omega arith) (IsBytes-drop pad tail small) in
     let count_cut = cut_u4 behind_other (omega (arith, length-drop 4 body)) cut.are_bytes in
     let others_long : length behind_count ≡ 8 * count = omega (arith, length-drop 4 body, length-drop 4 behind_other) in
     let here = place_is pad opcode 8 tail ∙ sym (drop-drop 4 4 body) in

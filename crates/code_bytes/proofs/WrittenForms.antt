@@ -4,13 +4,14 @@ use Rattle.std.proofs.lemmas.Bool.{le-ltb}
 use Rattle.std.specs.Prelude.{ℤ}
 use Rattle.std.specs.Int.{cast_signed}
 use Rattle.class_model.specs.Checks.{fault}
+use Rattle.class_model.specs.Laws.Cuts.{u1_front, u2_front}
 use Rattle.class_model.specs.declared.fault.FileRule.TheVariants as rules
 use Rattle.class_model.specs.Spelling.{u2, u4}
 use Rattle.class_model.specs.Instructions.{Operands, Alone, U1, U2, S1, S2, U1S1, U2U1, U2U1Zero, U2ZeroZero, Jump2, Jump4, TableSwitch, LookupSwitch, Wide, rows, operands_in, wide_rows, u1_in, u2_in, wide_operands, with_operands, IsSpelling, instr_at, is_array_code, has_dimensions, target_of}
 use Rattle.class_model.specs.declared.instr.Instr.{Instr}
 use Rattle.class_model.specs.declared.instr.Instr.TheVariants.{Iinc}
 use Rattle.code_bytes.proofs.Sized.{no_fault, sized_long, sized_if_long}
-use Rattle.code_bytes.proofs.Fronts.{u1_front, u2_front, u4_front, GivesBack}
+use Rattle.code_bytes.proofs.Fronts.{u4_front, GivesBack}
 use Rattle.code_bytes.proofs.WrittenSwitches.{gives_table, gives_lookup}
 use Rattle.code_bytes.proofs.OperandForms.{ReadsWide, ReadsWideIinc, Reads, to_of}
 

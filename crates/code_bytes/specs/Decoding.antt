@@ -1,6 +1,6 @@
 -- What a code by itself is asked (JVM Specification SE 8, 4.7.3, 4.9.1). Places are offsets of the code.
 use Rattle.std.specs.Prelude.{◌∷◌, ◌&&◌, nat_lt, ℕ, List, length, IsTrue}
-use Rattle.class_model.specs.Checks.{Check, check, asked_of}
+use Rattle.class_model.specs.Checks.{Check, check, asked_of, Fault}
 use Rattle.class_model.specs.Code.{jump_checks}
 use Rattle.class_model.specs.Instructions.{decoded}
 use Rattle.class_model.specs.declared.fault.FileRule.TheVariants as rules

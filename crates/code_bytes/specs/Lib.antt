@@ -8,3 +8,4 @@ pub mod Operands
 pub mod Starts
 pub mod Codes
 pub mod Entry
+pub mod Laws

@@ -9,17 +9,10 @@ use Rattle.std.specs.declared.cmp.Ordering.TheVariants.{Less}
 use Rattle.std.specs.String.{string_cmp}
 use Rattle.std.specs.Str.{bytes_eq}
 use Rattle.std.specs.Cmp.Lexicographic.{bytes_decides}
-use Rattle.std.proofs.lemmas.List.Sums.{sum_by-cons, sum_by-append}
 use Rattle.std.proofs.lemmas.Map.Keys.{sorted_head, sorted_tail}
 use Rattle.std.proofs.lemmas.Map.Text.{is_eq-slice_cmp, text_cmp}
 use Rattle.host_tree.specs.Host.{Bytes, Folder, times, held, IsListing}
-
--- how often a name stands in a list with one more name at its head
-times-cons : (name x : Bytes) (xs : List Bytes) → times name (x ∷ xs) ≡ cond (bytes_eq name x) 1 0 + times name xs
-times-cons name x xs = sum_by-cons (λ other. cond (bytes_eq name other) 1 0) x xs
-
-times-append : (name : Bytes) (xs ys : List Bytes) → times name (xs ++ ys) ≡ times name xs + times name ys
-times-append name xs ys = sum_by-append (λ other. cond (bytes_eq name other) 1 0) xs ys
+use Rattle.host_tree.specs.Laws.Names.{times-cons, times-append}
 
 -- a name stands in a list that it is the head of
 at_head : (x : Bytes) (xs : List Bytes) → 0 < times x (x ∷ xs)

@@ -4,3 +4,4 @@ pub mod Faults
 pub mod Tree
 pub mod Memory
 pub mod Paths
+pub mod Laws

@@ -4,10 +4,11 @@ use Rattle.std.proofs.lemmas.List.{append-nil}
 use Rattle.class_model.specs.Answers.{Takes}
 use Rattle.class_model.specs.Cutting.{Rest}
 use Rattle.class_model.specs.Frames.{Setting, verification_type_at, verification_types_at}
+use Rattle.class_model.specs.Laws.Cuts.{in_front, in_front-none, in_front-append}
 use Rattle.class_model.specs.declared.fault.ClassFault.{ClassFault}
 use Rattle.class_model.specs.declared.frame.VType.{VType}
 use Rattle.map_frames.specs.Steps.{Refuses, Appends}
-use Rattle.map_frames.proofs.Fronts.{in_front, in_front-none, in_front-append, left_more}
+use Rattle.map_frames.proofs.Counts.{left_more}
 use Rattle.map_frames.proofs.Faults.{refuses_bind, refuses_same, refuses_takes}
 
 entries_more : (s : Setting) (frame left : ℕ) (rest : Rest) (t : VType) (after : Rest) → verification_type_at s frame rest ≡ Ok (t, after) → verification_types_at s frame (suc left) rest ≡ in_front (t ∷ []) (verification_types_at s frame left after)

@@ -1,16 +1,10 @@
 -- The units that entries take.
 use Rattle.std.proofs.Common.{◌≡◌, ℕ, ◌+◌, ◌*◌, ◌^◌, ◌<◌, ◌≤◌, List, [], ◌∷◌, ◌++◌, length, drop, Bool, true, false, cond, refl, ap, sym, ◌∙◌, arith, length-append, append_assoc}
 use Rattle.std.proofs.lemmas.List.{append-nil}
-use Rattle.std.proofs.lemmas.Grind.{flat_map-append}
 use Rattle.class_model.specs.Frames.{units, depth, units_of_entries, is_wide, entries_of_units}
+use Rattle.class_model.specs.Laws.Frames.{depth-append}
 use Rattle.class_model.specs.declared.frame.VType.{VType}
 use Rattle.class_model.specs.declared.frame.VType.TheVariants.{Top, Int, Float, Long, Double, Null, UninitThis, Object, Uninit}
-
-pub units-append : (xs ys : List VType) → units_of_entries (xs ++ ys) ≡ units_of_entries xs ++ units_of_entries ys
-units-append xs ys = flat_map-append units xs ys
-
-pub depth-append : (xs ys : List VType) → depth (xs ++ ys) ≡ depth xs + depth ys
-depth-append xs ys = ap length (units-append xs ys) ∙ length-append (units_of_entries xs) (units_of_entries ys)
 
 few_units : (t : VType) → length (units t) ≤ 2
 few_units Top = omega arith

@@ -3,10 +3,11 @@ use Rattle.std.proofs.Common.{◌≡◌, ◌==◌, inl, inr, ℕ, ◌-◌, ◌�
 use Rattle.std.proofs.lemmas.Bool.{cases_eq}
 use Rattle.std.proofs.lemmas.Bool.Decides.{nat_tests}
 use Rattle.class_model.specs.Answers.{Takes}
-use Rattle.class_model.specs.Checks.{Fault, fault, ◌>>=◌}
+use Rattle.class_model.specs.Checks.{fault, ◌>>=◌}
 use Rattle.class_model.specs.Cutting.{Rest, Cut, behind}
 use Rattle.class_model.specs.Frames.{Setting, Stated, verification_type_at, verification_types_at, frame_at, missing, table_u2_at, stated_frame}
 use Rattle.class_model.specs.Instructions.{u1_in}
+use Rattle.class_model.specs.Laws.Cuts.{bind_assoc, bind_same, same_done}
 use Rattle.class_model.specs.declared.fault.ClassFault.{ClassFault}
 use Rattle.class_model.specs.declared.fault.FileRule.TheVariants as rules
 use Rattle.class_model.specs.declared.frame.VType.{VType}
@@ -25,12 +26,6 @@ frame_of s locals frame kind inside =
     (cond (nat_le kind 254) (append_at s (kind - 251) locals frame inside)
     (table_u2_at inside >>= λ delta. table_u2_at delta.1 >>= λ locals. verification_types_at s frame locals.0 locals.1 >>= λ local_types. table_u2_at local_types.1 >>= λ stack. verification_types_at s frame stack.0 stack.1 >>= λ stack_types. Ok (stated_frame delta.0 local_types.0 stack_types.0, stack_types.1))))))))
 
-abbrev ok : {X : Type 0} → X → Result X Fault
-ok x = Ok x
-
-same_ok : {X : Type 0} (x y : X) → ok x ≡ ok y → x ≡ y
-same_ok x y e = cc
-
 -- a frame is that of its first byte
 of_kind : (s : Setting) (locals : List VType) (rest : Rest) (kind : ℕ) (inside : Rest) → byte_at rest ≡ Ok (kind, inside) → frame_at s locals rest ≡ frame_of s locals rest.at kind inside
 of_kind s locals rest kind inside e = by_test (nat_lt (length rest.bytes) 1) e
@@ -40,16 +35,7 @@ of_kind s locals rest kind inside e = by_test (nat_lt (length rest.bytes) 1) e
 
     by_test : (b : Bool) → cond b (Err missing) (Ok read) ≡ Ok (kind, inside) → cond b (Err missing) (frame_of s locals rest.at read.0 read.1) ≡ frame_of s locals rest.at kind inside
     by_test true e = absurd cc
-    by_test false e = ap (λ (p : ℕ × Rest). frame_of s locals rest.at p.0 p.1) (same_ok read (kind, inside) e)
-
--- two binds, one after the other
-bind_assoc : {X Y Z : Type 0} (part : Result X Fault) (f : X → Result Y Fault) (g : Y → Result Z Fault) → ((part >>= f) >>= g) ≡ (part >>= λ x. f x >>= g)
-bind_assoc (Ok x) f g = refl
-bind_assoc (Err d) f g = refl
-
-bind_ext : {X Y : Type 0} (part : Result X Fault) (f g : X → Result Y Fault) → ((x : X) → f x ≡ g x) → (part >>= f) ≡ (part >>= g)
-bind_ext (Ok x) f g same = same x
-bind_ext (Err d) f g same = refl
+    by_test false e = ap (λ (p : ℕ × Rest). frame_of s locals rest.at p.0 p.1) (same_done read (kind, inside) e)
 
 -- a stack of one entry behind a delta
 abbrev with_item : Setting → List VType → ℕ → ℕ → Rest → Cut Stated
@@ -60,9 +46,9 @@ item_form s locals place delta rest = sym (bind_assoc (verification_type_at s pl
 
 full_form : (s : Setting) (place : ℕ) (inside : Rest) → (table_u2_at inside >>= λ delta. table_u2_at delta.1 >>= λ locals. verification_types_at s place locals.0 locals.1 >>= λ local_types. table_u2_at local_types.1 >>= λ stack. verification_types_at s place stack.0 stack.1 >>= λ stack_types. Ok (stated_frame delta.0 local_types.0 stack_types.0, stack_types.1)) ≡ full_frame_at s place inside
 full_form s place inside =
-    bind_ext (table_u2_at inside) _ _ (λ delta.
-    sym (bind_assoc (table_u2_at delta.1) _ _ ∙ bind_ext (table_u2_at delta.1) _ _ (λ locals.
-    bind_ext (verification_types_at s place locals.0 locals.1) _ _ (λ local_types. bind_assoc (table_u2_at local_types.1) _ _))))
+    bind_same (table_u2_at inside) _ _ (λ delta.
+    sym (bind_assoc (table_u2_at delta.1) _ _ ∙ bind_same (table_u2_at delta.1) _ _ (λ locals.
+    bind_same (verification_types_at s place locals.0 locals.1) _ _ (λ local_types. bind_assoc (table_u2_at local_types.1) _ _))))
 
 -- what a frame's first byte is, and where it stands
 pub record Begins (rest : Rest) (place kind : ℕ) (inside : Rest) : Type 0 where

@@ -5,6 +5,7 @@ use Rattle.class_model.specs.Answers.{Gives}
 use Rattle.class_model.specs.Checks.{Fault, ◌>>=◌}
 use Rattle.class_model.specs.Cutting.{Rest, Cut, uncut}
 use Rattle.class_model.specs.Frames.{Setting, Stated, frame_at, frames_at, stack_map_table_at, listed, missing, fits_at, table_u2_at}
+use Rattle.class_model.specs.Laws.Cuts.{in_front, in_front-none, in_front-append}
 use Rattle.class_model.specs.declared.fault.ClassFault.{ClassFault}
 use Rattle.class_model.specs.declared.frame.Frame.{Frame}
 use Rattle.class_model.specs.declared.frame.PlacedFrame.{PlacedFrame}
@@ -12,7 +13,7 @@ use Rattle.class_model.specs.declared.frame.VType.{VType}
 use Rattle.map_frames.specs.Reading.{Accepts}
 use Rattle.map_frames.specs.Steps.{Refuses, Standing, IsStep, Steps, placed, end_at}
 use Rattle.map_frames.proofs.Faults.{refuses_bind, refuses_same, refuses_gives, accepts_refused}
-use Rattle.map_frames.proofs.Fronts.{in_front, in_front-none, in_front-append, left_more}
+use Rattle.map_frames.proofs.Counts.{left_more}
 
 -- so many frames from where a reader stands
 abbrev frames_from : Setting → ℕ → Standing → Cut (List PlacedFrame)

@@ -1,7 +1,7 @@
 pub mod EntryUnits
 pub mod Offsets
 pub mod Faults
-pub mod Fronts
+pub mod Counts
 pub mod EntriesRead
 pub mod FrameForms
 pub mod FramesRead

@@ -1,4 +1,5 @@
 -- The instructions of a code by offset.
+use Rattle.std.proofs.Math.Bool.{or-false}
 use Rattle.std.proofs.Common.{◌≡◌, ◌≢◌, ◌==◌, ◌&&◌, ◌||◌, ℕ, zero, suc, ◌+◌, ◌<◌, ◌≤◌, Bool, true, false, cond, List, [], ◌∷◌, length, get_or, drop, Option, Some, None, Ok, Err, refl, sym, ap, ◌∙◌, subst, inl, inr, arith}
 use Rattle.std.specs.List.{list_any}
 use Rattle.std.specs.List.Sorted.{IsBinarySearchResult, IsNonDecreasingBy}
@@ -53,14 +54,10 @@ alone_more sort code at p q other one =
     let no : (q.at == at) ≡ false = grind (arith, nat_tests) in
     record { first = rw no one.first; any = rw no one.any }
 
-or_false : (b : Bool) → (b || false) ≡ b
-or_false true = refl
-or_false false = refl
-
 alone_first : (sort : Placed → Bool) (code : List Placed) (at : ℕ) (p : Placed) → p.at ≡ at → Nowhere sort code at → Alone sort (p ∷ code) at p
 alone_first sort code at p here none =
     let yes : (p.at == at) ≡ true = grind (arith, nat_tests) in
-    record { first = rw yes refl; any = rw (yes, none.any) (or_false (sort p)) }
+    record { first = rw yes refl; any = rw (yes, none.any) (or-false (sort p)) }
 
 -- no instruction stands before the first
 none_before : (sort : Placed → Bool) (code : List Placed) (from at : ℕ) → IncreasesFrom from code → at < from → Nowhere sort code at

@@ -6,7 +6,8 @@ use Rattle.std.proofs.lemmas.Nat.{from_be_bytes-to_be_bytes_2}
 use Rattle.class_model.specs.Checks.{◌>>=◌}
 use Rattle.class_model.specs.Cutting.{Rest, Cut}
 use Rattle.class_model.specs.Frames.{Setting, is_new_at, verification_type_at, verification_types_at, table_u2_at}
-use Rattle.class_model.specs.Instructions.{u1_in, u2_in}
+use Rattle.class_model.specs.Instructions.{u2_in}
+use Rattle.class_model.specs.Laws.Cuts.{u2_front}
 use Rattle.class_model.specs.PoolChecks.{class_at}
 use Rattle.class_model.specs.Spelling.{u2}
 use Rattle.class_model.specs.declared.frame.VType.{VType}
@@ -14,12 +15,6 @@ use Rattle.class_model.specs.declared.frame.VType.TheVariants.{Top, Int, Float, 
 use Rattle.map_frames.specs.Indices.{AreShort}
 use Rattle.map_frames.specs.Writing.{FitsType, HasType, type_bytes, types_bytes, index_of, or_zero}
 use Rattle.map_frames.specs.declared.writing.NamedIndex.{NamedIndex}
-
-pub u1_front : (byte : ℕ) (rest : List ℕ) → u1_in (byte ∷ rest) 0 ≡ byte
-u1_front byte rest = omega arith
-
-pub u2_front : (n : ℕ) (rest : List ℕ) → n ≤ 65535 → u2_in (u2 n ++ rest) 0 ≡ n
-u2_front n rest h = from_be_bytes-to_be_bytes_2 n (omega arith)
 
 pub u2_second : (byte n : ℕ) (rest : List ℕ) → n ≤ 65535 → u2_in (byte ∷ (u2 n ++ rest)) 1 ≡ n
 u2_second byte n rest h = from_be_bytes-to_be_bytes_2 n (omega arith)
@@ -46,7 +41,7 @@ made_read {bytes = bytes} first make = record {
 }
 
 pub number_read : (n : ℕ) → n ≤ 65535 → Reads table_u2_at (u2 n) n
-number_read n h = record { read = λ at rest. (at + 2, grind (arith, nat_tests, u2_front n rest h)) }
+number_read n h = record { read = λ at rest. (at + 2, grind (arith, nat_tests, u2_front n rest (omega arith))) }
 
 object_read : (s : Setting) (frame index : ℕ) (name : List ℕ) → index ≤ 65535 → class_at s.pool index ≡ Some name → Reads (verification_type_at s frame) (7 ∷ u2 index) (Object name)
 object_read s frame index name fits has = record {

@@ -3,10 +3,10 @@ use Rattle.std.proofs.Common.{◌≡◌, ℕ, ◌+◌, ◌-◌, ◌≤◌, List,
 use Rattle.std.proofs.Math.Seq.{take-append_seam, drop-append-add}
 use Rattle.std.proofs.lemmas.List.{take-append-drop, take_rest, drop-replicate, length-replicate, replicate-append-replicate}
 use Rattle.class_model.specs.Frames.{depth, filled, units_of_entries}
+use Rattle.class_model.specs.Laws.Frames.{units-append}
 use Rattle.class_model.specs.declared.frame.VType.{VType}
 use Rattle.class_model.specs.declared.frame.VType.TheVariants.{Top}
 use Rattle.map_frames.specs.Units.{Follows}
-use Rattle.map_frames.proofs.EntryUnits.{units-append}
 
 -- what is Top behind some units, from behind them on
 behind_gone : (gone : List VType) (n width : ℕ) → length gone ≤ width → drop width (gone ++ replicate n Top) ≡ replicate (n - (width - length gone)) Top

@@ -5,6 +5,7 @@ use Rattle.std.proofs.lemmas.Option.{get_or_from_slice_get, slice_get_within}
 use Rattle.std.specs.List.{slice_get}
 use Rattle.class_model.specs.Checks.{Check, asked_each, AllHold}
 use Rattle.class_tree.specs.Answers.{Answers}
+use Rattle.class_tree.specs.Problems.{Problem}
 use Rattle.class_tree.specs.declared.fault.LinkFault.{LinkFault}
 use Rattle.member_link.specs.Resolving.{Resolved}
 use Rattle.member_link.proofs.LinkSteps.{Remain, all_remain, remain, refused, answered, asked_at}

@@ -8,6 +8,7 @@ use Rattle.class_model.specs.declared.header.Header.{Header}
 use Rattle.class_model.specs.declared.header.Member.{Member}
 use Rattle.class_tree.specs.Answers.{Answers}
 use Rattle.class_tree.specs.Headers.{Headers}
+use Rattle.class_tree.specs.Problems.{Problem}
 use Rattle.class_tree.specs.declared.fault.LinkFault.{LinkFault}
 use Rattle.member_link.specs.Resolving.{Resolved, resolved_scope}
 use Rattle.member_link.specs.Uses.{attr_checks, methods_use_checks}

@@ -7,7 +7,7 @@ use Rattle.class_model.specs.Members.{has, FINAL}
 use Rattle.class_model.specs.declared.header.Header.{Header}
 use Rattle.class_model.specs.declared.header.Member.{Member}
 use Rattle.class_tree.specs.Headers.{Name, Headers, named, IsThere}
-use Rattle.class_tree.specs.Problems.{check}
+use Rattle.class_tree.specs.Problems.{check, Problem}
 use Rattle.class_tree.specs.Steps.{supers}
 use Rattle.class_tree.specs.declared.fault.LinkRule.{LinkRule}
 use Rattle.class_tree.specs.declared.fault.LinkRule.TheVariants as rules

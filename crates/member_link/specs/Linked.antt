@@ -3,6 +3,7 @@
 use Rattle.std.specs.Prelude.{List, ◌++◌}
 use Rattle.class_model.specs.Checks.{Check, AllHold, asked_each}
 use Rattle.class_tree.specs.Headers.{Classes, headers_of}
+use Rattle.class_tree.specs.Problems.{Problem}
 use Rattle.member_link.specs.Declarations.{declaration_checks}
 use Rattle.member_link.specs.Uses.{use_checks}
 

@@ -28,6 +28,7 @@ use Rattle.class_model.specs.declared.instr.Placed.{Placed}
 use Rattle.class_model.specs.declared.pool.Const.{Const}
 use Rattle.class_model.specs.declared.pool.Const.TheVariants.{Class, Fieldref, Methodref, InterfaceMethodref, MethodHandle, MethodType, InvokeDynamic}
 use Rattle.class_tree.specs.Headers.{Name, Headers, IsThere}
+use Rattle.class_tree.specs.Problems.{Problem}
 use Rattle.class_tree.specs.declared.fault.LinkRule.TheVariants as rules
 use Rattle.member_link.specs.Access.{IsClassAccessible, IsAccessible}
 use Rattle.member_link.specs.Declarations.{Site, asked, site_of}

@@ -10,11 +10,12 @@ use Rattle.std.proofs.lemmas.List.{map-append}
 use Rattle.std.proofs.lemmas.List.Sums.{sum_by-append}
 use Rattle.std.proofs.lemmas.Slice.Eq.{bytes_eq-Decides}
 use Rattle.host_tree.specs.Host.{Bytes, Folder, Files, times}
+use Rattle.host_tree.specs.Laws.Names.{times-cons}
 use Rattle.pea_top.specs.declared.folder.NamedFile.{NamedFile}
 use Rattle.pea_top.specs.Effects.{IsCopied, IsPartlyCopied}
 use Rattle.pea_top.specs.Folders.{AreFiles, IsBytesBefore}
 use Rattle.pea_top.specs.Writing.{content_after, Puts, PutsSome}
-use Rattle.pea_top.proofs.NamesInOrder.{times-cons, IsBytesBefore-other, later_not_before, earlier_not_after}
+use Rattle.pea_top.proofs.NamesInOrder.{IsBytesBefore-other, later_not_before, earlier_not_after}
 
 abbrev names_of : List NamedFile → List Bytes
 names_of files = map (λ file. file.name) files

@@ -10,8 +10,9 @@ use Rattle.std.proofs.lemmas.Bool.{false_from_ne_true}
 use Rattle.std.proofs.lemmas.Cmp.{nat_list_cmp_total}
 use Rattle.std.proofs.lemmas.Slice.Eq.{bytes_eq-Decides}
 use Rattle.host_tree.specs.Host.{Bytes, Folder, times}
+use Rattle.host_tree.specs.Laws.Names.{times-cons, times-first}
 use Rattle.pea_top.specs.Folders.{IsBytesBefore, AreNames}
-use Rattle.pea_top.proofs.NamesInOrder.{times-cons, times-first, IsBytesBefore-other, later_not_before}
+use Rattle.pea_top.proofs.NamesInOrder.{IsBytesBefore-other, later_not_before}
 
 -- names of which neither stands before the other are one name
 pub one_name : (name other : Bytes) → ¬ IsBytesBefore name other → ¬ IsBytesBefore other name → name ≡ other

@@ -5,12 +5,12 @@ use Rattle.std.specs.Ordering.{nat_cmp}
 use Rattle.std.specs.Cmp.Lexicographic.{slice_cmp}
 use Rattle.std.proofs.lemmas.Bool.{false≢true}
 use Rattle.std.proofs.lemmas.List.{take_all, length-take, append-nil}
-use Rattle.std.proofs.lemmas.List.Sums.{sum_by-append}
 use Rattle.std.proofs.lemmas.Slice.Eq.{bytes_eq-Decides}
 use Rattle.host_tree.specs.Host.{Bytes, Folder, IsReadOf, times}
+use Rattle.host_tree.specs.Laws.Names.{times-cons, times-first, times-append}
 use Rattle.pea_top.specs.Folders.{IsBytesBefore, AreNames, AreReadAs, no_name, class_file, other_file, names_class_file}
 use Rattle.pea_top.specs.Answer.{Refusal, IsRefused, NoneRefused, IsFirstRefused}
-use Rattle.pea_top.proofs.NamesInOrder.{times-cons, times-first, IsBytesBefore-other, later_not_before}
+use Rattle.pea_top.proofs.NamesInOrder.{IsBytesBefore-other, later_not_before}
 
 -- A read that gives fewer bytes than were asked gives all.
 pub whole_from_read : (file : Option Bytes) (most : ℕ) (bytes : Bytes) → IsReadOf file most bytes → length bytes < most → file ≡ Some bytes
@@ -19,9 +19,6 @@ whole_from_read file most bytes read fewer =
     read.there ∙ ap Some (sym (read.first ∙ take_all most read.whole (omega arith)))
 
 -- ---- how often a name stands in a list
-
-times-append : (name : Bytes) (front back : List Bytes) → times name (front ++ back) ≡ times name front + times name back
-times-append name front back = sum_by-append (λ x. cond (bytes_eq name x) 1 0) front back
 
 -- in a sorted list neither a name nor one after it stands before it
 none_less_after : (front : List Bytes) (name : Bytes) (left : List Bytes) (other : Bytes) → IsSorted (slice_cmp nat_cmp) (front ++ name ∷ left) → 0 < times other (name ∷ left) → ¬ IsBytesBefore other name

@@ -2,10 +2,10 @@
 use Rattle.std.proofs.Common.{◌≡◌, ◌⊎◌, ℕ, ◌<◌, Bool, true, false, List, ◌∷◌, cond, bytes_eq, Some, is_some, IsTrue, inl, inr, refl, ap, ◌∙◌, subst, arith}
 use Rattle.std.proofs.lemmas.Slice.Eq.{bytes_eq-Decides}
 use Rattle.host_tree.specs.Host.{Bytes, Folder, times}
+use Rattle.host_tree.specs.Laws.Names.{times-cons}
 use Rattle.pea_top.specs.Answer.{Refusal, NoneRefused}
 use Rattle.pea_top.specs.Folders.{AreReadAs, no_name, class_file, other_file, HasClassFiles, names_class_file}
 use Rattle.pea_top.proofs.FolderNames.{one_list_of_names}
-use Rattle.pea_top.proofs.NamesInOrder.{times-cons}
 
 -- bytes are read as one value
 pub record IsOneOf {X : Type 0} (Of : Bytes → X → Type 0) : Type 0 where

@@ -8,16 +8,10 @@ use Rattle.std.proofs.lemmas.Bool.{false≢true}
 use Rattle.std.proofs.lemmas.Cmp.{nat_list_cmp_total, tied_itself}
 use Rattle.std.proofs.lemmas.List.{get_or_at, get_or-append-add, get_or_append_left, length-append}
 use Rattle.std.proofs.lemmas.List.Sorted.{ranks_by, sorted_far}
-use Rattle.std.proofs.lemmas.List.Sums.{sum_by-cons}
 use Rattle.std.proofs.lemmas.Slice.Eq.{bytes_eq-Decides}
 use Rattle.host_tree.specs.Host.{Bytes, times}
+use Rattle.host_tree.specs.Laws.Names.{times-cons}
 use Rattle.pea_top.specs.Folders.{IsBytesBefore}
-
-pub times-cons : (name other : Bytes) (names : List Bytes) → times name (other ∷ names) ≡ cond (bytes_eq name other) 1 0 + times name names
-times-cons name other names = sum_by-cons (λ x. cond (bytes_eq name x) 1 0) other names
-
-pub times-first : (name : Bytes) (names : List Bytes) → times name (name ∷ names) ≡ 1 + times name names
-times-first name names = times-cons name name names ∙ ap {B = ℕ} (λ b. cond b 1 0 + times name names) ((bytes_eq-Decides name name).1 refl)
 
 -- by whether it is the first
 found_at : (same : Bool) (name other : Bytes) (names : List Bytes) (d : Bytes) → Decides same (name ≡ other) → 0 < cond same 1 0 + times name names

@@ -1,6 +1,7 @@
 -- The first problem of linking is one, and what is linked has none.
-use Rattle.std.proofs.Common.{◌≡◌, List, [], ◌∷◌, inl, inr, sym, ◌∙◌, subst, arith}
-use Rattle.class_model.specs.Checks.{Check, AllHold, IsFirstFault}
+use Rattle.std.proofs.Common.{◌≡◌, List, sym, subst, arith}
+use Rattle.class_model.specs.Checks.{IsFirstFault}
+use Rattle.class_model.specs.Laws.Checks.{one_fault, all_or_fault}
 use Rattle.class_model.specs.declared.class_file.ClassFile.{ClassFile}
 use Rattle.class_model.specs.declared.header.Header.{Header}
 use Rattle.class_tree.specs.Headers.{Classes, headers_of}
@@ -9,22 +10,10 @@ use Rattle.class_tree.specs.Trees.{IsArranged, IsInOrder, IsTree, IsProblemOf, d
 use Rattle.member_link.specs.Linked.{link_checks, IsLinked}
 use Rattle.pea_top.specs.Linking.{IsLinkProblem, of_hierarchy, of_links}
 
-one_problem_of : (checks : List (Check Problem)) (one other : Problem) → IsFirstFault checks one → IsFirstFault checks other → one ≡ other
-one_problem_of [] one other h i = absurd h
-one_problem_of (c ∷ checks) one other (inl h) (inl i) = h.1 ∙ sym i.1
-one_problem_of (c ∷ checks) one other (inl h) (inr i) = absurd (h.0 i.0)
-one_problem_of (c ∷ checks) one other (inr h) (inl i) = absurd (i.0 h.0)
-one_problem_of (c ∷ checks) one other (inr h) (inr i) = one_problem_of checks one other h.1 i.1
-
-no_problem_of : (checks : List (Check Problem)) (problem : Problem) → AllHold checks → ¬ IsFirstFault checks problem
-no_problem_of [] problem all first = first
-no_problem_of (c ∷ checks) problem all (inl first) = first.0 all.0
-no_problem_of (c ∷ checks) problem all (inr first) = no_problem_of checks problem all.1 first.1
-
 -- a hierarchy has no problem
 no_problem_of_tree : {classes : Classes} {problem : Problem} → IsTree classes → ¬ IsProblemOf classes problem
 no_problem_of_tree tree (duplicate name twice first) = absurd (omega (arith, tree.in_order.once name))
-no_problem_of_tree {classes} tree (step problem in_order first) = no_problem_of _ problem tree.holds first
+no_problem_of_tree {classes} tree (step problem in_order first) = all_or_fault _ problem tree.holds first
 
 -- what class_tree says of a folder and its library
 pub record TreeLaws : Type 0 where
@@ -48,9 +37,9 @@ module _ (laws : TreeLaws) (folder : List ClassFile) (library : List Header) whe
   one_link_problem one other (of_hierarchy h) (of_links classes arranged tree first) = absurd (tree_no_problem classes one arranged tree h)
   one_link_problem one other (of_links classes arranged tree first) (of_hierarchy i) = absurd (tree_no_problem classes other arranged tree i)
   one_link_problem one other (of_links classes arranged tree first) (of_links others other_arranged _ other_first) =
-      one_problem_of (link_checks classes) one other first (links_at classes others other arranged tree other_arranged other_first)
+      one_fault (link_checks classes) one other first (links_at classes others other arranged tree other_arranged other_first)
 
   pub linked_no_problem : (classes : Classes) (problem : Problem) → IsArranged folder library classes → IsTree classes → IsLinked classes → ¬ IsLinkProblem folder library problem
   linked_no_problem classes problem arranged tree linked (of_hierarchy h) = tree_no_problem classes problem arranged tree h
   linked_no_problem classes problem arranged tree linked (of_links others other_arranged _ first) =
-      no_problem_of (link_checks classes) problem linked (links_at classes others problem arranged tree other_arranged first)
+      all_or_fault (link_checks classes) problem linked (links_at classes others problem arranged tree other_arranged first)

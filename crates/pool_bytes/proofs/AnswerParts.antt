@@ -1,16 +1,17 @@
 -- The answer to checks, part by part.
-use Rattle.std.proofs.Common.{◌≡◌, ℕ, zero, suc, ◌+◌, ◌^◌, ◌<◌, ◌≤◌, List, [], ◌∷◌, ◌++◌, length, drop, Option, Some, None, Result, Ok, Err, inl, inr, refl, sym, subst, arith, length-append, add-one}
+use Rattle.std.proofs.Common.{◌≡◌, ℕ, zero, suc, ◌+◌, ◌^◌, ◌<◌, ◌≤◌, List, [], ◌∷◌, ◌++◌, length, drop, Option, Some, None, Result, Ok, Err, refl, sym, subst, arith, length-append, add-one}
 use Rattle.std.proofs.lemmas.List.{drop_all}
 use Rattle.std.specs.List.{flat_map}
 use Rattle.std.specs.Result.{IsErrAnd}
 use Rattle.class_model.specs.Answers.{Answers}
-use Rattle.class_model.specs.Checks.{Check, Fault, AllHold, IsFirstFault}
+use Rattle.class_model.specs.Checks.{Check, Fault, AllHold}
 use Rattle.class_model.specs.ClassOf.{bootstrap_index_checks}
+use Rattle.class_model.specs.Laws.Answers.{goes_on, stops}
+use Rattle.class_model.specs.Laws.Checks.{first_holds, others_hold}
 use Rattle.class_model.specs.Pool.{Constants, constant_at}
 use Rattle.class_model.specs.PoolChecks.{constant_checks, entries_checks}
 use Rattle.class_model.specs.Spelling.{constant_bytes, entry_bytes}
 use Rattle.class_model.specs.declared.fault.ClassFault.{ClassFault}
-use Rattle.class_model.specs.declared.fault.ClassFault.TheVariants.{Malformed, Version, NoMemory}
 use Rattle.class_model.specs.declared.pool.Const.{Const}
 use Rattle.class_model.specs.declared.pool.Const.TheVariants.{Utf8, Integer, Float, Long, Double, Class, String, Fieldref, Methodref, InterfaceMethodref, NameAndType, MethodHandle, MethodType, InvokeDynamic}
 use Rattle.pool_bytes.specs.Dynamics.{constant_bootstrap_checks}
@@ -18,42 +19,6 @@ use Rattle.pool_bytes.specs.Texts.{HasText, HasTexts}
 
 abbrev Answer : Type 0
 Answer = Result (Unit {0}) ClassFault
-
--- ---- checks one after the other
-
-all-append : (front others : List (Check Fault)) → AllHold front → AllHold others → AllHold (front ++ others)
-all-append [] others all rest = rest
-all-append (c ∷ front) others all rest = (all.0, all-append front others all.1 rest)
-
-front_holds : (front others : List (Check Fault)) → AllHold (front ++ others) → AllHold front
-front_holds [] others all = tt
-front_holds (c ∷ front) others all = (all.0, front_holds front others all.1)
-
-rest_holds : (front others : List (Check Fault)) → AllHold (front ++ others) → AllHold others
-rest_holds [] others all = all
-rest_holds (c ∷ front) others all = rest_holds front others all.1
-
-fault-after : (front others : List (Check Fault)) (f : Fault) → AllHold front → IsFirstFault others f → IsFirstFault (front ++ others) f
-fault-after [] others f all first = first
-fault-after (c ∷ front) others f all first = inr (all.0, fault-after front others f all.1 first)
-
-fault-before : (front others : List (Check Fault)) (f : Fault) → IsFirstFault front f → IsFirstFault (front ++ others) f
-fault-before [] others f first = absurd first
-fault-before (c ∷ front) others f (inl here) = inl here
-fault-before (c ∷ front) others f (inr later) = inr (later.0, fault-before front others f later.1)
-
--- where the first hold, the others answer
-others_answer : (front others : List (Check Fault)) (answer : Answer) → AllHold front → Answers others answer → Answers (front ++ others) answer
-others_answer front others (Ok x) all rest = (all-append front others all rest.0, tt)
-others_answer front others (Err (Malformed at rule)) all rest = fault-after front others _ all rest
-others_answer front others (Err NoMemory) all rest = tt
-others_answer front others (Err (Version major minor)) all rest = rest
-
--- where one of the first fails, they answer
-first_answer : (front others : List (Check Fault)) (fault : ClassFault) → Answers {X = Unit {0}} front (Err fault) → Answers {X = Unit {0}} (front ++ others) (Err fault)
-first_answer front others (Malformed at rule) answer = fault-before front others _ answer
-first_answer front others NoMemory answer = tt
-first_answer front others (Version major minor) answer = answer
 
 -- a ? passes on the fault
 pub passed_on : (checks : List (Check Fault)) (answer : Answer) (fault : ClassFault) → IsErrAnd answer (λ e. e ≡ fault) → Answers {X = Unit {0}} checks (Err fault) → Answers checks answer
@@ -100,7 +65,7 @@ module _ {checks : ℕ → Constants → List (Check Fault)} {one : ℕ → Cons
           let now = behind (Some constant) e in
           let others = checks (place + length (constant_bytes constant)) (drop (index + 1) pool) in
           let parts = sym (by.some place constant (drop (index + 1) pool)) in
-          now.answers (Err fault) (subst (λ (c : List (Check Fault)). Answers {X = Unit {0}} c (Err fault)) parts (first_answer (one place constant) others fault answer))
+          now.answers (Err fault) (subst (λ (c : List (Check Fault)). Answers {X = Unit {0}} c (Err fault)) parts (stops (one place constant) others (λ (done : Unit {0}). Unit {0}) (λ (done : Unit {0}). Unit {0}) fault answer))
 
       pub place_fits : place + length (constant_bytes constant) < 2 ^ 64
       place_fits = let now = behind (Some constant) e in omega (arith, now.fits, length-append (constant_bytes constant) (flat_map entry_bytes (drop (index + 1) pool)))
@@ -110,7 +75,7 @@ module _ {checks : ℕ → Constants → List (Check Fault)} {one : ℕ → Cons
           let now = behind (Some constant) e in
           let others = drop (index + 1) pool in
           record {
-            answers = λ answer given. now.answers answer (subst (λ (c : List (Check Fault)). Answers c answer) (sym (by.some place constant others)) (others_answer (one place constant) (checks (place + length (constant_bytes constant)) others) answer all (rw is at given)));
+            answers = λ answer given. now.answers answer (subst (λ (c : List (Check Fault)). Answers c answer) (sym (by.some place constant others)) (goes_on (one place constant) (checks (place + length (constant_bytes constant)) others) (λ (done : Unit {0}). Unit {0}) answer all (rw is at given)));
             fits = omega (arith, now.fits, is, length-append (constant_bytes constant) (flat_map entry_bytes others));
           }
 
@@ -147,4 +112,4 @@ have_texts major at pool (None ∷ entries) all = (tt, have_texts major at pool 
 have_texts major at pool (Some constant ∷ entries) all =
     let front = constant_checks major pool at constant in
     let others = entries_checks major pool (at + length (constant_bytes constant)) entries in
-    (has_text major at pool constant (front_holds front others all), have_texts major (at + length (constant_bytes constant)) pool entries (rest_holds front others all))
+    (has_text major at pool constant (first_holds front others all), have_texts major (at + length (constant_bytes constant)) pool entries (others_hold front others all))

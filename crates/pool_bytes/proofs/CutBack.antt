@@ -12,6 +12,7 @@ use Rattle.std.proofs.lemmas.List.Concat.{flat_map-append}
 use Rattle.std.proofs.lemmas.Nat.{from_be_bytes-to_be_bytes_2, from_be_bytes-to_be_bytes_4, from_be_bytes-to_be_bytes_8}
 use Rattle.class_model.specs.Checks.{Fault, fault, ◌>>=◌}
 use Rattle.class_model.specs.Cutting.{Rest, Cut, bytes_at, number_at, u1_at, u2_at, u4_at, u2_pair_at, is_tag, fields_at, entries_at, pool_at}
+use Rattle.class_model.specs.Laws.Pools.{entry_spelled}
 use Rattle.class_model.specs.Pool.{Constants, entries_of, IsPool}
 use Rattle.class_model.specs.Spelling.{u2, u4, constant_bytes, entry_bytes, pool_bytes}
 use Rattle.class_model.specs.declared.fault.FileRule.TheVariants as rules
@@ -151,11 +152,6 @@ constant_cut (MethodType descriptor) h = made_cut MethodType (u2_cut descriptor 
 constant_cut (InvokeDynamic bootstrap member) h = made_cut (λ n. InvokeDynamic n.0 n.1) (u2_pair_cut bootstrap member h.0 h.1)
 
 -- ---- the entries
-
--- the entries of a constant have its bytes
-entry_spelled : (c : Const) → flat_map entry_bytes (entries_of c) ≡ constant_bytes c
-entry_spelled (Long number) = append-nil (constant_bytes (Long number))
-entry_spelled c = append-nil (constant_bytes c)
 
 pub some_entries : (c : Const) → 1 ≤ length (entries_of c)
 some_entries (Long number) = omega arith

@@ -5,6 +5,7 @@ use Rattle.std.proofs.lemmas.List.{append-nil}
 use Rattle.class_model.specs.Answers.{Takes}
 use Rattle.class_model.specs.Checks.{Fault, fault, ◌>>=◌}
 use Rattle.class_model.specs.Cutting.{Rest, Cut, u1_at, u2_at, fields_at, entries_at, pool_at}
+use Rattle.class_model.specs.Laws.Cuts.{bind_assoc, bind_same}
 use Rattle.class_model.specs.Pool.{Constants, entries_of}
 use Rattle.class_model.specs.declared.fault.ClassFault.{ClassFault}
 use Rattle.class_model.specs.declared.fault.ClassFault.TheVariants.{Malformed, Version, NoMemory}
@@ -14,14 +15,6 @@ use Rattle.pool_bytes.specs.Entries.{may_stand, entry_at}
 use Rattle.pool_bytes.proofs.CutBack.{next, on_true, some_entries}
 
 -- ---- steps
-
-bind_assoc : {A B C : Type 0} (r : Result A Fault) (f : A → Result B Fault) (g : B → Result C Fault) → ((r >>= f) >>= g) ≡ (r >>= λ x. f x >>= g)
-bind_assoc (Ok x) f g = refl
-bind_assoc (Err e) f g = refl
-
-bind_same : {A B : Type 0} (r : Result A Fault) (f g : A → Result B Fault) → ((x : A) → f x ≡ g x) → (r >>= f) ≡ (r >>= g)
-bind_same (Ok x) f g h = h x
-bind_same (Err e) f g h = refl
 
 -- ---- one constant
 

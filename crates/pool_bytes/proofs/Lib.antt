@@ -3,7 +3,6 @@ pub mod CutBack
 pub mod Cuts
 pub mod Entries
 pub mod PoolReads
-pub mod RawPush
 pub mod AnswerParts
 pub mod TextParts
 pub mod Moves

@@ -1,25 +1,17 @@
 -- A pool that is cut, checked and copied.
-use Rattle.std.proofs.Common.{◌≡◌, ℕ, zero, suc, ◌+◌, ◌<◌, ◌^◌, List, [], ◌∷◌, ◌++◌, length, drop, get_or, Ok, sym, ap, ◌∙◌, arith}
+use Rattle.std.proofs.Common.{◌≡◌, ℕ, ◌+◌, ◌<◌, ◌^◌, List, ◌++◌, length, drop, get_or, Ok, sym, ap, ◌∙◌, arith}
 use Rattle.std.specs.List.{flat_map}
 use Rattle.std.proofs.Math.Seq.{drop-append_seam}
 use Rattle.std.proofs.lemmas.List.{drop-drop}
 use Rattle.class_model.specs.Checks.{AllHold}
 use Rattle.class_model.specs.Cutting.{IsBytes, Rest, pool_at}
+use Rattle.class_model.specs.Laws.Cuts.{are_bytes, IsBytes-drop}
 use Rattle.class_model.specs.Pool.{Constants}
 use Rattle.class_model.specs.PoolChecks.{entries_checks}
 use Rattle.class_model.specs.Spelling.{entry_bytes, pool_bytes}
 use Rattle.pool_bytes.specs.Reading.{rest_at, pool_checks, Stands}
 
 -- ---- bytes
-
-pub are_bytes : (bytes : List ℕ) → ((i : ℕ) → get_or bytes i 0 < 256) → IsBytes bytes
-are_bytes [] h = tt
-are_bytes (b ∷ bytes) h = (h 0, are_bytes bytes (λ i. h (suc i)))
-
-IsBytes-drop : (n : ℕ) (bytes : List ℕ) → IsBytes bytes → IsBytes (drop n bytes)
-IsBytes-drop zero bytes h = h
-IsBytes-drop (suc n) [] h = tt
-IsBytes-drop (suc n) (b ∷ bytes) h = IsBytes-drop n bytes h.1
 
 -- ---- a pool that was cut out
 

@@ -1,6 +1,6 @@
 -- What a constant is asked of the bootstrap methods (JVM Specification SE 8, 4.4.10).
 use Rattle.std.specs.Prelude.{◌<◌, ℕ, List, [], ◌∷◌}
-use Rattle.class_model.specs.Checks.{Check, check}
+use Rattle.class_model.specs.Checks.{Check, check, Fault}
 use Rattle.class_model.specs.declared.fault.FileRule.TheVariants as rules
 use Rattle.class_model.specs.declared.pool.Const.{Const}
 use Rattle.class_model.specs.declared.pool.Const.TheVariants.{InvokeDynamic}

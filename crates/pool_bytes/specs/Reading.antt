@@ -1,6 +1,6 @@
 -- A constant pool that stands in bytes (JVM Specification SE 8, 4.4).
 use Rattle.std.specs.Prelude.{◌≡◌, ℕ, ◌+◌, List, drop, Ok}
-use Rattle.class_model.specs.Checks.{Check, asked_of}
+use Rattle.class_model.specs.Checks.{Check, asked_of, Fault}
 use Rattle.class_model.specs.Cutting.{Rest, pool_at}
 use Rattle.class_model.specs.Pool.{Constants}
 use Rattle.class_model.specs.PoolChecks.{entries_checks}

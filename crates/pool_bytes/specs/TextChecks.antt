@@ -1,6 +1,6 @@
 -- What a constant is asked where texts alone are, as in a library's class file (JVM Specification SE 8, 4.4.7).
 use Rattle.std.specs.Prelude.{ℕ, List, [], ◌∷◌}
-use Rattle.class_model.specs.Checks.{Check, check}
+use Rattle.class_model.specs.Checks.{Check, check, Fault}
 use Rattle.class_model.specs.ModifiedUtf8.{IsModifiedUtf8}
 use Rattle.class_model.specs.declared.fault.FileRule.TheVariants as rules
 use Rattle.class_model.specs.declared.pool.Const.{Const}

@@ -1,41 +1,8 @@
 -- The name in the text of a class type is a text.
-use Rattle.std.proofs.Common.{◌≡◌, ℕ, ◌+◌, ◌/◌, ◌%◌, ◌^◌, ◌<◌, ◌≤◌, ◌⊎◌, inl, inr, List, [], ◌∷◌, ◌++◌, length, arith, refl, sym, ap, ◌∙◌, length-append}
-use Rattle.std.proofs.lemmas.Bool.{cases_lt}
-use Rattle.std.proofs.lemmas.Bool.Decides.{nat_tests}
+use Rattle.std.proofs.Common.{◌≡◌, ℕ, ◌+◌, ◌/◌, ◌%◌, ◌^◌, ◌<◌, inl, inr, List, [], ◌∷◌, ◌++◌, length, arith, refl, sym, ap, ◌∙◌, length-append}
 use Rattle.std.specs.List.{flat_map, AllByRecursion}
+use Rattle.class_model.specs.Laws.Texts.{OneByte, TwoBytes, ThreeBytes, unit_forms}
 use Rattle.class_model.specs.ModifiedUtf8.{IsCodeUnit, IsModifiedUtf8, IsText, unit_bytes}
-
--- a code unit's bytes: itself, or two or three that are none of ASCII
-record OneByte (unit : ℕ) : Type 0 where
-  bytes : unit_bytes unit ≡ unit ∷ []
-
-record TwoBytes (unit : ℕ) : Type 0 where
-  bytes : unit_bytes unit ≡ (0xC0 + unit / 0x40) ∷ (0x80 + unit % 0x40) ∷ []
-
-record ThreeBytes (unit : ℕ) : Type 0 where
-  bytes : unit_bytes unit ≡ (0xE0 + unit / 0x1000) ∷ (0x80 + unit / 0x40 % 0x40) ∷ (0x80 + unit % 0x40) ∷ []
-
-one_byte : (unit : ℕ) → 0 < unit → unit < 0x80 → OneByte unit
-one_byte unit low high = record { bytes = grind (arith, nat_tests) }
-
-two_bytes : (unit : ℕ) → (unit ≡ 0) ⊎ (0x80 ≤ unit) → unit < 0x800 → TwoBytes unit
-two_bytes unit low high = record { bytes = grind (arith, nat_tests) }
-
-three_bytes : (unit : ℕ) → 0x800 ≤ unit → ThreeBytes unit
-three_bytes unit low = record { bytes = grind (arith, nat_tests) }
-
-forms : (unit : ℕ) → OneByte unit ⊎ (TwoBytes unit ⊎ ThreeBytes unit)
-forms unit =
-    elim (cases_lt 0 unit) [
-      | inr zero ↦ inr (inl (two_bytes unit (inl (omega arith)) (omega arith)))
-      | inl some ↦ elim (cases_lt unit 0x80) [
-        | inl low ↦ inl (one_byte unit some low)
-        | inr more ↦ elim (cases_lt unit 0x800) [
-          | inl middle ↦ inr (inl (two_bytes unit (inr more) middle))
-          | inr high ↦ inr (inr (three_bytes unit high))
-        ]
-      ]
-    ]
 
 none : IsModifiedUtf8 []
 none = record { units = []; each = tt; spelled = refl }
@@ -44,7 +11,7 @@ none = record { units = []; each = tt; spelled = refl }
 behind_first : (units rest : List ℕ) → AllByRecursion IsCodeUnit units → 76 ∷ rest ≡ flat_map unit_bytes units → IsModifiedUtf8 rest
 behind_first [] rest each e = absurd cc
 behind_first (unit ∷ units) rest each e =
-    elim (forms unit) [
+    elim (unit_forms unit) [
       | inl one ↦ let h : 76 ∷ rest ≡ unit ∷ flat_map unit_bytes units = rw one.bytes at e in record { units = units; each = each.1; spelled = cc }
       | inr (inl two) ↦ let h : 76 ≡ 0xC0 + unit / 0x40 = cc (rw two.bytes at e) in absurd (omega arith)
       | inr (inr three) ↦ let h : 76 ≡ 0xE0 + unit / 0x1000 = cc (rw three.bytes at e) in absurd (omega arith)
@@ -91,7 +58,7 @@ before_last : (units : List ℕ) → AllByRecursion IsCodeUnit units → (bytes 
 before_last [] each bytes e = absurd (omega (arith, ap length e, length-append bytes (59 ∷ [])))
 before_last (unit ∷ units) each bytes e =
     let shorter : (others : List ℕ) → others ++ 59 ∷ [] ≡ flat_map unit_bytes units → IsModifiedUtf8 others = before_last units each.1 in
-    elim (forms unit) [
+    elim (unit_forms unit) [
       | inl one ↦ before_one unit each.0 (flat_map unit_bytes units) shorter one bytes e
       | inr (inl two) ↦ before_two unit each.0 (flat_map unit_bytes units) shorter two bytes e
       | inr (inr three) ↦ before_three unit each.0 (flat_map unit_bytes units) shorter three bytes e

@@ -1,11 +1,8 @@
 -- The units that stack entries take.
-use Rattle.std.proofs.Common.{◌≡◌, ℕ, ◌+◌, ◌<◌, ◌≤◌, zero, suc, List, [], ◌∷◌, ◌++◌, length, take, get_or, ap, ◌∙◌, arith, length-append}
-use Rattle.std.proofs.lemmas.Grind.{flat_map-append}
-use Rattle.class_model.specs.Frames.{units, depth, units_of_entries}
+use Rattle.std.proofs.Common.{◌≡◌, ℕ, ◌+◌, ◌<◌, ◌≤◌, zero, suc, List, [], ◌∷◌, length, take, get_or, ap, arith}
+use Rattle.class_model.specs.Frames.{depth}
+use Rattle.class_model.specs.Laws.Frames.{depth-append}
 use Rattle.class_model.specs.declared.frame.VType.{VType}
-
-pub depth-append : (xs ys : List VType) → depth (xs ++ ys) ≡ depth xs + depth ys
-depth-append xs ys = ap length (flat_map-append units xs ys) ∙ length-append (units_of_entries xs) (units_of_entries ys)
 
 -- some entries and the next take no more than all
 pub depth_so_far : (xs : List VType) (i : ℕ) (t : VType) → i < length xs → t ≡ get_or xs i t → depth (take i xs) + depth (t ∷ []) ≤ depth xs

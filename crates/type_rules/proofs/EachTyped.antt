@@ -1,4 +1,5 @@
 -- What a typed folder says of each method, and a typed method of each instruction.
+use Rattle.std.proofs.lemmas.Option.{same_Some}
 use Rattle.std.proofs.Common.{◌≡◌, ℕ, zero, suc, List, [], ◌∷◌, length, slice_get, Option, Some, None, refl, sym, ap, subst, ◌∙◌}
 use Rattle.std.specs.Prelude.{option_and_then}
 use Rattle.class_model.specs.declared.class_file.ClassFile.{ClassFile}
@@ -74,16 +75,13 @@ record HasFrame (s : Scope) (flows : Option Frame) (placed : Placed) (frames : L
   frame_is : slice_get frames number ≡ Some frame
   types : IsTypedAt s flows placed frame
 
-same_some : {X : Type 0} (x y : X) → Some x ≡ Some y → x ≡ y
-same_some x y e = cc
-
 has_frame : (s : Scope) (flows : Option Frame) (instrs : List Placed) (frames : List Frame) (into : ℕ → Option Frame) → FlowsInto s flows instrs frames into → AreTyped s flows instrs frames → (number : ℕ) (placed : Placed) → slice_get instrs number ≡ Some placed → HasFrame s (into number) placed frames number
 has_frame s flows [] frames into is are number placed stands = absurd cc
 has_frame s flows (first ∷ instrs) [] into is are number placed stands = absurd are
 has_frame s flows (first ∷ instrs) (frame ∷ frames) into is are zero placed stands = record {
   frame = frame;
   frame_is = refl;
-  types = subst (λ (p : Placed). IsTypedAt s (into 0) p frame) (same_some first placed stands) (subst (λ (o : Option Frame). IsTypedAt s o first frame) (sym is.first) are.0);
+  types = subst (λ (p : Placed). IsTypedAt s (into 0) p frame) (same_Some first placed stands) (subst (λ (o : Option Frame). IsTypedAt s o first frame) (sym is.first) are.0);
 }
 has_frame s flows (first ∷ instrs) (frame ∷ frames) into is are (suc number) placed stands =
     let later = has_frame s (flows_on s first frame) instrs frames (λ number. into (suc number)) (from_next s flows first instrs frame frames into is) are.1 number placed stands in

@@ -1,19 +1,16 @@
 -- The constants that the instructions of a method name are of the kinds that they may name.
-use Rattle.std.proofs.Common.{◌≡◌, inl, inr, ℕ, List, [], ◌∷◌, Result, Ok, Some, subst}
+use Rattle.std.proofs.Common.{◌≡◌, inl, inr, ℕ, List, [], ◌∷◌, Result, Ok, subst}
 use Rattle.std.specs.List.{AllByRecursion}
 use Rattle.class_model.specs.Checks.{Fault}
 use Rattle.class_model.specs.Code.{IsCalled, OperandFits}
-use Rattle.class_model.specs.Instructions.{decoded}
 use Rattle.class_model.specs.Pool.{Constants}
-use Rattle.class_model.specs.declared.class_file.Attr.{Attr}
 use Rattle.class_model.specs.declared.class_file.Attr.TheVariants as attrs
-use Rattle.class_model.specs.declared.class_file.CodePart.{CodePart}
 use Rattle.class_model.specs.declared.instr.Instr.{Instr}
 use Rattle.class_model.specs.declared.instr.Instr.TheVariants.{Nop, Const, Ldc, Ldc2, Load, Store, Iinc, ArrayLoad, ArrayStore, Shuffle, Pure, Divide, FloatAsk, If, If2, IfSame, IfNull, Goto, Table, Lookup, Return, GetStatic, PutStatic, GetField, PutField, Invoke, Dynamic, New, NewArray, NewRefArray, NewMulti, Length, Throw, Cast, InstanceOf, Enter, Leave}
 use Rattle.class_model.specs.declared.instr.Placed.{Placed}
-use Rattle.code_bytes.specs.Codes.{HasOperands, HaveOperands}
+use Rattle.code_bytes.specs.Codes.{HaveOperands}
 use Rattle.type_rules.specs.Rule.{FitsPool, NamesMethod}
-use Rattle.type_rules.specs.Scope.{Scope, code_of}
+use Rattle.type_rules.specs.Scope.{Scope}
 
 -- the count of an invokeinterface is asked apart from the kind
 names_method : (pool : Constants) (major opcode method count : ℕ) → IsCalled pool major opcode method count → NamesMethod pool major opcode method
@@ -64,15 +61,6 @@ fits_pool s max_locals Leave h = h
 all_fit : (s : Scope) (max_locals : ℕ) (instrs : List Placed) → AllByRecursion (λ placed. OperandFits s.class.pool s.class.major max_locals placed.instr) instrs → AllByRecursion (λ placed. FitsPool s placed.instr) instrs
 all_fit s max_locals [] h = tt
 all_fit s max_locals (placed ∷ instrs) h = (fits_pool s max_locals placed.instr h.0, all_fit s max_locals instrs h.1)
-
-same_some : {X : Type 0} (x y : X) → Some x ≡ Some y → x ≡ y
-same_some x y e = cc
-
--- those of the first code among attributes
-pub code_has_operands : (pool : Constants) (major : ℕ) (attrs : List Attr) (part : CodePart) → AllByRecursion (HasOperands pool major) attrs → code_of attrs ≡ Some part → HaveOperands pool major part.max_locals (decoded part.code)
-code_has_operands pool major [] part all e = absurd cc
-code_has_operands pool major (attrs.Code name own ∷ others) part all e = subst (λ (p : CodePart). HaveOperands pool major p.max_locals (decoded p.code)) (same_some own part e) all.0
-code_has_operands pool major (attrs.Raw name bytes ∷ others) part all e = code_has_operands pool major others part all.1 e
 
 pub instrs_fit : (s : Scope) (max_locals : ℕ) (read : Result (List Placed) Fault) (instrs : List Placed) → HaveOperands s.class.pool s.class.major max_locals read → read ≡ Ok instrs → AllByRecursion (λ placed. FitsPool s placed.instr) instrs
 instrs_fit s max_locals read instrs have e = all_fit s max_locals instrs (subst (HaveOperands s.class.pool s.class.major max_locals) e have)

@@ -11,7 +11,6 @@ pub mod NewClassLaws
 pub mod OffsetTables
 pub mod InitRows
 pub mod BecomingLocals
-pub mod ReferenceComponents
 pub mod NameAssignability
 pub mod TypeAssignability
 pub mod Pairwise

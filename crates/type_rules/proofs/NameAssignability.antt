@@ -1,33 +1,21 @@
 -- Assignability of arrays and of classes in a hierarchy.
-use Rattle.std.proofs.Common.{◌≡◌, ◌⊎◌, ◌↔◌, Some, refl, subst, inl, inr}
-use Rattle.class_model.specs.declared.header.Header.{Header}
-use Rattle.class_tree.specs.Headers.{Name, Headers, class_named}
+use Rattle.std.proofs.Common.{◌≡◌, ◌⊎◌, ◌↔◌, refl, subst, inl, inr}
+use Rattle.class_tree.specs.Headers.{Name, Headers}
 use Rattle.class_tree.specs.Hierarchy.{IsHierarchy}
-use Rattle.class_tree.specs.Subtype.{AreComponents, none_taken, both_taken, IsDirectlyBelow, superclass, interface, IsBelow, directly, onwards, IsArray, IsReferenceComponent, IsAboveArrays}
+use Rattle.class_tree.specs.Laws.Arrays.{is_array_of, same_component, not_above_arrays, not_below}
+use Rattle.class_tree.specs.Subtype.{AreComponents, none_taken, both_taken, IsBelow, IsArray, IsReferenceComponent, IsAboveArrays}
 use Rattle.member_link.specs.Assignability.{IsNameAssignable, to_itself, to_interface, to_class_above, from_array, of_components}
 use Rattle.member_link.specs.Forms.{IsInterfaceNamed}
-use Rattle.type_rules.proofs.ReferenceComponents.{is_array_of, same_component, not_above_arrays}
 
 -- two that do not both have a component
 abbrev pub AreInnermost : Name → Name → Type 0
 AreInnermost low high = (low_component high_component : Name) → IsReferenceComponent low low_component → ¬ IsReferenceComponent high high_component
 
 module _ (headers : Headers) (hierarchy : IsHierarchy headers) where
-  no_class : {name : Name} {header : Header} → IsArray name → class_named headers name ≡ Some header → ⊥
-  no_class {name} {header} is there = let absent = hierarchy.no_array name is in cc
-
-  not_directly : {low high : Name} → IsArray low → ¬ IsDirectlyBelow headers low high
-  not_directly is (superclass low high header there some) = no_class is there
-  not_directly is (interface low high header there among) = no_class is there
-
-  not_below : {low high : Name} → IsArray low → ¬ IsBelow headers low high
-  not_below is (directly low high step) = not_directly is step
-  not_below is (onwards low middle high step rest) = not_directly is step
-
   of_arrays : {low high : Name} → IsNameAssignable headers low high → (one other : Name) → IsReferenceComponent low one → IsReferenceComponent high other → IsNameAssignable headers one other
   of_arrays (to_itself name) one other is also = subst (IsNameAssignable headers one) (same_component is also) (to_itself one)
   of_arrays (to_interface low high header flat there kind) one other is also = absurd (flat (is_array_of is))
-  of_arrays (to_class_above low high up) one other is also = absurd (not_below (is_array_of is) up)
+  of_arrays (to_class_above low high up) one other is also = absurd (not_below headers hierarchy.no_array (is_array_of is) up)
   of_arrays (from_array low high deep above) one other is also = absurd (not_above_arrays (is_array_of also) above)
   of_arrays (of_components low high a b low_is high_is inner) one other is also =
       subst (λ name. IsNameAssignable headers name other) (same_component low_is is) (subst (IsNameAssignable headers a) (same_component high_is also) inner)
@@ -46,7 +34,7 @@ module _ (headers : Headers) (hierarchy : IsHierarchy headers) where
   of_array : {low high : Name} → IsNameAssignable headers low high → IsArray low → AreInnermost low high → (low ≡ high) ⊎ IsAboveArrays high
   of_array (to_itself name) is last = inl refl
   of_array (to_interface low high header flat there kind) is last = absurd (flat is)
-  of_array (to_class_above low high up) is last = absurd (not_below is up)
+  of_array (to_class_above low high up) is last = absurd (not_below headers hierarchy.no_array is up)
   of_array (from_array low high deep above) is last = inr above
   of_array (of_components low high one other low_is high_is inner) is last = absurd (last one other low_is high_is)
 

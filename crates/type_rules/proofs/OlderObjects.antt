@@ -1,8 +1,7 @@
 -- Objects that an earlier run of a new left uninitialised.
-use Rattle.std.proofs.Common.{◌≡◌, ◌≢◌, ◌==◌, ℕ, Bool, true, false, ◌+◌, ◌<◌, List, length, get_or, slice_get, slice_set, Some, if◌then◌else◌, refl, ap, sym, ◌∙◌, inl, inr}
+use Rattle.std.proofs.Common.{◌≡◌, ◌≢◌, ◌==◌, ℕ, Bool, true, ◌+◌, ◌<◌, List, length, get_or, slice_get, slice_set, Some, if◌then◌else◌, refl, ap, sym, ◌∙◌}
 use Rattle.std.proofs.Math.Numerals.{add-one}
-use Rattle.std.proofs.lemmas.Bool.{eq-eqb}
-use Rattle.std.proofs.lemmas.Bool.Decides.{eqb_tells}
+use Rattle.std.proofs.lemmas.Bool.{eq-eqb, ne_eqb}
 use Rattle.std.proofs.lemmas.Option.{slice_get-get_or}
 use Rattle.class_model.specs.declared.frame.VType.{VType}
 use Rattle.class_model.specs.declared.frame.VType.TheVariants.{Top, Int, Float, Long, Double, Null, UninitThis, Object, Uninit}
@@ -11,9 +10,6 @@ use Rattle.type_rules.specs.Table.{without_older}
 
 same_number : (n : ℕ) → (n == n) ≡ true
 same_number n = eq-eqb n n refl
-
-other_number : (n m : ℕ) → n ≢ m → (n == m) ≡ false
-other_number n m differ = elim (eqb_tells n m) [ inl same ↦ absurd (differ same.1) | inr other ↦ other.0 ]
 
 older : (at : ℕ) → without_older at (Uninit at) ≡ Top
 older at = ap (λ (b : Bool). if b then Top else Uninit at) (same_number at)
@@ -28,7 +24,7 @@ other at Null differs = refl
 other at UninitThis differs = refl
 other at (Object name) differs = refl
 other at (Uninit made) differs =
-    ap (λ (b : Bool). if b then Top else Uninit made) (other_number made at (λ (same : made ≡ at). differs (ap Uninit same)))
+    ap (λ (b : Bool). if b then Top else Uninit made) (ne_eqb made at (λ (same : made ≡ at). differs (ap Uninit same)))
 
 -- the next local is an older object
 pub next_older : (at : ℕ) (locals after : List VType) (i : ℕ) → slice_get locals i ≡ Some (Uninit at) → after ≡ mapped_to (without_older at) i locals → slice_set after i Top ≡ mapped_to (without_older at) (i + 1) locals

@@ -1,13 +1,11 @@
 -- What the checks of a class file say of the descriptors that its constants name.
-use Rattle.std.proofs.Common.{◌≡◌, ◌+◌, ◌*◌, IsTrue, ℕ, zero, suc, List, [], ◌∷◌, ◌++◌, length, Option, Some, None, IfSome, option_and_then, option_map, refl, sym, ap, subst}
-use Rattle.std.specs.List.{flat_map}
-use Rattle.class_model.specs.Checks.{Check, check, AllHold}
-use Rattle.class_model.specs.ClassOf.{class_file_checks, fields_checks, methods_checks, bootstrap_index_checks}
-use Rattle.class_model.specs.Members.{fits_class, class_name_checks, super_checks, interfaces_checks, attrs_checks}
-use Rattle.class_model.specs.Methods.{Home, class_attr_checks, bootstrap_count}
+use Rattle.std.proofs.Common.{◌≡◌, ◌+◌, ℕ, zero, suc, List, [], ◌∷◌, length, Option, Some, None, IfSome, option_and_then, option_map, refl, sym, ap, subst}
+use Rattle.class_model.specs.Checks.{AllHold}
+use Rattle.class_model.specs.Laws.Checks.{first_holds, others_hold}
+use Rattle.class_model.specs.Laws.ClassFiles.{parts_hold}
 use Rattle.class_model.specs.Pool.{Constants, constant_at}
 use Rattle.class_model.specs.PoolChecks.{IsMethodDescriptor, class_at, constant_checks, descriptor_at, entries_checks, methodref_checks, name_and_type_of, name_at, utf8_at}
-use Rattle.class_model.specs.Spelling.{constant_bytes, entry_bytes, field_bytes, method_bytes}
+use Rattle.class_model.specs.Spelling.{constant_bytes}
 use Rattle.class_model.specs.declared.class_file.ClassFile.{ClassFile}
 use Rattle.class_model.specs.declared.pool.Const.{Const}
 use Rattle.class_model.specs.declared.pool.Const.TheVariants as consts
@@ -16,14 +14,6 @@ use Rattle.class_tree.specs.Headers.{IsClassFile}
 use Rattle.member_link.specs.References.{Reference, reference_at}
 use Rattle.type_rules.specs.MemberRows.{reference_of}
 use Rattle.type_rules.specs.Signatures.{IsCallable, IsMemberDescriptor}
-
-front : (a b : List (Check Fault)) → AllHold (a ++ b) → AllHold a
-front [] b h = tt
-front (c ∷ a) b h = (h.0, front a b h.1)
-
-back : (a b : List (Check Fault)) → AllHold (a ++ b) → AllHold b
-back [] b h = h
-back (c ∷ a) b h = back a b h.1
 
 -- ---- each constant is asked
 
@@ -36,38 +26,16 @@ asked major pool at (None ∷ entries) zero constant hold e = absurd cc
 asked major pool at (None ∷ entries) (suc index) constant hold e = asked major pool at entries index constant hold e
 asked major pool at (Some own ∷ entries) zero constant hold e =
     let same : own ≡ constant = cc in
-    (at, subst (λ (c : Const). AllHold (constant_checks major pool at c)) same (front (constant_checks major pool at own) (entries_checks major pool (at + length (constant_bytes own)) entries) hold))
+    (at, subst (λ (c : Const). AllHold (constant_checks major pool at c)) same (first_holds (constant_checks major pool at own) (entries_checks major pool (at + length (constant_bytes own)) entries) hold))
 asked major pool at (Some own ∷ entries) (suc index) constant hold e =
-    asked major pool (at + length (constant_bytes own)) entries index constant (back (constant_checks major pool at own) (entries_checks major pool (at + length (constant_bytes own)) entries) hold) e
-
--- the pool of a class file is asked first
-first_of_nine : (a b c d e f g h i : List (Check Fault)) → AllHold (a ++ b ++ c ++ d ++ e ++ f ++ g ++ h ++ i) → AllHold a
-first_of_nine a b c d e f g h i all =
-    let abcdefgh = front (a ++ b ++ c ++ d ++ e ++ f ++ g ++ h) i all in
-    let abcdefg = front (a ++ b ++ c ++ d ++ e ++ f ++ g) h abcdefgh in
-    let abcdef = front (a ++ b ++ c ++ d ++ e ++ f) g abcdefg in
-    let abcde = front (a ++ b ++ c ++ d ++ e) f abcdef in
-    let abcd = front (a ++ b ++ c ++ d) e abcde in
-    front a b (front (a ++ b) c (front (a ++ b ++ c) d abcd))
-
-pool_holds : (c : ClassFile) → AllHold (class_file_checks c) → AllHold (entries_checks c.major c.pool 10 c.pool)
-pool_holds c hold =
-    let pool = c.pool in
-    let flags = 10 + length (flat_map entry_bytes pool) in
-    let fields = flags + 8 + 2 * length c.interfaces in
-    let methods = fields + 2 + length (flat_map field_bytes c.fields) in
-    let attrs = methods + 2 + length (flat_map method_bytes c.methods) in
-    let home : Home = record { pool = pool; major = c.major; flags = c.flags; name = class_at pool c.this_class } in
-    first_of_nine (entries_checks c.major pool 10 pool) (check flags rules.Flags (IsTrue (fits_class c.flags)) ∷ []) (class_name_checks pool (flags + 2) c.this_class) (super_checks pool (flags + 4) c.super_class)
-    (interfaces_checks pool (flags + 8) c.interfaces) (fields_checks pool c.flags [] (fields + 2) c.fields) (methods_checks home [] (methods + 2) c.methods) (attrs_checks (class_attr_checks pool) [] (attrs + 2) c.attrs)
-    (bootstrap_index_checks (bootstrap_count pool c.attrs) 10 pool) hold
+    asked major pool (at + length (constant_bytes own)) entries index constant (others_hold (constant_checks major pool at own) (entries_checks major pool (at + length (constant_bytes own)) entries) hold) e
 
 constant_asked : (class : ClassFile) (index : ℕ) (constant : Const) → IsClassFile class → constant_at class.pool index ≡ Some constant → (major : ℕ) × IsAsked major class.pool constant
 constant_asked class index constant is e =
     let pool : Constants = is.cut.pool in
     let same : class.pool ≡ pool = ap (λ (c : ClassFile). c.pool) is.is in
     let there : constant_at pool index ≡ Some constant = subst (λ (p : Constants). constant_at p index ≡ Some constant) same e in
-    (is.cut.major, subst (λ (p : Constants). IsAsked is.cut.major p constant) (sym same) (asked is.cut.major pool 10 pool index constant (pool_holds is.cut is.holds) there))
+    (is.cut.major, subst (λ (p : Constants). IsAsked is.cut.major p constant) (sym same) (asked is.cut.major pool 10 pool index constant (parts_hold is.cut is.holds).pool there))
 
 -- ---- descriptors
 

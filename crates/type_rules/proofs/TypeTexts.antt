@@ -1,11 +1,10 @@
 -- What the texts of types spell, and what is read of them.
-use Rattle.std.proofs.Common.{◌≡◌, ◌≢◌, ◌+◌, ◌-◌, ◌≤◌, ℕ, zero, suc, Bool, false, List, [], ◌∷◌, ◌++◌, length, take, drop, replicate, inl, inr, Option, Some, None, IfSome, if◌then◌else◌, bytes_eq, codes, refl, sym, ap, subst, ◌∙◌, arith, append_assoc, length-append}
-use Rattle.std.proofs.lemmas.Bool.Decides.{nat_tests}
+use Rattle.std.proofs.Common.{◌≡◌, ◌≢◌, ◌+◌, ◌-◌, ℕ, Bool, false, List, [], ◌∷◌, ◌++◌, length, take, drop, inl, inr, Option, Some, None, IfSome, if◌then◌else◌, bytes_eq, codes, refl, sym, ap, subst, ◌∙◌, arith, append_assoc, length-append}
 use Rattle.std.proofs.lemmas.List.{drop_at, take_at}
-use Rattle.std.specs.List.{AllByRecursion, flat_map, join_with_byte}
-use Rattle.class_model.specs.Descriptors.{named_text, descriptor_text, field_type_text, IsArrayType, IsFieldType, IsReferenceName, SpellsDescriptor, parameters_of, result_text, type_of}
+use Rattle.std.specs.List.{flat_map}
+use Rattle.class_model.specs.Descriptors.{named_text, descriptor_text, field_type_text, IsFieldType, IsReferenceName, SpellsDescriptor, parameters_of, result_text, type_of}
 use Rattle.class_model.specs.ModifiedUtf8.{IsText}
-use Rattle.class_model.specs.Names.{IsUnqualifiedName, IsClassName}
+use Rattle.class_model.specs.Laws.Descriptors.{class_text, array_head, array_text, named}
 use Rattle.class_model.specs.PoolChecks.{IsTypeName}
 use Rattle.class_model.specs.declared.descriptor.FieldType.{FieldType}
 use Rattle.class_model.specs.declared.descriptor.FieldType.TheVariants.{Byte, Char, Short, Bool as Boolean, Int, Long, Float, Double, Named}
@@ -13,39 +12,6 @@ use Rattle.class_model.specs.declared.descriptor.Descriptor.{Descriptor}
 use Rattle.type_rules.specs.MemberRows.{result_of}
 use Rattle.type_rules.specs.Signatures.{IsMemberDescriptor}
 use Rattle.type_rules.proofs.ClassTexts.{name_is_text}
-
--- ---- what names begin with
-
-record Head (name : List ℕ) : Type 0 where
-  first : ℕ
-  more : List ℕ
-  is : name ≡ first ∷ more
-  no_bracket : first ≢ 91
-
-head_of : (parts : List (List ℕ)) → parts ≢ [] → AllByRecursion IsUnqualifiedName parts → Head (join_with_byte 47 parts)
-head_of [] some each = absurd (some refl)
-head_of ([] ∷ parts) some each = absurd (each.0.some refl)
-head_of ((first ∷ front) ∷ []) some each = record { first = first; more = front; is = refl; no_bracket = each.0.bytes.0.no_bracket }
-head_of ((first ∷ front) ∷ next ∷ parts) some each = record { first = first; more = front ++ 47 ∷ join_with_byte 47 (next ∷ parts); is = refl; no_bracket = each.0.bytes.0.no_bracket }
-
-name_head : (name : List ℕ) → IsClassName name → Head name
-name_head name is_name = subst Head (sym is_name.joined) (head_of is_name.parts is_name.some is_name.unqualified)
-
-no_bracket_text : (first : ℕ) (more : List ℕ) → first ≢ 91 → named_text (first ∷ more) ≡ 76 ∷ (first ∷ more ++ 59 ∷ [])
-no_bracket_text first more other = grind (arith, nat_tests)
-
-class_text : (name : List ℕ) → IsClassName name → named_text name ≡ 76 ∷ (name ++ 59 ∷ [])
-class_text name is_name = let head = name_head name is_name in rw head.is (no_bracket_text head.first head.more head.no_bracket)
-
-some_brackets : (count : ℕ) (rest : List ℕ) → 1 ≤ count → (more : List ℕ) × (replicate count 91 ++ rest ≡ 91 ∷ more)
-some_brackets zero rest some = absurd (omega arith)
-some_brackets (suc count) rest some = (replicate count 91 ++ rest, refl)
-
-array_head : (text : List ℕ) → IsArrayType text → (more : List ℕ) × (text ≡ 91 ∷ more)
-array_head text is_array = let h = some_brackets is_array.dimensions (field_type_text is_array.element) is_array.some in (h.0, is_array.spelled ∙ h.1)
-
-array_text : (text more : List ℕ) → text ≡ 91 ∷ more → named_text text ≡ 91 ∷ more
-array_text text more e = rw e refl
 
 -- ---- the type of a text
 
@@ -97,7 +63,7 @@ class_is_text rest (Named name) (inl class) e text =
     subst NameIsText (sym same) (subst IsText (sym (front_of name)) (name_is_text name whole))
 class_is_text rest (Named name) (inr array) e text =
     let head = array_head name array in
-    absurd (no_such (76 ∷ rest) (91 ∷ head.0) (λ h. omega arith) (e ∙ array_text name head.0 head.1))
+    absurd (no_such (76 ∷ rest) (91 ∷ head.0) (λ h. omega arith) (e ∙ array_text name array ∙ head.1))
 
 class_of_member : (rest : List ℕ) → IsMemberDescriptor (76 ∷ rest) → IsText (76 ∷ rest) → NameIsText rest
 class_of_member rest (inl field) text = class_is_text rest field.type field.named field.spelled text
@@ -119,17 +85,6 @@ behind_parameters params result =
 abbrev read_result : List ℕ → Option FieldType
 read_result text = if bytes_eq text (codes "V") then None else Some (type_of text)
 
-type_name : (type : FieldType) → IsFieldType type → IsTypeName type
-type_name Byte h = tt
-type_name Char h = tt
-type_name Short h = tt
-type_name Boolean h = tt
-type_name Int h = tt
-type_name Long h = tt
-type_name Float h = tt
-type_name Double h = tt
-type_name (Named name) h = h.1
-
 no_void : (type : FieldType) → IsTypeName type → bytes_eq (field_type_text type) (codes "V") ≡ false
 no_void Byte named = refl
 no_void Char named = refl
@@ -140,13 +95,13 @@ no_void Long named = refl
 no_void Float named = refl
 no_void Double named = refl
 no_void (Named name) (inl class) = ap (λ (t : List ℕ). bytes_eq t (codes "V")) (class_text name class)
-no_void (Named name) (inr array) = let head = array_head name array in ap (λ (t : List ℕ). bytes_eq t (codes "V")) (array_text name head.0 head.1)
+no_void (Named name) (inr array) = let head = array_head name array in ap (λ (t : List ℕ). bytes_eq t (codes "V")) (array_text name array ∙ head.1)
 
 result_read : (result : Option FieldType) → IfSome result IsFieldType → read_result (result_text result) ≡ result
 result_read None h = refl
 result_read (Some type) h =
-    let named = type_name type h in
-    ap (λ (void : Bool). if void then None else Some (type_of (field_type_text type))) (no_void type named) ∙ ap Some (type_of_spelled type named)
+    let is = named type h in
+    ap (λ (void : Bool). if void then None else Some (type_of (field_type_text type))) (no_void type is) ∙ ap Some (type_of_spelled type is)
 
 pub result_spelled : (text : List ℕ) (d : Descriptor) → parameters_of text ≡ d.params → SpellsDescriptor text d → result_of text ≡ d.result
 result_spelled text d params spells =

@@ -2,6 +2,7 @@
 use Rattle.std.proofs.Common.{◌≡◌, ◌+◌, ◌≤◌, inl, inr, ℕ, List, [], ◌∷◌, ◌++◌, length, drop, slice_get, Err, Option, Some, sym, subst, append_assoc}
 use Rattle.std.proofs.lemmas.List.{append-nil, drop_all}
 use Rattle.class_model.specs.Header.{header_of}
+use Rattle.class_model.specs.Laws.Lists.{drop_at}
 use Rattle.class_model.specs.declared.class_file.ClassFile.{ClassFile}
 use Rattle.class_model.specs.declared.frame.Frame.{Frame}
 use Rattle.class_tree.specs.Headers.{Classes, Headers, headers_of}
@@ -10,7 +11,6 @@ use Rattle.type_rules.specs.declared.fault.VerifyFault.{VerifyFault}
 use Rattle.type_rules.specs.declared.fault.VerifyFault.TheVariants as faults
 use Rattle.type_rules.specs.Verified.{AreTypedMethods, AreTypedClasses}
 use Rattle.verify_folder.specs.Verifying.{Failure, ClassesFail, ClassVerifies, FolderIsTyped, FolderVerifies, MethodsFail}
-use Rattle.verify_folder.proofs.MethodWalk.{drop_at}
 
 pub record SoFar (headers : Headers) (folder : List ClassFile) (place : ℕ) (typed : FolderFrames) : Type 0 where
   pub typed_rest : (rest : FolderFrames) → AreTypedClasses headers (drop place folder) rest → AreTypedClasses headers folder (typed ++ rest)

@@ -1,5 +1,4 @@
 pub mod OneFailure
-pub mod ChecksLeft
 pub mod CaughtClasses
 pub mod StatedFrames
 pub mod Stepping

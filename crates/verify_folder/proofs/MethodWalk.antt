@@ -1,9 +1,10 @@
 -- The methods of a class, verified one after another.
-use Rattle.std.proofs.Common.{◌≡◌, ◌+◌, ◌<◌, ◌≤◌, inl, inr, ℕ, zero, suc, List, [], ◌∷◌, ◌++◌, length, drop, get_or, slice_get, true, false, Result, Err, Option, Some, None, option_map, option_and_then, refl, sym, ap, subst, ◌∙◌, append_assoc, add-one}
+use Rattle.std.proofs.Common.{◌≡◌, ◌+◌, ◌<◌, ◌≤◌, inl, inr, ℕ, List, [], ◌∷◌, ◌++◌, length, drop, get_or, slice_get, true, false, Result, Err, Option, Some, None, option_map, option_and_then, refl, sym, ap, subst, ◌∙◌, append_assoc}
 use Rattle.std.proofs.lemmas.List.{append-nil, drop_all}
 use Rattle.std.proofs.lemmas.Option.{same_Some, slice_get-get_or, slice_get-map}
 use Rattle.std.specs.Option.{is_some}
 use Rattle.class_model.specs.Header.{header_of}
+use Rattle.class_model.specs.Laws.Lists.{drop_at}
 use Rattle.class_model.specs.declared.class_file.ClassFile.{ClassFile}
 use Rattle.class_model.specs.declared.class_file.CodePart.{CodePart}
 use Rattle.class_model.specs.declared.class_file.Method.{Method}
@@ -54,14 +55,6 @@ pub record SoFar (headers : Headers) (class : ClassFile) (number : ℕ) (typed :
 
 pub none_so_far : (headers : Headers) (class : ClassFile) → SoFar headers class 0 []
 none_so_far headers class = record { typed_rest = λ rest h. h; fails_rest = λ failure h. h }
-
-drop_one : {X : Type 0} (xs : List X) (n : ℕ) (x : X) → slice_get xs n ≡ Some x → drop n xs ≡ x ∷ drop (suc n) xs
-drop_one [] n x e = absurd cc
-drop_one (y ∷ xs) zero x e = ap (λ z. z ∷ xs) (same_Some y x e)
-drop_one (y ∷ xs) (suc n) x e = drop_one xs n x e
-
-pub drop_at : {X : Type 0} (xs : List X) (n : ℕ) (x : X) → slice_get xs n ≡ Some x → drop n xs ≡ x ∷ drop (n + 1) xs
-drop_at xs n x e = rw (add-one n) (drop_one xs n x e)
 
 module _ (headers : Headers) (class : ClassFile) (number : ℕ) (typed : List (Option (List Frame))) (method : Method) (found : slice_get class.methods number ≡ Some method) (so_far : SoFar headers class number typed) where
   left : drop number class.methods ≡ method ∷ drop (number + 1) class.methods

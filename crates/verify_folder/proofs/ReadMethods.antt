@@ -1,14 +1,14 @@
 -- A method with code of a folder was read.
-use Rattle.std.proofs.Common.{◌≡◌, ltb, ℕ, zero, suc, List, [], ◌∷◌, length, slice_get, Option, Some, None, Result, Ok, Err, option_and_then, option_map, refl, subst}
+use Rattle.std.proofs.Common.{◌≡◌, ltb, ℕ, List, [], ◌∷◌, length, slice_get, Option, Some, None, Result, Ok, Err, option_and_then, option_map, refl, subst}
 use Rattle.std.specs.List.{AllByRecursion}
 use Rattle.std.proofs.lemmas.Bool.{and_parts, ltb-true}
 use Rattle.std.proofs.lemmas.Option.{same_Some}
 use Rattle.class_model.specs.Checks.{AllHold, Check, Fault, asked_of}
 use Rattle.class_model.specs.Instructions.{decoded}
+use Rattle.class_model.specs.Laws.Lists.{at_index}
 use Rattle.class_model.specs.Spelling.{class_bytes}
 use Rattle.class_model.specs.ClassOf.{ClassOf}
-use Rattle.class_model.specs.declared.class_file.Attr.{Attr}
-use Rattle.class_model.specs.declared.class_file.Attr.TheVariants.{Raw, Code}
+use Rattle.class_model.specs.declared.class_file.Attr.TheVariants.{Code}
 use Rattle.class_model.specs.declared.class_file.ClassFile.{ClassFile}
 use Rattle.class_model.specs.declared.class_file.CodePart.{CodePart}
 use Rattle.class_model.specs.declared.class_file.Method.{Method}
@@ -16,20 +16,9 @@ use Rattle.class_model.specs.declared.class_file.MethodAt.{MethodAt}
 use Rattle.class_model.specs.declared.instr.Placed.{Placed}
 use Rattle.class_tree.specs.Headers.{Classes, Headers, headers_of, IsClassFile}
 use Rattle.code_bytes.specs.Codes.{HasInstrs, HasReadMethods, IsReadMethod}
+use Rattle.type_rules.specs.Laws.Codes.{code_has}
 use Rattle.type_rules.specs.Scope.{Scope, code_of, instructions, scope_at, scope_of}
 use Rattle.verify_folder.specs.Steps.{IsRead}
-
--- what holds of each holds of the one at an index
-at_index : {X : Type 0} (Holds : X → Type 0) (xs : List X) (i : ℕ) (x : X) → AllByRecursion Holds xs → slice_get xs i ≡ Some x → Holds x
-at_index Holds [] i x all e = absurd cc
-at_index Holds (y ∷ xs) zero x all e = subst Holds (same_Some y x e) all.0
-at_index Holds (y ∷ xs) (suc i) x all e = at_index Holds xs i x all.1 e
-
--- the first code among attributes has instructions
-code_has_instrs : (attrs : List Attr) (part : CodePart) → AllByRecursion HasInstrs attrs → code_of attrs ≡ Some part → HasInstrs (Code 0 part)
-code_has_instrs [] part all e = absurd cc
-code_has_instrs (Code name own ∷ attrs) part all e = subst (λ (p : CodePart). HasInstrs (Code 0 p)) (same_Some own part e) all.0
-code_has_instrs (Raw name bytes ∷ attrs) part all e = code_has_instrs attrs part all.1 e
 
 instrs_are : (s : Scope) (asks : List Placed → List (Check Fault)) (found : Result (List Placed) Fault) → decoded s.part.code ≡ found → AllHold (asked_of found asks) → decoded s.part.code ≡ Ok (instructions s)
 instrs_are s asks (Ok instrs) is holds = rw is refl
@@ -48,7 +37,7 @@ module _ (headers : Headers) where
   of_part class method None s read is e = absurd cc
   of_part class method (Some part) s read is e =
       let own : Scope = record { headers = headers; class = class; method = method; part = part } in
-      subst IsRead (same_Some own s e) (known own read (code_has_instrs method.attrs part read.codes is))
+      subst IsRead (same_Some own s e) (known own read (code_has HasInstrs (λ (part : CodePart). HasInstrs (Code 0 part)) (λ name part h. h) method.attrs part read.codes is))
 
   of_method : (class : ClassFile) (number : ℕ) (method : Option Method) (s : Scope) → HasReadMethods class → slice_get class.methods number ≡ method → option_and_then (scope_of headers class) method ≡ Some s → IsRead s
   of_method class number None s read is e = absurd cc

@@ -1,7 +1,8 @@
 -- An instruction is asked part by part.
-use Rattle.std.proofs.Common.{◌≡◌, List, ◌++◌, Option, Some, Ok, Err, sym, subst, append_assoc, inr}
+use Rattle.std.proofs.Common.{◌≡◌, ℕ, List, ◌++◌, Option, Some, Ok, Err, sym, subst, append_assoc, inr}
 use Rattle.class_model.specs.Checks.{AllHold, Check}
 use Rattle.class_model.specs.Instructions.{targets}
+use Rattle.class_model.specs.Laws.Checks.{Remain, remain, fails_first}
 use Rattle.class_model.specs.declared.frame.Frame.{Frame}
 use Rattle.class_model.specs.declared.instr.Placed.{Placed}
 use Rattle.type_rules.specs.Rule.{row_checks}
@@ -10,10 +11,15 @@ use Rattle.type_rules.specs.Table.{row_of}
 use Rattle.type_rules.specs.Checks.{FailsBehind, IsTypedAt, MayFlowIn, frame_before, handler_checks, instr_checks, target_checks}
 use Rattle.type_rules.specs.Flow.{frame_behind}
 use Rattle.type_rules.specs.Stated.{stated_at}
+use Rattle.type_rules.specs.declared.fault.TypeRule.{TypeRule}
 use Rattle.verify_folder.specs.Steps.{BeforeAnswers, ChecksAnswer, RowAnswers, StepAnswers}
 use Rattle.verify_folder.specs.declared.stop.Stop.{Stop}
 use Rattle.verify_folder.specs.declared.stop.Stop.TheVariants.{Fails, NoMemory}
-use Rattle.verify_folder.proofs.ChecksLeft.{Remain, remain, refused}
+
+-- one of the first checks that are left fails
+refused : {whole : List (Check TypeRule)} (a b : List (Check TypeRule)) (at : ℕ) (stop : Stop) → Remain whole (a ++ b) → ChecksAnswer at a (Err stop) → ChecksAnswer at whole (Err stop)
+refused a b at (Fails offset rule) left told = (told.0, fails_first a b rule left told.1)
+refused a b at NoMemory left told = tt
 
 module _ (s : Scope) (flows : Option Frame) (placed : Placed) (before : Frame) where
   abbrev of_handlers : List (Check TypeRule)

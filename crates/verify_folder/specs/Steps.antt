@@ -13,6 +13,7 @@ use Rattle.code_bytes.specs.Codes.{IsReadMethod}
 use Rattle.type_rules.specs.Rule.{row_checks, ruled}
 use Rattle.type_rules.specs.Scope.{Scope, instructions}
 use Rattle.type_rules.specs.Table.{row_of}
+use Rattle.type_rules.specs.declared.fault.TypeRule.{TypeRule}
 use Rattle.type_rules.specs.declared.fault.TypeRule.TheVariants as rules
 use Rattle.type_rules.specs.declared.ruled.Ruled.{Ruled}
 use Rattle.type_rules.specs.Checks.{FailsAt, IsTypedAt, MayFlowIn, frame_before}

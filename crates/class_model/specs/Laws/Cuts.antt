@@ -1,8 +1,10 @@
 -- Steps of a `do` block over bytes, and the tests in it.
-use Rattle.std.proofs.Common.{◌≡◌, ◌<◌, ℕ, zero, suc, Bool, true, false, cond, eqb, List, [], ◌∷◌, ◌++◌, length, get_or, take, drop, Option, Some, None, Result, Ok, Err, refl, arith}
+use Rattle.std.proofs.Common.{◌≡◌, ◌<◌, ℕ, zero, suc, Bool, true, false, cond, eqb, List, [], ◌∷◌, ◌++◌, length, get_or, take, drop, Option, Some, None, Result, Ok, Err, refl, sym, ap, arith, append_assoc}
+use Rattle.std.proofs.lemmas.Nat.{from_be_bytes-to_be_bytes_2}
 use Rattle.class_model.specs.Checks.{Fault, ◌>>=◌}
 use Rattle.class_model.specs.Cutting.{IsBytes, Rest, Cut, whole}
-use Rattle.class_model.specs.Instructions.{u1_in}
+use Rattle.class_model.specs.Instructions.{u1_in, u2_in}
+use Rattle.class_model.specs.Spelling.{u2}
 
 -- ---- bytes
 
@@ -73,7 +75,23 @@ pub whole_some : {A : Type 0} (r : Cut A) (part : A) → whole r ≡ Some part �
 whole_some (Ok x) part e = let g = guard_some (eqb (length x.1.bytes) 0) x.0 part e in (x, refl, g.0, g.1)
 whole_some (Err f) part e = absurd cc
 
--- ---- a byte in front
+-- ---- numbers in front
 
 pub u1_front : (byte : ℕ) (rest : List ℕ) → u1_in (byte ∷ rest) 0 ≡ byte
 u1_front byte rest = omega arith
+
+pub u2_front : (number : ℕ) (rest : List ℕ) → number < 65536 → u2_in (u2 number ++ rest) 0 ≡ number
+u2_front number rest fits = from_be_bytes-to_be_bytes_2 number fits
+
+-- ---- items in front of those that are cut
+
+abbrev pub in_front : {X : Type 0} → List X → Cut (List X) → Cut (List X)
+in_front some cut = cut >>= λ others. Ok (some ++ others.0, others.1)
+
+pub in_front-none : {X : Type 0} (cut : Cut (List X)) → cut ≡ in_front [] cut
+in_front-none (Ok others) = refl
+in_front-none (Err f) = refl
+
+pub in_front-append : {X : Type 0} (some more : List X) (cut : Cut (List X)) → in_front some (in_front more cut) ≡ in_front (some ++ more) cut
+in_front-append some more (Ok others) = ap (λ (l : List _). Ok (l, others.1)) (sym (append_assoc some more others.0))
+in_front-append some more (Err f) = refl

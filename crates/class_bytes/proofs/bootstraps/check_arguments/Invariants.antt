@@ -1,6 +1,6 @@
 use Rattle.std.proofs.Common.{◌≡◌, ◌+◌, ◌*◌, drop}
+use Rattle.class_model.specs.Laws.Checks.{Remain}
 use Rattle.class_model.specs.Methods.{arguments_checks}
-use Rattle.class_bytes.proofs.Asking.{Remain}
 use Rattle.class_bytes.proofs.bootstraps.check_arguments.Given as goal
 
 abbrev pub invariant-loop-index : goal.invariant-loop-index

@@ -1,6 +1,6 @@
 use Rattle.std.proofs.Common.{◌≡◌, ◌+◌, ◌*◌, drop}
 use Rattle.class_model.specs.Code.{handlers_checks}
-use Rattle.class_bytes.proofs.Asking.{Remain}
+use Rattle.class_model.specs.Laws.Checks.{Remain}
 use Rattle.class_bytes.proofs.handlers.check_handlers.Given as goal
 
 abbrev pub invariant-loop-handler : goal.invariant-loop-handler

@@ -1,6 +1,6 @@
 use Rattle.std.proofs.Common.{◌≡◌, ◌+◌, ◌*◌, drop}
+use Rattle.class_model.specs.Laws.Checks.{Remain}
 use Rattle.class_model.specs.Members.{interfaces_checks}
-use Rattle.class_bytes.proofs.Asking.{Remain}
 use Rattle.class_bytes.proofs.head.check_interfaces.Given as goal
 
 abbrev pub invariant-loop-index : goal.invariant-loop-index

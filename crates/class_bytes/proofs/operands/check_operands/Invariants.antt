@@ -1,6 +1,6 @@
 use Rattle.std.proofs.Common.{drop}
 use Rattle.class_model.specs.Code.{operand_checks}
-use Rattle.class_bytes.proofs.Asking.{Remain}
+use Rattle.class_model.specs.Laws.Checks.{Remain}
 use Rattle.class_bytes.proofs.operands.check_operands.Given as goal
 
 abbrev pub invariant-loop-placed : goal.invariant-loop-placed

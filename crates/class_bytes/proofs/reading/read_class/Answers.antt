@@ -3,15 +3,16 @@ use Rattle.std.proofs.lemmas.Result.{err_from_is_err_and}
 use Rattle.class_model.specs.Answers.{Takes}
 use Rattle.class_model.specs.ClassOf.{entered}
 use Rattle.class_model.specs.Cutting.{IsBytes, Rest, Version, version_at, uncut}
+use Rattle.class_model.specs.Laws.Cuts.{are_bytes, IsBytes-parts}
 use Rattle.class_model.specs.Pool.{Constants}
 use Rattle.class_model.specs.Spelling.{pool_bytes}
 use Rattle.class_bytes.specs.Counts.{FitsCounts}
 use Rattle.class_bytes.specs.Cut.{version_of, class_of}
-use Rattle.class_bytes.proofs.CutBytes.{are_bytes, bytes_behind, version_left}
+use Rattle.class_bytes.proofs.CutBytes.{version_left}
 use Rattle.class_bytes.proofs.Fits.{class_fits}
 use Rattle.class_bytes.proofs.WholeFiles.{head_refused, pool_refused, body_refused, check_refused, is_cut, is_class, class_len}
 use Rattle.class_bytes.proofs.reading.read_class.Goals as goal
-use Rattle.class_bytes.proofs.reading.read_class.Goals.{In_ok-version, In_ok-body}
+use Rattle.class_bytes.proofs.reading.read_class.Goals.{In_ok-version}
 
 pub returns-in_err-version-clause-told : goal.returns-in_err-version-clause-told
 returns-in_err-version-clause-told c =
@@ -103,7 +104,7 @@ returns-clause-fits c =
     let at = goal.at.returns-clause-fits c in
     let left = version_left c.args.bytes.now (version, c.cut_version.new.cursor) bytes (head at.In_ok-version) in
     let spelled = (c.a_cut_pool_is_spelled.ensures version.major c.cut_version.new.cursor c.cut_pool.new.cursor c.in_ok-raw.raw left c.in_ok-raw.ensures.taken).0 in
-    let behind = bytes_behind (pool_bytes c.in_ok-raw.raw) c.cut_pool.new.cursor.bytes (subst IsBytes spelled left) in
+    let behind = (IsBytes-parts (pool_bytes c.in_ok-raw.raw) c.cut_pool.new.cursor.bytes (subst IsBytes spelled left)).1 in
     let class = class_of c.in_ok-raw.raw c.in_ok-body.body in
     let same = c.in_ok-enter.ensures ∙ ap (λ (pool : Constants). entered (class_of pool c.in_ok-body.body)) c.in_ok-pool.ensures.1 in
     subst FitsCounts (sym same) (class_fits version c.in_ok-raw.raw c.cut_pool.new.cursor class behind (c.in_ok-body.ensures c.in_ok-raw.raw))

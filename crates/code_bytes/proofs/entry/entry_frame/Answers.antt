@@ -7,7 +7,7 @@ use Rattle.class_model.specs.declared.frame.Frame.{Frame}
 use Rattle.class_model.specs.declared.frame.VType.{VType}
 use Rattle.code_bytes.specs.Codes.{home_of}
 use Rattle.code_bytes.specs.Entry.{this_entries}
-use Rattle.code_bytes.proofs.EntryFrames.{frame_of, with_tops, entry_is}
+use Rattle.code_bytes.specs.Laws.EntryFrames.{frame_of, with_tops, entry_is}
 use Rattle.code_bytes.proofs.entry.entry_frame.Goals as goal
 
 pub returns : goal.returns

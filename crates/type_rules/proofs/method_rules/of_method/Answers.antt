@@ -1,19 +1,21 @@
 use Rattle.std.proofs.Common.{◌≡◌, ◌∙◌, ℕ, List, Ok, map, refl, sym, ap, subst, rules}
 use Rattle.class_model.specs.Checks.{AllHold}
 use Rattle.class_model.specs.Instructions.{decoded}
+use Rattle.class_model.specs.declared.class_file.CodePart.{CodePart}
 use Rattle.class_model.specs.declared.instr.Placed.{Placed}
 use Rattle.class_tree.specs.Headers.{headers_of}
+use Rattle.code_bytes.specs.Codes.{HasInstrs, HasOperands, HaveOperands}
 use Rattle.code_bytes.specs.Decoding.{decoding_checks}
+use Rattle.type_rules.specs.Laws.Codes.{code_has}
 use Rattle.type_rules.specs.Offsets.{IsIndexOf}
 use Rattle.type_rules.specs.Scope.{Scope, code_of}
-use Rattle.type_rules.proofs.FittingPools.{code_has_operands, instrs_fit}
-use Rattle.type_rules.proofs.MethodParts.{code_has_instrs}
+use Rattle.type_rules.proofs.FittingPools.{instrs_fit}
 use Rattle.type_rules.proofs.method_rules.of_method.Goals as goal
 
 pub instructions_of-requires : goal.instructions_of-requires
 instructions_of-requires c =
     subst (λ (code : List ℕ). AllHold (decoding_checks code)) (sym c.as_slice-2.ensures)
-    (code_has_instrs c.args.method.now.attrs c.in-Some.part.now c.requires.read.codes (sym (c.in-Some.ensures ∙ ap code_of c.as_slice.ensures)))
+    (code_has HasInstrs (λ (part : CodePart). AllHold (decoding_checks part.code)) (λ name part h. h) c.args.method.now.attrs c.in-Some.part.now c.requires.read.codes (sym (c.in-Some.ensures ∙ ap code_of c.as_slice.ensures)))
 
 pub invariant_of-result : goal.invariant_of-result
 invariant_of-result c =
@@ -29,7 +31,7 @@ invariant_of-result c =
       stands = c.requires.stands;
       header_is = c.requires.header;
       instrs_are = search rules;
-      fit = instrs_fit s part.max_locals (decoded part.code) instrs (code_has_operands class.pool class.major c.args.method.now.attrs part c.requires.operands found) read;
+      fit = instrs_fit s part.max_locals (decoded part.code) instrs (code_has (HasOperands class.pool class.major) (λ (part : CodePart). HaveOperands class.pool class.major part.max_locals (decoded part.code)) (λ name part h. h) c.args.method.now.attrs part c.requires.operands found) read;
       indexed = subst (λ (items : List Placed). IsIndexOf (map (λ placed. placed.at) items) c.in_ok-index.index) c.as_slice-3.ensures c.in_ok-index.ensures;
       descriptor_is = search rules;
     }

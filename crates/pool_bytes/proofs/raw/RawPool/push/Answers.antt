@@ -1,6 +1,6 @@
 use Rattle.std.proofs.Common.{sym, ◌∙◌}
-use Rattle.pool_bytes.proofs.RawPush.{wide_pushed, narrow_pushed}
 use Rattle.pool_bytes.proofs.raw.RawPool.push.Goals as goal
+use Rattle.class_model.specs.Laws.Pools.{wide_pushed, narrow_pushed}
 
 pub invariant_of-self-in-Continue-branch-3 : goal.invariant_of-self-in-Continue-branch-3
 invariant_of-self-in-Continue-branch-3 c =

@@ -1,8 +1,9 @@
 use Rattle.std.proofs.Common.{◌∙◌, List, slice_get, sym, ap}
+use Rattle.class_model.specs.Laws.Lists.{at_index}
 use Rattle.class_model.specs.Spelling.{class_bytes}
 use Rattle.class_model.specs.declared.class_file.ClassFile.{ClassFile}
 use Rattle.class_tree.specs.Headers.{IsClassFile}
-use Rattle.type_rules.proofs.MethodParts.{at_index, header_of_class, method_has_operands, method_is_read}
+use Rattle.type_rules.proofs.MethodParts.{header_of_class, method_has_operands, method_is_read}
 use Rattle.type_rules.proofs.method_rules.MethodRules.new.Goals as goal
 
 pub of_method-requires-clause-class_file : goal.of_method-requires-clause-class_file

@@ -1,7 +1,7 @@
 use Rattle.std.proofs.Common.{drop}
 use Rattle.std.specs.Option.{option_copied}
+use Rattle.class_model.specs.Laws.Checks.{Remain}
 use Rattle.type_rules.specs.Checks.{target_checks}
-use Rattle.verify_folder.proofs.ChecksLeft.{Remain}
 use Rattle.verify_folder.proofs.typing.Typing.check_each.Given as goal
 
 abbrev pub invariant-loop-to : goal.invariant-loop-to

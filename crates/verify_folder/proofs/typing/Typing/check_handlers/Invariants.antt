@@ -1,6 +1,6 @@
 use Rattle.std.proofs.Common.{drop}
+use Rattle.class_model.specs.Laws.Checks.{Remain}
 use Rattle.type_rules.specs.Checks.{handler_checks}
-use Rattle.verify_folder.proofs.ChecksLeft.{Remain}
 use Rattle.verify_folder.proofs.typing.Typing.check_handlers.Given as goal
 
 abbrev pub invariant-loop-handler : goal.invariant-loop-handler

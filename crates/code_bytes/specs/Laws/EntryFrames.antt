@@ -1,8 +1,7 @@
 -- The frame that a method's code begins with: this, the parameters, and Top in the other locals.
-use Rattle.std.proofs.Common.{◌≡◌, inl, inr, ℕ, suc, ◌-◌, ◌<◌, ◌≤◌, Bool, true, false, cond, List, [], ◌∷◌, ◌++◌, length, replicate, take, map, Option, Some, None, refl, sym, ap, ◌∙◌, append_assoc, length-append, arith}
+use Rattle.std.proofs.Common.{◌≡◌, inl, inr, ℕ, ◌-◌, Bool, true, false, cond, List, [], ◌∷◌, ◌++◌, length, replicate, map, Option, Some, None, refl, sym, ap, ◌∙◌}
 use Rattle.std.proofs.lemmas.Bool.{cases_Bool}
 use Rattle.std.proofs.lemmas.Grind.{flat_map-append}
-use Rattle.std.proofs.lemmas.List.{take_all}
 use Rattle.class_model.specs.Code.{entry_frame, verification_type}
 use Rattle.class_model.specs.Descriptors.{parameters_of}
 use Rattle.class_model.specs.Frames.{units, units_of_entries, filled}
@@ -64,8 +63,3 @@ entry_is home method part text locals there are =
     ap (λ (of : List VType). frame_of (with_tops part.max_locals of)) parts
     ∙ sym (frame_is method.flags name home.name params part.max_locals)
     ∙ ap (λ (of : Option (List ℕ)). entry_frame method.flags (text_or_empty name) home.name (parameters_of (text_or_empty of)) part.max_locals) (sym there)
-
--- the parameters before an index, and no more
-pub all_params : (this locals : List VType) (params : List FieldType) (index : ℕ) → length params ≤ index → locals ≡ this ++ units_of_entries (map verification_type (take index params))
-    → locals ≡ this ++ units_of_entries (map verification_type params)
-all_params this locals params index past are = are ∙ ap (λ (some : List FieldType). this ++ units_of_entries (map verification_type some)) (take_all index params past)
