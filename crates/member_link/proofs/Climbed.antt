@@ -55,9 +55,6 @@ pub record IsClimbed (headers : Headers) (Counts : Declared → Type 0) (name de
   pub onwards : (found : Option Declared) → FoundFrom headers Counts name desc next found → FoundFrom headers Counts name desc (Some start) found
   pub there : IfSome next (λ place. IsSome (header_at headers place))
 
-pub first_climbed : (headers : Headers) (Counts : Declared → Type 0) (name desc : List ℕ) (start : Place) → IsSome (header_at headers start) → IsClimbed headers Counts name desc start (Some start)
-first_climbed headers Counts name desc start there = record { onwards = λ found from. from; there = there }
-
 module _ (headers : Headers) (tree : IsHierarchy headers) (Counts : Declared → Type 0) (name desc : List ℕ) (start : Place) where
   from_superclass : (place : Place) (header : Header) → header_at headers place ≡ Some header → IsPassedOver Counts name desc header.name header → (found : Option Declared) → FoundFrom headers Counts name desc (superclass_of headers place) found → FirstUpwards headers Counts name desc header.name found
   from_superclass place header at passed found from = by header.super_name refl

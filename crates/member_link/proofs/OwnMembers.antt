@@ -6,13 +6,12 @@ use Rattle.std.proofs.lemmas.Option.{same_Some}
 use Rattle.std.proofs.lemmas.Slice.Eq.{bytes_eq-Decides}
 use Rattle.class_model.specs.declared.header.Header.{Header}
 use Rattle.class_model.specs.declared.header.Member.{Member}
-use Rattle.class_tree.specs.Headers.{Name, Headers}
+use Rattle.class_tree.specs.Headers.{Headers}
 use Rattle.class_tree.specs.Names.{is_member}
 use Rattle.class_tree.specs.Order.{header_at, member_place}
 use Rattle.class_tree.specs.declared.place.Place.{Place}
-use Rattle.member_link.specs.DeclaredMembers.{Declared, declared_by, declared}
+use Rattle.member_link.specs.DeclaredMembers.{declared_by, declared}
 use Rattle.member_link.specs.Found.{AreSame, IsFoundIn}
-use Rattle.member_link.specs.declared.found.Found.{Found}
 
 -- the member of a name and descriptor stands at this place, and is the one that is declared
 pub record IsOwn (name desc : List ℕ) (members : List Member) (place : ℕ) : Type 0 where
@@ -72,14 +71,6 @@ own_of_declared name desc members member is = by (member_place name desc members
         let own = own_at name desc members place at in
         let same = same_Some own.member member (sym own.is ∙ is) in
         (place, at, own.stands ∙ ap Some same, ap (λ (m : Member). m.name) (sym same) ∙ own.own_name, ap (λ (m : Member). m.desc) (sym same) ∙ own.own_desc)
-
--- a place is that of one member
-pub found_once : {members_of : Header → List Member} {headers : Headers} {found : Found} {one other : Declared} → IsFoundIn members_of headers found one → IsFoundIn members_of headers found other → one ≡ other
-found_once {members_of = members_of} {headers = headers} {found = found} {one = one} {other = other} is also =
-    let header = same_Some is.header also.header (sym is.at ∙ also.at) in
-    let class : one.class ≡ other.class = sym is.own_class ∙ ap (λ (h : Header). h.name) header ∙ also.own_class in
-    let member = same_Some one.member other.member (sym is.stands ∙ ap (λ (h : Header). slice_get (members_of h) found.member) header ∙ also.stands) in
-    ap (λ (name : Name). declared_by name one.member) class ∙ ap (declared_by other.class) member
 
 -- ---- what the look-up of a class's own member answers
 

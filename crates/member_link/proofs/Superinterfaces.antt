@@ -16,8 +16,6 @@ use Rattle.class_tree.specs.Order.{header_at, place_of}
 use Rattle.class_tree.specs.Subtype.{IsBelow}
 use Rattle.class_tree.specs.contracts.place.PlacePartialEq.TheImpl.{ghosts}
 use Rattle.class_tree.specs.declared.place.Place.{Place}
-use Rattle.member_link.specs.DeclaredMembers.{Declared, declared, is_inherited}
-use Rattle.member_link.specs.Defaults.{IsSuperinterfaceMethod}
 use Rattle.member_link.specs.DefaultsAt.{IsSuperinterfaceAt}
 use Rattle.member_link.proofs.OneHas.{each_at}
 
@@ -58,39 +56,6 @@ named_interface : (headers : Headers) → IsHierarchy headers → (class : Name)
 named_interface headers hierarchy class names are name one header is =
     let interface = each_of_names (λ name. (header : Header) × (class_named headers name ≡ Some header) × IsTrue (is_interface header)) names (hierarchy.interfaces class names are) name one in
     subst (λ (header : Header). IsTrue (is_interface header)) (same_Some interface.0 header (sym interface.1 ∙ is)) interface.2
-
--- a method of one of these interfaces that is neither private nor static
-pub record IsMethodOfOne (headers : Headers) (names : List Name) (name desc : List ℕ) (method : Declared) : Type 0 where
-  pub header : Header
-  pub found : class_named headers method.class ≡ Some header
-  pub one : IsOneName names method.class
-  pub declares : declared name desc header.methods ≡ Some method.member
-  pub inherited : IsTrue (is_inherited method.member)
-
--- the methods of the interfaces above a class are those of its superinterfaces
-pub superinterface_methods : (headers : Headers) → IsHierarchy headers → (class : Name) (names : List Name) → AreSuperinterfaces headers class names → (name desc : List ℕ) (method : Declared) → IsSuperinterfaceMethod headers class name desc method ↔ IsMethodOfOne headers names name desc method
-superinterface_methods headers hierarchy class names are name desc method = (to, from)
-  where
-    to : IsSuperinterfaceMethod headers class name desc method → IsMethodOfOne headers names name desc method
-    to is = record {
-      header = is.header;
-      found = is.found;
-      one = (hierarchy.superinterfaces class method.class is.header names are is.found is.interface).1 is.above;
-      declares = is.declares;
-      inherited = is.inherited;
-    }
-
-    from : IsMethodOfOne headers names name desc method → IsSuperinterfaceMethod headers class name desc method
-    from is =
-        let kind = named_interface headers hierarchy class names are method.class is.one is.header is.found in
-        record {
-          header = is.header;
-          found = is.found;
-          interface = kind;
-          above = (hierarchy.superinterfaces class method.class is.header names are is.found kind).0 is.one;
-          declares = is.declares;
-          inherited = is.inherited;
-        }
 
 -- ---- places
 
