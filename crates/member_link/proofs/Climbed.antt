@@ -1,11 +1,11 @@
 -- A way upwards from a class, for a method that counts.
-use Rattle.std.proofs.Common.{◌≡◌, ℕ, List, Option, Some, None, IsSome, IfSome, is_some, option_map, refl, sym, ap, subst, ◌∙◌}
+use Rattle.std.proofs.Common.{◌≡◌, ℕ, List, Option, Some, None, IsSome, IfSome, option_map, refl, sym, subst, ◌∙◌}
 use Rattle.std.proofs.lemmas.Option.{same_Some}
 use Rattle.class_model.specs.declared.header.Header.{Header}
 use Rattle.class_model.specs.declared.header.Member.{Member}
 use Rattle.class_tree.specs.Headers.{Name, Headers, class_named}
 use Rattle.class_tree.specs.Hierarchy.{IsHierarchy, StandsAt, superclass_of}
-use Rattle.class_tree.specs.Laws.Headers.{class_there, super_is_there, no_superclass, superclass_is}
+use Rattle.class_tree.specs.Laws.Headers.{class_there, super_is_there, no_superclass, superclass_is, superclass_there}
 use Rattle.class_tree.specs.Order.{header_at}
 use Rattle.class_tree.specs.declared.place.Place.{Place}
 use Rattle.member_link.specs.DeclaredMembers.{Declared, declared_by, declared}
@@ -33,15 +33,6 @@ superclass_at headers tree place header at name some =
       is = superclass_is headers place header at name some ∙ stands.1.is_place;
       stands = stands.1;
     }
-
-pub superclass_there : (headers : Headers) → IsHierarchy headers → (place : Place) (header : Header) → header_at headers place ≡ Some header → IfSome (superclass_of headers place) (λ place. IsSome (header_at headers place))
-superclass_there headers tree place header at = by header.super_name refl
-  where
-    by : (super : Option Name) → header.super_name ≡ super → IfSome (superclass_of headers place) (λ place. IsSome (header_at headers place))
-    by None none = subst (λ (next : Option Place). IfSome next (λ place. IsSome (header_at headers place))) (sym (no_superclass headers place header at none)) tt
-    by (Some name) some =
-        let above = superclass_at headers tree place header at name some in
-        subst (λ (next : Option Place). IfSome next (λ place. IsSome (header_at headers place))) (sym above.is) (ap is_some above.stands.at)
 
 -- ---- the way upwards
 
@@ -74,7 +65,7 @@ module _ (headers : Headers) (tree : IsHierarchy headers) (Counts : Declared →
   pub climbed_more : (place : Place) (header : Header) → header_at headers place ≡ Some header → IsPassedOver Counts name desc header.name header → IsClimbed headers Counts name desc start (Some place) → IsClimbed headers Counts name desc start (superclass_of headers place)
   climbed_more place header at passed climbed = record {
     onwards = λ found from. climbed.onwards found (λ other other_at. subst (λ (h : Header). FirstUpwards headers Counts name desc h.name found) (same_Some header other (sym at ∙ other_at)) (from_superclass place header at passed found from));
-    there = superclass_there headers tree place header at;
+    there = superclass_there headers place;
   }
 
   pub climbed_here : (place : Place) (header : Header) → header_at headers place ≡ Some header → (member : Member) → declared name desc header.methods ≡ Some member → Counts (declared_by header.name member) → IsClimbed headers Counts name desc start (Some place) → FoundFrom headers Counts name desc (Some start) (Some (declared_by header.name member))

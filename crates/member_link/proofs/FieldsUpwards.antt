@@ -4,13 +4,13 @@ use Rattle.std.proofs.lemmas.Option.{same_Some}
 use Rattle.class_model.specs.declared.header.Header.{Header}
 use Rattle.class_tree.specs.Headers.{Name, Headers}
 use Rattle.class_tree.specs.Hierarchy.{IsHierarchy, superclass_of}
-use Rattle.class_tree.specs.Laws.Headers.{no_superclass}
+use Rattle.class_tree.specs.Laws.Headers.{no_superclass, superclass_there}
 use Rattle.class_tree.specs.Order.{header_at, place_of}
 use Rattle.class_tree.specs.declared.place.Place.{Place}
 use Rattle.member_link.specs.DeclaredMembers.{Declared}
 use Rattle.member_link.specs.Fields.{FindsFirst, FindsField, in_no_class, absent_class}
 use Rattle.member_link.specs.FieldSearch.{super_list, FindsOrLeaves}
-use Rattle.member_link.proofs.Climbed.{superclass_at, superclass_there}
+use Rattle.member_link.proofs.Climbed.{superclass_at}
 
 -- what is found in the class at a place, or where there is none, nothing
 abbrev pub FoundFrom : Headers → List ℕ → List ℕ → Option Place → Option Declared → Type 0
@@ -51,5 +51,5 @@ module _ (headers : Headers) (hierarchy : IsHierarchy headers) (class : Name) (n
   pub searched_more : (place : Place) (header : Header) → header_at headers place ≡ Some header → FindsOrLeaves headers name desc header None → IsSearched headers class name desc (Some place) → IsSearched headers class name desc (superclass_of headers place)
   searched_more place header at leaves searched = record {
     onwards = λ found from. searched.onwards found (λ other other_at. subst (λ (h : Header). FindsField headers h.name name desc found) (same_Some header other (sym at ∙ other_at)) (leaves found (in_super place header at found from)));
-    there = superclass_there headers hierarchy place header at;
+    there = superclass_there headers place;
   }

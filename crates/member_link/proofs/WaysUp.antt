@@ -7,7 +7,7 @@ use Rattle.class_model.specs.declared.header.Header.{Header}
 use Rattle.class_tree.specs.Headers.{Name, Headers, class_named}
 use Rattle.class_tree.specs.Hierarchy.{IsHierarchy, superclass_of}
 use Rattle.class_tree.specs.Laws.Above.{below_more, superclass_kind, class_is_climbed, IsReached, hierarchy_is_sound, hierarchy_is_rooted}
-use Rattle.class_tree.specs.Laws.Headers.{no_superclass}
+use Rattle.class_tree.specs.Laws.Headers.{no_superclass, superclass_there}
 use Rattle.class_tree.specs.Names.{is_interface}
 use Rattle.class_tree.specs.Order.{header_at}
 use Rattle.class_tree.specs.Subtype.{superclass, IsBelow, directly}
@@ -17,7 +17,7 @@ use Rattle.member_link.specs.DeclaredMembers.{Declared}
 use Rattle.member_link.specs.Found.{IsMethodFound}
 use Rattle.member_link.specs.OpenMethods.{IsAbove, IsAboveOfKind, IsSameOf, IsAnyOf, one_passes, none_passes}
 use Rattle.member_link.specs.declared.found.Found.{Found}
-use Rattle.member_link.proofs.Climbed.{superclass_at, superclass_there}
+use Rattle.member_link.proofs.Climbed.{superclass_at}
 use Rattle.member_link.proofs.Superinterfaces.{IsPlacedIn, AreSuperinterfacesAt}
 
 -- Superclasses from a place upwards are left, and those before it have passed.
@@ -33,7 +33,7 @@ AreInterfacesLeft headers low Passed places = (name : Name) (header : Header) �
 module _ (headers : Headers) (hierarchy : IsHierarchy headers) (low : Name) (Passed : Name → Type 0) where
   -- the next superclass, where what is left is above the class at a place
   onwards_from : (place : Place) (header : Header) → header_at headers place ≡ Some header → IsAtOrBelow headers low header.name → ((name : Name) (above : Header) → class_named headers name ≡ Some above → IsFalse (is_interface above) → IsBelow headers low name → Passed name ⊎ IsBelow headers header.name name) → AreClassesLeft headers low Passed (superclass_of headers place)
-  onwards_from place header at up left = record { there = superclass_there headers hierarchy place header at; above = above; left = from }
+  onwards_from place header at up left = record { there = superclass_there headers place; above = above; left = from }
     where
       is : class_named headers header.name ≡ Some header
       is = (hierarchy.of_place place header at).found
