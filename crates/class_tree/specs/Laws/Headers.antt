@@ -1,11 +1,12 @@
 -- Classes by their names and places, and the superclass of each.
-use Rattle.std.proofs.Common.{◌≡◌, cond, List, [], ◌∷◌, Bool, true, false, bytes_eq, Option, Some, None, IsSome, option_and_then, refl, sym, ap, subst, ◌∙◌, ℕ, suc, ◌+◌, slice_get, option_map, IfSome, arith}
+use Rattle.std.proofs.Common.{◌≡◌, cond, List, [], ◌∷◌, Bool, true, false, bytes_eq, Option, Some, None, IsSome, option_and_then, refl, sym, ap, subst, ◌∙◌, ℕ, slice_get, option_map, IfSome}
 use Rattle.std.specs.List.{AllByRecursion}
 use Rattle.std.proofs.lemmas.Option.{same_Some}
 use Rattle.std.proofs.lemmas.Slice.Eq.{bytes_eq-Decides}
 use Rattle.class_model.specs.declared.header.Header.{Header}
 use Rattle.class_tree.specs.Headers.{Name, Headers, all_headers, named, class_named, IsThere}
 use Rattle.class_tree.specs.Hierarchy.{superclass_of}
+use Rattle.class_tree.specs.Laws.FirstPlaces.{first_there}
 use Rattle.class_tree.specs.Order.{first_place, header_at, place_of}
 use Rattle.class_tree.specs.Steps.{supers}
 use Rattle.class_tree.specs.declared.place.Place.TheVariants.{Library}
@@ -65,15 +66,6 @@ pub no_superclass : (headers : Headers) (place : Place) (header : Header) → he
 no_superclass headers place header at none = ap (option_and_then (λ header. option_and_then (place_of headers) header.super_name)) at ∙ ap (option_and_then (place_of headers)) none
 
 -- ---- what stands at the places of names
-
-first_there : {X : Type 0} (test : X → Bool) (xs : List X) → IfSome (first_place test xs) (λ place. IsSome (slice_get xs place))
-first_there test [] = tt
-first_there test (x ∷ xs) = by (test x) (first_place test xs) (first_there test xs)
-  where
-    by : (b : Bool) (later : Option ℕ) → IfSome later (λ place. IsSome (slice_get xs place)) → IfSome (cond b (Some 0) (option_map (λ place. place + 1) later)) (λ place. IsSome (slice_get (x ∷ xs) place))
-    by true later there = refl
-    by false None there = tt
-    by false (Some place) there = subst (λ at. IsSome (slice_get (x ∷ xs) at)) {x = suc place} (omega arith) there
 
 -- a class stands at the place of a name
 pub place_there : (headers : Headers) (name : Name) → IfSome (place_of headers name) (λ place. IsSome (header_at headers place))
