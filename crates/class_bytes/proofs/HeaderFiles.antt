@@ -17,7 +17,7 @@ use Rattle.class_model.specs.declared.header.Header.{Header}
 use Rattle.class_bytes.specs.HeaderParts.{cut_header_at, cut_header, header_len, cut_header_checks, header_in}
 use Rattle.class_bytes.specs.Reading.{IsHeaderReadOf}
 use Rattle.class_bytes.specs.declared.header_cutting.CutHeader.{CutHeader}
-use Rattle.class_bytes.proofs.Bodies.{behind_pool}
+use Rattle.class_bytes.proofs.Bodies.{behind_pool, no_pool}
 use Rattle.class_bytes.proofs.HeaderCuts.{Whole, no_body, whole}
 use Rattle.class_bytes.proofs.WholeFiles.{class_len}
 use Rattle.class_bytes.proofs.HeaderSame.{flags_at, header_within, asked_of_parts, kept_of_parts}
@@ -38,9 +38,7 @@ module _ (bytes : List ℕ) (version : Version) (rest : Rest) (begins : version_
 
   -- in the pool
   pub pool_refused : (after : Rest) (e : ClassFault) → Takes {X = Constants} (pool_at version.major rest) after (Err e) → IsHeaderReadOf bytes (Err e)
-  pool_refused after (faults.Malformed at rule) cut = cut_refused (fault at rule) (no_class (fault at rule) cut) where
-    no_class : (f : Fault) → pool_at version.major rest ≡ Err f → class_file_at version rest ≡ Err f
-    no_class f none = rw none refl
+  pool_refused after (faults.Malformed at rule) cut = cut_refused (fault at rule) (no_pool version rest (fault at rule) cut)
   pool_refused after faults.NoMemory cut = tt
   pool_refused after (faults.Version major minor) cut = absurd cut
 

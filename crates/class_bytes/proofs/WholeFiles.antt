@@ -12,7 +12,7 @@ use Rattle.class_model.specs.declared.fault.ClassFault.{ClassFault}
 use Rattle.class_model.specs.declared.fault.ClassFault.TheVariants as faults
 use Rattle.class_bytes.specs.Parts.{body_at, behind_len}
 use Rattle.class_bytes.specs.Reading.{IsReadOf}
-use Rattle.class_bytes.proofs.Bodies.{behind_pool}
+use Rattle.class_bytes.proofs.Bodies.{behind_pool, no_pool}
 
 -- ---- refusals
 
@@ -28,9 +28,7 @@ module _ (bytes : List ℕ) (version : Version) (rest : Rest) (head : version_at
 
   -- in the pool
   pub pool_refused : (after : Rest) (e : ClassFault) → Takes {X = Constants} (pool_at version.major rest) after (Err e) → IsReadOf bytes (Err e)
-  pool_refused after (faults.Malformed at rule) cut = cut_refused (fault at rule) (no_class (fault at rule) cut) where
-    no_class : (f : Fault) → pool_at version.major rest ≡ Err f → class_file_at version rest ≡ Err f
-    no_class f none = rw none refl
+  pool_refused after (faults.Malformed at rule) cut = cut_refused (fault at rule) (no_pool version rest (fault at rule) cut)
   pool_refused after faults.NoMemory cut = tt
   pool_refused after (faults.Version major minor) cut = absurd cut
 

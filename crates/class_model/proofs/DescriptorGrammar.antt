@@ -348,10 +348,6 @@ shorter bytes rest type at =
     let h : bytes ≡ head.first ∷ (head.more ++ rest) = at.spelled ∙ ap (λ (t : List ℕ). t ++ rest) head.text in
     omega (arith, ap length h, length-append head.more rest)
 
--- a text that is a field type
-element_at_whole : (bytes : List ℕ) (type : FieldType) → IsElementType type → bytes ≡ field_type_text type → ElementAt bytes []
-element_at_whole bytes type is_element e = record { element = type; is_element = is_element; spelled = e ∙ sym (append-nil (field_type_text type)) }
-
 type_of_element : (bytes : List ℕ) (type : FieldType) → IsText bytes → IsElementType type → bytes ≡ field_type_text type → IsFieldType type
 type_of_element bytes Byte text h e = tt
 type_of_element bytes Char text h e = tt
@@ -362,27 +358,3 @@ type_of_element bytes Long text h e = tt
 type_of_element bytes Short text h e = tt
 type_of_element bytes Boolean text h e = tt
 type_of_element bytes (Named name) text h e = (name_is_text bytes name (e ∙ class_text name h) text, inl h)
-
-abbrev SpellsSome : List ℕ → Type 0
-SpellsSome bytes = (type : FieldType) × SpellsFieldType bytes type
-
-pub decides_element : (bytes rest : List ℕ) (empty : Bool) → IsText bytes → ElementAt bytes rest → empty ≡ (length rest == 0) → IsTrue empty ↔ SpellsSome bytes
-decides_element bytes rest empty text at is = (
-  λ e. let none = nil_from_length rest (eqb-true _ _ (sym is ∙ e)) in
-      let spelled = at.spelled ∙ ap (λ (t : List ℕ). field_type_text at.element ++ t) none ∙ append-nil (field_type_text at.element) in
-      (at.element, record { is_type = type_of_element bytes at.element text at.is_element spelled; spelled = spelled }),
-  λ s. let whole = type_at_whole bytes s.0 s.1 in
-      elim (field_form s.0 s.1.is_type) [
-        | inl element ↦ is ∙ eq-eqb (length rest) 0 (ap length (one_element at.element s.0 rest [] at.is_element element (sym at.spelled ∙ whole.spelled)).1)
-        | inr a ↦ absurd (not_both at.element a.0 rest [] at.is_element a.1 (sym at.spelled ∙ rw a.3 at whole.spelled))
-      ],
-)
-
-pub decides_named : (bytes : List ℕ) (is : Bool) → IsText bytes → ((rest : List ℕ) → ¬ ElementAt bytes rest) → IsTrue is ↔ IsArrayType bytes → IsTrue is ↔ SpellsSome bytes
-decides_named bytes is text none array = (
-  λ e. let h = array.0 e in (Named bytes, record { is_type = (text, inr h); spelled = sym (array_text bytes h) }),
-  λ s. elim (field_form s.0 s.1.is_type) [
-    | inl element ↦ absurd (none [] (element_at_whole bytes s.0 element s.1.spelled))
-    | inr a ↦ array.1 (subst IsArrayType (sym (s.1.spelled ∙ a.3)) a.1)
-  ],
-)

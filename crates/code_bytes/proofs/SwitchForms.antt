@@ -1,13 +1,14 @@
 -- What is read of a switch is what the table of instructions says.
-use Rattle.std.proofs.Common.{◌≡◌, ℕ, zero, suc, ◌+◌, ◌*◌, ◌<◌, ◌≤◌, ℤ, Bool, true, false, cond, ltb, leb, inl, inr, ◌^◌, List, ◌∷◌, length, take, drop, map, Ok, Err, refl, ap, ◌∙◌, arith}
+use Rattle.std.proofs.Common.{◌≡◌, ℕ, zero, suc, ◌+◌, ◌*◌, ◌<◌, ◌≤◌, ℤ, true, false, cond, ltb, leb, inl, inr, ◌^◌, List, ◌∷◌, length, take, drop, map, Ok, Err, refl, ap, ◌∙◌, arith}
 use Rattle.std.specs.Prelude.{int_lt, unsigned_abs}
 use Rattle.std.specs.Int.{w32, cast_signed, FitsUnsignedBits}
 use Rattle.std.specs.Simd.{first_chunks}
 use Rattle.std.proofs.lemmas.List.{drop-drop, drop-take, take-take}
 use Rattle.std.proofs.lemmas.Int.{to_z_pos}
 use Rattle.std.proofs.lemmas.Bool.{cases_lt, ltb-false, le-ltb, lt-ltb, lt-leb}
-use Rattle.class_model.specs.Checks.{Fault, fault}
+use Rattle.class_model.specs.Checks.{fault}
 use Rattle.class_model.specs.Instructions.{Read, table_switch_at, lookup_switch_at, keys_increase, u4_in, s4_in, pad_of, span, target_of, targets_in, pairs_in}
+use Rattle.class_model.specs.Laws.Cuts.{guard_false}
 use Rattle.class_model.specs.declared.fault.FileRule.TheVariants as rules
 use Rattle.class_model.specs.declared.instr.Pair.{Pair}
 use Rattle.class_model.specs.declared.instr.Instr.TheVariants.{Table, Lookup}
@@ -15,12 +16,8 @@ use Rattle.code_bytes.specs.Operands.{before, target_in, pair_in}
 
 -- ---- what was read
 
-short : {X : Type 0} (test : Bool) (f : Fault) (x y : X) → cond test (Err f) (Ok x) ≡ Ok y → (test ≡ false) × (x ≡ y)
-short true f x y e = absurd cc
-short false f x y e = (refl, cc)
-
 pub was_read : {X : Type 0} (at : ℕ) (bytes : List ℕ) (end : ℕ) (x y : X) → before at bytes end x ≡ Ok y → (end ≤ length bytes) × (x ≡ y)
-was_read at bytes end x y e = let s = short (ltb (length bytes) end) (fault at rules.Operand) x y e in (ltb-false _ _ s.0, s.1)
+was_read at bytes end x y e = let s = guard_false (ltb (length bytes) end) (fault at rules.Operand) x y e in (ltb-false _ _ s.0, s.1)
 
 -- ---- lists of parts
 

@@ -5,7 +5,7 @@ use Rattle.class_model.specs.Answers.{Gives}
 use Rattle.class_model.specs.Checks.{Fault, ◌>>=◌}
 use Rattle.class_model.specs.Cutting.{Rest, Cut, uncut}
 use Rattle.class_model.specs.Frames.{Setting, Stated, frame_at, frames_at, stack_map_table_at, listed, missing, fits_at, table_u2_at}
-use Rattle.class_model.specs.Laws.Cuts.{in_front, in_front-none, in_front-append}
+use Rattle.class_model.specs.Laws.Cuts.{in_front, in_front-append}
 use Rattle.class_model.specs.declared.fault.ClassFault.{ClassFault}
 use Rattle.class_model.specs.declared.frame.Frame.{Frame}
 use Rattle.class_model.specs.declared.frame.PlacedFrame.{PlacedFrame}
@@ -35,9 +35,6 @@ frames_fail s left w f h = fault_stays s w (frame_at s w.locals w.rest) _ f h
 -- So many of some frames were read: the rest of them, behind those, are all.
 pub record FramesRead (s : Setting) (count : ℕ) (start : Standing) (done : ℕ) (frames : List PlacedFrame) (w : Standing) : Type 0 where
   pub left : frames_from s count start ≡ in_front frames (frames_from s (count - done) w)
-
-pub frames_none : (s : Setting) (count : ℕ) (start : Standing) → FramesRead s count start 0 [] start
-frames_none s count start = record { left = in_front-none (frames_from s count start) ∙ ap (λ (n : ℕ). in_front [] (frames_from s n start)) (omega arith) }
 
 pub frames_next : (s : Setting) (count : ℕ) (start : Standing) (done : ℕ) (frames : List PlacedFrame) (w next : Standing) (at : ℕ) (stack : List VType) → done < count → FramesRead s count start done frames w → IsStep s w at stack next → FramesRead s count start (done + 1) (frames ++ placed s at next.locals stack ∷ []) next
 frames_next s count start done frames w next at stack lt r step = record {

@@ -5,7 +5,6 @@ use Rattle.std.specs.List.{list_any}
 use Rattle.std.specs.List.Sorted.{IsBinarySearchResult, IsNonDecreasingBy}
 use Rattle.std.specs.Ordering.{nat_cmp, ordering_index}
 use Rattle.std.proofs.lemmas.Bool.{cases_lt}
-use Rattle.std.proofs.lemmas.List.{at_drop_more, drop_all}
 use Rattle.std.proofs.lemmas.Bool.Decides.{nat_tests}
 use Rattle.std.proofs.lemmas.Cmp.{ranked}
 use Rattle.class_model.specs.Frames.{is_new_at, is_new}
@@ -119,10 +118,3 @@ search_none code at i up le parted =
 -- what is left of a code, from the last offset on
 abbrev pub RestIncreases : ℕ → ℕ → List Placed → Type 0
 RestIncreases next i code = IncreasesFrom next (drop i code) → Increases code
-
-pub increases_more : (code : List Placed) (next i : ℕ) (p : Placed) → i < length code → p ≡ get_or code i p → next ≤ p.at → RestIncreases next i code → RestIncreases (p.at + 1) (i + 1) code
-increases_more code next i p lt is le so_far rest =
-    so_far (subst (λ (l : List Placed). IncreasesFrom next l) (sym (at_drop_more (λ (l : List Placed). l) code i p lt)) (subst (λ (q : Placed). (next ≤ q.at) × IncreasesFrom (q.at + 1) (drop (i + 1) code)) is (le, rest)))
-
-pub increases_all : (code : List Placed) (next i : ℕ) → length code ≤ i → RestIncreases next i code → Increases code
-increases_all code next i past so_far = so_far (subst (λ (l : List Placed). IncreasesFrom next l) (sym (drop_all i code past)) tt)

@@ -17,9 +17,6 @@ pub record AreLeft (classes : List NamedIndex) (entry : List VType) (frames : Li
   pub places : PlacesIncrease from left
   pub each : AllByRecursion (λ placed. FitsFrame classes placed.frame) left
 
-pub none_done : (classes : List NamedIndex) (entry : List VType) (frames : List PlacedFrame) → PlacesIncrease 0 frames → AllByRecursion (λ placed. FitsFrame classes placed.frame) frames → AreLeft classes entry frames 0 entry frames []
-none_done classes entry frames places each = record { whole = λ rest are. are; places = places; each = each }
-
 pub all_done : (classes : List NamedIndex) (entry : List VType) (frames : List PlacedFrame) (from : ℕ) (before : List VType) (left : List PlacedFrame) (done : List ℕ) → AreLeft classes entry frames from before left done → left ≡ [] → AreFrames classes 0 entry frames done
 all_done classes entry frames from before left done are none =
     let last : AreFrames classes from before left [] = rw none refl in

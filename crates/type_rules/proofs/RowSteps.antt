@@ -23,17 +23,6 @@ same_further s stack One Other wanted (Err (faults.Fails rules.Kind)) to from fa
 same_further s stack One Other wanted (Err (faults.Fails other)) to from fails = absurd fails
 same_further s stack One Other wanted (Err faults.NoMemory) to from ends = tt
 
-pub same_further_row : (s : Scope) (f : Frame) (row : Row) (One : Type 0) (result : Result Ruled RuleFault) → (One → row.further) → (row.further → One) → RowRules s f (record row { further = One }) result → RowRules s f row result
-same_further_row s f row One (Ok ruled) to from answers =
-    ((answers.0.0, (answers.0.1.0, (answers.0.1.1.0, (to answers.0.1.1.1.0, tt)))), answers.1)
-same_further_row s f row One (Err (faults.Fails rule)) to from (inl stack) = inl stack
-same_further_row s f row One (Err (faults.Fails rule)) to from (inr (fits, inl local)) = inr (fits, inl local)
-same_further_row s f row One (Err (faults.Fails rule)) to from (inr (fits, inr (held, inl deep))) = inr (fits, inr (held, inl deep))
-same_further_row s f row One (Err (faults.Fails rule)) to from (inr (fits, inr (held, inr (flat, inl fails)))) =
-    inr (fits, inr (held, inr (flat, inl ((λ holds. fails.0 (from holds)), fails.1))))
-same_further_row s f row One (Err (faults.Fails rule)) to from (inr (fits, inr (held, inr (flat, inr none)))) = absurd none.1
-same_further_row s f row One (Err faults.NoMemory) to from answers = tt
-
 -- ---- a row, from what follows once the operands fit
 
 pub ends_row : (s : Scope) (f : Frame) (row : Row) (result : Result Ruled RuleFault) → AllFit s.headers row.takes (topmost (length row.takes) f.stack) → row.local → EndsWith s (stack_behind f row) row.further (ruled f row) result → RowRules s f row result
