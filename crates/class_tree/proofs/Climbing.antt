@@ -1,5 +1,5 @@
 -- The superclasses of a class, upwards.
-use Rattle.std.proofs.Common.{◌≡◌, ◌<◌, ◌≤◌, ◌+◌, ℕ, zero, suc, false, eqb, List, [], ◌∷◌, ◌++◌, length, Option, Some, None, IsSome, IfSome, is_some, option_and_then, ◌⊎◌, refl, sym, ap, subst, ◌∙◌, append_assoc, inl, inr, arith}
+use Rattle.std.proofs.Common.{◌≡◌, ◌<◌, ◌≤◌, ◌+◌, ℕ, zero, suc, false, eqb, List, [], ◌∷◌, ◌++◌, length, Option, Some, None, IsSome, IfSome, is_some, ◌⊎◌, refl, sym, ap, subst, ◌∙◌, append_assoc, inl, inr, arith}
 use Rattle.std.specs.List.{AllByRecursion, IsDistinct}
 use Rattle.std.proofs.lemmas.Bool.{ne_eqb}
 use Rattle.std.proofs.lemmas.List.{append-nil}
@@ -10,7 +10,7 @@ use Rattle.class_model.specs.declared.header.Header.{Header}
 use Rattle.class_tree.specs.Graphs.{IsEdge, IsPath, edge}
 use Rattle.class_tree.specs.Headers.{Name, Headers, all_headers, class_named, IsThere}
 use Rattle.class_tree.specs.Hierarchy.{climb, height, superclass_of}
-use Rattle.class_tree.specs.Laws.Headers.{super_is_there, no_superclass, superclass_is}
+use Rattle.class_tree.specs.Laws.Headers.{super_is_there, no_superclass, superclass_is, superclass_there}
 use Rattle.class_tree.specs.Names.{object}
 use Rattle.class_tree.specs.Nodes.{number_of, graph_of}
 use Rattle.class_tree.specs.Order.{header_at, place_of}
@@ -160,23 +160,10 @@ chain_more headers tree place header at rest more = by header.super_name refl
         let same : found.0.name ≡ name = let e = class.at in let f = found.1 in let g = class.same in cc in
         below header.name name header rest named some (subst (λ n. IsChain headers n rest) same found.2)
 
-pub superclass_there : (headers : Headers) → HoldsSteps headers → (place : Place) → IfSome (superclass_of headers place) (λ above. IsSome (header_at headers above))
-superclass_there headers tree place = of_class (header_at headers place) refl
-  where
-    of_super : (header : Header) → header_at headers place ≡ Some header → (super : Option Name) → header.super_name ≡ super → IfSome (superclass_of headers place) (λ above. IsSome (header_at headers above))
-    of_super header at None none = subst (λ (next : Option Place). IfSome next (λ above. IsSome (header_at headers above))) (sym (no_superclass headers place header at none)) tt
-    of_super header at (Some name) some =
-        let class = some_superclass headers tree place header at name some in
-        subst (λ (next : Option Place). IfSome next (λ above. IsSome (header_at headers above))) (sym (superclass_is headers place header at name some ∙ class.is)) (ap is_some class.at)
-
-    of_class : (found : Option Header) → header_at headers place ≡ found → IfSome (superclass_of headers place) (λ above. IsSome (header_at headers above))
-    of_class None none = subst (λ (next : Option Place). IfSome next (λ above. IsSome (header_at headers above))) (sym (ap (option_and_then (λ (header : Header). option_and_then (place_of headers) header.super_name)) none)) tt
-    of_class (Some header) at = of_super header at header.super_name refl
-
 pub climbed_more : (headers : Headers) → HoldsSteps headers → (name : Name) (names : List Name) (place : Place) (header : Header) (next : Option Place) → IsClimbed headers name names (Some place) → header_at headers place ≡ Some header → next ≡ superclass_of headers place → IsClimbed headers name (names ++ header.name ∷ []) next
 climbed_more headers tree name names place header next climbed at is = subst (IsClimbed headers name (names ++ header.name ∷ [])) (sym is) (record {
   joins = λ rest more. subst (IsChain headers name) (sym (append_assoc names (header.name ∷ []) rest)) (climbed.joins (header.name ∷ rest) (header, at, chain_more headers tree place header at rest more));
-  there = superclass_there headers tree place;
+  there = superclass_there headers place;
 })
 
 pub all_climbed : (headers : Headers) (name : Name) (names : List Name) → IsClimbed headers name names None → IsChain headers name names

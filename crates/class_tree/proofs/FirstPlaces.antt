@@ -1,13 +1,8 @@
 -- The first place of a list where a test is passed.
-use Rattle.std.proofs.Common.{◌≡◌, ◌+◌, ◌≤◌, ℕ, zero, suc, Bool, true, false, cond, List, [], ◌∷◌, ◌++◌, length, slice_get, count_by, Option, Some, None, option_map, refl, ap, subst, ◌∙◌, arith}
+use Rattle.std.proofs.Common.{◌≡◌, ◌+◌, ◌≤◌, ℕ, zero, suc, Bool, true, false, cond, List, [], ◌∷◌, ◌++◌, length, slice_get, count_by, Option, Some, None, option_map, refl, ap, ◌∙◌, arith}
 use Rattle.std.proofs.lemmas.List.Sums.{sum_by-cons}
+use Rattle.class_tree.specs.Laws.FirstPlaces.{Passes}
 use Rattle.class_tree.specs.Order.{first_place}
-
--- the item at a place passes
-pub record Passes {X : Type 0} (test : X → Bool) (xs : List X) (place : ℕ) : Type 0 where
-  pub item : X
-  pub there : slice_get xs place ≡ Some item
-  pub passes : test item ≡ true
 
 -- no item passes
 pub record NonePasses {X : Type 0} (test : X → Bool) (xs : List X) : Type 0 where
@@ -25,33 +20,6 @@ none_if : (b : Bool) → b ≡ false → cond b 1 0 ≡ (0 + 0)
 none_if b e = rw e refl
 
 module _ {X : Type 0} (test : X → Bool) where
-  passes_later : (x : X) (xs : List X) (place : ℕ) → Passes test xs place → Passes test (x ∷ xs) (place + 1)
-  passes_later x xs place p = record { item = p.item; there = subst (λ (i : ℕ). slice_get (x ∷ xs) i ≡ Some p.item) {x = suc place} (omega arith) p.there; passes = p.passes }
-
-  -- an item passes at the first place
-  pub first_passes : (xs : List X) (place : ℕ) → first_place test xs ≡ Some place → Passes test xs place
-  first_passes [] place e = absurd cc
-  first_passes (x ∷ xs) place e = by (test x) refl (first_place test xs) (first_passes xs) e
-    where
-      by : (b : Bool) → test x ≡ b → (found : Option ℕ) → ((at : ℕ) → found ≡ Some at → Passes test xs at) → cond b (Some 0) (option_map (λ at. at + 1) found) ≡ Some place → Passes test (x ∷ xs) place
-      by true t found more e = subst (Passes test (x ∷ xs)) {x = 0} (cc) (record { item = x; there = refl; passes = t })
-      by false t None more e = absurd cc
-      by false t (Some at) more e = subst (Passes test (x ∷ xs)) {x = at + 1} (cc) (passes_later x xs at (more at refl))
-
-  -- where there is no first place, no item passes
-  pub none_passes : (xs : List X) → first_place test xs ≡ None → NonePasses test xs
-  none_passes [] e = record { at = λ place item there. absurd cc }
-  none_passes (x ∷ xs) e = by (test x) refl (first_place test xs) (none_passes xs) e
-    where
-      by : (b : Bool) → test x ≡ b → (found : Option ℕ) → (found ≡ None → NonePasses test xs) → cond b (Some 0) (option_map (λ at. at + 1) found) ≡ None → NonePasses test (x ∷ xs)
-      by true t found more e = absurd cc
-      by false t (Some at) more e = absurd cc
-      by false t None more e = record { at = each }
-        where
-          each : (place : ℕ) (item : X) → slice_get (x ∷ xs) place ≡ Some item → test item ≡ false
-          each zero item there = subst (λ (y : X). test y ≡ false) {x = x} (cc) t
-          each (suc place) item there = (more refl).at place item there
-
   -- where no item passes, there is no first place
   pub is_none : (xs : List X) → NonePasses test xs → first_place test xs ≡ None
   is_none [] h = refl

@@ -8,11 +8,12 @@ use Rattle.class_model.specs.declared.header.Header.{Header}
 use Rattle.class_model.specs.declared.memory.NoMemory.{NoMemory}
 use Rattle.class_tree.specs.Graphs.{Graph, IsPath}
 use Rattle.class_tree.specs.Headers.{Name, Headers, all_headers, named, IsThere}
+use Rattle.class_tree.specs.Laws.FirstPlaces.{first_passes}
 use Rattle.class_tree.specs.Nodes.{number_of, graph_of}
 use Rattle.class_tree.specs.Order.{first_place}
 use Rattle.class_tree.specs.Subtype.{IsBelow}
 use Rattle.class_tree.specs.Trees.{IsInOrder}
-use Rattle.class_tree.proofs.FirstPlaces.{in_either, first_passes, counted, first_place-append}
+use Rattle.class_tree.proofs.FirstPlaces.{in_either, counted, first_place-append}
 use Rattle.class_tree.proofs.GraphPaths.{below_from_path, path_from_below, low_is_there}
 use Rattle.class_tree.proofs.HierarchyChecks.{as_many_nodes}
 use Rattle.class_tree.proofs.Places.{has_name, named_at, times_in_parts, class_of_number}

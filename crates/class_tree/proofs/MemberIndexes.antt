@@ -19,11 +19,12 @@ use Rattle.std.specs.declared.cmp.Ordering.TheVariants.{Less, Equal, Greater}
 use Rattle.class_model.specs.declared.header.Header.{Header}
 use Rattle.class_model.specs.declared.header.Member.{Member}
 use Rattle.class_tree.specs.Headers.{Name, Headers, all_headers}
+use Rattle.class_tree.specs.Laws.FirstPlaces.{Passes}
 use Rattle.class_tree.specs.MemberIndex.{key_at, IsMemberIndex}
 use Rattle.class_tree.specs.Names.{is_member}
 use Rattle.class_tree.specs.Nodes.{AreMemberIndexes}
 use Rattle.class_tree.specs.Order.{first_place, member_place}
-use Rattle.class_tree.proofs.FirstPlaces.{Passes, is_none}
+use Rattle.class_tree.proofs.FirstPlaces.{is_none}
 
 -- ---- the first place that passes
 

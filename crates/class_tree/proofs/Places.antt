@@ -1,17 +1,18 @@
 -- Where the classes of a folder and its library stand: their numbers and their places.
-use Rattle.std.proofs.Common.{◌≡◌, ◌+◌, ◌-◌, ◌<◌, ◌≤◌, ℕ, zero, suc, Bool, true, false, cond, List, [], ◌∷◌, ◌++◌, length, slice_get, count_by, bytes_eq, Option, Some, None, option_map, option_and_then, refl, sym, ap, subst, ◌∙◌, inl, inr, arith}
+use Rattle.std.proofs.Common.{◌≡◌, ◌+◌, ◌-◌, ◌<◌, ◌≤◌, ℕ, zero, suc, Bool, true, cond, List, [], ◌∷◌, ◌++◌, length, slice_get, count_by, bytes_eq, Option, Some, None, option_map, option_and_then, refl, sym, ap, subst, ◌∙◌, inl, inr, arith}
 use Rattle.std.proofs.lemmas.Bool.{cases_lt, lt-ltb, le-ltb}
 use Rattle.std.proofs.lemmas.List.Sums.{sum_by-append}
 use Rattle.std.proofs.lemmas.Option.{slice_get_within}
 use Rattle.std.proofs.lemmas.Slice.Eq.{bytes_eq-Decides}
 use Rattle.class_model.specs.declared.header.Header.{Header}
 use Rattle.class_tree.specs.Headers.{Name, Headers, all_headers, named, class_named}
+use Rattle.class_tree.specs.Laws.FirstPlaces.{first_passes, first_at}
 use Rattle.class_tree.specs.Nodes.{number_of, place_at}
 use Rattle.class_tree.specs.Order.{first_place, header_at, place_of}
 use Rattle.class_tree.specs.Trees.{IsInOrder, times}
 use Rattle.class_tree.specs.declared.place.Place.{Place}
 use Rattle.class_tree.specs.declared.place.Place.TheVariants.{Folder, Library}
-use Rattle.class_tree.proofs.FirstPlaces.{in_either, first_passes, is_only, first_place-append}
+use Rattle.class_tree.proofs.FirstPlaces.{in_either, is_only, first_place-append}
 
 -- whether a class has this name
 abbrev pub has_name : Name → Header → Bool
@@ -27,13 +28,7 @@ own_name header = (bytes_eq-Decides header.name header.name).1 refl
 
 -- the class of a name is the item at its first place
 pub named_at : (name : Name) (headers : List Header) → named name headers ≡ option_and_then (slice_get headers) (first_place (has_name name) headers)
-named_at name [] = refl
-named_at name (header ∷ headers) = rw (named_at name headers) (by (has_name name header) (first_place (has_name name) headers))
-  where
-    by : (b : Bool) (found : Option ℕ) → cond b (Some header) (option_and_then (slice_get headers) found) ≡ option_and_then (slice_get (header ∷ headers)) (cond b (Some 0) (option_map (λ at. at + 1) found))
-    by true found = refl
-    by false None = refl
-    by false (Some at) = ap (slice_get (header ∷ headers)) {x = suc at} (omega arith)
+named_at name headers = first_at (has_name name) (named name) refl (λ header rest. refl) headers
 
 -- ---- numbers
 

@@ -6,12 +6,12 @@ use Rattle.class_tree.proofs.ClassHolds.{is_sound}
 use Rattle.class_tree.specs.Headers.{Name, Headers, class_named}
 use Rattle.class_tree.specs.Hierarchy.{superclass_of}
 use Rattle.class_tree.specs.Laws.Above.{IsReached, class_is_climbed}
-use Rattle.class_tree.specs.Laws.Headers.{header_there, no_superclass, superclass_is}
+use Rattle.class_tree.specs.Laws.Headers.{header_there, no_superclass, superclass_is, superclass_there}
 use Rattle.class_tree.specs.Names.{is_interface}
 use Rattle.class_tree.specs.Order.{header_at, place_of}
 use Rattle.class_tree.specs.Subtype.{IsDirectlyBelow, superclass, IsBelow, directly, onwards}
 use Rattle.class_tree.specs.declared.place.Place.{Place}
-use Rattle.class_tree.proofs.Climbing.{superclass_there, some_superclass, named_at_place, rooted}
+use Rattle.class_tree.proofs.Climbing.{some_superclass, named_at_place, rooted}
 use Rattle.class_tree.proofs.SamePlaces.{place_of_own}
 use Rattle.class_tree.proofs.Superclasses.{Placed}
 use Rattle.class_tree.proofs.TreeClasses.{HoldsSteps}
@@ -53,7 +53,7 @@ pub record IsSought (headers : Headers) (class above : Place) (next : Option Pla
 pub first_sought : (headers : Headers) → HoldsSteps headers → (class above : Place) → IsSought headers class above (superclass_of headers class)
 first_sought headers tree class above = record {
   decides = λ low high low_at high_at kind. reached_decides headers tree class low low_at above high high_at kind;
-  there = superclass_there headers tree class;
+  there = superclass_there headers class;
 }
 
 pub sought_more : (headers : Headers) → HoldsSteps headers → (class above place : Place) (header : Header) → header_at headers place ≡ Some header → place ≢ above → IsSought headers class above (Some place) → IsSought headers class above (superclass_of headers place)
@@ -62,7 +62,7 @@ sought_more headers tree class above place header at differ sought = record {
       let before = sought.decides low high low_at high_at kind in
       let step = reached_decides headers tree place header at above high high_at kind in
       (λ up. step.0 (not_here high high_at (before.0 up)), λ reached. before.1 (header, at, inr (step.1 reached)));
-  there = superclass_there headers tree place;
+  there = superclass_there headers place;
 }
   where
     not_here : (high : Header) → header_at headers above ≡ Some high → IsReached headers (Some place) high.name → IsBelow headers header.name high.name

@@ -7,11 +7,12 @@ use Rattle.std.proofs.lemmas.List.{length-map}
 use Rattle.std.proofs.lemmas.Option.{none-some, slice_get_within}
 use Rattle.class_model.specs.declared.header.Header.{Header}
 use Rattle.class_tree.specs.Headers.{Name, Headers, all_headers, named, class_named, IsThere}
+use Rattle.class_tree.specs.Laws.FirstPlaces.{first_passes}
 use Rattle.class_tree.specs.Names.{is_interface}
 use Rattle.class_tree.specs.Nodes.{number_of}
 use Rattle.class_tree.specs.Order.{first_place}
 use Rattle.class_tree.specs.Steps.{supers, IsOutside}
-use Rattle.class_tree.proofs.FirstPlaces.{in_either, first_passes, first_place-append}
+use Rattle.class_tree.proofs.FirstPlaces.{in_either, first_place-append}
 use Rattle.class_tree.proofs.Places.{has_name, named_at, class_of_number, class_of_no_number}
 
 -- ---- names with and without numbers

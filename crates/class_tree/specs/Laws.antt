@@ -2,6 +2,7 @@
 -- the definitions need not believe it, and may pass it over.
 pub mod Above
 pub mod Arrays
+pub mod FirstPlaces
 pub mod Headers
 pub mod Links
 pub mod Names

@@ -3,6 +3,7 @@ use Rattle.std.proofs.Common.{◌≡◌, ℕ, zero, suc, ◌+◌, ◌-◌, ◌<�
 use Rattle.std.specs.Int.{cast_signed}
 use Rattle.std.specs.List.{AllByRecursion}
 use Rattle.std.proofs.lemmas.Bool.{eqb-true, ne_eqb}
+use Rattle.class_model.specs.Laws.Checks.{◌▸◌}
 use Rattle.class_model.specs.Spelling.{u2}
 use Rattle.class_model.specs.Instructions.{Operands, Alone, U1, U2, S1, S2, U1S1, U2U1, U2U1Zero, U2ZeroZero, Jump2, Jump4, TableSwitch, LookupSwitch, Wide, rows, wide_rows, operands_in, kind_at, target_of}
 use Rattle.class_model.specs.declared.instr.Imm.TheVariants as imms
@@ -116,10 +117,6 @@ only P low here opcode least most = let same : low ≡ opcode = omega arith in s
 
 skip : {low high : ℕ} → (opcode : ℕ) → low ≤ opcode → opcode ≤ high → Unit {0}
 skip opcode least most = tt
-
-infixr 5 ◌▸◌
-◌▸◌ : {A B : Type 0} → A → B → A × B
-a ▸ b = (a, b)
 
 all_rules : (at : ℕ) → AllByRecursion (RowHolds (Rule at)) rows
 unfolding instr_bytes

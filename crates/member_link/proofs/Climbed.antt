@@ -1,41 +1,19 @@
 -- A way upwards from a class, for a method that counts.
-use Rattle.std.proofs.Common.{◌≡◌, ℕ, List, Option, Some, None, IsSome, IfSome, is_some, option_map, option_and_then, refl, sym, ap, subst, ◌∙◌}
-use Rattle.std.specs.List.{AllByRecursion}
+use Rattle.std.proofs.Common.{◌≡◌, ℕ, List, Option, Some, None, IsSome, IfSome, option_map, refl, sym, subst, ◌∙◌}
 use Rattle.std.proofs.lemmas.Option.{same_Some}
 use Rattle.class_model.specs.declared.header.Header.{Header}
 use Rattle.class_model.specs.declared.header.Member.{Member}
-use Rattle.class_tree.specs.Headers.{Name, Headers, class_named, IsThere}
+use Rattle.class_tree.specs.Headers.{Name, Headers, class_named}
 use Rattle.class_tree.specs.Hierarchy.{IsHierarchy, StandsAt, superclass_of}
-use Rattle.class_tree.specs.Order.{header_at, place_of}
-use Rattle.class_tree.specs.Steps.{supers}
+use Rattle.class_tree.specs.Laws.Headers.{class_there, super_is_there, no_superclass, superclass_is, superclass_there}
+use Rattle.class_tree.specs.Order.{header_at}
 use Rattle.class_tree.specs.declared.place.Place.{Place}
 use Rattle.member_link.specs.DeclaredMembers.{Declared, declared_by, declared}
 use Rattle.member_link.specs.Found.{AreSame}
 use Rattle.member_link.specs.Upwards.{IsPassedOver, FirstUpwards, in_itself, in_superclass, in_no_superclass}
 use Rattle.member_link.specs.declared.found.Found.{Found}
 
--- ---- the class at a place, and the place of its superclass
-
-pub class_at : (headers : Headers) (place : Place) → IsSome (header_at headers place) → (header : Header) × (header_at headers place ≡ Some header)
-class_at headers place there = by (header_at headers place) refl there
-  where
-    by : (found : Option Header) → header_at headers place ≡ found → IsSome found → (header : Header) × (header_at headers place ≡ Some header)
-    by None is some = absurd cc
-    by (Some header) is some = (header, is)
-
-class_there : (headers : Headers) (name : Name) → IsThere headers name → (header : Header) × (class_named headers name ≡ Some header)
-class_there headers name there = by (class_named headers name) refl there
-  where
-    by : (found : Option Header) → class_named headers name ≡ found → IsSome found → (header : Header) × (class_named headers name ≡ Some header)
-    by None is some = absurd cc
-    by (Some header) is some = (header, is)
-
-super_is_there : (headers : Headers) (header : Header) (name : Name) → AllByRecursion (IsThere headers) (supers header) → header.super_name ≡ Some name → IsThere headers name
-super_is_there headers header name there is = by header.super_name there is
-  where
-    by : (super : Option Name) → AllByRecursion (IsThere headers) (supers (record header { super_name = super })) → super ≡ Some name → IsThere headers name
-    by None there is = absurd cc
-    by (Some above) there is = subst (IsThere headers) (cc) there.0
+-- ---- the place of the superclass
 
 -- the superclass of a class, and its place
 pub record SuperclassAt (headers : Headers) (place : Place) (name : Name) : Type 0 where
@@ -52,21 +30,9 @@ superclass_at headers tree place header at name some =
     record {
       high = stands.0;
       class = class.0;
-      is = ap (option_and_then (λ header. option_and_then (place_of headers) header.super_name)) at ∙ ap (option_and_then (place_of headers)) some ∙ stands.1.is_place;
+      is = superclass_is headers place header at name some ∙ stands.1.is_place;
       stands = stands.1;
     }
-
-pub no_superclass_at : (headers : Headers) (place : Place) (header : Header) → header_at headers place ≡ Some header → header.super_name ≡ None → superclass_of headers place ≡ None
-no_superclass_at headers place header at none = ap (option_and_then (λ header. option_and_then (place_of headers) header.super_name)) at ∙ ap (option_and_then (place_of headers)) none
-
-pub superclass_there : (headers : Headers) → IsHierarchy headers → (place : Place) (header : Header) → header_at headers place ≡ Some header → IfSome (superclass_of headers place) (λ place. IsSome (header_at headers place))
-superclass_there headers tree place header at = by header.super_name refl
-  where
-    by : (super : Option Name) → header.super_name ≡ super → IfSome (superclass_of headers place) (λ place. IsSome (header_at headers place))
-    by None none = subst (λ (next : Option Place). IfSome next (λ place. IsSome (header_at headers place))) (sym (no_superclass_at headers place header at none)) tt
-    by (Some name) some =
-        let above = superclass_at headers tree place header at name some in
-        subst (λ (next : Option Place). IfSome next (λ place. IsSome (header_at headers place))) (sym above.is) (ap is_some above.stands.at)
 
 -- ---- the way upwards
 
@@ -80,9 +46,6 @@ pub record IsClimbed (headers : Headers) (Counts : Declared → Type 0) (name de
   pub onwards : (found : Option Declared) → FoundFrom headers Counts name desc next found → FoundFrom headers Counts name desc (Some start) found
   pub there : IfSome next (λ place. IsSome (header_at headers place))
 
-pub first_climbed : (headers : Headers) (Counts : Declared → Type 0) (name desc : List ℕ) (start : Place) → IsSome (header_at headers start) → IsClimbed headers Counts name desc start (Some start)
-first_climbed headers Counts name desc start there = record { onwards = λ found from. from; there = there }
-
 module _ (headers : Headers) (tree : IsHierarchy headers) (Counts : Declared → Type 0) (name desc : List ℕ) (start : Place) where
   from_superclass : (place : Place) (header : Header) → header_at headers place ≡ Some header → IsPassedOver Counts name desc header.name header → (found : Option Declared) → FoundFrom headers Counts name desc (superclass_of headers place) found → FirstUpwards headers Counts name desc header.name found
   from_superclass place header at passed found from = by header.super_name refl
@@ -92,7 +55,7 @@ module _ (headers : Headers) (tree : IsHierarchy headers) (Counts : Declared →
 
       by : (super : Option Name) → header.super_name ≡ super → FirstUpwards headers Counts name desc header.name found
       by None none =
-          let nothing : found ≡ None = subst (λ (next : Option Place). FoundFrom headers Counts name desc next found) (no_superclass_at headers place header at none) from in
+          let nothing : found ≡ None = subst (λ (next : Option Place). FoundFrom headers Counts name desc next found) (no_superclass headers place header at none) from in
           subst (FirstUpwards headers Counts name desc header.name) (sym nothing) (in_no_superclass header.name header named passed none)
       by (Some high) some =
           let above = superclass_at headers tree place header at high some in
@@ -102,7 +65,7 @@ module _ (headers : Headers) (tree : IsHierarchy headers) (Counts : Declared →
   pub climbed_more : (place : Place) (header : Header) → header_at headers place ≡ Some header → IsPassedOver Counts name desc header.name header → IsClimbed headers Counts name desc start (Some place) → IsClimbed headers Counts name desc start (superclass_of headers place)
   climbed_more place header at passed climbed = record {
     onwards = λ found from. climbed.onwards found (λ other other_at. subst (λ (h : Header). FirstUpwards headers Counts name desc h.name found) (same_Some header other (sym at ∙ other_at)) (from_superclass place header at passed found from));
-    there = superclass_there headers tree place header at;
+    there = superclass_there headers place;
   }
 
   pub climbed_here : (place : Place) (header : Header) → header_at headers place ≡ Some header → (member : Member) → declared name desc header.methods ≡ Some member → Counts (declared_by header.name member) → IsClimbed headers Counts name desc start (Some place) → FoundFrom headers Counts name desc (Some start) (Some (declared_by header.name member))

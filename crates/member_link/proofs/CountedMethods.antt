@@ -4,6 +4,7 @@ use Rattle.std.proofs.lemmas.Bool.{both_ways, cases_Bool, not-true, not_from_fal
 use Rattle.class_model.specs.Members.{has, PUBLIC, STATIC}
 use Rattle.class_tree.specs.Headers.{Headers}
 use Rattle.class_tree.specs.Hierarchy.{IsHierarchy}
+use Rattle.class_tree.specs.Laws.Headers.{header_there}
 use Rattle.class_tree.specs.Names.{object}
 use Rattle.class_tree.specs.Order.{header_at}
 use Rattle.class_tree.specs.declared.place.Place.{Place}
@@ -13,7 +14,6 @@ use Rattle.member_link.specs.Found.{IsMethodFound}
 use Rattle.member_link.specs.Overriding.{Overrides}
 use Rattle.member_link.specs.declared.found.Found.{Found}
 use Rattle.member_link.specs.declared.upwards.Counted.TheVariants.{OfInterface, Overriding, InstanceOfInterface}
-use Rattle.member_link.proofs.Climbed.{class_at}
 use Rattle.member_link.proofs.SameFound.{one_place, one_find}
 
 module _ (headers : Headers) (tree : IsHierarchy headers) (found : Found) (method : Declared) (is : IsMethodFound headers found method) where
@@ -26,7 +26,7 @@ module _ (headers : Headers) (tree : IsHierarchy headers) (found : Found) (metho
 
       from : Counts headers (OfInterface place) method → IsTrue test
       from (inl own) =
-          let class = class_at headers place there in
+          let class = header_there headers place there in
           absurd (differ (one_place headers tree found.place place is.header class.0 is.at class.1 (is.own_class ∙ own class.0 class.1)))
       from (inr visible) = same ∙ visible
 

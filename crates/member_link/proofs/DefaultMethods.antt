@@ -1,5 +1,5 @@
 -- Defaults among the methods of superinterfaces.
-use Rattle.std.proofs.Common.{◌≡◌, List, ℕ, Option, Some, None, IsTrue, IsFalse, refl, sym, ap, subst, ◌∙◌}
+use Rattle.std.proofs.Common.{◌≡◌, List, ℕ, Some, None, IsTrue, IsFalse, sym, ap, subst, ◌∙◌}
 use Rattle.std.proofs.lemmas.Bool.{both_ways}
 use Rattle.std.proofs.lemmas.Option.{none-some, same_Some}
 use Rattle.class_model.specs.Members.{has, ABSTRACT}
@@ -12,18 +12,9 @@ use Rattle.class_tree.specs.declared.place.Place.{Place}
 use Rattle.member_link.specs.DeclaredMembers.{Declared, declared}
 use Rattle.member_link.specs.Defaults.{IsSuperinterfaceMethod}
 use Rattle.member_link.specs.DefaultsAt.{inherited_of, IsSuperinterfaceAt, IsHidden, IsDefaultOf}
-use Rattle.member_link.specs.Found.{AreSame, IsMethodFound}
+use Rattle.member_link.specs.Found.{IsMethodFound}
 use Rattle.member_link.specs.declared.found.Found.{Found}
 use Rattle.member_link.proofs.InheritedMethods.{inherited_is, is_inherited_of, superinterface_method}
-
--- what is found is the place of what is declared
-pub found_one : (Is : Found → Declared → Type 0) (found : Found) (method : Option Declared) → AreSame Is (Some found) method → (one : Declared) × (method ≡ Some one) × Is found one
-found_one Is found None same = absurd same
-found_one Is found (Some one) same = (one, refl, same)
-
-pub found_none : (Is : Found → Declared → Type 0) (method : Option Declared) → AreSame Is None method → method ≡ None
-found_none Is None same = refl
-found_none Is (Some one) same = absurd same
 
 module _ (headers : Headers) (hierarchy : IsHierarchy headers) (class : Name) (name desc : List ℕ) (interface : Place) (header : Header) (at : header_at headers interface ≡ Some header) where
   -- a method of a superinterface is the one that the interface declares

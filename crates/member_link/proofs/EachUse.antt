@@ -4,11 +4,12 @@ use Rattle.std.proofs.lemmas.List.{get_or_default}
 use Rattle.std.proofs.lemmas.Option.{get_or_from_slice_get, slice_get_within}
 use Rattle.std.specs.List.{slice_get}
 use Rattle.class_model.specs.Checks.{Check, asked_each, AllHold}
+use Rattle.class_model.specs.Laws.Checks.{Remain, all_remain, remain, asked_at}
 use Rattle.class_tree.specs.Answers.{Answers}
+use Rattle.class_tree.specs.Laws.Links.{refused, answered}
 use Rattle.class_tree.specs.Problems.{Problem}
 use Rattle.class_tree.specs.declared.fault.LinkFault.{LinkFault}
 use Rattle.member_link.specs.Resolving.{Resolved}
-use Rattle.member_link.proofs.LinkSteps.{Remain, all_remain, remain, refused, answered, asked_at}
 
 -- Items below an index have been asked.
 pub record AskedBelow {X : Type 0} (asks : X → List (Check Problem)) (items : List X) (i : ℕ) : Type 0 where

@@ -11,13 +11,14 @@ use Rattle.class_model.specs.declared.header.Member.{Member}
 use Rattle.class_tree.specs.Headers.{Name, Headers, class_named}
 use Rattle.class_tree.specs.Hierarchy.{IsHierarchy}
 use Rattle.class_tree.specs.Interfaces.{IsWalk, done, next, AreSuperinterfaces, each_once}
+use Rattle.class_tree.specs.Laws.Above.{object_no_superclass, no_interfaces_of_object, walk_of_interface, hierarchy_is_sound, hierarchy_is_rooted}
+use Rattle.class_tree.specs.Laws.Headers.{own_name}
 use Rattle.class_tree.specs.Names.{object, is_interface}
 use Rattle.class_tree.specs.Order.{header_at, place_of}
 use Rattle.class_tree.specs.declared.place.Place.{Place}
 use Rattle.member_link.specs.DeclaredMembers.{Declared, declared_by, declared}
 use Rattle.member_link.specs.Fields.{interfaces_and_super, FindsFirst, in_no_class, in_class, above_class, in_other_class, absent_class, FindsField}
 use Rattle.member_link.specs.FieldSearch.{IsInterfaceIfThere, of_last, met, first_met, super_list, FindsOrLeaves}
-use Rattle.member_link.proofs.ObjectRoot.{own_name, object_no_super, object_no_interfaces, walk_of_interface}
 
 -- ---- the one or the other
 
@@ -131,8 +132,8 @@ module _ (headers : Headers) (hierarchy : IsHierarchy headers) (name desc : List
       nothing_above : interfaces_and_super header ≡ []
       nothing_above =
           interfaces_then_super header
-          ∙ ap (λ (names : List Name). names ++ super_list header.super_name) (object_no_interfaces headers hierarchy header is)
-          ∙ ap super_list (object_no_super headers hierarchy header is)
+          ∙ ap (λ (names : List Name). names ++ super_list header.super_name) (no_interfaces_of_object headers (hierarchy_is_sound headers hierarchy) header is)
+          ∙ ap super_list (object_no_superclass headers (hierarchy_is_sound headers hierarchy) (hierarchy_is_rooted headers hierarchy) header is)
 
       by : (own : Option Member) → declared name desc header.fields ≡ own → FindsField headers object name desc (option_map (declared_by header.name) (declared name desc header.fields))
       by None lacks =
@@ -140,7 +141,7 @@ module _ (headers : Headers) (hierarchy : IsHierarchy headers) (name desc : List
           (in_other_class object [] header None is lacks (subst (λ (names : List Name). FindsFirst headers name desc names None) (sym nothing_above) in_no_class) in_no_class)
       by (Some member) declares =
           subst (λ (o : Option Member). FindsField headers object name desc (option_map (declared_by header.name) o)) (sym declares)
-          (subst (λ (n : Name). FindsField headers object name desc (Some (declared_by n member))) (sym (own_name headers hierarchy object header is)) (in_class object [] header member is declares))
+          (subst (λ (n : Name). FindsField headers object name desc (Some (declared_by n member))) (sym (own_name headers object header is)) (in_class object [] header member is declares))
 
 -- ---- what is met first is what is found
 
@@ -183,7 +184,7 @@ module _ (headers : Headers) (hierarchy : IsHierarchy headers) (name desc : List
 
       by : (own_field : Option Member) → declared name desc header.fields ≡ own_field → FindsFirst headers name desc (first ∷ names) (first_met_in headers top name desc (first ∷ (own ++ rest)))
       by (Some member) declares =
-          let here = met_here first header is ∙ ap (λ (o : Option Member). option_or (option_map (declared_by header.name) o) (of_last top header.interfaces)) declares ∙ ap (λ (n : Name). Some (declared_by n member)) (own_name headers hierarchy first header is) in
+          let here = met_here first header is ∙ ap (λ (o : Option Member). option_or (option_map (declared_by header.name) o) (of_last top header.interfaces)) declares ∙ ap (λ (n : Name). Some (declared_by n member)) (own_name headers first header is) in
           subst (FindsFirst headers name desc (first ∷ names)) (sym (ap (λ (o : Option Declared). option_or o (first_met_in headers top name desc (own ++ rest))) here)) (in_class first names header member is declares)
       by None lacks =
           let here = met_here first header is ∙ ap (λ (o : Option Member). option_or (option_map (declared_by header.name) o) (of_last top header.interfaces)) lacks in
@@ -202,7 +203,7 @@ module _ (headers : Headers) (hierarchy : IsHierarchy headers) (name desc : List
   -- what is met first in an interface and in its superinterfaces is found in it
   pub interface_finds : (interface : Name) (header : Header) → class_named headers interface ≡ Some header → IsTrue (is_interface header) → (names : List Name) → AreSuperinterfaces headers interface names → FindsField headers interface name desc (option_or (met top name desc header) (first_met_in headers top name desc names))
   interface_finds interface header is kind names above =
-      let walked = walk_of_interface headers hierarchy above.walked header is kind in
+      let walked = walk_of_interface headers (hierarchy_is_sound headers hierarchy) above.walked header is kind in
       let finds = walk_finds (next interface header [] above.walk [] is walked done) (subst (λ (o : Option Header). IfSome o (λ above. IsTrue (is_interface above))) (sym is) kind, tt) in
       let whole =
       ap (λ (names : List Name). first_met_in headers top name desc (interface ∷ names)) (append-nil above.walk)

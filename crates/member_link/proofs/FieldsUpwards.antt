@@ -4,12 +4,13 @@ use Rattle.std.proofs.lemmas.Option.{same_Some}
 use Rattle.class_model.specs.declared.header.Header.{Header}
 use Rattle.class_tree.specs.Headers.{Name, Headers}
 use Rattle.class_tree.specs.Hierarchy.{IsHierarchy, superclass_of}
+use Rattle.class_tree.specs.Laws.Headers.{no_superclass, superclass_there}
 use Rattle.class_tree.specs.Order.{header_at, place_of}
 use Rattle.class_tree.specs.declared.place.Place.{Place}
 use Rattle.member_link.specs.DeclaredMembers.{Declared}
 use Rattle.member_link.specs.Fields.{FindsFirst, FindsField, in_no_class, absent_class}
 use Rattle.member_link.specs.FieldSearch.{super_list, FindsOrLeaves}
-use Rattle.member_link.proofs.Climbed.{superclass_at, no_superclass_at, superclass_there}
+use Rattle.member_link.proofs.Climbed.{superclass_at}
 
 -- what is found in the class at a place, or where there is none, nothing
 abbrev pub FoundFrom : Headers → List ℕ → List ℕ → Option Place → Option Declared → Type 0
@@ -39,7 +40,7 @@ module _ (headers : Headers) (hierarchy : IsHierarchy headers) (class : Name) (n
     where
       by : (super : Option Name) → header.super_name ≡ super → FindsFirst headers name desc (super_list header.super_name) found
       by None none =
-          let nothing = subst (λ (next : Option Place). FoundFrom headers name desc next found) (no_superclass_at headers place header at none) from in
+          let nothing = subst (λ (next : Option Place). FoundFrom headers name desc next found) (no_superclass headers place header at none) from in
           subst (λ (super : Option Name). FindsFirst headers name desc (super_list super) found) (sym none) (subst (FindsFirst headers name desc []) (sym nothing) in_no_class)
       by (Some high) some =
           let above = superclass_at headers hierarchy place header at high some in
@@ -50,5 +51,5 @@ module _ (headers : Headers) (hierarchy : IsHierarchy headers) (class : Name) (n
   pub searched_more : (place : Place) (header : Header) → header_at headers place ≡ Some header → FindsOrLeaves headers name desc header None → IsSearched headers class name desc (Some place) → IsSearched headers class name desc (superclass_of headers place)
   searched_more place header at leaves searched = record {
     onwards = λ found from. searched.onwards found (λ other other_at. subst (λ (h : Header). FindsField headers h.name name desc found) (same_Some header other (sym at ∙ other_at)) (leaves found (in_super place header at found from)));
-    there = superclass_there headers hierarchy place header at;
+    there = superclass_there headers place;
   }

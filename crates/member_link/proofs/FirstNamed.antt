@@ -1,5 +1,5 @@
 -- The first method of a name, and its place.
-use Rattle.std.proofs.Common.{◌≡◌, ◌+◌, ◌<◌, ℕ, suc, Bool, true, false, cond, bytes_eq, List, [], ◌∷◌, length, slice_get, Option, Some, None, IfSome, option_map, refl, sym, ap, subst, ◌∙◌, arith}
+use Rattle.std.proofs.Common.{◌≡◌, ◌+◌, ◌<◌, ℕ, suc, Bool, true, false, cond, bytes_eq, List, [], ◌∷◌, length, slice_get, Option, Some, None, IfSome, option_map, refl, sym, ap, subst, ◌∙◌, arith, option_and_then}
 use Rattle.std.specs.List.{position_from}
 use Rattle.std.proofs.lemmas.Bool.{and_from, and_left}
 use Rattle.std.proofs.lemmas.Option.{same_Some, slice_get_within}
@@ -7,7 +7,7 @@ use Rattle.std.proofs.lemmas.Slice.Eq.{bytes_eq-Decides}
 use Rattle.class_model.specs.declared.header.Header.{Header}
 use Rattle.class_model.specs.declared.header.Member.{Member}
 use Rattle.class_tree.specs.Headers.{Name, Headers}
-use Rattle.class_tree.specs.Names.{is_member}
+use Rattle.class_tree.specs.Laws.FirstPlaces.{first_passes, first_at}
 use Rattle.class_tree.specs.Order.{first_place, header_at, member_place}
 use Rattle.class_tree.specs.declared.place.Place.{Place}
 use Rattle.member_link.specs.DeclaredMembers.{declared_by}
@@ -48,47 +48,41 @@ pub record IsFirstNamed (name : Name) (members : List Member) (place : ℕ) : Ty
   pub is : first_named name members ≡ Some member
   pub first : member_place member.name member.desc members ≡ Some place
 
-named_later : (name : Name) (member : Member) (members : List Member) → has_name name member ≡ false → (place : ℕ) → IsFirstNamed name members place → IsFirstNamed name (member ∷ members) (place + 1)
-named_later name member members other place named =
-    let differs : is_member named.member.name named.member.desc member ≡ false = and_left _ _ (subst (λ (n : Name). bytes_eq n member.name ≡ false) named.own_name other) in
-    record {
-      member = named.member;
-      own_name = named.own_name;
-      stands = subst (λ (i : ℕ). slice_get (member ∷ members) i ≡ Some named.member) {x = suc place} (omega arith) named.stands;
-      is = ap (λ test. cond test (Some member) (first_named name members)) other ∙ named.is;
-      first =
-          ap (λ test. cond test (Some 0) (option_map (λ at. at + 1) (member_place named.member.name named.member.desc members))) differs
-          ∙ ap (option_map (λ at. at + 1)) named.first;
-    }
+first_named_at : (name : Name) (members : List Member) → first_named name members ≡ option_and_then (slice_get members) (first_place (has_name name) members)
+first_named_at name members = first_at (has_name name) (first_named name) refl (λ member rest. refl) members
 
-named_here : (name : Name) (member : Member) (members : List Member) → has_name name member ≡ true → IsFirstNamed name (member ∷ members) 0
-named_here name member members here =
-    let own : is_member member.name member.desc member ≡ true = and_from _ _ ((bytes_eq-Decides member.name member.name).1 refl) ((bytes_eq-Decides member.desc member.desc).1 refl) in
-    record {
-      member = member;
-      own_name = (bytes_eq-Decides name member.name).0 here;
-      stands = refl;
-      is = ap (λ test. cond test (Some member) (first_named name members)) here;
-      first = ap (λ test. cond test (Some 0) (option_map (λ at. at + 1) (member_place member.name member.desc members))) own;
-    }
+-- the first member of a name is the first of its own name and descriptor
+own_place : (name desc : List ℕ) (members : List Member) (place : ℕ) (member : Member) → first_place (has_name name) members ≡ Some place → slice_get members place ≡ Some member → member.desc ≡ desc → member_place name desc members ≡ Some place
+own_place name desc [] place member is there same = absurd cc
+own_place name desc (first ∷ members) place member is there same = by (has_name name first) refl (first_place (has_name name) members) (λ at. own_place name desc members at member) is
+  where
+    by : (test : Bool) → has_name name first ≡ test → (later : Option ℕ) → ((at : ℕ) → later ≡ Some at → slice_get members at ≡ Some member → member.desc ≡ desc → member_place name desc members ≡ Some at) → cond test (Some 0) (option_map (λ at. at + 1) later) ≡ Some place → member_place name desc (first ∷ members) ≡ Some place
+    by true here later more is =
+        let front : place ≡ 0 = cc in
+        let own : first ≡ member = same_Some first member (sym (ap (slice_get (first ∷ members)) front) ∙ there) in
+        ap (λ test. cond test (Some 0) (option_map (λ at. at + 1) (member_place name desc members))) (and_from _ _ here ((bytes_eq-Decides desc first.desc).1 (sym (ap (λ (m : Member). m.desc) own ∙ same))))
+        ∙ ap Some (sym front)
+    by false other None more is = absurd cc
+    by false other (Some at) more is =
+        let behind : place ≡ at + 1 = cc in
+        let next : place ≡ suc at = omega (arith, behind) in
+        ap (λ test. cond test (Some 0) (option_map (λ at. at + 1) (member_place name desc members))) (and_left _ _ other)
+        ∙ ap (option_map (λ at. at + 1)) (more at refl (sym (ap (slice_get (first ∷ members)) next) ∙ there) same) ∙ ap Some (sym behind)
 
 pub named_at : (name : Name) (members : List Member) (place : ℕ) → first_place (has_name name) members ≡ Some place → IsFirstNamed name members place
-named_at name [] place is = absurd cc
-named_at name (member ∷ members) place is = by (has_name name member) refl (first_place (has_name name) members) (named_at name members) is
-  where
-    by : (test : Bool) → has_name name member ≡ test → (later : Option ℕ) → ((at : ℕ) → later ≡ Some at → IsFirstNamed name members at) → cond test (Some 0) (option_map (λ at. at + 1) later) ≡ Some place → IsFirstNamed name (member ∷ members) place
-    by true here later more is = subst (IsFirstNamed name (member ∷ members)) {x = 0} (cc) (named_here name member members here)
-    by false other None more is = absurd cc
-    by false other (Some at) more is = subst (IsFirstNamed name (member ∷ members)) {x = at + 1} (cc) (named_later name member members other at (more at refl))
+named_at name members place is =
+    let passes = first_passes (has_name name) members place is in
+    let same = (bytes_eq-Decides name passes.item.name).0 passes.passes in
+    record {
+      member = passes.item;
+      own_name = same;
+      stands = passes.there;
+      is = first_named_at name members ∙ ap (option_and_then (slice_get members)) is ∙ passes.there;
+      first = subst (λ (n : Name). member_place n passes.item.desc members ≡ Some place) same (own_place name passes.item.desc members place passes.item is passes.there refl);
+    }
 
 pub none_named : (name : Name) (members : List Member) → first_place (has_name name) members ≡ None → first_named name members ≡ None
-none_named name [] is = refl
-none_named name (member ∷ members) is = by (has_name name member) refl (first_place (has_name name) members) (none_named name members) is
-  where
-    by : (test : Bool) → has_name name member ≡ test → (later : Option ℕ) → (later ≡ None → first_named name members ≡ None) → cond test (Some 0) (option_map (λ at. at + 1) later) ≡ None → first_named name (member ∷ members) ≡ None
-    by true here later more is = absurd cc
-    by false other (Some at) more is = absurd cc
-    by false other None more is = ap (λ test. cond test (Some member) (first_named name members)) other ∙ more refl
+none_named name members is = first_named_at name members ∙ ap (option_and_then (slice_get members)) is
 
 pub named_within : (name : Name) (members : List Member) (found : Option ℕ) → found ≡ first_place (has_name name) members → IfSome found (λ place. place < length members)
 named_within name members None is = tt

@@ -1,9 +1,10 @@
 -- What the look-up of a method in a class and above it answers.
-use Rattle.std.proofs.Common.{◌≡◌, ◌↔◌, ◌⊎◌, ℕ, List, Option, Some, None, refl, sym, subst, ◌∙◌, inl, inr}
+use Rattle.std.proofs.Common.{◌≡◌, ◌↔◌, ◌⊎◌, ℕ, List, Option, Some, None, sym, subst, ◌∙◌, inl, inr}
 use Rattle.class_model.specs.declared.header.Header.{Header}
 use Rattle.class_tree.specs.Headers.{Name, Headers}
 use Rattle.class_tree.specs.Hierarchy.{StandsAt}
 use Rattle.class_tree.specs.declared.place.Place.{Place}
+use Rattle.member_link.proofs.FoundOr.{some_same, none_same}
 use Rattle.member_link.specs.DeclaredMembers.{Declared}
 use Rattle.member_link.specs.Defaults.{IsOneDefault}
 use Rattle.member_link.specs.DefaultsOf.{AreDefaults}
@@ -17,18 +18,10 @@ use Rattle.member_link.proofs.UpwardsOnce.{upwards_as}
 
 -- where something is found, it is the place of a method, and else there is none
 pub same_some : (Is : Found → Declared → Type 0) (result : Option Found) (answer : Option Declared) → AreSame Is result answer → (found : Found) → result ≡ Some found → (method : Declared) × (answer ≡ Some method) × Is found method
-same_some Is result answer same found is = by answer (subst (λ (r : Option Found). AreSame Is r answer) is same)
-  where
-    by : (answer : Option Declared) → AreSame Is (Some found) answer → (method : Declared) × (answer ≡ Some method) × Is found method
-    by None same = absurd same
-    by (Some method) same = (method, refl, same)
+same_some Is result answer same found is = some_same Is found answer (subst (λ (r : Option Found). AreSame Is r answer) is same)
 
 pub same_none : (Is : Found → Declared → Type 0) (result : Option Found) (answer : Option Declared) → AreSame Is result answer → result ≡ None → answer ≡ None
-same_none Is result answer same is = by answer (subst (λ (r : Option Found). AreSame Is r answer) is same)
-  where
-    by : (answer : Option Declared) → AreSame Is None answer → answer ≡ None
-    by None same = refl
-    by (Some method) same = absurd same
+same_none Is result answer same is = none_same Is answer (subst (λ (r : Option Found). AreSame Is r answer) is same)
 
 -- where there is no default, or two, there is not one
 pub not_one_default : (headers : Headers) (class : Name) (name desc : List ℕ) (defaults : DefaultMethods) → AreDefaults headers class name desc defaults → (defaults ≡ Nothing) ⊎ (defaults ≡ Several) → (method : Declared) → ¬ IsOneDefault headers class name desc method

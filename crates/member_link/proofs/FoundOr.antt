@@ -10,9 +10,9 @@ module _ (Is : Found → Declared → Type 0) where
   none_same None same = refl
   none_same (Some member) same = absurd same
 
-  pub some_same : (found : Found) (answer : Option Declared) → AreSame Is (Some found) answer → (member : Declared) × (answer ≡ Some member)
+  pub some_same : (found : Found) (answer : Option Declared) → AreSame Is (Some found) answer → (member : Declared) × (answer ≡ Some member) × Is found member
   some_same found None same = absurd same
-  some_same found (Some member) same = (member, refl)
+  some_same found (Some member) same = (member, refl, same)
 
   -- the first of both
   pub found_first : (found : Found) (one other : Option Declared) → AreSame Is (Some found) one → AreSame Is (Some found) (option_or one other)

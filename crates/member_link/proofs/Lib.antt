@@ -1,5 +1,4 @@
 pub mod FolderClasses
-pub mod LinkSteps
 pub mod MethodUses
 pub mod CodeChecks
 pub mod EachUse
@@ -7,7 +6,6 @@ pub mod OwnMembers
 pub mod FieldsOnce
 pub mod UpwardsOnce
 pub mod Climbed
-pub mod ObjectRoot
 pub mod FieldWalks
 pub mod FoundOr
 pub mod FieldsUpwards
@@ -34,6 +32,5 @@ pub mod Referents
 pub mod ToldReferences
 pub mod MethodsAbove
 pub mod OpenOverriding
-pub mod Rooted
 pub mod WaysUp
 pub mod FolderMethods

@@ -2,18 +2,19 @@
 use Rattle.std.proofs.Common.{◌≡◌, ◌+◌, ◌<◌, ℕ, List, ◌∷◌, ◌++◌, length, drop, get_or, Err, sym, subst}
 use Rattle.std.proofs.lemmas.List.{drop_more}
 use Rattle.class_model.specs.Checks.{Check, asked_each, AllHold}
+use Rattle.class_model.specs.Laws.Checks.{Remain, all_remain, remain}
 use Rattle.class_model.specs.declared.class_file.ClassFile.{ClassFile}
 use Rattle.class_model.specs.declared.class_file.Method.{Method}
 use Rattle.class_model.specs.declared.header.Header.{Header}
 use Rattle.class_model.specs.declared.header.Member.{Member}
 use Rattle.class_tree.specs.Answers.{Answers}
 use Rattle.class_tree.specs.Headers.{Headers}
+use Rattle.class_tree.specs.Laws.Links.{refused}
 use Rattle.class_tree.specs.Problems.{Problem}
 use Rattle.class_tree.specs.declared.fault.LinkFault.{LinkFault}
 use Rattle.member_link.specs.Resolving.{Resolved, resolved_scope}
 use Rattle.member_link.specs.Uses.{attr_checks, methods_use_checks}
 use Rattle.code_bytes.specs.Codes.{home_of}
-use Rattle.member_link.proofs.LinkSteps.{Remain, all_remain, remain, refused}
 
 abbrev pub resolved : Headers → ClassFile → Header → Resolved
 resolved headers class header = record { headers = headers; pool = class.pool; from = header.name }

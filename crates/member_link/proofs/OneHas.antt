@@ -1,5 +1,6 @@
 -- Lists of which one item has a property, in a loop that looks for it.
-use Rattle.std.proofs.Common.{◌⊎◌, ◌+◌, ◌<◌, ◌≤◌, ℕ, zero, suc, List, [], ◌∷◌, length, get_or, drop, subst, inl, inr, arith}
+use Rattle.std.proofs.lemmas.List.Elements.{All-get_or, All-from_recursion}
+use Rattle.std.proofs.Common.{◌⊎◌, ◌+◌, ◌<◌, ◌≤◌, ℕ, List, [], ◌∷◌, length, get_or, drop, subst, inl, inr}
 use Rattle.std.specs.List.{AllByRecursion}
 use Rattle.std.proofs.lemmas.List.{drop_more, drop_all}
 
@@ -14,6 +15,4 @@ pub none_left : {X : Type 0} (P : X → Type 0) (xs : List X) (i : ℕ) → leng
 none_left P xs i past one = subst (OneHas P) (drop_all i xs past) one
 
 pub each_at : {X : Type 0} (P : X → Type 0) (xs : List X) → AllByRecursion P xs → (i : ℕ) (d : X) → i < length xs → P (get_or xs i d)
-each_at P [] all i d within = absurd (omega arith)
-each_at P (x ∷ xs) all zero d within = all.0
-each_at P (x ∷ xs) all (suc i) d within = each_at P xs all.1 i d (omega arith)
+each_at P xs all i d within = All-get_or P xs i d within (All-from_recursion P xs all)

@@ -2,8 +2,8 @@
 use Rattle.std.proofs.Common.{◌≡◌, ◌⊎◌, ◌↔◌, ◌&&◌, ◌||◌, not, Bool, true, false, IsTrue, refl, sym, ◌∙◌, inl, inr}
 use Rattle.std.proofs.lemmas.Bool.{false≢true, both_ways, cases_Bool}
 use Rattle.class_model.specs.Members.{has, PUBLIC, PRIVATE, PROTECTED, STATIC}
-use Rattle.class_tree.specs.Headers.{Name, Headers}
-use Rattle.class_tree.specs.Subtype.{IsBelow, directly, onwards}
+use Rattle.class_tree.specs.Headers.{Headers}
+use Rattle.class_tree.specs.Laws.Above.{below_more}
 use Rattle.member_link.specs.DeclaredMembers.{Declared, is_open}
 use Rattle.member_link.specs.Found.{IsMethodFound}
 use Rattle.member_link.specs.OpenMethods.{IsAbove, IsAnyOf, one_passes, none_passes, OpensPackage}
@@ -26,10 +26,6 @@ package_access false true private static inherited closed = absurd cc
 package_access true protected private static inherited closed = absurd cc
 
 module _ {headers : Headers} where
-  pub below_more : {low middle high : Name} → IsBelow headers low middle → IsBelow headers middle high → IsBelow headers low high
-  below_more (directly low middle step) rest = onwards low middle _ step rest
-  below_more (onwards low next middle step more) rest = onwards low next _ step (below_more more rest)
-
   pub may_of : {low high : Declared} → Overrides headers low high → MayOverride headers low high
   may_of (overrides_open low high may opens) = may
   may_of (overrides_in_package low high may access same) = may

@@ -1,18 +1,18 @@
 -- The members that a class declares itself, and what it means that one is found: the place of a name and descriptor is
 -- that of the member that is declared, and a place is that of one member.
-use Rattle.std.proofs.Common.{◌≡◌, ◌+◌, ℕ, suc, Bool, true, false, cond, List, [], ◌∷◌, slice_get, Option, Some, None, option_map, refl, sym, ap, subst, ◌∙◌, arith}
+use Rattle.std.proofs.Common.{◌≡◌, ℕ, true, List, slice_get, Option, Some, None, option_map, refl, sym, ap, subst, ◌∙◌, option_and_then}
 use Rattle.std.proofs.lemmas.Bool.{and_parts}
 use Rattle.std.proofs.lemmas.Option.{same_Some}
 use Rattle.std.proofs.lemmas.Slice.Eq.{bytes_eq-Decides}
 use Rattle.class_model.specs.declared.header.Header.{Header}
 use Rattle.class_model.specs.declared.header.Member.{Member}
-use Rattle.class_tree.specs.Headers.{Name, Headers}
+use Rattle.class_tree.specs.Headers.{Headers}
+use Rattle.class_tree.specs.Laws.FirstPlaces.{first_passes, first_at}
 use Rattle.class_tree.specs.Names.{is_member}
 use Rattle.class_tree.specs.Order.{header_at, member_place}
 use Rattle.class_tree.specs.declared.place.Place.{Place}
-use Rattle.member_link.specs.DeclaredMembers.{Declared, declared_by, declared}
+use Rattle.member_link.specs.DeclaredMembers.{declared_by, declared}
 use Rattle.member_link.specs.Found.{AreSame, IsFoundIn}
-use Rattle.member_link.specs.declared.found.Found.{Found}
 
 -- the member of a name and descriptor stands at this place, and is the one that is declared
 pub record IsOwn (name desc : List ℕ) (members : List Member) (place : ℕ) : Type 0 where
@@ -28,39 +28,25 @@ named name desc member is = sym ((bytes_eq-Decides name member.name).0 (and_part
 described : (name desc : List ℕ) (member : Member) → is_member name desc member ≡ true → member.desc ≡ desc
 described name desc member is = sym ((bytes_eq-Decides desc member.desc).0 (and_parts _ _ is).1)
 
+-- the declared member stands at the place of its name and descriptor
+first_declared : (name desc : List ℕ) (members : List Member) → declared name desc members ≡ option_and_then (slice_get members) (member_place name desc members)
+first_declared name desc members = first_at (is_member name desc) (declared name desc) refl (λ member rest. refl) members
+
 -- the place of a name and descriptor is that of the declared member
 pub own_at : (name desc : List ℕ) (members : List Member) (place : ℕ) → member_place name desc members ≡ Some place → IsOwn name desc members place
-own_at name desc [] place is = absurd cc
-own_at name desc (member ∷ members) place is = by (is_member name desc member) refl (member_place name desc members) (own_at name desc members) is
-  where
-    by : (test : Bool) → is_member name desc member ≡ test → (later : Option ℕ) → ((at : ℕ) → later ≡ Some at → IsOwn name desc members at) → cond test (Some 0) (option_map (λ at. at + 1) later) ≡ Some place → IsOwn name desc (member ∷ members) place
-    by true passes later more is = subst (IsOwn name desc (member ∷ members)) {x = 0} (cc) (record {
-      member = member;
-      stands = refl;
-      is = ap (λ test. cond test (Some member) (declared name desc members)) passes;
-      own_name = named name desc member passes;
-      own_desc = described name desc member passes;
-    })
-    by false fails None more is = absurd cc
-    by false fails (Some at) more is =
-        let own = more at refl in
-        subst (IsOwn name desc (member ∷ members)) {x = at + 1} (cc) (record {
-          member = own.member;
-          stands = subst (λ (i : ℕ). slice_get (member ∷ members) i ≡ Some own.member) {x = suc at} (omega arith) own.stands;
-          is = ap (λ test. cond test (Some member) (declared name desc members)) fails ∙ own.is;
-          own_name = own.own_name;
-          own_desc = own.own_desc;
-        })
+own_at name desc members place is =
+    let passes = first_passes (is_member name desc) members place is in
+    record {
+      member = passes.item;
+      stands = passes.there;
+      is = first_declared name desc members ∙ ap (option_and_then (slice_get members)) is ∙ passes.there;
+      own_name = named name desc passes.item passes.passes;
+      own_desc = described name desc passes.item passes.passes;
+    }
 
 -- where a name and descriptor have no place, no member is declared
 pub none_own : (name desc : List ℕ) (members : List Member) → member_place name desc members ≡ None → declared name desc members ≡ None
-none_own name desc [] is = refl
-none_own name desc (member ∷ members) is = by (is_member name desc member) refl (member_place name desc members) (none_own name desc members) is
-  where
-    by : (test : Bool) → is_member name desc member ≡ test → (later : Option ℕ) → (later ≡ None → declared name desc members ≡ None) → cond test (Some 0) (option_map (λ at. at + 1) later) ≡ None → declared name desc (member ∷ members) ≡ None
-    by true passes later more is = absurd cc
-    by false fails (Some at) more is = absurd cc
-    by false fails None more is = ap (λ test. cond test (Some member) (declared name desc members)) fails ∙ more refl
+none_own name desc members is = first_declared name desc members ∙ ap (option_and_then (slice_get members)) is
 
 -- a declared member has a place
 pub own_of_declared : (name desc : List ℕ) (members : List Member) (member : Member) → declared name desc members ≡ Some member → (place : ℕ) × (member_place name desc members ≡ Some place) × (slice_get members place ≡ Some member) × (member.name ≡ name) × (member.desc ≡ desc)
@@ -72,14 +58,6 @@ own_of_declared name desc members member is = by (member_place name desc members
         let own = own_at name desc members place at in
         let same = same_Some own.member member (sym own.is ∙ is) in
         (place, at, own.stands ∙ ap Some same, ap (λ (m : Member). m.name) (sym same) ∙ own.own_name, ap (λ (m : Member). m.desc) (sym same) ∙ own.own_desc)
-
--- a place is that of one member
-pub found_once : {members_of : Header → List Member} {headers : Headers} {found : Found} {one other : Declared} → IsFoundIn members_of headers found one → IsFoundIn members_of headers found other → one ≡ other
-found_once {members_of = members_of} {headers = headers} {found = found} {one = one} {other = other} is also =
-    let header = same_Some is.header also.header (sym is.at ∙ also.at) in
-    let class : one.class ≡ other.class = sym is.own_class ∙ ap (λ (h : Header). h.name) header ∙ also.own_class in
-    let member = same_Some one.member other.member (sym is.stands ∙ ap (λ (h : Header). slice_get (members_of h) found.member) header ∙ also.stands) in
-    ap (λ (name : Name). declared_by name one.member) class ∙ ap (declared_by other.class) member
 
 -- ---- what the look-up of a class's own member answers
 

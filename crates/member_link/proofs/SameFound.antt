@@ -1,26 +1,20 @@
 -- What it means that two places, or two finds, are the same.
 use Rattle.std.proofs.Common.{◌≡◌, ◌&&◌, ℕ, true, eqb, List, Some, sym, ap, ◌∙◌}
 use Rattle.std.specs.Bool.{Decides}
-use Rattle.std.proofs.lemmas.Bool.{false≢true, and_parts, and_from, eqb-true, eq-eqb}
+use Rattle.std.proofs.lemmas.Bool.{and_parts, and_from, eqb-true, eq-eqb}
 use Rattle.std.proofs.lemmas.Option.{same_Some}
 use Rattle.class_model.specs.declared.header.Header.{Header}
 use Rattle.class_model.specs.declared.header.Member.{Member}
 use Rattle.class_tree.specs.Headers.{Headers}
 use Rattle.class_tree.specs.Hierarchy.{IsHierarchy}
+use Rattle.class_tree.specs.Laws.Places.{same_place}
 use Rattle.class_tree.specs.Order.{header_at, place_of, member_place}
 use Rattle.class_tree.specs.contracts.place.PlacePartialEq.TheImpl as places
 use Rattle.class_tree.specs.declared.place.Place.{Place}
-use Rattle.class_tree.specs.declared.place.Place.TheVariants.{Folder, Library}
 use Rattle.member_link.specs.DeclaredMembers.{Declared}
 use Rattle.member_link.specs.Found.{IsFoundIn}
 use Rattle.member_link.specs.contracts.found.FoundPartialEq.TheImpl as founds
 use Rattle.member_link.specs.declared.found.Found.{Found}
-
-pub same_place : (one other : Place) → Decides (places.ghosts.eq one other) (one ≡ other)
-same_place (Folder one) (Folder other) = (λ same. ap Folder (eqb-true one other same), λ same. eq-eqb one other cc)
-same_place (Library one) (Library other) = (λ same. ap Library (eqb-true one other same), λ same. eq-eqb one other cc)
-same_place (Folder one) (Library other) = (λ same. absurd (false≢true same), λ same. absurd cc)
-same_place (Library one) (Folder other) = (λ same. absurd (false≢true same), λ same. absurd cc)
 
 abbrev found_of : Place → ℕ → ℕ → Found
 found_of place member flags = record { place = place; member = member; flags = flags }

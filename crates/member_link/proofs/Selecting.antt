@@ -1,6 +1,6 @@
 -- Selection, step by step: where it starts, which methods count, and what is chosen.
-use Rattle.std.proofs.Common.{◌≡◌, ◌≢◌, ◌⊎◌, ◌↔◌, ◌==◌, ◌∙◌, Bool, true, false, cond, ℕ, List, [], ◌∷◌, Some, None, IsTrue, IsFalse, refl, sym, ap}
-use Rattle.std.proofs.lemmas.Bool.{both_ways, eqb-true, false_from_ne_true}
+use Rattle.std.proofs.Common.{◌≡◌, ◌≢◌, ◌⊎◌, ◌↔◌, ◌∙◌, true, false, ℕ, List, Some, None, IsTrue, IsFalse, sym, ap}
+use Rattle.std.proofs.lemmas.Bool.{both_ways, false_from_ne_true}
 use Rattle.std.proofs.lemmas.Option.{none-some, same_Some}
 use Rattle.class_model.specs.Members.{has, PUBLIC, STATIC}
 use Rattle.class_model.specs.declared.header.Header.{Header}
@@ -18,14 +18,6 @@ use Rattle.member_link.specs.declared.selection.CallForm.TheVariants.{Virtual, I
 
 pub start_of_array : (name : Name) → IsArray name → start_of name ≡ object
 start_of_array name array = ap start_of array.1
-
-pub start_of_class : (name : Name) → ¬ IsArray name → start_of name ≡ name
-start_of_class [] named = refl
-start_of_class (first ∷ rest) named = by (first == 91) refl
-  where
-    by : (test : Bool) → (first == 91) ≡ test → start_of (first ∷ rest) ≡ first ∷ rest
-    by true is = absurd (named (rest, ap (λ (n : ℕ). n ∷ rest) (eqb-true first 91 is)))
-    by false is = ap (λ b. cond b object (first ∷ rest)) is
 
 -- ---- which methods count
 

@@ -1,41 +1,25 @@
 -- The superinterfaces of a class, by their names and by their places, and the methods that they declare.
-use Rattle.std.proofs.Common.{◌≡◌, ◌⊎◌, ◌↔◌, ◌<◌, Bool, true, false, not, cond, ℕ, List, [], ◌∷◌, length, get_or, map, filter, bytes_eq, Option, Some, None, IsSome, IfSome, IsTrue, refl, sym, ap, subst, ◌∙◌, inl, inr}
+use Rattle.std.proofs.Common.{◌≡◌, ◌⊎◌, ◌↔◌, ◌<◌, Bool, true, false, not, cond, ℕ, List, [], ◌∷◌, length, get_or, map, filter, bytes_eq, Some, IfSome, IsTrue, refl, sym, ap, subst, ◌∙◌, inl, inr}
 use Rattle.std.specs.Bool.{Decides}
 use Rattle.std.specs.List.{AllByRecursion, list_any}
-use Rattle.std.proofs.lemmas.Bool.{false≢true, cases_Bool, or_cases, or_left, or_right, eqb-true, eq-eqb}
+use Rattle.std.proofs.lemmas.Bool.{false≢true, cases_Bool, or_cases, or_left, or_right}
 use Rattle.std.proofs.lemmas.Option.{same_Some}
 use Rattle.std.proofs.lemmas.Slice.Eq.{bytes_eq-Decides}
 use Rattle.class_model.specs.declared.header.Header.{Header}
 use Rattle.class_tree.specs.Headers.{Name, Headers, class_named}
 use Rattle.class_tree.specs.Hierarchy.{IsHierarchy}
 use Rattle.class_tree.specs.Interfaces.{AreSuperinterfaces, each_once}
+use Rattle.class_tree.specs.Laws.Names.{IsOneName, one_name_first, one_of_first, each_of_names}
+use Rattle.class_tree.specs.Laws.Places.{same_place}
 use Rattle.class_tree.specs.Names.{is_interface}
 use Rattle.class_tree.specs.Order.{header_at, place_of}
 use Rattle.class_tree.specs.Subtype.{IsBelow}
 use Rattle.class_tree.specs.contracts.place.PlacePartialEq.TheImpl.{ghosts}
 use Rattle.class_tree.specs.declared.place.Place.{Place}
-use Rattle.class_tree.specs.declared.place.Place.TheVariants.{Folder, Library}
-use Rattle.member_link.specs.DeclaredMembers.{Declared, declared, is_inherited}
-use Rattle.member_link.specs.Defaults.{IsSuperinterfaceMethod}
 use Rattle.member_link.specs.DefaultsAt.{IsSuperinterfaceAt}
 use Rattle.member_link.proofs.OneHas.{each_at}
 
 -- ---- names
-
--- a name is one of these
-abbrev pub IsOneName : List Name → Name → Type 0
-IsOneName names name = IsTrue (list_any (bytes_eq name) names)
-
-pub one_name_first : (name : Name) (names : List Name) → IsOneName (name ∷ names) name
-one_name_first name names = or_left _ _ ((bytes_eq-Decides name name).1 refl)
-
-pub one_of_first : (first : Name) (names : List Name) (name : Name) → IsOneName (first ∷ names) name → (name ≡ first) ⊎ IsOneName names name
-one_of_first first names name one = elim (or_cases _ _ one) [ inl here ↦ inl ((bytes_eq-Decides name first).0 here) | inr there ↦ inr there ]
-
-each_of_names : (P : Name → Type 0) (names : List Name) → AllByRecursion P names → (name : Name) → IsOneName names name → P name
-each_of_names P [] all name one = absurd (false≢true one)
-each_of_names P (first ∷ names) all name one =
-    elim (one_of_first first names name one) [ inl here ↦ subst P (sym here) all.0 | inr there ↦ each_of_names P names all.1 name there ]
 
 -- each name once
 abbrev pub AreNamesApart : List Name → Type 0
@@ -46,7 +30,7 @@ one_kept : (test : Name → Bool) (names : List Name) (name : Name) → IsOneNam
 one_kept test [] name one = absurd (false≢true one)
 one_kept test (first ∷ names) name one = elim (cases_Bool (test first)) [
   | inl kept ↦ elim (one_of_first first (filter test names) name (subst (λ b. IsOneName (cond b (first ∷ filter test names) (filter test names)) name) kept one)) [
-    | inl here ↦ (subst (IsOneName (first ∷ names)) (sym here) (one_name_first first names), ap test here ∙ kept)
+    | inl here ↦ (one_name_first name first names here, ap test (sym here) ∙ kept)
     | inr there ↦ let more = one_kept test names name there in (or_right _ _ more.0, more.1)
   ]
   | inr left ↦ let more = one_kept test names name (subst (λ b. IsOneName (cond b (first ∷ filter test names) (filter test names)) name) left one) in (or_right _ _ more.0, more.1)
@@ -73,46 +57,7 @@ named_interface headers hierarchy class names are name one header is =
     let interface = each_of_names (λ name. (header : Header) × (class_named headers name ≡ Some header) × IsTrue (is_interface header)) names (hierarchy.interfaces class names are) name one in
     subst (λ (header : Header). IsTrue (is_interface header)) (same_Some interface.0 header (sym interface.1 ∙ is)) interface.2
 
--- a method of one of these interfaces that is neither private nor static
-pub record IsMethodOfOne (headers : Headers) (names : List Name) (name desc : List ℕ) (method : Declared) : Type 0 where
-  pub header : Header
-  pub found : class_named headers method.class ≡ Some header
-  pub one : IsOneName names method.class
-  pub declares : declared name desc header.methods ≡ Some method.member
-  pub inherited : IsTrue (is_inherited method.member)
-
--- the methods of the interfaces above a class are those of its superinterfaces
-pub superinterface_methods : (headers : Headers) → IsHierarchy headers → (class : Name) (names : List Name) → AreSuperinterfaces headers class names → (name desc : List ℕ) (method : Declared) → IsSuperinterfaceMethod headers class name desc method ↔ IsMethodOfOne headers names name desc method
-superinterface_methods headers hierarchy class names are name desc method = (to, from)
-  where
-    to : IsSuperinterfaceMethod headers class name desc method → IsMethodOfOne headers names name desc method
-    to is = record {
-      header = is.header;
-      found = is.found;
-      one = (hierarchy.superinterfaces class method.class is.header names are is.found is.interface).1 is.above;
-      declares = is.declares;
-      inherited = is.inherited;
-    }
-
-    from : IsMethodOfOne headers names name desc method → IsSuperinterfaceMethod headers class name desc method
-    from is =
-        let kind = named_interface headers hierarchy class names are method.class is.one is.header is.found in
-        record {
-          header = is.header;
-          found = is.found;
-          interface = kind;
-          above = (hierarchy.superinterfaces class method.class is.header names are is.found kind).0 is.one;
-          declares = is.declares;
-          inherited = is.inherited;
-        }
-
 -- ---- places
-
-same_place : (one other : Place) → Decides (ghosts.eq one other) (one ≡ other)
-same_place (Folder one) (Folder other) = (λ same. ap Folder (eqb-true one other same), λ same. eq-eqb one other cc)
-same_place (Library one) (Library other) = (λ same. ap Library (eqb-true one other same), λ same. eq-eqb one other cc)
-same_place (Folder one) (Library other) = (λ same. absurd (false≢true same), λ same. absurd cc)
-same_place (Library one) (Folder other) = (λ same. absurd (false≢true same), λ same. absurd cc)
 
 -- the class of a name stands at one of these places
 abbrev pub IsPlacedIn : Headers → List Place → Name → Type 0
@@ -170,11 +115,11 @@ module _ (headers : Headers) (hierarchy : IsHierarchy headers) where
       let is : place_of headers first ≡ Some place = cc in
       let rest = name_decides names places (cc) name in (
         λ one. elim (one_of_first first names name one) [
-          | inl here ↦ inl (ap (place_of headers) here ∙ is)
+          | inl here ↦ inl (ap (place_of headers) (sym here) ∙ is)
           | inr there ↦ inr (rest.0 there)
         ],
         λ placed. elim placed [
-          | inl here ↦ subst (IsOneName (first ∷ names)) (same_name headers hierarchy first name place is here) (one_name_first first names)
+          | inl here ↦ one_name_first name first names (same_name headers hierarchy first name place is here)
           | inr there ↦ or_right _ _ (rest.1 there)
         ],
       )
@@ -184,7 +129,7 @@ module _ (headers : Headers) (hierarchy : IsHierarchy headers) where
   each_place P [] (place ∷ places) same holds = absurd cc
   each_place P (name ∷ names) [] same holds = absurd cc
   each_place P (name ∷ names) (place ∷ places) same holds = (
-    holds name place (one_name_first name names) cc,
+    holds name place (one_name_first name name names refl) cc,
     each_place P names places (cc) (λ other there one is. holds other there (or_right _ _ one) is),
   )
 
@@ -227,11 +172,3 @@ module _ (headers : Headers) (hierarchy : IsHierarchy headers) where
   -- one of them
   pub superinterface_at : (class : Place) (places : List Place) → IfSome (header_at headers class) (ArePlacesOfNames headers places) → (header : Header) → header_at headers class ≡ Some header → (at : ℕ) (other : Place) → at < length places → IsSuperinterfaceAt headers header.name (get_or places at other)
   superinterface_at class places told header is at other within = each_at (IsSuperinterfaceAt headers header.name) places (superinterfaces_of class places told header is).each at other within
-
--- the class at a place
-pub class_there : (headers : Headers) (place : Place) → IsSome (header_at headers place) → (header : Header) × (header_at headers place ≡ Some header)
-class_there headers place some = by (header_at headers place) refl some
-  where
-    by : (found : Option Header) → header_at headers place ≡ found → IsSome found → (header : Header) × (header_at headers place ≡ Some header)
-    by None e some = absurd cc
-    by (Some header) e some = (header, e)

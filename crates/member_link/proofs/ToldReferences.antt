@@ -2,11 +2,13 @@
 use Rattle.std.proofs.Common.{◌≡◌, ◌↔◌, Bool, false, List, [], ◌∷◌, Option, Some, None, IsTrue, Result, Ok, Err, refl, sym, subst, inl, inr}
 use Rattle.std.proofs.lemmas.Bool.{false≢true}
 use Rattle.class_model.specs.Checks.{Check, AllHold, IsFirstFault}
+use Rattle.class_model.specs.Laws.Checks.{Remain, all_remain, passes}
 use Rattle.class_model.specs.declared.header.Member.{Member}
 use Rattle.class_model.specs.declared.pool.Const.{Const}
 use Rattle.class_model.specs.declared.pool.Const.TheVariants.{Fieldref, Methodref, InterfaceMethodref}
 use Rattle.class_tree.specs.Answers.{Answers}
 use Rattle.class_tree.specs.Headers.{Name, Headers, IsThere}
+use Rattle.class_tree.specs.Laws.Links.{answered}
 use Rattle.class_tree.specs.Problems.{Problem}
 use Rattle.class_tree.specs.declared.fault.LinkFault.{LinkFault}
 use Rattle.class_tree.specs.declared.fault.LinkFault.TheVariants.{Unlinked, NoMemory}
@@ -26,7 +28,6 @@ use Rattle.member_link.specs.declared.resolution.Callee.{Callee}
 use Rattle.member_link.specs.declared.resolution.Referent.{Referent}
 use Rattle.member_link.specs.declared.resolution.Resolution.{Resolution}
 use Rattle.member_link.specs.declared.resolution.Resolution.TheVariants as resolutions
-use Rattle.member_link.proofs.LinkSteps.{Remain, all_remain, passes, answered}
 
 -- ---- a rule that is broken
 
@@ -52,7 +53,7 @@ told_broken s reference OthersAreThere Finds HasForm rule result first told =
 -- ---- a member that is found
 
 -- two checks by their tests
-same_two : {P Q : Type 0} (one other : Problem) (p q : Bool) (result : Result (Unit {0}) LinkFault) → (IsTrue p ↔ P) → (IsTrue q ↔ Q) → Answers (record { problem = one; holds = IsTrue p } ∷ record { problem = other; holds = IsTrue q } ∷ []) result → Answers (record { problem = one; holds = P } ∷ record { problem = other; holds = Q } ∷ []) result
+same_two : {P Q : Type 0} (one other : Problem) (p q : Bool) (result : Result (Unit {0}) LinkFault) → (IsTrue p ↔ P) → (IsTrue q ↔ Q) → Answers (record { fault = one; holds = IsTrue p } ∷ record { fault = other; holds = IsTrue q } ∷ []) result → Answers (record { fault = one; holds = P } ∷ record { fault = other; holds = Q } ∷ []) result
 same_two one other p q (Ok x) first second told = (first.0 told.0, (second.0 told.1.0, tt))
 same_two one other p q (Err (Unlinked class member rule)) first second (inl here) = inl (λ h. here.0 (first.1 h), here.1)
 same_two one other p q (Err (Unlinked class member rule)) first second (inr (holds, inl here)) = inr (first.0 holds, inl (λ h. here.0 (second.1 h), here.1))

@@ -6,6 +6,8 @@ use Rattle.std.proofs.lemmas.Option.{none-some, same_Some}
 use Rattle.class_model.specs.declared.header.Header.{Header}
 use Rattle.class_tree.specs.Headers.{Name, Headers, class_named}
 use Rattle.class_tree.specs.Hierarchy.{IsHierarchy, superclass_of}
+use Rattle.class_tree.specs.Laws.Above.{below_more, superclass_kind, class_is_climbed, IsReached, hierarchy_is_sound, hierarchy_is_rooted}
+use Rattle.class_tree.specs.Laws.Headers.{no_superclass, superclass_there}
 use Rattle.class_tree.specs.Names.{is_interface}
 use Rattle.class_tree.specs.Order.{header_at}
 use Rattle.class_tree.specs.Subtype.{superclass, IsBelow, directly}
@@ -15,21 +17,14 @@ use Rattle.member_link.specs.DeclaredMembers.{Declared}
 use Rattle.member_link.specs.Found.{IsMethodFound}
 use Rattle.member_link.specs.OpenMethods.{IsAbove, IsAboveOfKind, IsSameOf, IsAnyOf, one_passes, none_passes}
 use Rattle.member_link.specs.declared.found.Found.{Found}
-use Rattle.member_link.proofs.Climbed.{superclass_at, no_superclass_at, superclass_there}
-use Rattle.member_link.proofs.OpenOverriding.{below_more}
-use Rattle.member_link.proofs.Rooted.{superclass_kind, class_is_climbed}
+use Rattle.member_link.proofs.Climbed.{superclass_at}
 use Rattle.member_link.proofs.Superinterfaces.{IsPlacedIn, AreSuperinterfacesAt}
-
--- the class stands at the place, or is above the one that does
-abbrev pub IsFrom : Headers → Option Place → Name → Type 0
-IsFrom headers None name = ⊥
-IsFrom headers (Some place) name = (header : Header) × (header_at headers place ≡ Some header) × IsAtOrBelow headers header.name name
 
 -- Superclasses from a place upwards are left, and those before it have passed.
 pub record AreClassesLeft (headers : Headers) (low : Name) (Passed : Name → Type 0) (next : Option Place) : Type 0 where
   pub there : IfSome next (λ place. IsSome (header_at headers place))
   pub above : (place : Place) (header : Header) → next ≡ Some place → header_at headers place ≡ Some header → IsBelow headers low header.name × IsFalse (is_interface header)
-  pub left : (name : Name) (header : Header) → class_named headers name ≡ Some header → IsFalse (is_interface header) → IsBelow headers low name → Passed name ⊎ IsFrom headers next name
+  pub left : (name : Name) (header : Header) → class_named headers name ≡ Some header → IsFalse (is_interface header) → IsBelow headers low name → Passed name ⊎ IsReached headers next name
 
 -- Superinterfaces at these places are left, and the others have passed.
 abbrev pub AreInterfacesLeft : Headers → Name → (Name → Type 0) → List Place → Type 0
@@ -38,7 +33,7 @@ AreInterfacesLeft headers low Passed places = (name : Name) (header : Header) �
 module _ (headers : Headers) (hierarchy : IsHierarchy headers) (low : Name) (Passed : Name → Type 0) where
   -- the next superclass, where what is left is above the class at a place
   onwards_from : (place : Place) (header : Header) → header_at headers place ≡ Some header → IsAtOrBelow headers low header.name → ((name : Name) (above : Header) → class_named headers name ≡ Some above → IsFalse (is_interface above) → IsBelow headers low name → Passed name ⊎ IsBelow headers header.name name) → AreClassesLeft headers low Passed (superclass_of headers place)
-  onwards_from place header at up left = record { there = superclass_there headers hierarchy place header at; above = above; left = from }
+  onwards_from place header at up left = record { there = superclass_there headers place; above = above; left = from }
     where
       is : class_named headers header.name ≡ Some header
       is = (hierarchy.of_place place header at).found
@@ -55,21 +50,21 @@ module _ (headers : Headers) (hierarchy : IsHierarchy headers) (low : Name) (Pas
       above other class next other_at = by header.super_name refl
         where
           by : (super : Option Name) → header.super_name ≡ super → IsBelow headers low class.name × IsFalse (is_interface class)
-          by None none = absurd (none-some other (sym (no_superclass_at headers place header at none) ∙ next))
+          by None none = absurd (none-some other (sym (no_superclass headers place header at none) ∙ next))
           by (Some name) some =
               let super = superclass_at headers hierarchy place header at name some in
               let same = same_Some super.class class (sym super.stands.at ∙ ap (header_at headers) (same_Some super.high other (sym super.is ∙ next)) ∙ other_at) in (
                 subst (λ (h : Header). IsBelow headers low h.name) same (subst (IsBelow headers low) (sym super.stands.own_name) (below name some)),
-                superclass_kind headers hierarchy header.name header is name some class (super.stands.found ∙ ap Some same),
+                superclass_kind headers (hierarchy_is_sound headers hierarchy) header.name header is name some class (super.stands.found ∙ ap Some same),
               )
 
-      from : (name : Name) (class : Header) → class_named headers name ≡ Some class → IsFalse (is_interface class) → IsBelow headers low name → Passed name ⊎ IsFrom headers (superclass_of headers place) name
+      from : (name : Name) (class : Header) → class_named headers name ≡ Some class → IsFalse (is_interface class) → IsBelow headers low name → Passed name ⊎ IsReached headers (superclass_of headers place) name
       from name class class_is kind more = elim (left name class class_is kind more) [
         | inl passed ↦ inl passed
         | inr further ↦
-            let climbed = class_is_climbed headers hierarchy further header class is class_is kind in
+            let climbed = class_is_climbed headers (hierarchy_is_sound headers hierarchy) (hierarchy_is_rooted headers hierarchy) further header class is class_is kind in
             let super = superclass_at headers hierarchy place header at climbed.0 climbed.1 in
-            inr (subst (λ next. IsFrom headers next name) (sym super.is) (super.class, super.stands.at, subst (λ n. IsAtOrBelow headers n name) (sym super.stands.own_name) climbed.2))
+            inr (subst (λ next. IsReached headers next name) (sym super.is) (super.class, super.stands.at, subst (λ n. IsAtOrBelow headers n name) (sym super.stands.own_name) climbed.2))
       ]
 
   pub first_class : (place : Place) (header : Header) → header_at headers place ≡ Some header → header.name ≡ low → AreClassesLeft headers low Passed (superclass_of headers place)

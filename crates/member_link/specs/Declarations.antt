@@ -23,7 +23,7 @@ pub record Site : Type 0 where
 
 -- what is asked of a member
 abbrev pub asked : Site → LinkRule → Type 0 → Check Problem
-asked site rule holds = record { problem = record { class = site.class; member = site.member; rule = rule }; holds = holds }
+asked site rule holds = record { fault = record { class = site.class; member = site.member; rule = rule }; holds = holds }
 
 -- the method is one of a class of the folder
 pub record IsFolderMethod (headers : Headers) (method : Declared) : Type 0 where

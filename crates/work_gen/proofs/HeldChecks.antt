@@ -7,9 +7,11 @@ use Rattle.class_model.specs.ClassOf.{class_file_checks}
 use Rattle.class_model.specs.Cutting as cutting
 use Rattle.class_model.specs.Descriptors as descriptors
 use Rattle.class_model.specs.Instructions as instructions
+use Rattle.class_model.specs.Laws.Checks.{◌▸◌}
+use Rattle.class_model.specs.Laws.Texts.{plain_text}
 use Rattle.class_model.specs.Members.{fits_class}
 use Rattle.class_model.specs.Methods.{code, this_units, IsDescriptorOf}
-use Rattle.class_model.specs.ModifiedUtf8.{IsModifiedUtf8}
+use Rattle.class_model.specs.ModifiedUtf8.{IsModifiedUtf8, is_plain_text}
 use Rattle.class_model.specs.Names.{init, clinit}
 use Rattle.class_model.specs.PoolChecks.{BytesSpell, ReturnsVoid}
 use Rattle.class_model.specs.declared.descriptor.Descriptor.{Descriptor}
@@ -17,14 +19,9 @@ use Rattle.class_model.specs.declared.descriptor.FieldType.TheVariants.{Named}
 use Rattle.class_tree.specs.Headers.{Name}
 use Rattle.class_tree.specs.Names.{object}
 use Rattle.work_gen.specs.BaseLibrary.{no_parameters, takes_object, gives_object}
-use Rattle.work_gen.proofs.PlainNames.{IsPlainClassName, plain_text, is_plain_text, class_name, reference_name, utf8, unqualified, method_name}
+use Rattle.work_gen.proofs.PlainNames.{IsPlainClassName, class_name, reference_name, utf8, unqualified, method_name}
 use Rattle.work_gen.proofs.ReadClasses.{raw}
 use Rattle.work_gen.specs.Values.{memberless, thrown, root, keeper}
-
--- one check after the other
-infixr 5 ◌▸◌
-abbrev pub ◌▸◌ : {A B : Type 0} → A → B → A × B
-a ▸ b = (a, b)
 
 text : (bytes : List ℕ) → is_plain_text bytes ≡ true → IsModifiedUtf8 bytes
 text bytes plain = (plain_text bytes plain).spelling

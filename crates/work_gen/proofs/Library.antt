@@ -6,14 +6,16 @@ use Rattle.class_model.specs.ClassOf.{ClassOf}
 use Rattle.class_model.specs.Cutting as cutting
 use Rattle.class_model.specs.Cutting.{version_at, class_file_at, uncut}
 use Rattle.class_model.specs.Instructions as instructions
+use Rattle.class_model.specs.Laws.Checks.{◌▸◌}
 use Rattle.class_model.specs.Members.{fits_class}
+use Rattle.class_model.specs.ModifiedUtf8.{is_plain_text}
 use Rattle.class_model.specs.Spelling.{class_bytes}
 use Rattle.class_model.specs.declared.class_file.ClassFile.{ClassFile}
 use Rattle.class_tree.specs.Headers.{Name}
 use Rattle.class_tree.specs.Names.{object, cloneable, serializable, throwable, method_handle, method_type, machine_throwables}
 use Rattle.work_gen.specs.BaseLibrary.{IsBaseClass, IsBaseLibrary, Returns, CallsConstructor}
-use Rattle.work_gen.proofs.HeldChecks.{◌▸◌, object_name, memberless_holds, thrown_holds, root_holds, keeper_holds}
-use Rattle.work_gen.proofs.PlainNames.{IsPlainClassName, is_plain_text, are_parts, parts_of}
+use Rattle.work_gen.proofs.HeldChecks.{object_name, memberless_holds, thrown_holds, root_holds, keeper_holds}
+use Rattle.work_gen.proofs.PlainNames.{IsPlainClassName, are_parts, parts_of}
 use Rattle.work_gen.proofs.ReadClasses.{IsReadBack, class_file, version, behind_version, raw}
 use Rattle.work_gen.specs.Values.{memberless, thrown, thrown_code, root, root_code, keeper, base_classes}
 

@@ -8,6 +8,11 @@ pub both_hold : {F : Type 0} (a b : List (Check F)) → AllHold a → AllHold b 
 both_hold [] b h k = k
 both_hold (c ∷ a) b h k = (h.0, both_hold a b h.1 k)
 
+-- what holds of a check, and then of those behind it
+infixr 5 ◌▸◌
+abbrev pub ◌▸◌ : {A B : Type 0} → A → B → A × B
+a ▸ b = (a, b)
+
 pub first_holds : {F : Type 0} (a b : List (Check F)) → AllHold (a ++ b) → AllHold a
 first_holds [] b h = tt
 first_holds (c ∷ a) b h = (h.0, first_holds a b h.1)

@@ -2,11 +2,12 @@ use Rattle.std.proofs.Common.{sym, subst, ◌∙◌}
 use Rattle.std.proofs.lemmas.Option.{same_Some}
 use Rattle.std.proofs.lemmas.Result.{err_from_is_err_and}
 use Rattle.class_model.specs.Checks.{asked_each}
+use Rattle.class_model.specs.Laws.Checks.{all_remain, passes, remain}
 use Rattle.class_model.specs.declared.header.Header.{Header}
 use Rattle.class_tree.specs.Answers.{Answers}
 use Rattle.class_tree.specs.Headers.{headers_of}
+use Rattle.class_tree.specs.Laws.Links.{refused, answered}
 use Rattle.member_link.specs.Declarations.{declaration_checks, declared_field_checks, declared_method_checks}
-use Rattle.member_link.proofs.LinkSteps.{all_remain, passes, remain, refused, answered}
 use Rattle.member_link.proofs.declarations.check_class.Goals as goal
 
 pub returns-in_err-check_fields : goal.returns-in_err-check_fields

@@ -3,10 +3,11 @@ use Rattle.std.proofs.lemmas.List.{length-map}
 use Rattle.std.proofs.lemmas.Result.{err_from_is_err_and}
 use Rattle.class_model.specs.Checks.{asked_each}
 use Rattle.class_model.specs.Header.{header_of}
+use Rattle.class_model.specs.Laws.Checks.{asked_at, remain}
 use Rattle.class_tree.specs.Headers.{headers_of}
+use Rattle.class_tree.specs.Laws.Links.{refused}
 use Rattle.member_link.specs.Declarations.{declaration_checks}
 use Rattle.member_link.proofs.FolderMethods.{item_at}
-use Rattle.member_link.proofs.LinkSteps.{asked_at, refused, remain}
 use Rattle.member_link.proofs.declarations.check_declarations.Goals as goal
 
 pub returns-in_err-check_class : goal.returns-in_err-check_class

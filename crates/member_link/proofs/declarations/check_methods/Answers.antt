@@ -1,7 +1,8 @@
 use Rattle.std.proofs.lemmas.Result.{err_from_is_err_and}
+use Rattle.class_model.specs.Laws.Checks.{asked_at, passes}
 use Rattle.class_tree.specs.Headers.{headers_of}
+use Rattle.class_tree.specs.Laws.Links.{fails}
 use Rattle.member_link.specs.Declarations.{declared_method_checks}
-use Rattle.member_link.proofs.LinkSteps.{asked_at, passes, fails}
 use Rattle.member_link.proofs.declarations.check_methods.Goals as goal
 
 pub returns-in_err-ask_at : goal.returns-in_err-ask_at

@@ -1,6 +1,7 @@
 use Rattle.std.proofs.Common.{◌≡◌, false, Option, None, is_some, drop, ◌+◌, sym, ap, subst, ◌∙◌, arith}
 use Rattle.std.proofs.lemmas.List.{drop_all}
 use Rattle.class_tree.specs.Headers.{headers_of}
+use Rattle.class_tree.specs.Laws.Headers.{header_there}
 use Rattle.class_tree.specs.declared.place.Place.TheVariants.{Folder}
 use Rattle.member_link.specs.DeclaredMembers.{Declared}
 use Rattle.member_link.specs.Defaults.{first_inherited}
@@ -10,14 +11,13 @@ use Rattle.member_link.proofs.FirstInherited.{first_of_next, as_many, first_is, 
 use Rattle.member_link.proofs.InheritedMethods.{same_found}
 use Rattle.member_link.proofs.Superinterfaces.{names_of, superinterface_at}
 use Rattle.member_link.proofs.defaults.first_inherited.Goals as goal
-use Rattle.member_link.proofs.Climbed.{class_at}
 
 pub loop-interface-preserved : goal.loop-interface-preserved
 loop-interface-preserved c = λ names same.
     let headers = headers_of c.args.tree.now in
     let hierarchy = c.a_tree_is_a_hierarchy.ensures in
     let places = c.superinterfaces-interface-items.result.now in
-    let class = class_at headers c.args.class c.requires in
+    let class = header_there headers c.args.class c.requires in
     let at = superinterface_at headers hierarchy c.args.class places c.superinterfaces-interface-items.ensures class.0 class.1 c.loop-interface.interface-index (Folder 0) c.loop-interface-test.true in
     let method = inherited_of c.args.name.now c.args.desc.now at.header in
     let none : is_some method ≡ false = sym (same_found (IsMethodFound headers) c.inherited_method-found.result method (c.inherited_method-found.ensures at.header at.at)) ∙ sym c.is_some.ensures ∙ c.if-is_some.false in

@@ -1,17 +1,17 @@
 use Rattle.std.proofs.Common.{get_or, refl, sym, ap, ◌∙◌, is_some}
 use Rattle.std.proofs.lemmas.Bool.{false≢true}
 use Rattle.class_tree.specs.Headers.{headers_of}
+use Rattle.class_tree.specs.Laws.Headers.{header_there}
 use Rattle.class_tree.specs.declared.place.Place.TheVariants.{Folder}
 use Rattle.member_link.proofs.InheritedMethods.{HidesAt, hidden_by_one, one_hides}
 use Rattle.member_link.proofs.OneHas.{one_left, none_left}
 use Rattle.member_link.proofs.Superinterfaces.{superinterfaces_of, superinterface_at}
 use Rattle.member_link.proofs.defaults.is_hidden.Goals as goal
-use Rattle.member_link.proofs.Climbed.{class_at}
 
 pub hides-requires-clause-below : goal.hides-requires-clause-below
 hides-requires-clause-below c =
     let headers = headers_of c.args.tree.now in
-    let class = class_at headers c.args.class c.requires.class in
+    let class = header_there headers c.args.class c.requires.class in
     ap is_some (superinterface_at headers c.a_tree_is_a_hierarchy.ensures c.args.class c.superinterfaces-below-items.result.now c.superinterfaces-below-items.ensures class.0 class.1 c.loop-below.below-index (Folder 0) c.loop-below-test.true).at
 
 pub returns-then-hides : goal.returns-then-hides

@@ -1,8 +1,8 @@
 use Rattle.std.proofs.Common.{sym, subst}
 use Rattle.class_tree.specs.Headers.{headers_of}
+use Rattle.class_tree.specs.Laws.Headers.{header_there}
 use Rattle.member_link.specs.FieldSearch.{FindsOrLeaves}
 use Rattle.member_link.specs.Found.{IsFieldFound}
-use Rattle.member_link.proofs.Climbed.{class_at}
 use Rattle.member_link.proofs.FieldsUpwards.{IsSearched, first_searched, searched_more}
 use Rattle.member_link.proofs.FoundOr.{none_same}
 use Rattle.member_link.proofs.fields.find_field.Goals as goal
@@ -14,7 +14,7 @@ pub loop-next-preserved : goal.loop-next-preserved
 loop-next-preserved c =
     let headers = headers_of c.args.tree.now in
     let searched = subst (IsSearched headers c.args.class.now c.args.name.now c.args.desc.now) c.in-Some.is c.loop-next.invariant in
-    let class = class_at headers c.in-Some.place searched.there in
+    let class = header_there headers c.in-Some.place searched.there in
     let below = c.in_default-find_below_super.ensures class.0 class.1 in
     let leaves = subst (FindsOrLeaves headers c.args.name.now c.args.desc.now class.0) (none_same (IsFieldFound headers) below.0 below.2) below.1 in
     subst (IsSearched headers c.args.class.now c.args.name.now c.args.desc.now) (sym c.superclass-next.ensures)

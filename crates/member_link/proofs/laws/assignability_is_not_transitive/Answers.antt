@@ -3,8 +3,9 @@ use Rattle.std.proofs.lemmas.Option.{none-some}
 use Rattle.class_model.specs.declared.frame.VType.{VType}
 use Rattle.class_model.specs.declared.frame.VType.TheVariants.{Object}
 use Rattle.class_tree.specs.Headers.{Name, Headers, class_named}
+use Rattle.class_tree.specs.Laws.Arrays.{not_below}
 use Rattle.class_tree.specs.Names.{object}
-use Rattle.class_tree.specs.Subtype.{IsArray, array, class, IsAboveArrays, IsDirectlyBelow, superclass, interface, IsBelow, directly, onwards}
+use Rattle.class_tree.specs.Subtype.{IsArray, array, class, IsAboveArrays}
 use Rattle.member_link.specs.Assignability.{IsNameAssignable, to_itself, to_interface, to_class_above, from_array, of_components, IsAssignable, to_same, to_top, from_null, of_names, int_array}
 use Rattle.member_link.proofs.laws.assignability_is_not_transitive.Goals as goal
 
@@ -15,19 +16,11 @@ object_is_no_array : ¬ IsArray object
 object_is_no_array is = let same : 106 ≡ 91 = ap (λ (bytes : List ℕ). get_or bytes 0 0) is.1 in omega (arith, same)
 
 module _ (headers : Headers) (no_array : (name : Name) → IsArray name → class_named headers name ≡ None) where
-  not_directly_below : {low high : Name} → IsArray low → ¬ IsDirectlyBelow headers low high
-  not_directly_below is (superclass low high header there some) = none-some header (sym (no_array low is) ∙ there)
-  not_directly_below is (interface low high header there one) = none-some header (sym (no_array low is) ∙ there)
-
-  not_below : {low high : Name} → IsArray low → ¬ IsBelow headers low high
-  not_below is (directly low high step) = not_directly_below is step
-  not_below is (onwards low middle high step rest) = not_directly_below is step
-
   module _ (named : Name) (flat : ¬ IsArray named) (not_above : ¬ IsAboveArrays named) where
     no_name : {low high : Name} → IsNameAssignable headers low high → IsArray low → high ≡ named → ⊥
     no_name (to_itself name) is same = flat (subst IsArray same is)
     no_name (to_interface low high header flatter there is_interface) is same = absurd (flatter is)
-    no_name (to_class_above low high below) is same = not_below is below
+    no_name (to_class_above low high below) is same = not_below headers no_array is below
     no_name (from_array low high deep above) is same = not_above (subst IsAboveArrays same above)
     no_name (of_components low high one other low_is (array _ deep) rest) is same = flat (subst IsArray same (other, refl))
     no_name (of_components low high one other low_is (class _) rest) is same = flat (subst IsArray same (76 ∷ other ++ 59 ∷ [], refl))

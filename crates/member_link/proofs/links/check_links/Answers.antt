@@ -1,10 +1,11 @@
 use Rattle.std.proofs.lemmas.Result.{err_from_is_err_and}
 use Rattle.class_model.specs.Checks.{asked_each}
+use Rattle.class_model.specs.Laws.Checks.{all_remain, remain}
 use Rattle.class_tree.specs.Headers.{headers_of}
+use Rattle.class_tree.specs.Laws.Links.{refused, answered}
 use Rattle.member_link.specs.Declarations.{declaration_checks}
 use Rattle.member_link.specs.Linked.{link_checks}
 use Rattle.member_link.specs.Uses.{use_checks}
-use Rattle.member_link.proofs.LinkSteps.{all_remain, remain, refused, answered}
 use Rattle.member_link.proofs.links.check_links.Goals as goal
 
 pub returns-in_err-check_declarations : goal.returns-in_err-check_declarations

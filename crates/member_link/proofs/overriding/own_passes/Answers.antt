@@ -1,14 +1,15 @@
 use Rattle.class_tree.specs.Headers.{headers_of}
+use Rattle.class_tree.specs.Laws.Headers.{header_there}
 use Rattle.member_link.specs.DeclaredMembers.{declared}
 use Rattle.member_link.specs.Found.{IsMethodFound}
-use Rattle.member_link.proofs.Climbed.{class_at, own_some}
+use Rattle.member_link.proofs.Climbed.{own_some}
 use Rattle.member_link.proofs.MethodsAbove.{own_counts, none_counts}
 use Rattle.member_link.proofs.overriding.own_passes.Goals as goal
 
 pub test-requires : goal.test-requires
 test-requires g c =
     let headers = headers_of c.args.tree.now in
-    let class = class_at headers c.args.place c.requires.place in
+    let class = header_there headers c.args.place c.requires.place in
     let header = class.0 in
     let known = own_some (IsMethodFound headers) header.name c.in-Some.found (declared c.args.member.now.name c.args.member.now.desc header.methods) (c.in-Some.ensures header class.1) in
     c.requires.test c.in-Some.found _ known.2

@@ -1,6 +1,6 @@
 use Rattle.std.proofs.Common.{refl}
-use Rattle.work_gen.proofs.PlainNames.{plain_text}
 use Rattle.work_gen.proofs.base.named_classes.Goals as goal
+use Rattle.class_model.specs.Laws.Texts.{plain_text}
 
 pub memberless-requires : goal.memberless-requires
 memberless-requires c = plain_text _ refl

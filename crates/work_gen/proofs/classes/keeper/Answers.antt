@@ -1,6 +1,6 @@
 use Rattle.std.proofs.Common.{refl}
-use Rattle.work_gen.proofs.PlainNames.{plain_text}
 use Rattle.work_gen.proofs.classes.keeper.Goals as goal
+use Rattle.class_model.specs.Laws.Texts.{plain_text}
 
 pub pool_of-requires-clause-name : goal.pool_of-requires-clause-name
 pool_of-requires-clause-name c = plain_text _ refl

@@ -1,6 +1,6 @@
 use Rattle.std.proofs.Common.{refl}
-use Rattle.work_gen.proofs.PlainNames.{plain_text}
 use Rattle.work_gen.proofs.classes.object_pool.Goals as goal
+use Rattle.class_model.specs.Laws.Texts.{plain_text}
 
 pub push_class-requires-clause-text : goal.push_class-requires-clause-text
 push_class-requires-clause-text c = plain_text _ refl

@@ -1,6 +1,6 @@
 use Rattle.std.proofs.Common.{refl}
-use Rattle.work_gen.proofs.PlainNames.{plain_text}
 use Rattle.work_gen.proofs.classes.throwable.Goals as goal
+use Rattle.class_model.specs.Laws.Texts.{plain_text}
 
 pub push_text-requires-clause-text : goal.push_text-requires-clause-text
 push_text-requires-clause-text c = plain_text _ refl

@@ -1,10 +1,11 @@
 use Rattle.std.proofs.Common.{◌↔◌, IsTrue, not, sym, subst, ◌∙◌}
 use Rattle.std.proofs.lemmas.Bool.{both_ways}
 use Rattle.class_tree.specs.Headers.{headers_of}
+use Rattle.class_tree.specs.Laws.Places.{same_place}
 use Rattle.member_link.specs.Counting.{IsValid, Counts}
 use Rattle.member_link.specs.declared.upwards.Counted.{Counted}
 use Rattle.member_link.proofs.CountedMethods.{of_interface, of_overriding, of_instance}
-use Rattle.member_link.proofs.SameFound.{same_place, same_found}
+use Rattle.member_link.proofs.SameFound.{same_found}
 use Rattle.member_link.proofs.upwards.Counted.counts.Goals as goal
 
 pub returns-else-eq : goal.returns-else-eq
