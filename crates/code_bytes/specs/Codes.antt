@@ -4,9 +4,9 @@ use Rattle.std.specs.List.{AllByRecursion}
 use Rattle.class_model.specs.Checks.{AllHold, Fault}
 use Rattle.class_model.specs.Code.{OperandFits, inner_is_named, stack_map_table}
 use Rattle.class_model.specs.Instructions.{decoded}
-use Rattle.class_model.specs.Methods.{Home, IsDescriptorOf}
+use Rattle.class_model.specs.Methods.{Home, IsDescriptorOf, home_of}
 use Rattle.class_model.specs.Pool.{Constants}
-use Rattle.class_model.specs.PoolChecks.{class_at, utf8_at}
+use Rattle.class_model.specs.PoolChecks.{utf8_at}
 use Rattle.class_model.specs.Stated.{stated_frames}
 use Rattle.class_model.specs.declared.class_file.Attr.{Attr}
 use Rattle.class_model.specs.declared.class_file.Attr.TheVariants.{Raw, Code}
@@ -15,10 +15,6 @@ use Rattle.class_model.specs.declared.class_file.Method.{Method}
 use Rattle.class_model.specs.declared.frame.PlacedFrame.{PlacedFrame}
 use Rattle.class_model.specs.declared.instr.Placed.{Placed}
 use Rattle.code_bytes.specs.Decoding.{decoding_checks}
-
--- the class that a method stands in
-abbrev pub home_of : ClassFile → Home
-home_of class = record { pool = class.pool; major = class.major; flags = class.flags; name = class_at class.pool class.this_class }
 
 -- a code has instructions, and their targets are instructions
 abbrev pub HasInstrs : Attr → Type 0

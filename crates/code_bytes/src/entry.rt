@@ -5,9 +5,8 @@ ghost use Rattle.class_model.specs.Code.{verification_type};
 ghost use Rattle.class_model.specs.Descriptors.{parameters_of};
 ghost use Rattle.class_model.specs.Frames.{units, units_of_entries};
 ghost use Rattle.class_model.specs.Members as members;
-ghost use Rattle.class_model.specs.Methods.{IsDescriptorOf, entry_of};
+ghost use Rattle.class_model.specs.Methods.{IsDescriptorOf, entry_of, home_of};
 ghost use Rattle.class_model.specs.PoolChecks.{utf8_at};
-ghost use Rattle.code_bytes.specs.Codes.{home_of};
 ghost use Rattle.code_bytes.specs.Entry.{class_entry, this_entries};
 
 use crate::descriptor::method_descriptor;

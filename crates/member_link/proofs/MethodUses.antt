@@ -3,6 +3,7 @@ use Rattle.std.proofs.Common.{◌≡◌, ◌+◌, ◌<◌, ℕ, List, ◌∷◌,
 use Rattle.std.proofs.lemmas.List.{drop_more}
 use Rattle.class_model.specs.Checks.{Check, asked_each, AllHold}
 use Rattle.class_model.specs.Laws.Checks.{Remain, all_remain, remain}
+use Rattle.class_model.specs.Methods.{home_of}
 use Rattle.class_model.specs.declared.class_file.ClassFile.{ClassFile}
 use Rattle.class_model.specs.declared.class_file.Method.{Method}
 use Rattle.class_model.specs.declared.header.Header.{Header}
@@ -14,7 +15,6 @@ use Rattle.class_tree.specs.Problems.{Problem}
 use Rattle.class_tree.specs.declared.fault.LinkFault.{LinkFault}
 use Rattle.member_link.specs.Resolving.{Resolved, resolved_scope}
 use Rattle.member_link.specs.Uses.{attr_checks, methods_use_checks}
-use Rattle.code_bytes.specs.Codes.{home_of}
 
 abbrev pub resolved : Headers → ClassFile → Header → Resolved
 resolved headers class header = record { headers = headers; pool = class.pool; from = header.name }

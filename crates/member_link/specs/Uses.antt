@@ -6,7 +6,7 @@ use Rattle.class_model.specs.Checks.{Fault, Check, asked_each, asked_if}
 use Rattle.class_model.specs.Code.{inner_is_named, stack_map_table}
 use Rattle.class_model.specs.Header.{header_of}
 use Rattle.class_model.specs.Instructions.{decoded}
-use Rattle.class_model.specs.Methods.{Home}
+use Rattle.class_model.specs.Methods.{Home, home_of}
 use Rattle.class_model.specs.Pool.{Constants, constant_at}
 use Rattle.class_model.specs.PoolChecks.{class_at, utf8_at, descriptor_at}
 use Rattle.class_model.specs.Stated.{stated_frames}
@@ -37,7 +37,6 @@ use Rattle.member_link.specs.Fields.{FindsField}
 use Rattle.member_link.specs.Forms.{IsStaticForm, IsInstanceForm, FitsCall, IsInstantiable}
 use Rattle.member_link.specs.Methods.{FindsMethod}
 use Rattle.member_link.specs.References.{Reference, reference_at, FieldTypeNames, DescriptorNames, IsNamedThere, IsNamedAccessible}
-use Rattle.code_bytes.specs.Codes.{home_of}
 
 -- Where references stand: the classes, the pool of the class file, and the method.
 pub record UseScope : Type 0 where

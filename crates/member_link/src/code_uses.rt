@@ -3,11 +3,12 @@
 ghost use Rattle.std.specs.Prelude.{◌≡◌, Ok, IfOk};
 ghost use Rattle.class_model.specs.Checks.{AllHold, asked_each};
 ghost use Rattle.class_model.specs.Instructions.{decoded};
+ghost use Rattle.class_model.specs.Methods.{home_of};
 ghost use Rattle.class_tree.specs.Answers.{Answers};
 ghost use Rattle.code_bytes.specs.Decoding.{decoding_checks};
 ghost use Rattle.member_link.specs.Resolving.{resolved_scope};
 ghost use Rattle.member_link.specs.Uses.{code_use_checks, handler_use_checks, instr_use_checks};
-ghost use Rattle.code_bytes.specs.Codes.{IsReadMethod, home_of};
+ghost use Rattle.code_bytes.specs.Codes.{IsReadMethod};
 
 use crate::frames::{MethodCode, check_inners};
 use crate::instructions::check_instr;

@@ -2,10 +2,11 @@
 ghost use Rattle.std.specs.Prelude.{◌≡◌, Ok};
 ghost use Rattle.class_model.specs.Checks.{asked_each};
 ghost use Rattle.class_model.specs.Instructions.{decoded};
+ghost use Rattle.class_model.specs.Methods.{home_of};
 ghost use Rattle.class_tree.specs.Answers.{Answers};
 ghost use Rattle.member_link.specs.Resolving.{resolved_scope};
 ghost use Rattle.member_link.specs.Uses.{frame_checks, inner_checks, type_checks};
-ghost use Rattle.code_bytes.specs.Codes.{IsReadMethod, home_of};
+ghost use Rattle.code_bytes.specs.Codes.{IsReadMethod};
 
 use crate::resolver::{Resolver, check_name};
 use class_model::{

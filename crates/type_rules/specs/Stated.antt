@@ -1,10 +1,9 @@
 -- The frames that a method's code begins with and states (JVM Specification SE 8, 4.7.4 and 4.10.1.6).
 use Rattle.std.specs.Prelude.{ℕ, List, Option}
-use Rattle.class_model.specs.Methods.{entry_of}
+use Rattle.class_model.specs.Methods.{entry_of, home_of}
 use Rattle.class_model.specs.Stated.{frame_for, stated_in}
 use Rattle.class_model.specs.declared.frame.Frame.{Frame}
 use Rattle.class_model.specs.declared.frame.PlacedFrame.{PlacedFrame}
-use Rattle.code_bytes.specs.Codes.{home_of}
 use Rattle.type_rules.specs.Scope.{Scope}
 
 -- the frame that the code begins with

@@ -2,8 +2,8 @@
 ghost use Rattle.std.specs.Prelude.{◌≡◌, map, IfOk};
 ghost use Rattle.std.specs.Option.{option_copied};
 ghost use Rattle.class_model.specs.Instructions.{decoded};
+ghost use Rattle.class_model.specs.Methods.{home_of};
 ghost use Rattle.class_model.specs.Stated.{frame_for, read_or_none, stated_frames, stated_in};
-ghost use Rattle.code_bytes.specs.Codes.{home_of};
 ghost use Rattle.type_rules.specs.Offsets.{IsIndexOf};
 ghost use Rattle.type_rules.specs.Stated.{stated};
 ghost use Rattle.verify_folder.specs.Steps.{IsRead};

@@ -2,10 +2,10 @@ use Rattle.std.proofs.Common.{◌++◌, ℕ, List, map, Option, sym, ap, ◌∙�
 use Rattle.class_model.specs.Code.{verification_type}
 use Rattle.class_model.specs.Descriptors.{parameters_of}
 use Rattle.class_model.specs.Frames.{units_of_entries}
+use Rattle.class_model.specs.Methods.{home_of}
 use Rattle.class_model.specs.PoolChecks.{utf8_at}
 use Rattle.class_model.specs.declared.frame.Frame.{Frame}
 use Rattle.class_model.specs.declared.frame.VType.{VType}
-use Rattle.code_bytes.specs.Codes.{home_of}
 use Rattle.code_bytes.specs.Entry.{this_entries}
 use Rattle.code_bytes.specs.Laws.EntryFrames.{frame_of, with_tops, entry_is}
 use Rattle.code_bytes.proofs.entry.entry_frame.Goals as goal

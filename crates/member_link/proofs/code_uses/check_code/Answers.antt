@@ -1,5 +1,5 @@
 use Rattle.std.proofs.lemmas.Result.{err_from_is_err_and}
-use Rattle.code_bytes.specs.Codes.{home_of}
+use Rattle.class_model.specs.Methods.{home_of}
 use Rattle.member_link.proofs.CodeChecks.{AreInstrs, are_instrs, instrs_refused, handlers_refused, code_answers}
 use Rattle.member_link.proofs.code_uses.check_code.Goals as goal
 use Rattle.member_link.proofs.code_uses.check_code.Goals.{After-as_slice-2}

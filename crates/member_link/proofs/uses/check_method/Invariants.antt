@@ -1,6 +1,6 @@
+use Rattle.class_model.specs.Methods.{home_of}
 use Rattle.member_link.specs.Resolving.{resolved_scope}
 use Rattle.member_link.specs.Uses.{attr_checks}
-use Rattle.code_bytes.specs.Codes.{home_of}
 use Rattle.member_link.proofs.EachUse.{UsedBelow}
 use Rattle.member_link.proofs.uses.check_method.Given as goal
 

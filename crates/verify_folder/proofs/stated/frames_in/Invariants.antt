@@ -1,6 +1,6 @@
 use Rattle.std.proofs.Common.{◌≡◌, drop}
+use Rattle.class_model.specs.Methods.{home_of}
 use Rattle.class_model.specs.Stated.{stated_in}
-use Rattle.code_bytes.specs.Codes.{home_of}
 use Rattle.verify_folder.proofs.stated.frames_in.Given as goal
 
 abbrev pub invariant-loop-attr : goal.invariant-loop-attr
