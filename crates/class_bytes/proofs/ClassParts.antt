@@ -7,8 +7,8 @@ use Rattle.class_model.specs.ClassOf.{class_file_checks, fields_checks, methods_
 use Rattle.class_model.specs.Laws.Answers.{goes_on, stops}
 use Rattle.class_model.specs.Laws.Checks.{both_hold}
 use Rattle.class_model.specs.Members.{fits_class, class_name_checks, super_checks, interfaces_checks, attrs_checks}
-use Rattle.class_model.specs.Methods.{Home, class_attr_checks, bootstrap_count}
-use Rattle.class_model.specs.PoolChecks.{class_at, entries_checks}
+use Rattle.class_model.specs.Methods.{class_attr_checks, bootstrap_count, home_of}
+use Rattle.class_model.specs.PoolChecks.{entries_checks}
 use Rattle.class_model.specs.Spelling.{entry_bytes}
 use Rattle.class_model.specs.declared.class_file.ClassFile.{ClassFile}
 use Rattle.class_model.specs.declared.fault.ClassFault.{ClassFault}
@@ -27,14 +27,11 @@ methods_at at c = fields_at at c + 2 + fields_len c.fields
 abbrev pub attrs_at : ℕ → ClassFile → ℕ
 attrs_at at c = methods_at at c + 2 + methods_len c.methods
 
-abbrev pub home : ClassFile → Home
-home c = record { pool = c.pool; major = c.major; flags = c.flags; name = class_at c.pool c.this_class }
-
 abbrev pub fields_part : ℕ → ClassFile → List (Check Fault)
 fields_part at c = fields_checks c.pool c.flags [] (fields_at at c + 2) c.fields
 
 abbrev pub methods_part : ℕ → ClassFile → List (Check Fault)
-methods_part at c = methods_checks (home c) [] (methods_at at c + 2) c.methods
+methods_part at c = methods_checks (home_of c) [] (methods_at at c + 2) c.methods
 
 abbrev pub attrs_part : ℕ → ClassFile → List (Check Fault)
 attrs_part at c = attrs_checks (class_attr_checks c.pool) [] (attrs_at at c + 2) c.attrs

@@ -7,7 +7,7 @@ use Rattle.class_model.specs.ClassOf.{entered, entered_attr, entered_method}
 use Rattle.class_model.specs.Code.{handler_at, inner_at, part_at, code_part}
 use Rattle.class_model.specs.Cutting.{IsBytes, Rest, Version, attr_at, field_at, method_at, uncut}
 use Rattle.class_model.specs.Laws.Cuts.{guard_true, whole_some}
-use Rattle.class_model.specs.Laws.Lists.{mapped_all}
+use Rattle.class_model.specs.Laws.Lists.{AllByRecursion-weaker}
 use Rattle.class_model.specs.Members.{is_named}
 use Rattle.class_model.specs.Methods.{code}
 use Rattle.class_model.specs.Pool.{Constants}
@@ -129,7 +129,7 @@ attr_fits (Raw name bytes) cut = cut.0
 attr_fits (Code name part) cut = absurd cut
 
 attrs_fit : (attrs : List Attr) → IsCounted IsCutAttr attrs → FitsAttrs attrs
-attrs_fit attrs cut = record { count = cut.count; each = mapped_all IsCutAttr FitsAttr attr_fits attrs cut.each }
+attrs_fit attrs cut = record { count = cut.count; each = AllByRecursion-weaker IsCutAttr FitsAttr attr_fits attrs cut.each }
 
 found_fits : (pool : Constants) (name : ℕ) (bytes : List ℕ) (named : Bool) (found : Option CodePart) → IsCutAttr (Raw name bytes) → is_named pool code (Raw name bytes) ≡ named → code_part bytes ≡ found → FitsAttr (entered_attr pool (Raw name bytes))
 found_fits pool name bytes true (Some part) cut n e = rw (n, e) (code_fits bytes part cut.0 cut.1 e)
@@ -166,7 +166,7 @@ class_fits version pool rest class is e =
     let end = guard_true (length attrs.got.1.bytes == 0) (fault attrs.got.1.at rules.Extra) _ class attrs.goes_on in
     subst (λ (made : ClassFile). FitsCounts (entered made)) end.1 (record {
       interfaces = interfaces.holds.count;
-      fields = record { count = fields.holds.count; each = mapped_all IsCutField FitsField field_fits fields.got.0 fields.holds.each };
+      fields = record { count = fields.holds.count; each = AllByRecursion-weaker IsCutField FitsField field_fits fields.got.0 fields.holds.each };
       methods = record {
         count = rw (length-map methods.got.0 (entered_method pool)) methods.holds.count;
         each = each_as IsCutMethod FitsMethod (entered_method pool) (method_fits pool) methods.got.0 methods.holds.each;

@@ -6,9 +6,8 @@ use Rattle.class_model.specs.Cutting.{Rest, Version, u2_at, counted_at, field_at
 use Rattle.class_model.specs.Descriptors.{SpellsDescriptor, parameter_units}
 use Rattle.class_model.specs.ClassOf.{fields_checks, methods_checks}
 use Rattle.class_model.specs.Members.{fits_class, class_name_checks, super_checks, interfaces_checks, attrs_checks}
-use Rattle.class_model.specs.Methods.{Home, class_attr_checks}
+use Rattle.class_model.specs.Methods.{class_attr_checks, home_of}
 use Rattle.class_model.specs.Pool.{Constants}
-use Rattle.class_model.specs.PoolChecks.{class_at}
 use Rattle.class_model.specs.Spelling.{field_bytes, method_bytes, attr_bytes}
 use Rattle.class_model.specs.declared.class_file.Attr.{Attr}
 use Rattle.class_model.specs.declared.class_file.ClassFile.{ClassFile}
@@ -72,10 +71,9 @@ behind_checks at c =
     let fields = at + 8 + 2 * length c.interfaces in
     let methods = fields + 2 + fields_len c.fields in
     let attrs = methods + 2 + methods_len c.methods in
-    let home : Home = record { pool = c.pool; major = c.major; flags = c.flags; name = class_at c.pool c.this_class } in
     head_checks c.pool at c
     ++ (fields_checks c.pool c.flags [] (fields + 2) c.fields
-    ++ (methods_checks home [] (methods + 2) c.methods
+    ++ (methods_checks (home_of c) [] (methods + 2) c.methods
     ++ attrs_checks (class_attr_checks c.pool) [] (attrs + 2) c.attrs))
 
 -- a count is that of a method descriptor's parameters by units, and one more

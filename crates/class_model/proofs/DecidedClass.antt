@@ -7,9 +7,8 @@ use Rattle.class_model.specs.ClassOf.{fields_checks, methods_checks, bootstrap_i
 use Rattle.class_model.specs.ClassOf.FirstFault.{in_head, behind}
 use Rattle.class_model.specs.Cutting.{Rest, Cut, Version, version_at, class_file_at, uncut}
 use Rattle.class_model.specs.Members.{Signature, field_checks, field_signature}
-use Rattle.class_model.specs.Methods.{Home, method_checks, class_attr_checks, bootstrap_count, method_signature}
+use Rattle.class_model.specs.Methods.{Home, method_checks, class_attr_checks, bootstrap_count, method_signature, home_of}
 use Rattle.class_model.specs.Pool.{Constants}
-use Rattle.class_model.specs.PoolChecks.{class_at}
 use Rattle.class_model.specs.Spelling.{constant_bytes, entry_bytes, field_bytes, method_bytes}
 use Rattle.class_model.specs.declared.class_file.ClassFile.{ClassFile}
 use Rattle.class_model.specs.declared.class_file.Field.{Field}
@@ -48,7 +47,6 @@ class c =
     let after_flags = flags + 8 + 2 * length c.interfaces in
     let after_fields = after_flags + 2 + length (flat_map field_bytes c.fields) in
     let attrs = after_fields + 2 + length (flat_map method_bytes c.methods) in
-    let home : Home = record { pool = pool; major = c.major; flags = c.flags; name = class_at pool c.this_class } in
     decided-append _ _ (decided-append _ _ (decided-append _ _ (decided-append _ _ (decided-append _ _ (decided-append _ _ (decided-append _ _ (decided-append _ _
     (entries c.major pool 10 pool)
     (is_true _, tt))
@@ -56,7 +54,7 @@ class c =
     (super pool (flags + 4) c.super_class))
     (interfaces pool (flags + 8) c.interfaces))
     (fields pool c.flags [] (after_flags + 2) c.fields))
-    (methods home [] (after_fields + 2) c.methods))
+    (methods (home_of c) [] (after_fields + 2) c.methods))
     (attributes (class_attr_checks pool) (class_attribute pool) [] (attrs + 2) c.attrs))
     (dynamics (bootstrap_count pool c.attrs) 10 pool)
 

@@ -4,7 +4,7 @@ use Rattle.std.specs.List.{AllByRecursion, IsDistinct, list_any}
 use Rattle.std.proofs.lemmas.Bool.{false≢true, or_cases, eqb-true, ne_eqb}
 use Rattle.std.proofs.lemmas.Map.Keys.{IsDistinct-cons}
 use Rattle.std.proofs.lemmas.Map.Steps.{length-le_from_distinct_below}
-use Rattle.class_model.specs.Laws.Lists.{mapped_all}
+use Rattle.class_model.specs.Laws.Lists.{AllByRecursion-weaker}
 use Rattle.class_tree.specs.Graphs.{Graph, IsOneOf, IsNoneOf, IsEdge, IsPath, edge, onwards, IsWithin, IsTopological}
 use Rattle.class_tree.proofs.OneOf.{one_or_none, not_both, one_of_front, split_at}
 
@@ -48,9 +48,9 @@ some_met_again graph order within topological acyclic zero met node many low out
     omega (arith, length-le_from_distinct_below met (length graph) distinct (each_of (λ one. one < length graph) met below))
 some_met_again graph order within topological acyclic (suc fuel) met node many low outside distinct below lead =
     let next = topological.others node low outside in
-    let differ = mapped_all (λ one. IsPath graph one node) (λ one. eqb node one ≡ false) (λ one path. ne_eqb node one (λ same. acyclic node low (subst (λ (n : ℕ). IsPath graph n node) (sym same) path))) met lead in
+    let differ = AllByRecursion-weaker (λ one. IsPath graph one node) (λ one. eqb node one ≡ false) (λ one path. ne_eqb node one (λ same. acyclic node low (subst (λ (n : ℕ). IsPath graph n node) (sym same) path))) met lead in
     some_met_again graph order within topological acyclic fuel (node ∷ met) next.0 (omega arith) (within node next.0 next.1) next.2 (IsDistinct-cons eqb node met differ distinct) (low, below)
-    (edge node next.0 next.1, mapped_all (λ one. IsPath graph one node) (λ one. IsPath graph one next.0) (λ one path. path_and_edge path next.1) met lead)
+    (edge node next.0 next.1, AllByRecursion-weaker (λ one. IsPath graph one node) (λ one. IsPath graph one next.0) (λ one path. path_and_edge path next.1) met lead)
 
 -- where no node has a path to itself, each stands in the order
 pub all_are_placed : (graph : Graph) (order : List ℕ) → IsWithin graph → IsTopological graph order → ((node : ℕ) → node < length graph → ¬ IsPath graph node node) → (node : ℕ) → node < length graph → IsOneOf order node

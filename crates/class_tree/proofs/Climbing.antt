@@ -5,7 +5,7 @@ use Rattle.std.proofs.lemmas.Bool.{ne_eqb}
 use Rattle.std.proofs.lemmas.List.{append-nil}
 use Rattle.std.proofs.lemmas.Map.Keys.{IsDistinct-cons}
 use Rattle.std.proofs.lemmas.Map.Steps.{length-le_from_distinct_below}
-use Rattle.class_model.specs.Laws.Lists.{mapped_all}
+use Rattle.class_model.specs.Laws.Lists.{AllByRecursion-weaker}
 use Rattle.class_model.specs.declared.header.Header.{Header}
 use Rattle.class_tree.specs.Graphs.{IsEdge, IsPath, edge}
 use Rattle.class_tree.specs.Headers.{Name, Headers, all_headers, class_named, IsThere}
@@ -63,13 +63,13 @@ module _ (headers : Headers) (tree : HoldsSteps headers) where
           let up = edge_up place header at name some class in
           subst (λ (next : Option Place). IfSome next (AreMet headers (place_number headers place ∷ met))) (sym (superclass_is headers place header at name some ∙ class.is)) (record {
             there = ap is_some class.at;
-            paths = (edge _ _ up, mapped_all (λ one. IsPath (graph_of headers) one (place_number headers place)) (λ one. IsPath (graph_of headers) one (place_number headers class.place)) (λ one path. path_and_edge path up) met are.paths);
+            paths = (edge _ _ up, AllByRecursion-weaker (λ one. IsPath (graph_of headers) one (place_number headers place)) (λ one. IsPath (graph_of headers) one (place_number headers class.place)) (λ one path. path_and_edge path up) met are.paths);
           })
 
   distinct_more : (met : List ℕ) (place : Place) (header : Header) → header_at headers place ≡ Some header → AreMet headers met place → IsDistinct eqb met → IsDistinct eqb (place_number headers place ∷ met)
   distinct_more met place header at are distinct =
       IsDistinct-cons eqb (place_number headers place) met
-      (mapped_all (λ one. IsPath (graph_of headers) one (place_number headers place)) (λ one. eqb (place_number headers place) one ≡ false) (λ one path. ne_eqb _ one (λ same. no_circle place header at (subst (λ (n : ℕ). IsPath (graph_of headers) n (place_number headers place)) (sym same) path))) met are.paths) distinct
+      (AllByRecursion-weaker (λ one. IsPath (graph_of headers) one (place_number headers place)) (λ one. eqb (place_number headers place) one ≡ false) (λ one path. ne_eqb _ one (λ same. no_circle place header at (subst (λ (n : ℕ). IsPath (graph_of headers) n (place_number headers place)) (sym same) path))) met are.paths) distinct
 
   -- more fuel than there are classes left changes nothing
   steady : (fuel : ℕ) (next : Option Place) (met : List ℕ) → length (all_headers headers) ≤ length met + fuel → IsDistinct eqb met → AllByRecursion (λ one. one < length (all_headers headers)) met → IfSome next (AreMet headers met) → climb headers (suc fuel) next ≡ climb headers fuel next

@@ -5,7 +5,7 @@ use Rattle.std.proofs.lemmas.List.{drop_all, length-append, length-map}
 use Rattle.std.proofs.lemmas.Option.{slice_get_within, get_or_from_slice_get, slice_get-map, same_Some}
 use Rattle.class_model.specs.Checks.{Check, asked_each, AllHold}
 use Rattle.class_model.specs.Laws.Checks.{Remain, all_remain, remain}
-use Rattle.class_model.specs.Laws.Lists.{drop_at}
+use Rattle.class_model.specs.Laws.Lists.{drop_item}
 use Rattle.class_model.specs.declared.header.Header.{Header}
 use Rattle.class_tree.specs.Answers.{Answers}
 use Rattle.class_tree.specs.Graphs.{Graph, IsPath}
@@ -77,13 +77,13 @@ from_folder headers number header is =
     let within = slice_get_within headers.folder number header is in
     let here : number - length headers.folder ≡ 0 = omega arith in
     let later : number + 1 - length headers.folder ≡ 0 = omega arith in
-    rw (drop_at headers.folder number header is, here, later)
+    rw (drop_item headers.folder number header is, here, later)
     (append_assoc (folder_checks headers header) (asked_each (folder_checks headers) (drop (number + 1) headers.folder)) (asked_each (library_checks headers) headers.library))
 
 from_library : (headers : Headers) (number : ℕ) (header : Header) → length headers.folder ≤ number → slice_get headers.library (number - length headers.folder) ≡ Some header → checks_from headers number ≡ library_checks headers header ++ checks_from headers (number + 1)
 from_library headers number header behind is =
     let next : number + 1 - length headers.folder ≡ number - length headers.folder + 1 = omega arith in
-    rw (drop_all number headers.folder behind, drop_all (number + 1) headers.folder (omega arith), next, drop_at headers.library (number - length headers.folder) header is) refl
+    rw (drop_all number headers.folder behind, drop_all (number + 1) headers.folder (omega arith), next, drop_item headers.library (number - length headers.folder) header is) refl
 
 -- what the class of a number is answered
 pub record ClassAnswers (headers : Headers) (number : ℕ) (result : Result (Unit {0}) LinkFault) : Type 0 where

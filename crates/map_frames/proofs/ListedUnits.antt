@@ -1,20 +1,18 @@
 -- The units up to the last that is not Top, one after the other.
-use Rattle.std.proofs.Common.{◌≡◌, inl, inr, ℕ, zero, suc, ◌+◌, ◌-◌, ◌<◌, ◌≤◌, min, true, false, cond, List, [], ◌∷◌, ◌++◌, length, take, drop, get_or, reverse, replicate, Some, None, refl, sym, ap, ◌∙◌, append_assoc, add-one, arith}
+use Rattle.std.proofs.Common.{◌≡◌, inl, inr, ℕ, zero, suc, ◌+◌, ◌-◌, ◌<◌, ◌≤◌, min, true, false, cond, List, [], ◌∷◌, ◌++◌, length, take, drop, get_or, reverse, replicate, Some, refl, sym, ap, ◌∙◌, append_assoc, add-one, arith}
 use Rattle.std.proofs.Math.ListN.{drop_of_length-le}
 use Rattle.std.proofs.Math.Seq.{drop-cons}
 use Rattle.std.specs.List.{slice_get}
 use Rattle.std.proofs.lemmas.Bool.{cases_Bool, cases_lt, false≢true}
-use Rattle.std.proofs.lemmas.List.{append-nil, reverse-append, reverse-reverse, take-append-drop, take_more, length-take, get_or-take, drop-drop}
+use Rattle.std.proofs.lemmas.List.{append-nil, reverse-append, reverse-reverse, take-append-drop, length-take, get_or-take, drop-drop}
 use Rattle.std.proofs.lemmas.Option.{slice_get_cases, slice_get_within, get_or_from_slice_get}
 use Rattle.class_model.specs.Frames.{is_top, is_wide, depth, entries_of_units}
+use Rattle.class_model.specs.Laws.Lists.{take_item}
 use Rattle.class_model.specs.declared.frame.VType.{VType}
 use Rattle.class_model.specs.declared.frame.VType.TheVariants.{Top}
 use Rattle.map_frames.specs.Units.{is_top_there}
 use Rattle.map_frames.proofs.EntryUnits.{listed_more, listed_all}
 use Rattle.map_frames.proofs.FrameUnits.{kept, wide_units, single_unit}
-
-pub one_more : {X : Type 0} (xs : List X) (i : ℕ) (x : X) → slice_get xs i ≡ Some x → take (i + 1) xs ≡ take i xs ++ x ∷ []
-one_more xs i x is = take_more xs i x (slice_get_within xs i x is) ∙ ap (λ y. take i xs ++ y ∷ []) (get_or_from_slice_get xs i x x is)
 
 kept_with_top : (types : List VType) (type : VType) → is_top type ≡ true → kept (types ++ type ∷ []) ≡ kept types
 kept_with_top types type top = rw (reverse-append types (type ∷ []), top) refl
@@ -37,7 +35,7 @@ module _ (types : List VType) (n : ℕ) where
   pub without_top : is_top_there (slice_get types n) ≡ true → kept (take (n + 1) types) ≡ kept (take n types)
   without_top top =
       elim (slice_get_cases types n).1 [
-        | inl here ↦ ap kept (one_more types n here.0 here.2) ∙ kept_with_top (take n types) here.0 (ap is_top_there (sym here.2) ∙ top)
+        | inl here ↦ ap kept (take_item types n here.0 here.2) ∙ kept_with_top (take n types) here.0 (ap is_top_there (sym here.2) ∙ top)
         | inr behind ↦ absurd (false≢true (ap is_top_there (sym behind.1) ∙ top))
       ]
 
@@ -45,17 +43,9 @@ module _ (types : List VType) (n : ℕ) where
   pub up_to_other : n + 1 ≤ length types → is_top_there (slice_get types n) ≡ false → kept (take (n + 1) types) ≡ take (n + 1) types
   up_to_other few other =
       elim (slice_get_cases types n).1 [
-        | inl here ↦ let more = one_more types n here.0 here.2 in ap kept more ∙ kept_with_other (take n types) here.0 (ap is_top_there (sym here.2) ∙ other) ∙ sym more
+        | inl here ↦ let more = take_item types n here.0 here.2 in ap kept more ∙ kept_with_other (take n types) here.0 (ap is_top_there (sym here.2) ∙ other) ∙ sym more
         | inr behind ↦ absurd (omega arith)
       ]
-
--- there is no unit, so all are before
-pub none_behind : {X : Type 0} (xs : List X) (i : ℕ) → slice_get xs i ≡ None → length xs ≤ i
-none_behind xs i none =
-    elim (slice_get_cases xs i).1 [
-      | inl here ↦ absurd cc
-      | inr behind ↦ behind.0
-    ]
 
 -- ---- entries of the units in front of a place
 

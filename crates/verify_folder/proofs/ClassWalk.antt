@@ -2,7 +2,7 @@
 use Rattle.std.proofs.Common.{◌≡◌, ◌+◌, ◌≤◌, inl, inr, ℕ, List, [], ◌∷◌, ◌++◌, length, drop, slice_get, Err, Option, Some, sym, subst, append_assoc}
 use Rattle.std.proofs.lemmas.List.{append-nil, drop_all}
 use Rattle.class_model.specs.Header.{header_of}
-use Rattle.class_model.specs.Laws.Lists.{drop_at}
+use Rattle.class_model.specs.Laws.Lists.{drop_item}
 use Rattle.class_model.specs.declared.class_file.ClassFile.{ClassFile}
 use Rattle.class_model.specs.declared.frame.Frame.{Frame}
 use Rattle.class_tree.specs.Headers.{Classes, Headers, headers_of}
@@ -21,7 +21,7 @@ none_so_far headers folder = record { typed_rest = λ rest h. h; fails_rest = λ
 
 module _ (headers : Headers) (folder : List ClassFile) (place : ℕ) (typed : FolderFrames) (class : ClassFile) (found : slice_get folder place ≡ Some class) (so_far : SoFar headers folder place typed) where
   left : drop place folder ≡ class ∷ drop (place + 1) folder
-  left = drop_at folder place class found
+  left = drop_item folder place class found
 
   pub one_more : (own : List (Option (List Frame))) → AreTypedMethods headers class class.methods own → SoFar headers folder (place + 1) (typed ++ own ∷ [])
   one_more own types = record {

@@ -4,7 +4,7 @@ use Rattle.std.proofs.lemmas.List.{append-nil, drop_all}
 use Rattle.std.proofs.lemmas.Option.{same_Some, slice_get-get_or, slice_get-map}
 use Rattle.std.specs.Option.{is_some}
 use Rattle.class_model.specs.Header.{header_of}
-use Rattle.class_model.specs.Laws.Lists.{drop_at}
+use Rattle.class_model.specs.Laws.Lists.{drop_item}
 use Rattle.class_model.specs.declared.class_file.ClassFile.{ClassFile}
 use Rattle.class_model.specs.declared.class_file.CodePart.{CodePart}
 use Rattle.class_model.specs.declared.class_file.Method.{Method}
@@ -58,7 +58,7 @@ none_so_far headers class = record { typed_rest = λ rest h. h; fails_rest = λ 
 
 module _ (headers : Headers) (class : ClassFile) (number : ℕ) (typed : List (Option (List Frame))) (method : Method) (found : slice_get class.methods number ≡ Some method) (so_far : SoFar headers class number typed) where
   left : drop number class.methods ≡ method ∷ drop (number + 1) class.methods
-  left = drop_at class.methods number method found
+  left = drop_item class.methods number method found
 
   pub one_more : (frames : Option (List Frame)) → TypesMethod (scope_of headers class method) frames → SoFar headers class (number + 1) (typed ++ frames ∷ [])
   one_more frames types =
@@ -69,13 +69,13 @@ module _ (headers : Headers) (class : ClassFile) (number : ℕ) (typed : List (O
             (so_far.typed_rest (frames ∷ rest) (subst (λ methods. AreTypedMethods headers class methods (frames ∷ rest)) (sym left) (types, h)));
         fails_rest = λ failure h.
             so_far.fails_rest failure (subst (λ methods. MethodsFail headers class methods (drop number (header_of class).methods) failure) (sym left)
-            (subst (λ members. MethodsFail headers class (method ∷ drop (number + 1) class.methods) members failure) (sym (drop_at (header_of class).methods number member.0 member.1)) (inr ((frames, types), h))));
+            (subst (λ members. MethodsFail headers class (method ∷ drop (number + 1) class.methods) members failure) (sym (drop_item (header_of class).methods number member.0 member.1)) (inr ((frames, types), h))));
       }
 
   pub stops : (member : Member) (failure : Failure) → slice_get (header_of class).methods number ≡ Some member → MethodFails (scope_of headers class method) (header_of class) member failure → MethodsFail headers class class.methods (header_of class).methods failure
   stops member failure is fails =
       so_far.fails_rest failure (subst (λ methods. MethodsFail headers class methods (drop number (header_of class).methods) failure) (sym left)
-      (subst (λ members. MethodsFail headers class (method ∷ drop (number + 1) class.methods) members failure) (sym (drop_at (header_of class).methods number member is)) (inl fails)))
+      (subst (λ members. MethodsFail headers class (method ∷ drop (number + 1) class.methods) members failure) (sym (drop_item (header_of class).methods number member is)) (inl fails)))
 
 pub all_typed : (headers : Headers) (class : ClassFile) (number : ℕ) (typed : List (Option (List Frame))) → length class.methods ≤ number → SoFar headers class number typed → AreTypedMethods headers class class.methods typed
 all_typed headers class number typed past so_far =

@@ -1,15 +1,15 @@
 use Rattle.std.proofs.Common.{◌≡◌, ℕ, ◌+◌, List, [], ◌∷◌, ◌++◌, length, take, Some, sym, ap, ◌∙◌, arith, length-append}
 use Rattle.std.proofs.lemmas.List.{take_all}
 use Rattle.std.specs.List.{slice_get}
+use Rattle.class_model.specs.Laws.Lists.{take_item, none_behind}
 use Rattle.class_model.specs.declared.frame.VType.{VType}
-use Rattle.map_frames.proofs.ListedUnits.{one_more, none_behind}
 use Rattle.base_tests.proofs.writing_tests.units_of.Goals as goal
 
 next_copied : (types units more : List VType) (unit copy : VType) → slice_get types (length units) ≡ Some unit → copy ≡ unit → units ≡ take (length units) types → more ≡ units ++ copy ∷ [] → more ≡ take (length more) types
 next_copied types units more unit copy is same so_far pushed =
     let longer : length units + 1 ≡ length more = omega (arith, ap length pushed, length-append units (copy ∷ [])) in
     pushed ∙ ap (λ (t : VType). units ++ t ∷ []) same ∙ ap (λ (l : List VType). l ++ unit ∷ []) so_far
-    ∙ sym (one_more types (length units) unit is) ∙ ap (λ (n : ℕ). take n types) longer
+    ∙ sym (take_item types (length units) unit is) ∙ ap (λ (n : ℕ). take n types) longer
 
 pub loop-unit-preserved : goal.loop-unit-preserved
 loop-unit-preserved c =

@@ -1,10 +1,10 @@
 use Rattle.std.proofs.Common.{◌≡◌, ◌+◌, ◌∙◌, ℕ, List, [], Option, ap, arith}
 use Rattle.std.proofs.lemmas.Result.{err_from_is_err_and}
 use Rattle.class_model.specs.ClassOf.{fields_checks, methods_checks}
-use Rattle.class_model.specs.Methods.{Home, bootstrap_count}
+use Rattle.class_model.specs.Methods.{Home, bootstrap_count, home_of}
 use Rattle.class_bytes.specs.Cut.{class_of, fields_of, methods_of}
 use Rattle.class_bytes.specs.Parts.{head_len, fields_len, methods_len}
-use Rattle.class_bytes.proofs.ClassParts.{home, fields_at, methods_at, fields_part, methods_part, head_stops, fields_stop, methods_stop, attrs_told, same_fault}
+use Rattle.class_bytes.proofs.ClassParts.{fields_at, methods_at, fields_part, methods_part, head_stops, fields_stop, methods_stop, attrs_told, same_fault}
 use Rattle.class_bytes.proofs.class_checks.check_behind.Goals as goal
 
 pub returns-in_err-fields : goal.returns-in_err-fields
@@ -37,11 +37,11 @@ returns-in_err-attrs c =
     let fields = rw (place, c.as_slice.ensures) at c.in_ok-methods.ensures in
     let start = c.in_ok-methods.methods in
     let list = methods_of c.as_slice-2.result.now in
-    let own : Option (List ℕ) → Home = λ name. record (home class) { name = name } in
+    let own : Option (List ℕ) → Home = λ name. record (home_of class) { name = name } in
     let same =
     ap (λ name. methods_checks (own name) [] (start + 2) list) c.class_name.ensures
-    ∙ ap (λ (n : ℕ). methods_checks (home class) [] (n + 2) list) fields.1
-    ∙ ap (λ items. methods_checks (home class) [] (methods_at c.args.at class + 2) (methods_of items)) c.as_slice-2.ensures in
+    ∙ ap (λ (n : ℕ). methods_checks (home_of class) [] (n + 2) list) fields.1
+    ∙ ap (λ items. methods_checks (home_of class) [] (methods_at c.args.at class + 2) (methods_of items)) c.as_slice-2.ensures in
     let Is = λ (end : ℕ). end ≡ start + 2 + methods_len list in
     let Other = λ (count : ℕ). count ≡ bootstrap_count class.pool class.attrs in
     let told = same_fault _ (methods_part c.args.at class) Is Other c.in_err-attrs.field-0.0 same c.in_err-attrs.ensures in

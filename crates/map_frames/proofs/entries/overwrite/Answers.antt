@@ -4,8 +4,8 @@ use Rattle.std.proofs.Math.Seq.{take-length, paste}
 use Rattle.std.specs.List.{slice_get}
 use Rattle.std.proofs.lemmas.List.Edits.{paste_more}
 use Rattle.std.proofs.lemmas.Option.{slice_get_within, get_or_from_slice_get}
+use Rattle.class_model.specs.Laws.Lists.{none_behind}
 use Rattle.class_model.specs.declared.frame.VType.{VType}
-use Rattle.map_frames.proofs.ListedUnits.{none_behind}
 use Rattle.map_frames.proofs.entries.overwrite.Goals as goal
 
 -- one unit more
