@@ -3,7 +3,7 @@ use Rattle.std.proofs.Common.{◌≡◌, ◌⊎◌, inl, inr, ℕ, ◌<◌, ◌�
 use Rattle.std.specs.Prelude.{IsSome, IsTrue, IsFalse}
 use Rattle.std.specs.List.{AllByRecursion}
 use Rattle.std.proofs.lemmas.Bool.{cases_eq, cases_lt}
-use Rattle.class_model.specs.Checks.{Check, Fault, fault, AllHold, IsFirstFault, asked_if, asked_of}
+use Rattle.class_model.specs.Checks.{Check, Fault, AllHold, IsFirstFault, asked_if, asked_of}
 
 abbrev pub Decision : Type 0 → Type 0
 Decision P = P ⊎ (¬ P)

@@ -13,7 +13,6 @@ use Rattle.class_model.specs.Names.{IsClassName}
 use Rattle.class_model.specs.PoolChecks.{class_at}
 use Rattle.class_model.specs.Spelling.{class_bytes, entry_bytes}
 use Rattle.class_model.specs.declared.class_file.ClassFile.{ClassFile}
-use Rattle.class_model.specs.declared.fault.FileRule.TheVariants as rules
 use Rattle.class_model.specs.declared.header.Header.{Header}
 use Rattle.class_tree.specs.Headers.{Name, Classes, Headers, headers_of, class_named, IsClassFile, IsLibraryClass}
 use Rattle.class_tree.specs.Steps.{hierarchy_checks}

@@ -1,6 +1,6 @@
 -- A table read step by step, for the contracts of the reader's own functions: what one step gives, and where it
 -- leaves the reader.
-use Rattle.std.specs.Prelude.{◌≡◌, ◌==◌, ◌+◌, ◌-◌, nat_lt, ℕ, List, [], ◌∷◌, ◌++◌, length, take, Option, Some, None, Result, Ok, Err, if◌then◌else◌}
+use Rattle.std.specs.Prelude.{◌≡◌, ◌==◌, ◌+◌, ◌-◌, nat_lt, ℕ, List, [], ◌∷◌, ◌++◌, length, take, Result, Ok, Err, if◌then◌else◌}
 use Rattle.class_model.specs.Checks.{Fault, fault, ◌>>=◌}
 use Rattle.class_model.specs.Cutting.{Rest, Cut, behind}
 use Rattle.class_model.specs.Frames.{Setting, Stated, stated_frame, table_u2_at, object_of, verification_type_at, verification_types_at, frame_at, fits_at, is_new_at, filled, missing}
@@ -12,7 +12,7 @@ use Rattle.class_model.specs.declared.fault.FileRule.TheVariants as rules
 use Rattle.class_model.specs.declared.frame.Frame.{Frame}
 use Rattle.class_model.specs.declared.frame.PlacedFrame.{PlacedFrame}
 use Rattle.class_model.specs.declared.frame.VType.{VType}
-use Rattle.class_model.specs.declared.frame.VType.TheVariants.{Object, Uninit}
+use Rattle.class_model.specs.declared.frame.VType.TheVariants.{Uninit}
 
 -- ---- numbers
 

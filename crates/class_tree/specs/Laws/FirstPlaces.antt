@@ -1,5 +1,5 @@
 -- The first place in a list where a test is passed.
-use Rattle.std.proofs.Common.{◌≡◌, ◌+◌, ℕ, suc, Bool, true, false, cond, List, [], ◌∷◌, slice_get, Option, Some, None, IsSome, IfSome, is_some, option_map, option_and_then, refl, sym, ap, subst, ◌∙◌, arith}
+use Rattle.std.proofs.Common.{◌≡◌, ◌+◌, ℕ, suc, Bool, true, false, cond, List, [], ◌∷◌, slice_get, Option, Some, None, IsSome, IfSome, is_some, option_map, option_and_then, refl, ap, subst, ◌∙◌, arith}
 use Rattle.class_tree.specs.Order.{first_place}
 
 -- the item at a place passes
