@@ -1,6 +1,6 @@
 -- What is asked where an instruction stands, in the order in which it is asked (JVM Specification SE 8, 4.10.1.6).
-use Rattle.std.specs.Prelude.{◌≡◌, ℕ, Bool, true, false, List, [], ◌∷◌, ◌++◌, Option, Some, None}
-use Rattle.class_model.specs.Checks.{AllHold, Check, IsFirstFault}
+use Rattle.std.specs.Prelude.{◌≡◌, ℕ, List, [], ◌∷◌, ◌++◌, Option, Some, None}
+use Rattle.class_model.specs.Checks.{AllHold, Check, IsFirstFault, asked_if}
 use Rattle.class_model.specs.Instructions.{targets}
 use Rattle.class_model.specs.declared.class_file.Handler.{Handler}
 use Rattle.class_model.specs.declared.frame.Frame.{Frame}
@@ -35,15 +35,11 @@ abbrev pub MayGoTo : Headers → Option Frame → Option Frame → Type 0
 MayGoTo headers (Some frame) (Some stated) = IsFrameAssignable headers frame stated
 MayGoTo headers frame stated = ⊥
 
-abbrev asked_if : Bool → Check → List (Check TypeRule)
-asked_if true asked = asked ∷ []
-asked_if false asked = []
-
 -- each handler whose range has the instruction, in table order
 abbrev pub handler_checks : Scope → ℕ → Frame → List Handler → List (Check TypeRule)
 handler_checks s at before [] = []
 handler_checks s at before (handler ∷ handlers) =
-    asked_if (covers handler at) (check rules.Handler (MayGoTo s.headers (Some (caught_frame s before handler)) (stated_at s handler.at))) ++ handler_checks s at before handlers
+    asked_if (covers handler at) (check rules.Handler (MayGoTo s.headers (Some (caught_frame s before handler)) (stated_at s handler.at)) ∷ []) ++ handler_checks s at before handlers
 
 -- each target, in order
 abbrev pub target_checks : Scope → Option Frame → List ℕ → List (Check TypeRule)
