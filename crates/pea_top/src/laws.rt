@@ -6,8 +6,8 @@ ghost use Rattle.pea_top.specs.Words.{Word, Command, Spells};
 ghost use Rattle.pea_top.specs.declared.status.Status.{Status};
 
 use class_model::{
-    a_class_file_has_no_fault, a_library_file_is_told_once, another_version_is_no_class_file, bytes_are_one_class_file,
-    one_first_fault,
+    a_class_file_has_no_fault, a_library_file_is_told_once, another_version_is_no_class_file,
+    bytes_are_one_class_file, one_first_fault,
 };
 use class_tree::a_folder_is_told_once;
 use verify_folder::a_folder_fails_once;

@@ -16,8 +16,8 @@ use crate::folder::{NamedFile, is_class_file};
 use crate::sharing::SharedTexts;
 use class_bytes::{push_class, read_class, read_header};
 use class_model::{
-    a_library_file_is_told_once, ByteList, ClassFault, ClassFile, FileRule, Header, NoMemory, a_class_file_has_no_fault,
-    another_version_is_no_class_file,
+    ByteList, ClassFault, ClassFile, FileRule, Header, NoMemory, a_class_file_has_no_fault,
+    a_library_file_is_told_once, another_version_is_no_class_file,
 };
 use class_tree::{ClassFileList, HeaderList};
 use host_tree::{FileName, Host, HostCall, HostFail};
