@@ -13,3 +13,4 @@ pub mod MemberIndex
 pub mod Nodes
 pub mod InterfaceNumbers
 pub mod Placing
+pub mod Parts

@@ -19,6 +19,7 @@ ghost use Rattle.class_tree.specs.declared.fault.LinkRule.TheVariants as rules;
 use crate::fault::{LinkFault, LinkRule};
 use crate::graph::reaches;
 use crate::headers::Headers;
+use crate::lists::Lists;
 use crate::hierarchy::is_outside;
 use crate::names::{
     CLONEABLE, METHOD_HANDLE, METHOD_TYPE, OBJECT, SERIALIZABLE, THROWABLE, base_names,
@@ -35,7 +36,7 @@ pub(crate) fn check_base(
     alloc: Global,
     folder: &[ClassFile],
     headers: &Headers<'_>,
-    graph: &[ListOf<usize>],
+    graph: &Lists<usize>,
 ) -> Result<(), LinkFault>
     requires in_order { IsInOrder headers.now }
     requires folder { headers.now.folder ≡ map header_of folder.now }
@@ -144,7 +145,7 @@ fn is_open_constructor(member: &Member) -> bool
 fn check_throwables(
     alloc: Global,
     headers: &Headers<'_>,
-    graph: &[ListOf<usize>],
+    graph: &Lists<usize>,
 ) -> Result<(), LinkFault>
     requires in_order { IsInOrder headers.now }
     requires graph { graph.now ≡ graph_of headers.now }
@@ -165,7 +166,7 @@ fn check_throwables(
 fn is_below(
     alloc: Global,
     headers: &Headers<'_>,
-    graph: &[ListOf<usize>],
+    graph: &Lists<usize>,
     name: &[u8],
     above: usize,
 ) -> Result<bool, NoMemory>
