@@ -28,10 +28,10 @@ pub as_many_nodes : (headers : Headers) → length (graph_of headers) ≡ length
 as_many_nodes headers = length-map (all_headers headers) (λ class. filter_map (number_of headers) (supers class))
 
 -- the numbers of those that it names
-pub targets_at : (headers : Headers) (graph : Graph) (number : ℕ) (header : Header) (d : List ℕ) → graph ≡ graph_of headers → slice_get (all_headers headers) number ≡ Some header → get_or graph number d ≡ filter_map (number_of headers) (supers header)
-targets_at headers graph number header d is there =
-    get_or_from_slice_get graph number (filter_map (number_of headers) (supers header)) d
-    (ap (λ (g : Graph). slice_get g number) is ∙ slice_get-map (λ class. filter_map (number_of headers) (supers class)) (all_headers headers) number ∙ ap (option_map (λ class. filter_map (number_of headers) (supers class))) there)
+pub targets_at : (headers : Headers) (graph : Graph) (number : ℕ) (header : Header) (read : List ℕ) → graph ≡ graph_of headers → slice_get (all_headers headers) number ≡ Some header → slice_get graph number ≡ Some read → read ≡ filter_map (number_of headers) (supers header)
+targets_at headers graph number header read is there at =
+    same_Some read (filter_map (number_of headers) (supers header))
+    (sym at ∙ ap (λ (g : Graph). slice_get g number) is ∙ slice_get-map (λ class. filter_map (number_of headers) (supers class)) (all_headers headers) number ∙ ap (option_map (λ class. filter_map (number_of headers) (supers class))) there)
 
 -- it is on a circle where it is above itself
 pub circle_decides : (headers : Headers) (graph : Graph) (number : ℕ) (header : Header) (test : Bool) → IsInOrder headers → graph ≡ graph_of headers → slice_get (all_headers headers) number ≡ Some header → (test ≡ true ↔ IsPath graph number number) → (test ≡ true) ↔ IsBelow headers header.name header.name

@@ -4,7 +4,7 @@ use Rattle.std.specs.List.{All, AllByRecursion}
 use Rattle.std.proofs.lemmas.Bool.{or_left, or_right, eq-eqb, cases_eq}
 use Rattle.std.proofs.lemmas.List.{append-nil, drop_more, take_more, take_all, take-append-drop, length-map, get_or-map, length-set, get_or-set_same, get_or-set_other}
 use Rattle.std.proofs.lemmas.List.Elements.{All-nil, All-cons, All-head, All-tail, All-set}
-use Rattle.std.proofs.lemmas.Option.{slice_get-map, slice_get_within, get_or_from_slice_get}
+use Rattle.std.proofs.lemmas.Option.{slice_get-map, slice_get_within, get_or_from_slice_get, same_Some}
 use Rattle.class_model.specs.Checks.{AllHold}
 use Rattle.class_model.specs.declared.header.Header.{Header}
 use Rattle.class_tree.specs.Graphs.{Graph, IsOneOf, IsTopological}
@@ -177,10 +177,10 @@ graph_at headers number header there = slice_get-map (targets headers) (all_head
 
 module _ (headers : Headers) (hold : AllHold (hierarchy_checks headers)) (graph : Graph) (same : graph ≡ graph_of headers) where
   -- the classes at the end of the edges
-  pub targets_are : (number : ℕ) (header : Header) → slice_get (all_headers headers) number ≡ Some header → (read : List ℕ) → read ≡ get_or graph number read → read ≡ filter_map (number_of headers) (supers header)
+  pub targets_are : (number : ℕ) (header : Header) → slice_get (all_headers headers) number ≡ Some header → (read : List ℕ) → slice_get graph number ≡ Some read → read ≡ filter_map (number_of headers) (supers header)
   unfolding targets
   targets_are number header there read is =
-      is ∙ get_or_from_slice_get graph number (targets headers header) read (ap (λ g. slice_get g number) same ∙ graph_at headers number header there)
+      same_Some read (targets headers header) (sym is ∙ ap (λ g. slice_get g number) same ∙ graph_at headers number header there)
 
   numbered : (number : ℕ) (header : Header) → slice_get (all_headers headers) number ≡ Some header → map (number_of headers) (supers header) ≡ map Some (filter_map (number_of headers) (supers header))
   numbered number header there = have_numbers headers (supers header) (class_holds headers hold number header there).there

@@ -11,6 +11,7 @@ pub mod NewNumbers
 pub mod OneOf
 pub mod Acyclic
 pub mod GraphPaths
+pub mod Parts
 pub mod Placed
 pub mod Searched
 pub mod SupersGraph

@@ -30,15 +30,15 @@ class_at headers place number is some = by (header_at headers place) refl some
         record { header = header; at = at; there = there; within = slice_get_within (all_headers headers) number header there }
 
 -- an index of the members of the class
-pub index_is : (members : Header → List Member) (headers : Headers) (indexes : List (List ℕ)) (place : Place) (number : ℕ) (class : IsAt headers place number) (index : List ℕ) → AreMemberIndexes members headers indexes → index ≡ get_or indexes number index → IsMemberIndex (members class.header) index
+pub index_is : (members : Header → List Member) (headers : Headers) (indexes : List (List ℕ)) (place : Place) (number : ℕ) (class : IsAt headers place number) (index : List ℕ) → AreMemberIndexes members headers indexes → slice_get indexes number ≡ Some index → IsMemberIndex (members class.header) index
 index_is members headers indexes place number class index are is =
-    are.each number class.header index class.there (slice_get-get_or indexes number index (omega (arith, class.within, are.len)) ∙ ap Some (sym is))
+    are.each number class.header index class.there is
 
 -- the superinterfaces of the class
-pub superinterfaces_are : (headers : Headers) (lists : List (List Place)) (place : Place) (number : ℕ) (class : IsAt headers place number) (places : List Place) → AreInterfaceLists headers lists → places ≡ get_or lists number places → IfSome (header_at headers place) (λ header. (names : List Name) × AreSuperinterfaces headers header.name names × (map (place_of headers) names ≡ map Some places))
+pub superinterfaces_are : (headers : Headers) (lists : List (List Place)) (place : Place) (number : ℕ) (class : IsAt headers place number) (places : List Place) → AreInterfaceLists headers lists → slice_get lists number ≡ Some places → IfSome (header_at headers place) (λ header. (names : List Name) × AreSuperinterfaces headers header.name names × (map (place_of headers) names ≡ map Some places))
 superinterfaces_are headers lists place number class places are is =
     subst (λ found. IfSome found (λ header. (names : List Name) × AreSuperinterfaces headers header.name names × (map (place_of headers) names ≡ map Some places))) (sym class.at)
-    (are.each number class.header places class.there (slice_get-get_or lists number places (omega (arith, class.within, are.len)) ∙ ap Some (sym is)))
+    (are.each number class.header places class.there is)
 
 module _ (classes : Classes) (of_folder : List Header) (links : Links) (linked : AreLinks classes of_folder links) (place : Place) (number : ℕ) (class : IsAt (headers_of classes) place number) where
   pub superclasses_have : number < length links.superclasses.items

@@ -14,3 +14,4 @@ pub mod Nodes
 pub mod InterfaceNumbers
 pub mod Placing
 pub mod Laws
+pub mod Parts

@@ -48,9 +48,9 @@ pub record AreLinks (classes : Classes) (of_folder : List Header) (links : Links
   pub tree : IsTree classes
   pub headers : of_folder ≡ map header_of classes.folder
   pub superclasses : links.superclasses.items ≡ map (super_place (headers_of classes)) (all_headers (headers_of classes))
-  pub interfaces : AreInterfaceLists (headers_of classes) links.interfaces.items
-  pub fields : AreMemberIndexes (λ header. header.fields) (headers_of classes) links.fields.items
-  pub methods : AreMemberIndexes (λ header. header.methods) (headers_of classes) links.methods.items
+  pub interfaces : AreInterfaceLists (headers_of classes) links.interfaces
+  pub fields : AreMemberIndexes (λ header. header.fields) (headers_of classes) links.fields
+  pub methods : AreMemberIndexes (λ header. header.methods) (headers_of classes) links.methods
 
 -- what linking classes in byte order of names answers
 abbrev pub IsLinksOf : Classes → List Header → Result Links LinkFault → Type 0

@@ -21,6 +21,7 @@ use crate::fault::{LinkFault, LinkRule};
 use crate::graph::reaches;
 use crate::headers::Headers;
 use crate::hierarchy::is_outside;
+use crate::lists::Lists;
 use crate::names::{
     CLONEABLE, METHOD_HANDLE, METHOD_TYPE, OBJECT, SERIALIZABLE, THROWABLE, base_names,
     is_interface, machine_throwables,
@@ -36,7 +37,7 @@ pub(crate) fn check_base(
     alloc: Global,
     folder: &[ClassFile],
     headers: &Headers<'_>,
-    graph: &[ListOf<usize>],
+    graph: &Lists<usize>,
 ) -> Result<(), LinkFault>
     requires in_order { IsInOrder headers.now }
     requires folder { headers.now.folder ≡ map header_of folder.now }
@@ -145,7 +146,7 @@ fn is_open_constructor(member: &Member) -> bool
 fn check_throwables(
     alloc: Global,
     headers: &Headers<'_>,
-    graph: &[ListOf<usize>],
+    graph: &Lists<usize>,
 ) -> Result<(), LinkFault>
     requires in_order { IsInOrder headers.now }
     requires graph { graph.now ≡ graph_of headers.now }
@@ -166,7 +167,7 @@ fn check_throwables(
 fn is_below(
     alloc: Global,
     headers: &Headers<'_>,
-    graph: &[ListOf<usize>],
+    graph: &Lists<usize>,
     name: &[u8],
     above: usize,
 ) -> Result<bool, NoMemory>

@@ -8,22 +8,20 @@ ghost use Rattle.class_tree.specs.Steps.{supers};
 ghost use Rattle.class_tree.specs.Trees.{IsInOrder};
 
 use crate::headers::Headers;
+use crate::lists::Lists;
 use class_model::{Header, ListOf, NoMemory, Text};
 use std::alloc::Global;
 use std::marker::Model;
 
 /// For each class the numbers of its superclass and interfaces, as far as they are there.
-pub(crate) fn supers_graph(
-    alloc: Global,
-    headers: &Headers<'_>,
-) -> Result<Vec<ListOf<usize>>, NoMemory>
+pub(crate) fn supers_graph(alloc: Global, headers: &Headers<'_>) -> Result<Lists<usize>, NoMemory>
     requires { IsInOrder headers.now }
-    ensures { IfOk result (λ graph. graph.items ≡ graph_of headers.now) }
+    ensures { IfOk result (λ graph. graph ≡ graph_of headers.now) }
 {
-    let mut graph = Vec::with_capacity(alloc, headers.len())?;
+    let mut graph = Lists::new(alloc, headers.len())?;
     for number in 0..headers.len() {
         if let Some(header) = headers.get(number) {
-            graph.push(supers_of(alloc, headers, header)?)?;
+            graph.push(supers_of(alloc, headers, header)?.as_slice())?;
         }
     }
     Ok(graph)
@@ -63,18 +61,10 @@ fn push_number(
     Ok(())
 }
 
-/// The targets of a node.
-pub(crate) fn targets<'a>(graph: &'a [ListOf<usize>], node: usize) -> &'a [usize]
-    requires { node < length graph.now }
-    ensures { slice_get graph.now node ≡ Some result.now }
-{
-    graph[node].as_slice()
-}
-
 /// Whether a path of one edge or more leads from a node to a node.
 pub(crate) fn reaches(
     alloc: Global,
-    graph: &[ListOf<usize>],
+    graph: &Lists<usize>,
     from: usize,
     to: usize,
 ) -> Result<bool, NoMemory>
@@ -83,11 +73,11 @@ pub(crate) fn reaches(
     ensures { IfOk result (λ yes. IsTrue yes ↔ IsPath graph.now from to) }
 {
     let mut reached = NodeSet::new(alloc, graph.len())?;
-    reached.add_all(targets(graph, from))?;
+    reached.add_all(graph.get(from))?;
     let mut at = 0;
     while at < reached.len() {
         let node = reached.get(at);
-        reached.add_all(targets(graph, node))?;
+        reached.add_all(graph.get(node))?;
         at += 1;
     }
     Ok(reached.has(to))

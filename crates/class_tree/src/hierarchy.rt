@@ -15,10 +15,11 @@ ghost use Rattle.class_tree.specs.Trees.{IsInOrder};
 use crate::fault::{LinkFault, LinkRule};
 use crate::graph::reaches;
 use crate::headers::Headers;
+use crate::lists::Lists;
 use crate::names::{OBJECT, is_interface};
 use crate::place::Place;
 use crate::question::ask;
-use class_model::{ACC_FINAL, Header, ListOf, NoMemory, has};
+use class_model::{ACC_FINAL, Header, NoMemory, has};
 use std::alloc::Global;
 
 /// Asks each class of the folder, and then each of the library, of those above it. The order is of as many classes as
@@ -26,7 +27,7 @@ use std::alloc::Global;
 pub(crate) fn check_hierarchy(
     alloc: Global,
     headers: &Headers<'_>,
-    graph: &[ListOf<usize>],
+    graph: &Lists<usize>,
     order: &[usize],
 ) -> Result<(), LinkFault>
     requires in_order { IsInOrder headers.now }
@@ -62,7 +63,7 @@ fn placed_nodes(alloc: Global, len: usize, order: &[usize]) -> Result<Vec<bool>,
 fn check_class(
     alloc: Global,
     headers: &Headers<'_>,
-    graph: &[ListOf<usize>],
+    graph: &Lists<usize>,
     number: usize,
     is_on_circle: bool,
     is_object: bool,
@@ -78,7 +79,7 @@ fn check_class(
     let Some(header) = headers.get(number) else {
         return Ok(());
     };
-    let above = graph[number].as_slice();
+    let above = graph.get(number);
     match headers.place(number) {
         Place::Folder(_) => check_folder_class(
             alloc,

@@ -9,6 +9,7 @@ ghost use Rattle.class_tree.specs.Steps.{hierarchy_checks};
 ghost use Rattle.class_tree.specs.Trees.{IsInOrder};
 
 use crate::headers::Headers;
+use crate::lists::Lists;
 use crate::place::Place;
 use class_model::{Header, ListOf, NoMemory};
 use std::alloc::Global;
@@ -18,20 +19,20 @@ use std::alloc::Global;
 pub(crate) fn interface_lists(
     alloc: Global,
     headers: &Headers<'_>,
-    graph: &[ListOf<usize>],
+    graph: &Lists<usize>,
     order: &[usize],
-) -> Result<Vec<ListOf<Place>>, NoMemory>
+) -> Result<Lists<Place>, NoMemory>
     requires in_order { IsInOrder headers.now }
     requires graph { graph.now ≡ graph_of headers.now }
     requires topological { IsTopological graph.now order.now }
     requires all { (node : ℕ) → node < length graph.now → IsOneOf order.now node }
     requires hierarchy { AllHold (hierarchy_checks headers.now) }
-    ensures { IfOk result (λ lists. AreInterfaceLists headers.now lists.items) }
+    ensures { IfOk result (λ lists. AreInterfaceLists headers.now lists) }
 {
     let numbers = number_lists(alloc, headers, graph, order)?;
-    let mut lists = Vec::with_capacity(alloc, numbers.len())?;
-    for list in &numbers {
-        lists.push(places(alloc, headers, list.as_slice())?)?;
+    let mut lists = Lists::new(alloc, numbers.len())?;
+    for number in 0..numbers.len() {
+        lists.push(places(alloc, headers, numbers.get(number))?.as_slice())?;
     }
     Ok(lists)
 }
@@ -55,35 +56,35 @@ fn places(
 fn number_lists(
     alloc: Global,
     headers: &Headers<'_>,
-    graph: &[ListOf<usize>],
+    graph: &Lists<usize>,
     order: &[usize],
-) -> Result<Vec<ListOf<usize>>, NoMemory>
+) -> Result<Lists<usize>, NoMemory>
     requires in_order { IsInOrder headers.now }
     requires graph { graph.now ≡ graph_of headers.now }
     requires topological { IsTopological graph.now order.now }
     requires all { (node : ℕ) → node < length graph.now → IsOneOf order.now node }
     requires hierarchy { AllHold (hierarchy_checks headers.now) }
-    ensures { IfOk result (λ lists. AreNumberLists headers.now lists.items) }
+    ensures { IfOk result (λ lists. AreNumberLists headers.now lists) }
 {
     let mut lists = empty_lists(alloc, headers.len())?;
     let mut table = vec![in alloc; false; headers.len()]?;
     let marks = table.as_mut_slice();
     for number in order {
         let header = headers.get(*number).unwrap();
-        let (superclass, interfaces) = split_supers(header, graph[*number].as_slice());
-        let list = list_of_class(alloc, superclass, interfaces, lists.as_slice(), marks)?;
-        lists[*number] = list;
+        let (superclass, interfaces) = split_supers(header, graph.get(*number));
+        let list = list_of_class(alloc, superclass, interfaces, &lists, marks)?;
+        lists.replace(*number, list.as_slice())?;
     }
     Ok(lists)
 }
 
 // As many empty lists.
-fn empty_lists(alloc: Global, count: usize) -> Result<Vec<ListOf<usize>>, NoMemory>
-    ensures { IfOk result (λ lists. lists.items ≡ replicate count []) }
+fn empty_lists(alloc: Global, count: usize) -> Result<Lists<usize>, NoMemory>
+    ensures { IfOk result (λ lists. lists ≡ replicate count []) }
 {
-    let mut lists = Vec::with_capacity(alloc, count)?;
+    let mut lists = Lists::new(alloc, count)?;
     for _ in 0..count {
-        lists.push(ListOf::new(alloc))?;
+        lists.push(&[])?;
     }
     Ok(lists)
 }
@@ -106,7 +107,7 @@ fn list_of_class(
     alloc: Global,
     superclass: Option<usize>,
     interfaces: &[usize],
-    lists: &[ListOf<usize>],
+    lists: &Lists<usize>,
     marks: &mut [bool],
 ) -> Result<ListOf<usize>, NoMemory>
     requires lists { AreLists (length marks.old) lists.now }
@@ -119,10 +120,10 @@ fn list_of_class(
     let mut list = ListOf::new(alloc);
     for number in interfaces {
         push_new(&mut list, marks, *number)?;
-        append_new(&mut list, marks, lists[*number].as_slice())?;
+        append_new(&mut list, marks, lists.get(*number))?;
     }
     if let Some(number) = superclass {
-        append_new(&mut list, marks, lists[number].as_slice())?;
+        append_new(&mut list, marks, lists.get(number))?;
     }
     unmark(marks, list.as_slice());
     Ok(list)

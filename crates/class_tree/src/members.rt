@@ -8,34 +8,29 @@ ghost use Rattle.class_tree.specs.Nodes.{AreMemberIndexes};
 ghost use Rattle.class_tree.specs.Order.{member_place};
 
 use crate::headers::Headers;
+use crate::lists::Lists;
 use class_model::{ListOf, Member, NoMemory};
 use std::alloc::Global;
 use std::cmp::Ordering;
 
 /// The indexes of the fields of each class, by number.
-pub(crate) fn field_indexes(
-    alloc: Global,
-    headers: &Headers<'_>,
-) -> Result<Vec<ListOf<usize>>, NoMemory>
-    ensures { IfOk result (λ indexes. AreMemberIndexes (λ header. header.fields) headers.now indexes.items) }
+pub(crate) fn field_indexes(alloc: Global, headers: &Headers<'_>) -> Result<Lists<usize>, NoMemory>
+    ensures { IfOk result (λ indexes. AreMemberIndexes (λ header. header.fields) headers.now indexes) }
 {
-    let mut indexes = Vec::with_capacity(alloc, headers.len())?;
+    let mut indexes = Lists::new(alloc, headers.len())?;
     while let Some(header) = headers.get(indexes.len()) {
-        indexes.push(member_index(alloc, header.fields.as_slice())?)?;
+        indexes.push(member_index(alloc, header.fields.as_slice())?.as_slice())?;
     }
     Ok(indexes)
 }
 
 /// The indexes of the methods of each class, by number.
-pub(crate) fn method_indexes(
-    alloc: Global,
-    headers: &Headers<'_>,
-) -> Result<Vec<ListOf<usize>>, NoMemory>
-    ensures { IfOk result (λ indexes. AreMemberIndexes (λ header. header.methods) headers.now indexes.items) }
+pub(crate) fn method_indexes(alloc: Global, headers: &Headers<'_>) -> Result<Lists<usize>, NoMemory>
+    ensures { IfOk result (λ indexes. AreMemberIndexes (λ header. header.methods) headers.now indexes) }
 {
-    let mut indexes = Vec::with_capacity(alloc, headers.len())?;
+    let mut indexes = Lists::new(alloc, headers.len())?;
     while let Some(header) = headers.get(indexes.len()) {
-        indexes.push(member_index(alloc, header.methods.as_slice())?)?;
+        indexes.push(member_index(alloc, header.methods.as_slice())?.as_slice())?;
     }
     Ok(indexes)
 }

@@ -7,15 +7,16 @@ ghost use Rattle.class_tree.specs.Nodes.{graph_of, number_of, place_at, super_pl
 ghost use Rattle.class_tree.specs.Steps.{supers, hierarchy_checks};
 
 use crate::headers::Headers;
+use crate::lists::Lists;
 use crate::place::Place;
-use class_model::{Header, ListOf, NoMemory};
+use class_model::{Header, NoMemory};
 use std::alloc::Global;
 
 /// The place of the superclass of each class, by the number of the class.
 pub(crate) fn super_places(
     alloc: Global,
     headers: &Headers<'_>,
-    graph: &[ListOf<usize>],
+    graph: &Lists<usize>,
 ) -> Result<Vec<Option<Place>>, NoMemory>
     requires graph { graph.now ≡ graph_of headers.now }
     requires hierarchy { AllHold (hierarchy_checks headers.now) }
@@ -24,7 +25,7 @@ pub(crate) fn super_places(
     let mut places = Vec::with_capacity(alloc, headers.len())?;
     for number in 0..headers.len() {
         if let Some(header) = headers.get(number) {
-            places.push(super_place(headers, header, graph[number].as_slice()))?;
+            places.push(super_place(headers, header, graph.get(number)))?;
         }
     }
     Ok(places)

@@ -122,10 +122,7 @@ impl Tree {
         requires { IsSome (header_at (headers_of self.now) place) }
         ensures { IfSome (header_at (headers_of self.now) place) (λ header. (names : List Name) × AreSuperinterfaces (headers_of self.now) header.name names × (map (place_of (headers_of self.now)) names ≡ map Some result.now)) }
     {
-        match self.links.interfaces.get(self.number(place)) {
-            Some(places) => places.as_slice(),
-            None => &[],
-        }
+        self.links.interfaces.get(self.number(place))
     }
 
     /// The number of the first field of a name and descriptor that the class at a place declares, counted from 0.
@@ -133,10 +130,9 @@ impl Tree {
         ensures { result ≡ option_and_then (λ header. member_place name.now desc.now header.fields) (header_at (headers_of self.now) place) }
     {
         let header = self.header(place)?;
-        let index = self.links.fields.get(self.number(place))?;
         find_member(
             header.fields.as_slice(),
-            index.as_slice(),
+            self.links.fields.get(self.number(place)),
             name.bytes(),
             desc.bytes(),
         )
@@ -147,10 +143,9 @@ impl Tree {
         ensures { result ≡ option_and_then (λ header. member_place name.now desc.now header.methods) (header_at (headers_of self.now) place) }
     {
         let header = self.header(place)?;
-        let index = self.links.methods.get(self.number(place))?;
         find_member(
             header.methods.as_slice(),
-            index.as_slice(),
+            self.links.methods.get(self.number(place)),
             name.bytes(),
             desc.bytes(),
         )

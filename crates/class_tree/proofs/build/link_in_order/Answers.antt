@@ -11,7 +11,7 @@ use Rattle.class_tree.proofs.build.link_in_order.Goals as goal
 use Rattle.class_tree.proofs.build.link_in_order.Goals.{then-not-is_empty+in_ok-check_base, else-not-is_empty}
 
 pub topological-requires : goal.topological-requires
-topological-requires c = subst IsWithin (sym (c.deref.ensures.value ∙ c.in_ok-graph.ensures)) (graph_is_within c.args.headers.now)
+topological-requires c = subst IsWithin (sym c.in_ok-graph.ensures) (graph_is_within c.args.headers.now)
 
 pub returns-in_err-check_hierarchy : goal.returns-in_err-check_hierarchy
 returns-in_err-check_hierarchy c =
@@ -25,8 +25,8 @@ returns-in_err-check_base c =
 
 pub interface_lists-requires-clause-all : goal.interface_lists-requires-clause-all
 interface_lists-requires-clause-all c =
-    classes_are_placed c.args.headers.now c.deref-4.result.now c.as_slice-order.result.now c.requires.in_order c.in_ok-check_hierarchy.ensures
-    (c.deref-4.ensures.value ∙ c.in_ok-graph.ensures)
+    classes_are_placed c.args.headers.now c.in_ok-graph.graph c.as_slice-order.result.now c.requires.in_order c.in_ok-check_hierarchy.ensures
+    c.in_ok-graph.ensures
     (search rules)
 
 pub returns : goal.returns
@@ -44,7 +44,7 @@ returns c =
       };
       headers = c.requires.headers;
       superclasses = subst (λ headers. c.in_ok-superclasses.superclasses.items ≡ map (super_place headers) (all_headers headers)) same c.in_ok-superclasses.ensures;
-      interfaces = subst (λ headers. AreInterfaceLists headers c.in_ok-interfaces.interfaces.items) same c.in_ok-interfaces.ensures;
-      fields = subst (λ headers. AreMemberIndexes (λ header. header.fields) headers c.in_ok-fields.fields.items) same c.in_ok-fields.ensures;
-      methods = subst (λ headers. AreMemberIndexes (λ header. header.methods) headers c.in_ok-methods.methods.items) same c.in_ok-methods.ensures;
+      interfaces = subst (λ headers. AreInterfaceLists headers c.in_ok-interfaces.interfaces) same c.in_ok-interfaces.ensures;
+      fields = subst (λ headers. AreMemberIndexes (λ header. header.fields) headers c.in_ok-fields.fields) same c.in_ok-fields.ensures;
+      methods = subst (λ headers. AreMemberIndexes (λ header. header.methods) headers c.in_ok-methods.methods) same c.in_ok-methods.ensures;
     }

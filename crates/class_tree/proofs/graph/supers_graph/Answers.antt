@@ -1,4 +1,4 @@
-use Rattle.std.proofs.Common.{◌<◌, length, sym, arith}
+use Rattle.std.proofs.Common.{◌<◌, length, sym, ◌∙◌, arith}
 use Rattle.class_tree.specs.Headers.{all_headers}
 use Rattle.class_tree.proofs.GraphPaths.{some_at}
 use Rattle.class_tree.proofs.SupersGraph.{one_class_more}
@@ -12,6 +12,6 @@ loop-number-preserved c =
     let low : number < length (all_headers headers) = omega arith in
     elim c.match-get.branch [
       | in-Some+in_ok-supers_of+in_ok-push w ↦
-          rw w.graph-is (one_class_more headers number w.in-Some.header.now c.loop-number.graph.items w.push.new.self.items w.in_ok-supers_of.field-0 (sym w.in-Some.ensures) c.loop-number.invariant w.in_ok-supers_of.ensures w.in_ok-push.ensures.items)
+          rw w.graph-is (one_class_more headers number w.in-Some.header.now c.loop-number.graph w.push.new.self w.as_slice.result.now (sym w.in-Some.ensures) c.loop-number.invariant (w.as_slice.ensures ∙ w.in_ok-supers_of.ensures) w.in_ok-push.ensures)
       | in_default w ↦ absurd (cc (w.in_default.ensures, (some_at (all_headers headers) number low).1))
     ]

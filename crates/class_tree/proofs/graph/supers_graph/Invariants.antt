@@ -3,4 +3,4 @@ use Rattle.class_tree.specs.Nodes.{graph_of}
 use Rattle.class_tree.proofs.graph.supers_graph.Given as goal
 
 abbrev pub invariant-loop-number : goal.invariant-loop-number
-invariant-loop-number l = l.graph.items ≡ take l.number (graph_of l.headers)
+invariant-loop-number l = l.graph ≡ take l.number (graph_of l.headers)

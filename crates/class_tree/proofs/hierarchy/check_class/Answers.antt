@@ -17,7 +17,7 @@ check_folder_class-requires-clause-object c =
 
 pub check_library_class-requires-clause-above : goal.check_library_class-requires-clause-above
 check_library_class-requires-clause-above c =
-    c.as_slice-above.ensures ∙ c.index-graph-number.is ∙ targets_at c.args.headers.now c.args.graph.now c.args.number c.in-Some.header.now _ c.requires.graph (sym c.in-Some.ensures)
+    targets_at c.args.headers.now c.args.graph.now c.args.number c.in-Some.header.now _ c.requires.graph (sym c.in-Some.ensures) c.get-above.ensures
 
 pub check_library_class-requires-clause-circle : goal.check_library_class-requires-clause-circle
 check_library_class-requires-clause-circle c =

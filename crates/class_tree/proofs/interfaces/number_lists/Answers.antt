@@ -1,4 +1,4 @@
-use Rattle.std.proofs.Common.{◌≡◌, ◌<◌, ◌∙◌, ℕ, List, [], ◌++◌, length, filter_map, get_or, slice_get, Option, Some, None, IsSome, unwrap_or, option_map, option_to_list, Bor, refl, sym, ap, subst, inl, inr, arith, rules}
+use Rattle.std.proofs.Common.{◌≡◌, ◌+◌, ◌<◌, ◌∙◌, ℕ, List, [], ◌++◌, length, filter_map, get_or, set, slice_get, Option, Some, None, IsSome, unwrap_or, option_map, option_to_list, Bor, refl, sym, ap, subst, inl, inr, arith, rules}
 use Rattle.std.specs.List.{All}
 use Rattle.std.specs.Option.{option_copied}
 use Rattle.std.proofs.lemmas.Option.{slice_get_cases, none-some}
@@ -7,9 +7,9 @@ use Rattle.class_tree.specs.Headers.{Headers, all_headers}
 use Rattle.class_tree.specs.InterfaceNumbers.{with_numbers, with_lists, AreNumbersOf}
 use Rattle.class_tree.specs.Nodes.{number_of}
 use Rattle.class_tree.specs.Steps.{supers}
-use Rattle.class_tree.proofs.InterfaceLists.{class_numbers, one_made, all_made, targets_are, some_target, targets_below, next_below, targets_listed, superclass_within, interfaces_within}
+use Rattle.class_tree.proofs.InterfaceLists.{Made, class_numbers, one_made, all_made, targets_are, some_target, targets_below, next_below, targets_listed, superclass_within, interfaces_within}
 use Rattle.class_tree.proofs.interfaces.number_lists.Goals as goal
-use Rattle.class_tree.proofs.interfaces.number_lists.Goals.{After-as_slice, After-split_supers-superclass, In_ok-list}
+use Rattle.class_tree.proofs.interfaces.number_lists.Goals.{After-get-in-loop-number, After-split_supers-superclass, In_ok-list}
 use Rattle.class_tree.proofs.HierarchyChecks.{as_many_nodes}
 
 -- a number below the length is that of a class
@@ -25,24 +25,24 @@ unwrap-header-requires c =
     let below = next_below c.args.headers.now c.requires.hierarchy c.args.graph.now c.requires.graph c.args.order.now c.requires.topological c.loop-number.number-index c.loop-number-test.true in
     some_read c.get.result (all_headers c.args.headers.now) (get_or c.args.order.now c.loop-number.number-index 0) below c.get.ensures
 
-pub offset_bounds-graph-number : goal.offset_bounds-graph-number
-offset_bounds-graph-number c =
+pub get-requires-in-loop-number : goal.get-requires-in-loop-number
+get-requires-in-loop-number c =
     let below = next_below c.args.headers.now c.requires.hierarchy c.args.graph.now c.requires.graph c.args.order.now c.requires.topological c.loop-number.number-index c.loop-number-test.true in
-    search rules
+    omega (arith, below, ap length c.requires.graph, as_many_nodes c.args.headers.now)
 
 -- what is known of the class of the next number
 record Next (headers : Headers) (number : ℕ) (header : Header) (read : List ℕ) : Type 0 where
   there : slice_get (all_headers headers) number ≡ Some header
   targets : read ≡ filter_map (number_of headers) (supers header)
 
-next_class : (c : After-as_slice) → Next c.args.headers.now (get_or c.args.order.now c.loop-number.number-index 0) c.unwrap-header.result.now c.as_slice.result.now
+next_class : (c : After-get-in-loop-number) → Next c.args.headers.now (get_or c.args.order.now c.loop-number.number-index 0) c.unwrap-header.result.now c.get-in-loop-number.result.now
 next_class c =
     let number = get_or c.args.order.now c.loop-number.number-index 0 in
     let header = c.unwrap-header.result.now in
     let there : slice_get (all_headers c.args.headers.now) number ≡ Some header = sym c.get.ensures ∙ ap option_copied c.unwrap-header.ensures in
     record {
       there = there;
-      targets = c.as_slice.ensures ∙ targets_are c.args.headers.now c.requires.hierarchy c.args.graph.now c.requires.graph number header there c.index-graph-number.result c.index-graph-number.is;
+      targets = targets_are c.args.headers.now c.requires.hierarchy c.args.graph.now c.requires.graph number header there c.get-in-loop-number.result.now c.get-in-loop-number.ensures;
     }
 
 pub split_supers-superclass-requires : goal.split_supers-superclass-requires
@@ -51,7 +51,7 @@ split_supers-superclass-requires c = λ some.
     subst (λ (l : List ℕ). 0 < length l) (sym n.targets) (some_target c.args.headers.now c.requires.hierarchy c.args.graph.now c.requires.graph (get_or c.args.order.now c.loop-number.number-index 0) c.unwrap-header.result.now n.there some)
 
 -- those that the class names are of classes
-parts_below : (c : After-split_supers-superclass) → Next c.args.headers.now (get_or c.args.order.now c.loop-number.number-index 0) c.unwrap-header.result.now c.as_slice.result.now → All (λ number. number < length c.loop-number.marks) (option_to_list c.split_supers-superclass.result.0 ++ c.split_supers-superclass.result.1.now)
+parts_below : (c : After-split_supers-superclass) → Next c.args.headers.now (get_or c.args.order.now c.loop-number.number-index 0) c.unwrap-header.result.now c.get-in-loop-number.result.now → All (λ number. number < length c.loop-number.marks) (option_to_list c.split_supers-superclass.result.0 ++ c.split_supers-superclass.result.1.now)
 parts_below c n =
     let below = targets_below c.args.headers.now c.requires.hierarchy c.args.graph.now c.requires.graph (get_or c.args.order.now c.loop-number.number-index 0) c.unwrap-header.result.now n.there in
     subst (λ (count : ℕ). All (λ number. number < count) (option_to_list c.split_supers-superclass.result.0 ++ c.split_supers-superclass.result.1.now)) (sym c.loop-number.invariant.count)
@@ -60,40 +60,41 @@ parts_below c n =
 pub list_of_class-requires-clause-superclass : goal.list_of_class-requires-clause-superclass
 list_of_class-requires-clause-superclass c =
     let at = goal.at.list_of_class-requires-clause-superclass c in
-    superclass_within (λ number. number < length c.loop-number.marks) c.split_supers-superclass.result.0 c.split_supers-superclass.result.1.now (parts_below at.After-split_supers-superclass (next_class at.After-as_slice))
+    superclass_within (λ number. number < length c.loop-number.marks) c.split_supers-superclass.result.0 c.split_supers-superclass.result.1.now (parts_below at.After-split_supers-superclass (next_class at.After-get-in-loop-number))
 
 pub list_of_class-requires-clause-interfaces : goal.list_of_class-requires-clause-interfaces
 list_of_class-requires-clause-interfaces c =
     let at = goal.at.list_of_class-requires-clause-interfaces c in
-    interfaces_within (λ number. number < length c.loop-number.marks) c.split_supers-superclass.result.0 c.split_supers-superclass.result.1.now (parts_below at.After-split_supers-superclass (next_class at.After-as_slice))
+    interfaces_within (λ number. number < length c.loop-number.marks) c.split_supers-superclass.result.0 c.split_supers-superclass.result.1.now (parts_below at.After-split_supers-superclass (next_class at.After-get-in-loop-number))
 
-pub index_mut-requires : goal.index_mut-requires
-index_mut-requires c =
+pub replace-requires : goal.replace-requires
+replace-requires c =
     let below = next_below c.args.headers.now c.requires.hierarchy c.args.graph.now c.requires.graph c.args.order.now c.requires.topological c.loop-number.number-index c.loop-number-test.true in
-    omega (arith, below, c.loop-number.invariant.fit.len, c.loop-number.invariant.count, c.loop-number.lists.ok.0)
+    omega (arith, below, c.loop-number.invariant.fit.len, c.loop-number.invariant.count)
 
 -- the list that was made
-list_is : (c : In_ok-list) → Next c.args.headers.now (get_or c.args.order.now c.loop-number.number-index 0) c.unwrap-header.result.now c.as_slice.result.now → AreNumbersOf c.args.headers.now c.unwrap-header.result.now.name c.in_ok-list.list
+list_is : (c : In_ok-list) → Next c.args.headers.now (get_or c.args.order.now c.loop-number.number-index 0) c.unwrap-header.result.now c.get-in-loop-number.result.now → AreNumbersOf c.args.headers.now c.unwrap-header.result.now.name c.in_ok-list.list
 list_is c n =
     let headers = c.args.headers.now in
     let order = c.args.order.now in
     let at = c.loop-number.number-index in
-    let lists = c.loop-number.lists.items in
+    let lists = c.loop-number.lists in
     let superclass = c.split_supers-superclass.result.0 in
     let interfaces = c.split_supers-superclass.result.1.now in
     let listed = targets_listed headers c.requires.hierarchy c.args.graph.now c.requires.graph order c.requires.topological at c.loop-number-test.true lists c.loop-number.marks c.loop-number.invariant c.unwrap-header.result.now n.there in
     let are = class_numbers headers c.requires.hierarchy lists c.requires.in_order (get_or order at 0) c.unwrap-header.result.now n.there superclass interfaces (sym n.targets ∙ c.split_supers-superclass.ensures.parts) c.split_supers-superclass.ensures.superclass listed in
     subst (AreNumbersOf headers c.unwrap-header.result.now.name)
-    (sym (c.in_ok-list.ensures.list ∙ ap (λ (table : List (List ℕ)). with_numbers [] (with_lists table interfaces ++ unwrap_or (option_map (λ number. get_or table number []) superclass) [])) c.as_slice-in-loop-number.ensures.value))
+    (sym c.in_ok-list.ensures.list)
     are
 
 pub loop-number-preserved : goal.loop-number-preserved
 loop-number-preserved c =
     let at = goal.at.loop-number-preserved c in
-    let n = next_class at.After-as_slice in
-    one_made c.args.headers.now c.args.order.now c.loop-number.number-index c.loop-number.lists.items c.loop-number.marks c.loop-number.invariant c.loop-number-test.true c.unwrap-header.result.now n.there c.in_ok-list.list (list_is at.In_ok-list n) c.list_of_class.new.marks c.list_of_class.auto.marks c.in_ok-list.ensures.marks
+    let n = next_class at.After-get-in-loop-number in
+    subst (λ (lists : List (List ℕ)). Made c.args.headers.now c.args.order.now (c.loop-number.number-index + 1) lists c.list_of_class.new.marks) (sym (c.in_ok-replace.ensures ∙ ap (set c.loop-number.lists (get_or c.args.order.now c.loop-number.number-index 0)) c.as_slice.ensures))
+    (one_made c.args.headers.now c.args.order.now c.loop-number.number-index c.loop-number.lists c.loop-number.marks c.loop-number.invariant c.loop-number-test.true c.unwrap-header.result.now n.there c.in_ok-list.list (list_is at.In_ok-list n) c.list_of_class.new.marks c.list_of_class.auto.marks c.in_ok-list.ensures.marks)
 
 pub returns : goal.returns
 returns c =
-    all_made c.args.headers.now c.args.order.now c.loop-number.number-index c.loop-number.lists.items c.loop-number.marks c.loop-number.invariant c.loop-number-test.false
+    all_made c.args.headers.now c.args.order.now c.loop-number.number-index c.loop-number.lists c.loop-number.marks c.loop-number.invariant c.loop-number-test.false
     (λ node below. c.requires.all node (omega (arith, below, as_many_nodes c.args.headers.now, ap length c.requires.graph)))

@@ -4,7 +4,7 @@ use Rattle.class_tree.proofs.MemberIndexes.{AreFirstIndexes}
 use Rattle.class_tree.proofs.members.field_indexes.Given as goal
 
 abbrev pub invariant-loop-header : goal.invariant-loop-header
-invariant-loop-header l = AreFirstIndexes (λ header. header.fields) (all_headers l.headers) l.indexes.items
+invariant-loop-header l = AreFirstIndexes (λ header. header.fields) (all_headers l.headers) l.indexes
 
 abbrev pub decreases-loop-header : goal.decreases-loop-header
-decreases-loop-header l = length (all_headers l.headers) - length l.indexes.items
+decreases-loop-header l = length (all_headers l.headers) - length l.indexes

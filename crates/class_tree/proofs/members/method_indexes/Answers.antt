@@ -6,12 +6,12 @@ use Rattle.class_tree.proofs.members.method_indexes.Goals as goal
 pub loop-header-preserved : goal.loop-header-preserved
 loop-header-preserved c =
     let headers = all_headers c.args.headers.now in
-    let indexes = c.loop-header.indexes.items in
+    let indexes = c.loop-header.indexes in
     let there : slice_get headers (length indexes) ≡ Some c.in-Some.header.now = search rules in
-    subst (AreFirstIndexes (λ header. header.methods) headers) (sym c.in_ok-push.ensures.items)
-    (another_indexed (λ header. header.methods) headers indexes c.in-Some.header.now c.in_ok-member_index.field-0 c.loop-header.invariant there (search rules))
+    subst (AreFirstIndexes (λ header. header.methods) headers) (sym c.in_ok-push.ensures)
+    (another_indexed (λ header. header.methods) headers indexes c.in-Some.header.now c.as_slice-in-Some.result.now c.loop-header.invariant there (search rules))
 
 pub returns : goal.returns
 returns c =
-    let past : slice_get (all_headers c.args.headers.now) (length c.loop-header.indexes.items) ≡ None = search rules in
-    all_indexed (λ header. header.methods) c.args.headers.now c.loop-header.indexes.items c.loop-header.invariant past
+    let past : slice_get (all_headers c.args.headers.now) (length c.loop-header.indexes) ≡ None = search rules in
+    all_indexed (λ header. header.methods) c.args.headers.now c.loop-header.indexes c.loop-header.invariant past

@@ -8,6 +8,6 @@ use Rattle.class_tree.proofs.order.can_follow.Goals as goal
 pub returns : goal.returns
 returns c =
     let test = is_one c.args.placed.now.nodes in
-    let targets = c.targets.result.now in
+    let targets = c.get.result.now in
     let all : c.all.result ≡ list_all test targets = all_from_yields_List test _ _ _ c.all.ensures.ran (YieldsList-from_slice targets cc) (λ x b q k. search rules) in
-    whether_it_follows c.args.graph.now c.args.placed.now.nodes targets c.args.node c.all.result c.targets.ensures (sym c.if-has.ensures) all
+    whether_it_follows c.args.graph.now c.args.placed.now.nodes targets c.args.node c.all.result c.get.ensures (sym c.if-has.ensures) all

@@ -14,7 +14,7 @@ super_place-requires-clause-there c =
 
 pub super_place-requires-clause-above : goal.super_place-requires-clause-above
 super_place-requires-clause-above c =
-    c.as_slice.ensures ∙ c.index-graph-number.is ∙ targets_at c.args.headers.now c.args.graph.now c.loop-number.number c.in-Some.header.now _ c.requires.graph (sym c.in-Some.ensures)
+    targets_at c.args.headers.now c.args.graph.now c.loop-number.number c.in-Some.header.now _ c.requires.graph (sym c.in-Some.ensures) c.get-in-Some.ensures
 
 pub loop-number-preserved : goal.loop-number-preserved
 loop-number-preserved c =
