@@ -19,15 +19,15 @@ ghost use Rattle.class_tree.specs.declared.fault.LinkRule.TheVariants as rules;
 use crate::fault::{LinkFault, LinkRule};
 use crate::graph::reaches;
 use crate::headers::Headers;
-use crate::lists::Lists;
 use crate::hierarchy::is_outside;
+use crate::lists::Lists;
 use crate::names::{
     CLONEABLE, METHOD_HANDLE, METHOD_TYPE, OBJECT, SERIALIZABLE, THROWABLE, base_names,
     is_interface, machine_throwables,
 };
 use crate::question::ask_named;
 use class_model::{
-    ACC_PUBLIC, ACC_STATIC, ClassFile, Const, Header, INIT, ListOf, Member, NoMemory, Pool, has,
+    ACC_PUBLIC, ACC_STATIC, ClassFile, Const, Header, INIT, Member, NoMemory, Pool, has,
 };
 use std::alloc::Global;
 

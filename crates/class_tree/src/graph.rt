@@ -1,5 +1,5 @@
 //! Which classes each class names above it, by numbers.
-ghost use Rattle.std.specs.Prelude.{◌≡◌, ◌<◌, ◌≤◌, ◌==◌, ◌↔◌, ℕ, [], ◌∷◌, ◌++◌, length, filter_map, slice_get, slice_index, option_to_list, Some, IfOk, OnOk, IsTrue};
+ghost use Rattle.std.specs.Prelude.{◌≡◌, ◌<◌, ◌≤◌, ◌==◌, ◌↔◌, ℕ, [], ◌∷◌, ◌++◌, length, filter_map, slice_index, option_to_list, IfOk, OnOk, IsTrue};
 ghost use Rattle.std.specs.List.{list_any};
 ghost use Rattle.class_tree.specs.Graphs.{IsOneOf, IsNoneOf, IsPath, IsWithin};
 ghost use Rattle.class_tree.specs.Nodes.{graph_of, number_of};
@@ -14,10 +14,7 @@ use std::alloc::Global;
 use std::marker::Model;
 
 /// For each class the numbers of its superclass and interfaces, as far as they are there.
-pub(crate) fn supers_graph(
-    alloc: Global,
-    headers: &Headers<'_>,
-) -> Result<Lists<usize>, NoMemory>
+pub(crate) fn supers_graph(alloc: Global, headers: &Headers<'_>) -> Result<Lists<usize>, NoMemory>
     requires { IsInOrder headers.now }
     ensures { IfOk result (λ graph. graph ≡ graph_of headers.now) }
 {

@@ -14,10 +14,7 @@ use std::alloc::Global;
 use std::cmp::Ordering;
 
 /// The indexes of the fields of each class, by number.
-pub(crate) fn field_indexes(
-    alloc: Global,
-    headers: &Headers<'_>,
-) -> Result<Lists<usize>, NoMemory>
+pub(crate) fn field_indexes(alloc: Global, headers: &Headers<'_>) -> Result<Lists<usize>, NoMemory>
     ensures { IfOk result (λ indexes. AreMemberIndexes (λ header. header.fields) headers.now indexes) }
 {
     let mut indexes = Lists::new(alloc, headers.len())?;
@@ -28,10 +25,7 @@ pub(crate) fn field_indexes(
 }
 
 /// The indexes of the methods of each class, by number.
-pub(crate) fn method_indexes(
-    alloc: Global,
-    headers: &Headers<'_>,
-) -> Result<Lists<usize>, NoMemory>
+pub(crate) fn method_indexes(alloc: Global, headers: &Headers<'_>) -> Result<Lists<usize>, NoMemory>
     ensures { IfOk result (λ indexes. AreMemberIndexes (λ header. header.methods) headers.now indexes) }
 {
     let mut indexes = Lists::new(alloc, headers.len())?;

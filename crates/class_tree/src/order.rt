@@ -21,11 +21,7 @@ pub(crate) fn topological(alloc: Global, graph: &Lists<usize>) -> Result<ListOf<
 }
 
 // Places the nodes of a hint, as far as each can follow there.
-fn place_hinted(
-    graph: &Lists<usize>,
-    hint: &[usize],
-    placed: &mut NodeSet,
-) -> Result<(), NoMemory>
+fn place_hinted(graph: &Lists<usize>, hint: &[usize], placed: &mut NodeSet) -> Result<(), NoMemory>
     requires size { placed.old.size ≡ length graph.now }
     requires order { AreBehindTargets graph.now placed.old.nodes }
     ensures size { OnOk result (placed.new.size ≡ length graph.now) }
