@@ -1,5 +1,5 @@
 -- Lists that stand in one list as parts of it.
-use Rattle.std.proofs.Common.{◌≡◌, ◌+◌, ◌<◌, ◌∙◌, ℕ, List, [], ◌∷◌, ◌++◌, length, get_or, take, drop, set, map, slice_get, Some, option_map, refl, sym, ap, arith}
+use Rattle.std.proofs.Common.{◌≡◌, ◌<◌, ◌∙◌, ℕ, List, [], ◌∷◌, ◌++◌, length, get_or, take, drop, set, map, slice_get, Some, option_map, refl, sym, ap, arith}
 use Rattle.std.specs.List.{All}
 use Rattle.std.proofs.lemmas.List.{map-append, map-set, length-append, length-drop, take-append-le, drop-append-le, take_all}
 use Rattle.std.proofs.lemmas.List.Elements.{All-push, All-set, All-head, All-tail}

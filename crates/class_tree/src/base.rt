@@ -28,7 +28,7 @@ use crate::names::{
 };
 use crate::question::ask_named;
 use class_model::{
-    ACC_PUBLIC, ACC_STATIC, ClassFile, Const, Header, INIT, ListOf, Member, NoMemory, Pool, has,
+    ACC_PUBLIC, ACC_STATIC, ClassFile, Const, Header, INIT, Member, NoMemory, Pool, has,
 };
 use std::alloc::Global;
 

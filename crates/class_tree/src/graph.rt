@@ -1,5 +1,5 @@
 //! Which classes each class names above it, by numbers.
-ghost use Rattle.std.specs.Prelude.{◌≡◌, ◌<◌, ◌≤◌, ◌==◌, ◌↔◌, ℕ, [], ◌∷◌, ◌++◌, length, filter_map, slice_get, slice_index, option_to_list, Some, IfOk, OnOk, IsTrue};
+ghost use Rattle.std.specs.Prelude.{◌≡◌, ◌<◌, ◌≤◌, ◌==◌, ◌↔◌, ℕ, [], ◌∷◌, ◌++◌, length, filter_map, slice_index, option_to_list, IfOk, OnOk, IsTrue};
 ghost use Rattle.std.specs.List.{list_any};
 ghost use Rattle.class_tree.specs.Graphs.{IsOneOf, IsNoneOf, IsPath, IsWithin};
 ghost use Rattle.class_tree.specs.Nodes.{graph_of, number_of};

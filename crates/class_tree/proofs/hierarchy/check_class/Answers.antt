@@ -1,4 +1,4 @@
-use Rattle.std.proofs.Common.{sym, ◌∙◌, subst}
+use Rattle.std.proofs.Common.{sym, subst}
 use Rattle.class_tree.specs.Answers.{Answers}
 use Rattle.class_tree.specs.Names.{object}
 use Rattle.class_tree.specs.Steps.{folder_checks, library_checks}

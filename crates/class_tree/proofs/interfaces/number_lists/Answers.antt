@@ -1,10 +1,10 @@
-use Rattle.std.proofs.Common.{◌≡◌, ◌+◌, ◌<◌, ◌∙◌, ℕ, List, [], ◌++◌, length, filter_map, get_or, set, slice_get, Option, Some, None, IsSome, unwrap_or, option_map, option_to_list, Bor, refl, sym, ap, subst, inl, inr, arith, rules}
+use Rattle.std.proofs.Common.{◌≡◌, ◌+◌, ◌<◌, ◌∙◌, ℕ, List, ◌++◌, length, filter_map, get_or, set, slice_get, Option, Some, None, IsSome, option_to_list, Bor, refl, sym, ap, subst, inl, inr, arith}
 use Rattle.std.specs.List.{All}
 use Rattle.std.specs.Option.{option_copied}
 use Rattle.std.proofs.lemmas.Option.{slice_get_cases, none-some}
 use Rattle.class_model.specs.declared.header.Header.{Header}
 use Rattle.class_tree.specs.Headers.{Headers, all_headers}
-use Rattle.class_tree.specs.InterfaceNumbers.{with_numbers, with_lists, AreNumbersOf}
+use Rattle.class_tree.specs.InterfaceNumbers.{AreNumbersOf}
 use Rattle.class_tree.specs.Nodes.{number_of}
 use Rattle.class_tree.specs.Steps.{supers}
 use Rattle.class_tree.proofs.InterfaceLists.{Made, class_numbers, one_made, all_made, targets_are, some_target, targets_below, next_below, targets_listed, superclass_within, interfaces_within}

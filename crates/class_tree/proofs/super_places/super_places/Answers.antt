@@ -1,4 +1,4 @@
-use Rattle.std.proofs.Common.{◌<◌, length, sym, ◌∙◌, arith}
+use Rattle.std.proofs.Common.{◌<◌, length, sym, arith}
 use Rattle.class_tree.specs.Headers.{all_headers}
 use Rattle.class_tree.specs.Nodes.{super_place}
 use Rattle.class_tree.proofs.ClassHolds.{class_holds}
