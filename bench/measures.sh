@@ -47,6 +47,20 @@ declare -A least_ms
 # turn WORDS..: one run of $bench with these words, whose time in least_ms[WORDS..] counts if it is the least yet
 turn() { least_ms[$*]=$(least "${least_ms[$*]:-999999}" "$(processor_ms "$bench" "$@")"); }
 
+# fresh TIMES WORDS..: so many runs of $bench with these words, each a process of its own
+fresh() {
+    local times=$1
+    shift
+    for _ in $(seq 1 "$times"); do "$bench" "$@"; done
+}
+
+# turn_fresh TIMES WORDS..: as turn, of so many processes; least_ms[WORDS..] is their time together
+turn_fresh() {
+    local times=$1
+    shift
+    least_ms[$*]=$(least "${least_ms[$*]:-999999}" "$(processor_ms fresh "$times" "$@")")
+}
+
 # instructions WORDS..: how many instructions one run of $bench takes
 instructions() {
     valgrind --tool=callgrind --callgrind-out-file=/dev/null "$bench" "$@" 2>&1 >/dev/null |

@@ -1,11 +1,11 @@
 #!/usr/bin/env bash
 # Builds the hierarchy of generated class files: of 5,000, 10,000 and 20,000 classes, which is to grow in proportion beyond
-# reading them; asks a million questions of each, about a thousand classes spread over it, which are not to take more where there
-# are more classes; and builds a chain of 40,000 classes, which is to take about the time of 40,000 others. A million questions
-# about all classes touch more memory where there are more classes, so that their time tells how far these outgrow the
-# processor's caches: it is printed, and of these the instructions are judged, which are the same at each run. The sizes take
-# turns, so that other work on the machine falls on all of them, and the least time of each counts. Prints what is wanted and
-# what came, and fails where a want is not met.
+# reading them, each in a process of its own, as a hierarchy is built once in one; asks a million questions of each, about a
+# thousand classes spread over it, which are not to take more where there are more classes; and builds a chain of 40,000 classes,
+# which is to take about the time of 40,000 others. A million questions about all classes touch more memory where there are more
+# classes, so that their time tells how far these outgrow the processor's caches: it is printed, and of these the instructions
+# are judged, which are the same at each run. The sizes take turns, so that other work on the machine falls on all of them, and
+# the least time of each counts. Prints what is wanted and what came, and fails where a want is not met.
 set -eu
 cd "$(dirname "$0")/.."
 . bench/measures.sh
@@ -18,24 +18,24 @@ growth() { ratio "$2" "($1 < 1 ? 1 : $1)"; }
 # counted WORD COUNT TIMES: the instructions of these words beyond those of no times
 counted() { echo $(($(instructions "$1" "$2" "$3") - $(instructions "$1" "$2" 0))); }
 
-runs=${RUNS:-9}
+runs=${RUNS:-15}
 # as many classes are built at each size, so that one noise falls on all
-built=800000
+built=160000
 questions=1000000
 asked=20000
 sizes="5000 10000 20000"
 
 for _ in $(seq 1 "$runs"); do
     for count in $sizes; do
-        turn read "$count" $((built / count))
-        turn build "$count" $((built / count))
+        turn_fresh $((built / count)) read "$count" 1
+        turn_fresh $((built / count)) build "$count" 1
         for word in few ask; do
             turn "$word" "$count" 0
             turn "$word" "$count" "$questions"
         done
     done
-    turn chain 40000 $((built / 40000))
-    turn build 40000 $((built / 40000))
+    turn_fresh $((built / 40000)) chain 40000 1
+    turn_fresh $((built / 40000)) build 40000 1
 done
 
 # beyond WORD COUNT: the time of the questions of this word
@@ -45,14 +45,14 @@ first_few_ms=
 for count in $sizes; do
     times=$((count / 5000))
     builds=$((built / count))
-    build_ms=$((least_ms[build $count $builds] - least_ms[read $count $builds]))
+    build_ms=$((least_ms[build $count 1] - least_ms[read $count 1]))
     few_ms=$(beyond few "$count")
     all_ms=$(beyond ask "$count")
     if [ -z "$first_few_ms" ]; then
         first_build_ms=$build_ms
         first_few_ms=$few_ms
     fi
-    echo "$count classes: built $builds times in $build_ms ms; $questions questions about 1,000 of them in $few_ms ms, about all in $all_ms ms"
+    echo "$count classes: built in $builds processes in $build_ms ms; $questions questions about 1,000 of them in $few_ms ms, about all in $all_ms ms"
     wanted "a class is built in $(growth "$first_build_ms" "$build_ms") times the first's time (half as much again is let pass)" \
         "$build_ms <= 1.5 * $first_build_ms"
     wanted "questions take $(growth "$first_few_ms" "$few_ms") times the first's time (half as much again is let pass)" "$few_ms <= 1.5 * $first_few_ms"
@@ -71,9 +71,9 @@ for count in $sizes; do
 done
 
 builds=$((built / 40000))
-chain_ms=${least_ms[chain 40000 $builds]}
-tree_ms=${least_ms[build 40000 $builds]}
+chain_ms=${least_ms[chain 40000 1]}
+tree_ms=${least_ms[build 40000 1]}
 slower=$(growth "$tree_ms" "$chain_ms")
-echo "40000 classes in a chain, $builds times: read and built in $chain_ms ms; 40000 others in $tree_ms ms"
+echo "40000 classes in a chain, in $builds processes: read and built in $chain_ms ms; 40000 others in $tree_ms ms"
 wanted "the chain $slower times the others (at most twice is wanted)" "$slower <= 2"
 exit "$failed"
