@@ -29,6 +29,7 @@ pub record Home : Type 0 where
   pub flags : ℕ
   pub name : Option (List ℕ)
 
+-- what the methods of a class file stand in
 abbrev pub home_of : ClassFile → Home
 home_of c = record { pool = c.pool; major = c.major; flags = c.flags; name = class_at c.pool c.this_class }
 
