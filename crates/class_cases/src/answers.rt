@@ -5,9 +5,9 @@ use crate::hierarchies::{
 use crate::linking::{access, field_owner, linking, method_owner, selection};
 use crate::rules::{assignability, frame_assignability, rule_answer};
 use crate::setting::Setting;
-use crate::statements::word_and_rest;
 use crate::typed_folders::{folder_answer, typed_answer};
 use crate::typed_methods::method_answer;
+use case_files::word_and_rest;
 use class_model::Text;
 use class_tree::{Tree, is_sub};
 use std::alloc::Global;
@@ -17,8 +17,8 @@ pub(crate) fn answer(alloc: Global, setting: &Setting<'_>, question: &str) -> Op
     let (call, about) = word_and_rest(question);
     match call {
         "build_tree" => building(alloc, setting.input_with(alloc, about)?),
-        "check_links" => linking(alloc, setting.tree_with(alloc, about)?),
-        "verify_all" => folder_answer(alloc, setting.tree_with(alloc, about)?),
+        "check_links" => linking(alloc, &setting.tree_with(alloc, about)?),
+        "verify_all" => folder_answer(alloc, &setting.tree_with(alloc, about)?),
         "verify_method" => method_answer(alloc, setting, about),
         "rule" => rule_answer(alloc, setting, about),
         _ => answer_of_tree(

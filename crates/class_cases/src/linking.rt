@@ -7,8 +7,8 @@ use member_link::{
 use std::alloc::Global;
 
 /// What linking a folder answers: `ok`, or the class, the member and the rule that is broken.
-pub(crate) fn linking(alloc: Global, tree: Tree) -> Option<String> {
-    match check_links(alloc, &tree) {
+pub(crate) fn linking(alloc: Global, tree: &Tree) -> Option<String> {
+    match check_links(alloc, tree) {
         Ok(()) => String::from_str(alloc, "ok").ok(),
         Err(
             LinkFault::Unlinked {

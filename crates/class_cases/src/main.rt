@@ -1,5 +1,5 @@
 //! Asks the cases of the files that the words name, and compares what is answered. It prints each case that is answered
-//! otherwise, and the number of cases of each file.
+//! otherwise, with its line, and the number of cases of each file.
 //!
 //! A line of a file that begins with `#` is a comment, and one that begins with two spaces goes on with the line before it.
 //! Any other is a setting, which stands until it is set again, or a case: a question, ` => ` and the answer.
@@ -27,13 +27,12 @@ mod hierarchies;
 mod linking;
 mod rules;
 mod setting;
-mod statements;
 mod typed_folders;
 mod typed_methods;
 
 use answers::answer;
+use case_files::lines_of;
 use setting::Setting;
-use statements::statements_of;
 use std::process::ExitCode;
 use std::{env, fs};
 
@@ -56,26 +55,27 @@ fn main(rt: HostRuntime) -> ExitCode {
 // be read or memory runs out.
 fn compare_file(rt: &HostRuntime, name: &str) -> Option<()> {
     let text = fs::read_to_string(rt, name).ok()?;
-    let statements = statements_of(rt.alloc(), &text)?;
+    let lines = lines_of(rt.alloc(), &text)?;
     let mut setting = Setting::empty();
     let mut count: u64 = 0;
-    for statement in statements.as_slice() {
-        if !setting.take(statement) {
-            compare_case(rt, &setting, statement)?;
+    for line in lines.as_slice() {
+        if !setting.take(&line.text) {
+            let place = format!(in rt.alloc(); "{name}:{}", line.number).ok()?;
+            compare_case(rt, &setting, &place, &line.text)?;
             count = count.wrapping_add(1);
         }
     }
     println!(rt; "{name}: {count}").ok()
 }
 
-// Asks a case, and prints it where it is answered otherwise.
-fn compare_case(rt: &HostRuntime, setting: &Setting<'_>, case: &str) -> Option<()> {
+// Asks a case, and prints it with its place where it is answered otherwise.
+fn compare_case(rt: &HostRuntime, setting: &Setting<'_>, place: &str, case: &str) -> Option<()> {
     let Some((question, wanted)) = case.split_once(" => ") else {
-        return println!(rt; "no case: {case}").ok();
+        return println!(rt; "{place}: no case: {case}").ok();
     };
     match answer(rt.alloc(), setting, question) {
         Some(told) if told.as_str() == wanted => Some(()),
-        Some(told) => println!(rt; "{told}, not {wanted}: {question}").ok(),
-        None => println!(rt; "no answer: {question}").ok(),
+        Some(told) => println!(rt; "{place}: {told}, not {wanted}: {question}").ok(),
+        None => println!(rt; "{place}: no answer: {question}").ok(),
     }
 }

@@ -1,5 +1,5 @@
 //! What the cases of a file are asked over.
-use crate::statements::word_and_rest;
+use case_files::word_and_rest;
 use class_notation::Input;
 use class_tree::Tree;
 use std::alloc::Global;

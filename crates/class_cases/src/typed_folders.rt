@@ -11,15 +11,15 @@ use verify_folder::{verify_all, verify_method};
 
 /// What verifying a folder answers, at once and method by method: the name of each class with the numbers of its methods'
 /// frames, and `-` for a method without code; or the class, method, offset and rule of the first failure.
-pub(crate) fn folder_answer(alloc: Global, tree: Tree) -> Option<String> {
-    let Ok(()) = check_links(alloc, &tree) else {
+pub(crate) fn folder_answer(alloc: Global, tree: &Tree) -> Option<String> {
+    let Ok(()) = check_links(alloc, tree) else {
         return None;
     };
-    let told = match verify_all(alloc, &tree) {
-        Ok(typed) => text_of_typed(alloc, &tree, &typed)?,
+    let told = match verify_all(alloc, tree) {
+        Ok(typed) => text_of_typed(alloc, tree, &typed)?,
         Err(fault) => text_of_failure(alloc, &fault)?,
     };
-    let same = text_of_each(alloc, &tree)?;
+    let same = text_of_each(alloc, tree)?;
     if told != same {
         return format!(in alloc; "{told}, and one by one {same}").ok();
     }
