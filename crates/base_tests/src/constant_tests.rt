@@ -1,52 +1,76 @@
 use class_model::{Const, Pool, Text};
+use std::alloc::Global;
 use std::process::Abort;
 use std::test::Fail;
+
+// An index, and what a pool shows there.
+pub(crate) type Shown = (u16, &'static str);
+
+// A pool of a text and of a class with this name.
+const TEXT_AND_CLASS: [Shown; 4] = [
+    (0, "None"),
+    (1, "Some(Utf8(Text { bytes: [65] }))"),
+    (2, "Some(Class(1))"),
+    (3, "None"),
+];
+
+// A pool that begins with a long.
+const LONG: [Shown; 2] = [(1, "Some(Long(-1))"), (2, "None")];
+
+// A double and an integer as the last constants, behind a long.
+const BEHIND_LONG: [Shown; 4] = [
+    (3, "Some(Double(2))"),
+    (4, "None"),
+    (5, "Some(Integer(7))"),
+    (6, "None"),
+];
 
 #[test]
 fn pools(rt: HostRuntime) -> Result<(), Fail> {
     let mut pool = Pool::new(rt.alloc());
-    assert!(rt; pool.count() == 1 && pool.get(0).is_none());
-    let text = Text::of_bytes(rt.alloc(), b"A")?;
-    pool.push(Const::Utf8(text.copy()?))?;
-    pool.push(Const::Class(1))?;
-    assert!(rt; pool.count() == 3);
-    has_class(&rt, &pool, &text);
-    Ok(())
-}
-
-// Checks a pool of a text and of a class with this name.
-fn has_class(rt: &impl Abort, pool: &Pool, text: &Text) {
-    assert!(rt; pool.get(0).is_none());
-    assert!(rt; matches!(pool.get(1), Some(Const::Utf8(found)) if *found == *text));
-    assert!(rt; matches!(pool.get(2), Some(Const::Class(1))));
-    assert!(rt; pool.get(3).is_none());
+    shows(&rt, &pool, 1, &[(0, "None")])?;
+    push_text(&rt, &mut pool)?;
+    push(&rt, &mut pool, Const::Class(1))?;
+    shows(&rt, &pool, 3, &TEXT_AND_CLASS)
 }
 
 #[test]
 fn pools_with_wide_constants(rt: HostRuntime) -> Result<(), Fail> {
     let mut pool = Pool::new(rt.alloc());
-    pool.push(Const::Long(-1))?;
-    assert!(rt; pool.count() == 3);
-    has_long(&rt, &pool);
-    pool.push(Const::Double(2))?;
-    pool.push(Const::Integer(7))?;
-    assert!(rt; pool.count() == 6);
-    has_double(&rt, &pool);
+    push(&rt, &mut pool, Const::Long(-1))?;
+    shows(&rt, &pool, 3, &LONG)?;
+    push(&rt, &mut pool, Const::Double(2))?;
+    push(&rt, &mut pool, Const::Integer(7))?;
+    shows(&rt, &pool, 6, &LONG)?;
+    shows(&rt, &pool, 6, &BEHIND_LONG)
+}
+
+// Checks the count of a pool, and what it shows at these indices.
+pub(crate) fn shows(
+    rt: &(impl Abort + AllocGlobal),
+    pool: &Pool,
+    count: u16,
+    rows: &[Shown],
+) -> Result<(), Fail> {
+    for (index, wanted) in rows {
+        let told = format!(in rt.alloc(); "{:?}", pool.get(*index))?;
+        let is_so = pool.count() == count && told.as_str() == *wanted;
+        assert!(rt; is_so, "{told} at {index} of {count}");
+    }
     Ok(())
 }
 
-// Checks that a pool begins with a long.
-fn has_long(rt: &impl Abort, pool: &Pool) {
-    assert!(rt; matches!(pool.get(1), Some(Const::Long(-1))));
-    assert!(rt; pool.get(2).is_none());
+// Appends a constant to a pool of few.
+fn push(rt: &impl Abort, pool: &mut Pool, constant: Const) -> Result<(), Fail> {
+    assert!(rt; pool.count() < 9 && constant.units() < 3);
+    pool.push(constant)?;
+    Ok(())
 }
 
-// Checks that a double and an integer are the last constants, behind a long.
-fn has_double(rt: &impl Abort, pool: &Pool) {
-    assert!(rt; matches!(pool.get(3), Some(Const::Double(2))));
-    assert!(rt; pool.get(4).is_none());
-    assert!(rt; matches!(pool.get(5), Some(Const::Integer(7))));
-    assert!(rt; pool.get(6).is_none());
+// Appends the text A.
+fn push_text(rt: &(impl Abort + AllocGlobal), pool: &mut Pool) -> Result<(), Fail> {
+    let text = Text::of_bytes(rt.alloc(), b"A")?;
+    push(rt, pool, Const::Utf8(text))
 }
 
 // A constant, and how many indices it takes.
@@ -84,12 +108,14 @@ fn compare_copies(rt: &(impl Abort + AllocGlobal), rows: &[Constant]) -> Result<
 
 // Checks that a copy of a constant is printed as the constant, and takes so many indices.
 fn compare_copy(rt: &(impl Abort + AllocGlobal), constant: &Const, units: u16) -> Result<(), Fail> {
-    let copy = constant.copy()?;
-    let was = format!(in rt.alloc(); "{constant:?}")?;
-    let is = format!(in rt.alloc(); "{copy:?}")?;
-    assert!(rt;
-        is.as_str() == was.as_str() && copy.units() == units,
-        "at {was}"
-    );
+    let wanted = format!(in rt.alloc(); "{constant:?} of {units}")?;
+    let told = copy_of(rt.alloc(), constant)?;
+    assert!(rt; told.as_str() == wanted.as_str(), "{told} and not {wanted}");
     Ok(())
+}
+
+// A copy of a constant, and how many indices it takes.
+fn copy_of(alloc: Global, constant: &Const) -> Result<String, Fail> {
+    let copy = constant.copy()?;
+    Ok(format!(in alloc; "{copy:?} of {}", copy.units())?)
 }

@@ -459,7 +459,17 @@ fn compare_listings(rt: &(impl Abort + AllocGlobal), rows: &[Listing]) -> Result
 #[test]
 fn refused_codes(rt: HostRuntime) -> Result<(), Fail> {
     compare_refused(&rt, &REFUSED);
+    let nops = vec![in rt.alloc(); 0; 65_536]?;
+    is_refused(&rt, &nops, 0, FileRule::CodeLength);
+    // one byte less is no fault
+    let count = count_of(rt.alloc(), nops.get(1..).unwrap_or(&[]))?;
+    assert!(rt; count == 65_535);
     Ok(())
+}
+
+// How many instructions a code has.
+fn count_of(alloc: Global, code: &[u8]) -> Result<usize, ClassFault> {
+    Ok(decode(alloc, code)?.len())
 }
 
 fn compare_refused(rt: &(impl Abort + AllocGlobal), rows: &[Refused]) {
@@ -473,15 +483,6 @@ fn is_refused(rt: &(impl Abort + AllocGlobal), code: &[u8], at: u64, rule: FileR
     let told = decode(rt.alloc(), code).err();
     let wanted = ClassFault::Malformed { at, rule };
     assert!(rt; told == Some(wanted), "{told:?} at {code:?}");
-}
-
-#[test]
-fn lengths_of_codes(rt: HostRuntime) -> Result<(), Fail> {
-    let nops = vec![in rt.alloc(); 0; 65_536]?;
-    is_refused(&rt, &nops, 0, FileRule::CodeLength);
-    let instrs = decode(rt.alloc(), nops.get(1..).unwrap_or(&[]))?;
-    assert!(rt; instrs.len() == 65_535);
-    Ok(())
 }
 
 #[test]

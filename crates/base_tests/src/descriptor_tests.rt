@@ -39,7 +39,9 @@ const PARAMETERS: [Repeated; 4] = [
 ];
 
 // How many dimensions an array has, and whether it may have so many.
-const DIMENSIONS: [(usize, bool); 2] = [(255, true), (256, false)];
+type Dimensions = (usize, bool);
+
+const DIMENSIONS: [Dimensions; 2] = [(255, true), (256, false)];
 
 // Bytes, and the kind of the field type that they spell.
 type FieldKind = (&'static [u8], Option<Kind>);
@@ -94,7 +96,9 @@ const SHAPES: [Shaped; 7] = [
 ];
 
 // How many ints are parameters, and the units of these.
-const INTS: [(usize, Option<u16>); 2] = [(255, Some(255)), (256, None)];
+type Ints = (usize, Option<u16>);
+
+const INTS: [Ints; 2] = [(255, Some(255)), (256, None)];
 
 // Whether bytes spell a method descriptor.
 fn is_descriptor(alloc: Global, bytes: &[u8]) -> Result<bool, Fail> {
@@ -145,87 +149,83 @@ fn is_named(field_type: Option<&FieldType>, name: &[u8]) -> bool {
 fn parts_of_a_descriptor(rt: HostRuntime) -> Result<(), Fail> {
     let text = Text::of_bytes(rt.alloc(), b"(I[JLP;)V")?;
     let descriptor = parse_descriptor(rt.alloc(), &text)?;
-    has_parts(&rt, &descriptor);
+    assert!(rt; has_parts(&descriptor));
     Ok(())
 }
 
-fn has_parts(rt: &impl Abort, descriptor: &Descriptor) {
+fn has_parts(descriptor: &Descriptor) -> bool {
     let Descriptor { params, result } = descriptor;
-    assert!(rt; params.len() == 3 && result.is_none());
-    assert!(rt; matches!(params.get(0), Some(FieldType::Int)));
-    assert!(rt; is_named(params.get(1), b"[J"));
-    assert!(rt; is_named(params.get(2), b"P"));
+    let is_int = matches!(params.get(0), Some(FieldType::Int));
+    let is_so = is_int && is_named(params.get(1), b"[J") && is_named(params.get(2), b"P");
+    is_so && params.len() == 3 && result.is_none()
 }
 
 #[test]
 fn descriptors(rt: HostRuntime) -> Result<(), Fail> {
-    compare_descriptors(&rt, &DESCRIPTORS)
+    compare_descriptors(&rt, &DESCRIPTORS)?;
+    compare_parameters(&rt, &PARAMETERS)?;
+    compare_dimensions(&rt, &DIMENSIONS)
 }
 
 fn compare_descriptors(rt: &(impl Abort + AllocGlobal), rows: &[Spelled]) -> Result<(), Fail> {
     for (bytes, good) in rows {
-        assert!(rt; is_descriptor(rt.alloc(), bytes)? == *good, "at {bytes:?}");
+        let told = is_descriptor(rt.alloc(), bytes)?;
+        assert!(rt; told == *good, "at {bytes:?}");
     }
     Ok(())
-}
-
-#[test]
-fn parameters_take_255_units(rt: HostRuntime) -> Result<(), Fail> {
-    compare_parameters(&rt, &PARAMETERS)
 }
 
 fn compare_parameters(rt: &(impl Abort + AllocGlobal), rows: &[Repeated]) -> Result<(), Fail> {
     for (part, count, back, good) in rows {
-        let bytes = repeated(rt.alloc(), b"(", *part, *count, back)?;
-        assert!(rt; is_descriptor(rt.alloc(), &bytes)? == *good, "of {count}");
+        let told = is_repeated(rt.alloc(), b"(", *part, *count, back)?;
+        assert!(rt; told == *good, "of {count}");
     }
     Ok(())
 }
 
-#[test]
-fn arrays_have_255_dimensions(rt: HostRuntime) -> Result<(), Fail> {
-    compare_dimensions(&rt, &DIMENSIONS)
+// Whether the part so many times, between the front and the back, is a method descriptor.
+fn is_repeated(
+    alloc: Global,
+    front: &[u8],
+    part: u8,
+    count: usize,
+    back: &[u8],
+) -> Result<bool, Fail> {
+    let bytes = repeated(alloc, front, part, count, back)?;
+    is_descriptor(alloc, &bytes)
 }
 
-fn compare_dimensions(rt: &(impl Abort + AllocGlobal), rows: &[(usize, bool)]) -> Result<(), Fail> {
+fn compare_dimensions(rt: &(impl Abort + AllocGlobal), rows: &[Dimensions]) -> Result<(), Fail> {
     for (count, good) in rows {
         let bytes = repeated(rt.alloc(), b"", b'[', *count, b"I")?;
-        assert!(rt; is_array_type(&bytes) == *good, "of {count}");
-        let descriptor = repeated(rt.alloc(), b"()", b'[', *count, b"I")?;
-        assert!(rt;
-            is_descriptor(rt.alloc(), &descriptor)? == *good,
-            "of {count}"
-        );
+        let is_array = is_array_type(&bytes);
+        let is_result = is_repeated(rt.alloc(), b"()", b'[', *count, b"I")?;
+        assert!(rt; is_array == *good && is_result == *good, "of {count}");
     }
     Ok(())
 }
 
 #[test]
 fn field_types(rt: HostRuntime) -> Result<(), Fail> {
-    compare_kinds(&rt, &FIELD_KINDS)
+    compare_kinds(&rt, &FIELD_KINDS)?;
+    compare_names(&rt, &NAMES);
+    Ok(())
 }
 
 fn compare_kinds(rt: &(impl Abort + AllocGlobal), rows: &[FieldKind]) -> Result<(), Fail> {
     for (bytes, kind) in rows {
-        assert!(rt; kind_of(rt.alloc(), bytes)? == *kind, "at {bytes:?}");
-        assert!(rt;
-            is_field_descriptor(bytes) == kind.is_some(),
-            "at {bytes:?}"
-        );
+        let told = kind_of(rt.alloc(), bytes)?;
+        let is_so = told == *kind && is_field_descriptor(bytes) == kind.is_some();
+        assert!(rt; is_so, "{told:?} at {bytes:?}");
     }
-    Ok(())
-}
-
-#[test]
-fn descriptors_over_bytes(rt: HostRuntime) -> Result<(), Fail> {
-    compare_names(&rt, &NAMES);
     Ok(())
 }
 
 fn compare_names(rt: &impl Abort, rows: &[Named]) {
     for (bytes, reference, descriptor) in rows {
-        assert!(rt; is_reference_name(bytes) == *reference, "at {bytes:?}");
-        assert!(rt; is_field_descriptor(bytes) == *descriptor, "at {bytes:?}");
+        let is_so = is_reference_name(bytes) == *reference
+            && is_field_descriptor(bytes) == *descriptor;
+        assert!(rt; is_so, "at {bytes:?}");
     }
 }
 
@@ -237,22 +237,22 @@ fn shapes_of_methods(rt: HostRuntime) -> Result<(), Fail> {
 
 fn compare_shapes(rt: &impl Abort, rows: &[Shaped]) {
     for (bytes, units, is_void) in rows {
-        let is_so = match method_shape(bytes) {
-            Some(shape) => Some(shape.units) == *units && shape.is_void == *is_void,
-            None => units.is_none(),
-        };
-        assert!(rt; is_so, "at {bytes:?}");
+        assert!(rt; has_shape(bytes, *units, *is_void), "at {bytes:?}");
     }
 }
 
-fn compare_ints(
-    rt: &(impl Abort + AllocGlobal),
-    rows: &[(usize, Option<u16>)],
-) -> Result<(), Fail> {
+// Whether bytes are a method descriptor with such parameters and such a result, or none if no units are given.
+fn has_shape(bytes: &[u8], units: Option<u16>, is_void: bool) -> bool {
+    match method_shape(bytes) {
+        Some(shape) => Some(shape.units) == units && shape.is_void == is_void,
+        None => units.is_none(),
+    }
+}
+
+fn compare_ints(rt: &(impl Abort + AllocGlobal), rows: &[Ints]) -> Result<(), Fail> {
     for (count, units) in rows {
         let bytes = repeated(rt.alloc(), b"(", b'I', *count, b")V")?;
-        let told = method_shape(&bytes).map(|shape| shape.units);
-        assert!(rt; told == *units, "of {count}");
+        assert!(rt; has_shape(&bytes, *units, true), "of {count}");
     }
     Ok(())
 }

@@ -1,5 +1,6 @@
 use class_model::ListOf;
 use host_tree::{FileNameList, Host, HostCall, HostFail, MemoryHost, RealHost};
+use std::alloc::Global;
 use std::fs;
 use std::process::Abort;
 use std::test::Fail;
@@ -15,28 +16,42 @@ const CALLS: [HostCall; 4] = [
 const ROOT: &str = "tree_of_a_test";
 
 fn has_name(names: &FileNameList, wanted: &str) -> bool {
-    names.as_slice().iter().any(|name| name.as_str() == wanted)
+    for name in names.as_slice() {
+        if name.as_str() == wanted {
+            return true;
+        }
+    }
+    false
 }
 
 /// How many names of a root are listed where so many are wanted.
-const COUNTS: [(u64, usize); 3] = [(10, 2), (1, 1), (0, 0)];
+type Count = (u64, usize);
 
-/// The first bytes of files, and how many are wanted.
-const READ: [(&str, u64, &str); 3] = [
-    ("a/b/C.class", 100, "third"),
-    ("D.class", 6, "second"),
-    ("D.class", 0, ""),
+const COUNTS: [Count; 3] = [(10, 2), (1, 1), (0, 0)];
+
+/// A name, how many bytes are wanted, and these, if the root holds the name.
+type Read = (&'static str, u64, Option<&'static str>);
+
+const READ: [Read; 7] = [
+    ("a/b/C.class", 100, Some("third")),
+    ("D.class", 6, Some("second")),
+    ("D.class", 0, Some("")),
+    // names that it does not hold
+    ("C.class", 100, None),
+    ("a", 100, None),
+    ("a/b/C.clas", 100, None),
+    ("a/b/C.class2", 100, None),
 ];
 
-/// Names and bytes that are written, one after the other.
-const WRITTEN: [(&str, &str); 3] = [
+/// A name and bytes.
+type Written = (&'static str, &'static str);
+
+/// Those that are written, one after the other.
+const WRITTEN: [Written; 3] = [
     ("a/b/C.class", "first"),
     ("D.class", "second, and longer"),
     ("a/b/C.class", "third"),
 ];
-
-/// Names that a root does not hold.
-const NOT_THERE: [&str; 4] = ["C.class", "a", "a/b/C.clas", "a/b/C.class2"];
 
 /// Writes two files, lists and reads them, through the bound.
 fn writes_and_reads<H: Host>(
@@ -44,18 +59,20 @@ fn writes_and_reads<H: Host>(
     host: &mut H,
     root: &str,
 ) -> Result<(), Fail> {
-    write_two(rt, host, root)?;
-    list_two(rt, host, root)?;
-    read_two(rt, host, root)
+    write_two(rt.alloc(), host, root, &WRITTEN)?;
+    list_two(rt, host, root, &COUNTS)?;
+    read_two(rt, host, root, &READ);
+    Ok(())
 }
 
 fn write_two<H: Host>(
-    rt: &(impl Abort + AllocGlobal),
+    alloc: Global,
     host: &mut H,
     root: &str,
+    rows: &[Written],
 ) -> Result<(), Fail> {
-    for (name, text) in &WRITTEN {
-        host.write(rt.alloc(), root, name, text.as_bytes())?;
+    for (name, text) in rows {
+        host.write(alloc, root, name, text.as_bytes())?;
     }
     Ok(())
 }
@@ -64,37 +81,74 @@ fn list_two<H: Host>(
     rt: &(impl Abort + AllocGlobal),
     host: &mut H,
     root: &str,
+    rows: &[Count],
 ) -> Result<(), Fail> {
-    let alloc = rt.alloc();
-    for (most, wanted) in &COUNTS {
-        let names = host.list(alloc, root, *most)?;
-        assert!(rt; names.len() == *wanted, "{most} names");
+    for (most, wanted) in rows {
+        let count = count_of(rt.alloc(), host, root, *most)?;
+        assert!(rt; count == *wanted, "{most} names");
     }
-    let names = host.list(alloc, root, 10)?;
-    assert!(rt; has_name(&names, "a/b/C.class") && has_name(&names, "D.class"));
-    assert!(rt; host.list(alloc, "nowhere", 10)?.is_empty());
+    let is_none = count_of(rt.alloc(), host, "nowhere", 10)? == 0;
+    assert!(rt; is_none && has_both(rt.alloc(), host, root)?);
     Ok(())
 }
 
-fn read_two<H: Host>(
-    rt: &(impl Abort + AllocGlobal),
+/// How many names of a root are listed.
+fn count_of<H: Host>(
+    alloc: Global,
     host: &mut H,
     root: &str,
-) -> Result<(), Fail> {
-    for (name, most, bytes) in &READ {
-        let read = host.read(rt.alloc(), root, name, *most)?;
-        assert!(rt; read.as_slice() == bytes.as_bytes(), "at {name}");
+    most: u64,
+) -> Result<usize, HostFail> {
+    Ok(host.list(alloc, root, most)?.len())
+}
+
+/// Whether both names of a root are listed.
+fn has_both<H: Host>(alloc: Global, host: &mut H, root: &str) -> Result<bool, HostFail> {
+    let names = host.list(alloc, root, 10)?;
+    Ok(has_name(&names, "a/b/C.class") && has_name(&names, "D.class"))
+}
+
+fn read_two<H: Host>(rt: &(impl Abort + AllocGlobal), host: &mut H, root: &str, rows: &[Read]) {
+    for (name, most, wanted) in rows {
+        let is_so = is_read(rt.alloc(), host, root, name, *most, *wanted);
+        assert!(rt; is_so, "at {name}");
     }
-    for name in &NOT_THERE {
-        let read = host.read(rt.alloc(), root, name, 100);
-        assert!(rt; read.is_err(), "at {name}");
+}
+
+/// Whether these bytes are read, or the read is refused.
+fn is_read<H: Host>(
+    alloc: Global,
+    host: &mut H,
+    root: &str,
+    name: &str,
+    most: u64,
+    wanted: Option<&str>,
+) -> bool {
+    match (host.read(alloc, root, name, most), wanted) {
+        (Ok(bytes), Some(text)) => bytes.as_slice() == text.as_bytes(),
+        (told, wanted) => told.is_err() && wanted.is_none(),
     }
-    Ok(())
+}
+
+/// Why a call of this kind is refused.
+fn fault_of<H: Host>(
+    alloc: Global,
+    host: &mut H,
+    call: HostCall,
+    root: &str,
+    name: &str,
+) -> Option<HostFail> {
+    match call {
+        HostCall::List => host.list(alloc, root, 9).err(),
+        HostCall::Read => host.read(alloc, root, name, 9).err(),
+        HostCall::Write => host.write(alloc, root, name, b"new").err(),
+        HostCall::Print => host.print(alloc, b"lost").err(),
+    }
 }
 
 /// Checks how often calls of each kind have failed.
-fn has_faults(rt: &impl Abort, host: &MemoryHost, wanted: u64) {
-    for call in &CALLS {
+fn has_faults(rt: &impl Abort, host: &MemoryHost, calls: &[HostCall], wanted: u64) {
+    for call in calls {
         let told = host.faults(*call);
         assert!(rt; told == wanted, "{told} at {call:?}");
     }
@@ -111,50 +165,60 @@ fn has_file(rt: &impl Abort, host: &MemoryHost, root: &str, name: &str, wanted: 
 
 #[test]
 fn memory_tells(rt: HostRuntime) -> Result<(), Fail> {
+    let mut host = MemoryHost::new(rt.alloc(), ListOf::new(rt.alloc()))?;
+    tells(&rt, &mut host)
+}
+
+fn tells(rt: &(impl Abort + AllocGlobal), host: &mut MemoryHost) -> Result<(), Fail> {
     let alloc = rt.alloc();
-    let mut host = MemoryHost::new(alloc, ListOf::new(alloc))?;
     host.put(alloc, "out", "D.class", b"old")?;
     host.put(alloc, "in", "D.class", b"other")?;
-    writes_and_reads(&rt, &mut host, "out")?;
-    let absent = host.read(alloc, "out", "E.class", 9);
-    assert!(rt; matches!(absent, Err(HostFail::Absent)));
+    writes_and_reads(rt, host, "out")?;
+    let fault = fault_of(alloc, host, HostCall::Read, "out", "E.class");
     host.print(alloc, b"one\n")?;
     host.print(alloc, b"two\n")?;
-    assert!(rt; host.printed() == b"one\ntwo\n".as_slice());
-    has_file(&rt, &host, "in", "D.class", Some("other"));
-    has_file(&rt, &host, "out", "E.class", None);
-    has_faults(&rt, &host, 0);
+    assert!(rt; fault == Some(HostFail::Absent) && host.printed() == b"one\ntwo\n".as_slice());
+    has_file(rt, host, "in", "D.class", Some("other"));
+    has_file(rt, host, "out", "E.class", None);
+    has_faults(rt, host, &CALLS, 0);
     Ok(())
 }
 
-/// Checks that a call of each kind is refused, and a read of a name that is not there told.
-fn refuses_each(rt: &(impl Abort + AllocGlobal), host: &mut MemoryHost) {
-    let alloc = rt.alloc();
-    is_refused(rt, host.list(alloc, "in", 9));
-    is_refused(rt, host.read(alloc, "in", "C.class", 9));
-    is_refused(rt, host.write(alloc, "in", "C.class", b"new"));
-    is_refused(rt, host.print(alloc, b"lost"));
-    let absent = host.read(alloc, "in", "D.class", 9);
-    assert!(rt; matches!(absent, Err(HostFail::Absent)));
-}
+/// A call, the name that it is for, and the fault.
+type Refused = (HostCall, &'static str, HostFail);
 
-/// Checks that a call was refused.
-fn is_refused<T: Drop>(rt: &impl Abort, answer: Result<T, HostFail>) {
-    assert!(rt; matches!(answer, Err(HostFail::Failed)));
+/// Calls of a host that refuses the first five. A read of a name that is not there is told.
+const REFUSED: [Refused; 5] = [
+    (HostCall::List, "", HostFail::Failed),
+    (HostCall::Read, "C.class", HostFail::Failed),
+    (HostCall::Write, "C.class", HostFail::Failed),
+    (HostCall::Print, "", HostFail::Failed),
+    (HostCall::Read, "D.class", HostFail::Absent),
+];
+
+/// Checks that each call is refused.
+fn refuses_each(rt: &(impl Abort + AllocGlobal), host: &mut MemoryHost, rows: &[Refused]) {
+    for (call, name, wanted) in rows {
+        let told = fault_of(rt.alloc(), host, *call, "in", name);
+        assert!(rt; told == Some(*wanted), "{told:?} at {call:?} of {name}");
+    }
 }
 
 #[test]
 fn memory_refuses(rt: HostRuntime) -> Result<(), Fail> {
-    let alloc = rt.alloc();
-    let fail = ListOf::from_vec(Vec::from_slice(alloc, &[0, 1, 2, 3, 4])?);
-    let mut host = MemoryHost::new(alloc, fail)?;
-    host.put(alloc, "in", "C.class", b"kept")?;
-    refuses_each(&rt, &mut host);
-    has_faults(&rt, &host, 1);
-    has_file(&rt, &host, "in", "C.class", Some("kept"));
+    let fail = Vec::from_slice(rt.alloc(), &[0, 1, 2, 3, 4])?;
+    let mut host = MemoryHost::new(rt.alloc(), ListOf::from_vec(fail))?;
+    refuses(&rt, &mut host)
+}
+
+fn refuses(rt: &(impl Abort + AllocGlobal), host: &mut MemoryHost) -> Result<(), Fail> {
+    host.put(rt.alloc(), "in", "C.class", b"kept")?;
+    refuses_each(rt, host, &REFUSED);
+    has_faults(rt, host, &CALLS, 1);
+    has_file(rt, host, "in", "C.class", Some("kept"));
     assert!(rt; host.printed().is_empty());
-    host.write(alloc, "in", "C.class", b"new")?;
-    has_file(&rt, &host, "in", "C.class", Some("new"));
+    host.write(rt.alloc(), "in", "C.class", b"new")?;
+    has_file(rt, host, "in", "C.class", Some("new"));
     Ok(())
 }
 
@@ -164,12 +228,11 @@ fn real_files(rt: HostRuntime) -> Result<(), Fail> {
     let _ = fs::remove_dir_all(&rt, ROOT);
     writes_and_reads(&rt, &mut host, ROOT)?;
     host.write(rt.alloc(), "", "tree_of_a_test/E.class", b"fourth")?;
-    let read = host.read(rt.alloc(), ROOT, "E.class", 9)?;
-    assert!(rt; read.as_slice() == b"fourth".as_slice());
-    let absent = host.read(rt.alloc(), ROOT, "F.class", 9);
-    assert!(rt; matches!(absent, Err(HostFail::Absent)));
-    let folder = host.read(rt.alloc(), ROOT, "a", 9);
-    assert!(rt; matches!(folder, Err(HostFail::Failed)));
+    let is_there = is_read(rt.alloc(), &mut host, ROOT, "E.class", 9, Some("fourth"));
+    let absent = fault_of(rt.alloc(), &mut host, HostCall::Read, ROOT, "F.class");
+    let folder = fault_of(rt.alloc(), &mut host, HostCall::Read, ROOT, "a");
+    let is_so = absent == Some(HostFail::Absent) && folder == Some(HostFail::Failed);
+    assert!(rt; is_there && is_so, "{is_there}, {absent:?} and {folder:?}");
     fs::remove_dir_all(&rt, ROOT)?;
     host.print(rt.alloc(), b"")?;
     Ok(())

@@ -1,4 +1,5 @@
-use class_model::{Frame, ListOf, LocalTypeList, NoMemory, Text, VType};
+use crate::type_tests::object;
+use class_model::{Frame, LocalTypeList, NoMemory, VType};
 use std::alloc::Global;
 use std::process::Abort;
 use std::test::Fail;
@@ -38,64 +39,66 @@ fn has(list: &LocalTypeList, at: usize, unit: &VType) -> bool {
     list.get(at) == Some(unit)
 }
 
-// Checks that the first units are those with their indices, and the others up to an end Top.
-fn is_numbered(rt: &impl Abort, list: &LocalTypeList, len: usize, end: usize) {
+// Whether the first units are those with their indices, and the others up to an end Top.
+fn is_numbered(list: &LocalTypeList, len: usize, end: usize) -> bool {
     for at in 0..end {
-        let wanted = if at < len { uninit(at) } else { VType::Top };
-        assert!(rt; has(list, at, &wanted), "at {at} of {len}");
+        if !has(list, at, &unit_at(at, len)) {
+            return false;
+        }
     }
+    true
 }
 
-// Checks how many units a list has, and how many of these are listed.
-fn counts(rt: &impl Abort, list: &LocalTypeList, len: usize, listed: usize) {
-    assert!(rt;
-        list.len() == len && list.listed() == listed,
-        "{len} and {listed}"
-    );
+fn unit_at(at: usize, len: usize) -> VType {
+    if at < len { uninit(at) } else { VType::Top }
+}
+
+// Whether a list has so many units, and how many of these are listed.
+fn counts(list: &LocalTypeList, len: usize, listed: usize) -> bool {
+    list.len() == len && list.listed() == listed
 }
 
 #[test]
-fn pushed_units_are_found(rt: HostRuntime) -> Result<(), Fail> {
-    find_pushed(&rt, &LENGTHS)
+fn units_are_found(rt: HostRuntime) -> Result<(), Fail> {
+    find_units(&rt, &LENGTHS)
 }
 
-fn find_pushed(rt: &(impl Abort + AllocGlobal), lengths: &[usize]) -> Result<(), Fail> {
+fn find_units(rt: &(impl Abort + AllocGlobal), lengths: &[usize]) -> Result<(), Fail> {
     for len in lengths {
-        let list = numbered(rt.alloc(), *len)?;
-        counts(rt, &list, *len, *len);
-        assert!(rt; list.is_empty() == (*len == 0), "of {len}");
-        is_numbered(rt, &list, *len, *len);
-        assert!(rt; list.get(*len).is_none(), "of {len}");
+        let is_found = finds_pushed(rt.alloc(), *len)?;
+        let is_filled = finds_filled(rt.alloc(), *len)?;
+        assert!(rt;
+            is_found && is_filled,
+            "pushed {is_found} and filled {is_filled} of {len}"
+        );
     }
     Ok(())
 }
 
-#[test]
-fn filled_units_are_tops(rt: HostRuntime) -> Result<(), Fail> {
-    find_filled(&rt, &LENGTHS)
+// Whether so many units that are pushed are found.
+fn finds_pushed(alloc: Global, len: usize) -> Result<bool, NoMemory> {
+    let list = numbered(alloc, len)?;
+    let is_end = list.is_empty() == (len == 0) && list.get(len).is_none();
+    Ok(is_end && counts(&list, len, len) && is_numbered(&list, len, len))
 }
 
-fn find_filled(rt: &(impl Abort + AllocGlobal), lengths: &[usize]) -> Result<(), Fail> {
-    for len in lengths {
-        let mut list = numbered(rt.alloc(), *len)?;
-        list.fill(*len);
-        assert!(rt; list.len() == *len, "of {len}");
-        list.fill(600);
-        counts(rt, &list, 600, *len);
-        is_numbered(rt, &list, *len, 600);
-        push_behind(rt, &mut list, *len)?;
-    }
-    Ok(())
+// Whether the units that so many are filled up with are Top.
+fn finds_filled(alloc: Global, len: usize) -> Result<bool, NoMemory> {
+    let mut list = numbered(alloc, len)?;
+    list.fill(len);
+    let is_kept = list.len() == len;
+    list.fill(600);
+    let is_filled = counts(&list, 600, len) && is_numbered(&list, len, 600);
+    Ok(is_kept && is_filled && finds_behind(&mut list, len)?)
 }
 
-// Pushes Top and an int behind 600 units of which so many are listed.
-fn push_behind(rt: &impl Abort, list: &mut LocalTypeList, listed: usize) -> Result<(), Fail> {
+// Whether Top and an int are found that are pushed behind 600 units of which so many are listed.
+fn finds_behind(list: &mut LocalTypeList, listed: usize) -> Result<bool, NoMemory> {
     list.push(VType::Top)?;
-    counts(rt, list, 601, listed);
+    let is_top = counts(list, 601, listed);
     list.push(VType::Int)?;
-    counts(rt, list, 602, 602);
-    assert!(rt; has(list, 600, &VType::Top) && has(list, 601, &VType::Int));
-    Ok(())
+    let is_int = has(list, 600, &VType::Top) && has(list, 601, &VType::Int);
+    Ok(is_top && is_int && counts(list, 602, 602))
 }
 
 #[test]
@@ -127,41 +130,44 @@ fn is_changed(rt: &impl Abort, list: &LocalTypeList) {
 
 #[test]
 fn copies_keep_their_types(rt: HostRuntime) -> Result<(), Fail> {
-    change_copies(&rt, &COPIED)
+    let same = numbered(rt.alloc(), 300)?;
+    change_copies(&rt, &same, &COPIED)
 }
 
-fn change_copies(rt: &(impl Abort + AllocGlobal), places: &[usize]) -> Result<(), Fail> {
+fn change_copies(
+    rt: &(impl Abort + AllocGlobal),
+    same: &LocalTypeList,
+    places: &[usize],
+) -> Result<(), Fail> {
     for at in places {
-        let list = numbered(rt.alloc(), 300)?;
-        let mut changed = list.copy(rt.alloc())?;
-        assert!(rt; changed == list, "at {at}");
-        put(&mut changed, *at, VType::Null)?;
-        is_changed_copy(rt, &list, &changed, *at);
-        assert!(rt; list == numbered(rt.alloc(), 300)?, "at {at}");
-        changed.push(VType::Int)?;
-        assert!(rt; list.len() == 300 && changed.len() == 301, "at {at}");
+        let is_so = changes_copy(rt.alloc(), same, *at)?;
+        assert!(rt; is_so, "at {at}");
     }
     Ok(())
 }
 
-// Checks that the copy of numbered units has Null at a place.
-fn is_changed_copy(rt: &impl Abort, list: &LocalTypeList, changed: &LocalTypeList, at: usize) {
-    assert!(rt; *changed != *list && has(list, at, &uninit(at)), "at {at}");
-    assert!(rt; has(changed, at, &VType::Null), "at {at}");
+// Whether a copy of 300 numbered units equals them and is changed at a place, and they still equal the same.
+fn changes_copy(alloc: Global, same: &LocalTypeList, at: usize) -> Result<bool, NoMemory> {
+    let list = numbered(alloc, 300)?;
+    let mut copy = list.copy(alloc)?;
+    Ok(copy == list && changes(&mut copy, &list, at)? && list == *same)
+}
+
+// Whether the copy alone is changed at a place, and then gets one unit more.
+fn changes(copy: &mut LocalTypeList, list: &LocalTypeList, at: usize) -> Result<bool, NoMemory> {
+    put(copy, at, VType::Null)?;
+    let is_other = *copy != *list && has(copy, at, &VType::Null);
+    let is_kept = has(list, at, &uninit(at)) && is_numbered(list, 300, 300);
+    copy.push(VType::Int)?;
+    Ok(is_other && is_kept && list.len() == 300 && copy.len() == 301)
 }
 
 #[test]
 fn tops_are_compared(rt: HostRuntime) -> Result<(), Fail> {
     let mut few = numbered(rt.alloc(), 2)?;
-    few.fill(65_535);
     let mut written = with_tops(rt.alloc())?;
-    assert!(rt; few != written);
-    written.fill(65_535);
-    assert!(rt; few == written && written.listed() == 300 && few.listed() == 2);
-    few.push(VType::Top)?;
-    assert!(rt; few != written);
-    written.push(VType::Float)?;
-    assert!(rt; few != written);
+    let is_so = compares_tops(&mut few, &mut written)?;
+    assert!(rt; is_so);
     Ok(())
 }
 
@@ -177,16 +183,32 @@ fn with_tops(alloc: Global) -> Result<LocalTypeList, NoMemory> {
     Ok(written)
 }
 
+// Whether two units filled with Top equal those with Top written only where as many are filled, and only until
+// others are pushed.
+fn compares_tops(few: &mut LocalTypeList, written: &mut LocalTypeList) -> Result<bool, NoMemory> {
+    few.fill(65_535);
+    let is_short = *few != *written;
+    written.fill(65_535);
+    let is_same = *few == *written && written.listed() == 300 && few.listed() == 2;
+    few.push(VType::Top)?;
+    let is_long = *few != *written;
+    written.push(VType::Float)?;
+    Ok(is_short && is_same && is_long && *few != *written)
+}
+
 #[test]
 fn copies_of_frames(rt: HostRuntime) -> Result<(), Fail> {
-    let name = Text::of_bytes(rt.alloc(), b"A")?;
-    let mut locals = numbered(rt.alloc(), 300)?;
-    locals.fill(400);
-    let frame = Frame {
-        locals,
-        stack: ListOf::from_vec(vec![in rt.alloc(); VType::Object(name), VType::Long]?),
-    };
+    let frame = long_frame(rt.alloc())?;
     let copy = frame.copy(rt.alloc())?;
     assert!(rt; copy.is_same(&frame) && copy.stack.len() == 2);
     Ok(())
+}
+
+// A frame of 300 numbered units and 100 Tops, with an object and a long on the stack.
+fn long_frame(alloc: Global) -> Result<Frame, Fail> {
+    let mut stack = object(alloc)?;
+    stack.push(VType::Long)?;
+    let mut locals = numbered(alloc, 300)?;
+    locals.fill(400);
+    Ok(Frame { locals, stack })
 }

@@ -31,8 +31,10 @@ const MEMBER_NAMES: [MemberName; 7] = [
 ];
 
 #[test]
-fn class_names(rt: HostRuntime) -> Result<(), Fail> {
-    compare_class_names(&rt, &CLASS_NAMES)
+fn names(rt: HostRuntime) -> Result<(), Fail> {
+    compare_class_names(&rt, &CLASS_NAMES)?;
+    compare_member_names(&rt, &MEMBER_NAMES);
+    Ok(())
 }
 
 fn compare_class_names(rt: &(impl Abort + AllocGlobal), rows: &[ClassName]) -> Result<(), Fail> {
@@ -43,16 +45,12 @@ fn compare_class_names(rt: &(impl Abort + AllocGlobal), rows: &[ClassName]) -> R
     Ok(())
 }
 
-#[test]
-fn member_names(rt: HostRuntime) -> Result<(), Fail> {
-    compare_member_names(&rt, &MEMBER_NAMES);
-    Ok(())
-}
-
 fn compare_member_names(rt: &impl Abort, rows: &[MemberName]) {
     for (name, field, method, unqualified) in rows {
-        assert!(rt; is_field_name(name) == *field, "at {name:?}");
-        assert!(rt; is_method_name(name) == *method, "at {name:?}");
-        assert!(rt; is_unqualified_name(name) == *unqualified, "at {name:?}");
+        let is_so = is_field_name(name) == *field && is_method_name(name) == *method;
+        assert!(rt;
+            is_so && is_unqualified_name(name) == *unqualified,
+            "at {name:?}"
+        );
     }
 }

@@ -1,4 +1,5 @@
-use class_model::{ClassFault, Const, Cursor, FileRule, Pool};
+use crate::constant_tests::{Shown, shows};
+use class_model::{ClassFault, Cursor, FileRule, Pool};
 use pool_bytes::{cut_pool, push_pool, read_pool, write_pool};
 use std::alloc::Global;
 use std::process::Abort;
@@ -39,6 +40,24 @@ const CONSTANTS: [&[u8]; 27] = [
 
 // The last index of these.
 const LAST: u8 = 29;
+
+// What some of these are.
+const SHOWN: [Shown; 12] = [
+    (6, "Some(Fieldref(2, 5))"),
+    (9, "Some(Methodref(2, 8))"),
+    (10, "Some(InterfaceMethodref(2, 8))"),
+    (11, "Some(String(1))"),
+    (12, "Some(Integer(-2))"),
+    // the bits of 1
+    (13, "Some(Float(1065353216))"),
+    (14, "Some(Long(-2))"),
+    (15, "None"),
+    // the bits of 1
+    (16, "Some(Double(4607182418800017408))"),
+    (18, "Some(MethodHandle(1, 6))"),
+    (19, "Some(MethodType(7))"),
+    (20, "Some(InvokeDynamic(0, 8))"),
+];
 
 // The items of the count and of these constants, by the places of their first bytes.
 const ITEMS: [usize; 75] = [
@@ -171,52 +190,29 @@ const BEHIND_OTHERS: &[u8] =
 #[test]
 fn behind_other_bytes(rt: HostRuntime) -> Result<(), Fail> {
     let (pool, end) = read_pool(rt.alloc(), BEHIND_OTHERS, 8)?;
-    assert!(rt; pool.count() == 5 && end == 39);
-    is_written(&rt, &pool, BEHIND_OTHERS.get(8..).unwrap_or(&[]))?;
-    let front = BEHIND_OTHERS.get(..8).unwrap_or(&[]);
-    let mut appended = Vec::from_slice(rt.alloc(), front)?;
-    push_pool(&mut appended, &pool)?;
-    assert!(rt; appended.as_slice() == BEHIND_OTHERS);
+    assert!(rt; pool.count() == 5 && end == 39 && is_written(rt.alloc(), &pool, BEHIND_OTHERS, 8)?);
     Ok(())
 }
 
-// Checks that a pool is written as these bytes.
-fn is_written(rt: &(impl Abort + AllocGlobal), pool: &Pool, bytes: &[u8]) -> Result<(), Fail> {
-    let written = write_pool(rt.alloc(), pool)?;
-    assert!(rt; written.as_slice() == bytes);
-    Ok(())
+// Whether a pool is written as the bytes from a place on, and appended to those in front.
+fn is_written(alloc: Global, pool: &Pool, bytes: &[u8], from: usize) -> Result<bool, Fail> {
+    let written = write_pool(alloc, pool)?;
+    let is_so = written.as_slice() == bytes.get(from..).unwrap_or(&[]);
+    let mut appended = Vec::from_slice(alloc, bytes.get(..from).unwrap_or(&[]))?;
+    push_pool(&mut appended, pool)?;
+    Ok(is_so && appended.as_slice() == bytes)
 }
 
 #[test]
 fn each_constant(rt: HostRuntime) -> Result<(), Fail> {
     let bytes = pool_with(rt.alloc(), &[])?;
-    let (pool, end) = read_pool(rt.alloc(), &bytes, 0)?;
-    assert!(rt; pool.count() == 30 && end == bytes.len());
-    has_references(&rt, &pool);
-    has_numbers(&rt, &pool);
-    has_handles(&rt, &pool);
-    is_written(&rt, &pool, &bytes)
+    has_each(&rt, &bytes)
 }
 
-fn has_references(rt: &impl Abort, pool: &Pool) {
-    assert!(rt; matches!(pool.get(6), Some(Const::Fieldref(2, 5))));
-    assert!(rt; matches!(pool.get(9), Some(Const::Methodref(2, 8))));
-    assert!(rt; matches!(pool.get(10), Some(Const::InterfaceMethodref(2, 8))));
-    assert!(rt; matches!(pool.get(11), Some(Const::String(1))));
-}
-
-fn has_numbers(rt: &impl Abort, pool: &Pool) {
-    assert!(rt; matches!(pool.get(12), Some(Const::Integer(-2))));
-    assert!(rt; matches!(pool.get(13), Some(Const::Float(0x3F80_0000))));
-    assert!(rt; matches!(pool.get(14), Some(Const::Long(-2))));
-    assert!(rt; pool.get(15).is_none());
-    assert!(rt; matches!(pool.get(16), Some(Const::Double(0x3FF0_0000_0000_0000))));
-}
-
-fn has_handles(rt: &impl Abort, pool: &Pool) {
-    assert!(rt; matches!(pool.get(18), Some(Const::MethodHandle(1, 6))));
-    assert!(rt; matches!(pool.get(19), Some(Const::MethodType(7))));
-    assert!(rt; matches!(pool.get(20), Some(Const::InvokeDynamic(0, 8))));
+fn has_each(rt: &(impl Abort + AllocGlobal), bytes: &[u8]) -> Result<(), Fail> {
+    let (pool, end) = read_pool(rt.alloc(), bytes, 0)?;
+    assert!(rt; end == bytes.len() && is_written(rt.alloc(), &pool, bytes, 0)?);
+    shows(rt, &pool, 30, &SHOWN)
 }
 
 #[test]
@@ -232,10 +228,20 @@ fn short(rt: HostRuntime) -> Result<(), Fail> {
 // Checks that fewer bytes are short at the item in which they end.
 fn is_short_in(rt: &(impl Abort + AllocGlobal), bytes: &[u8], items: &[usize]) {
     for len in 0..bytes.len() {
-        let at = items.iter().copied().rev().find(|start| *start <= len);
         let front = bytes.get(..len).unwrap_or(bytes);
-        is_refused(rt, front, 0, short_at(at.unwrap_or(usize::MAX)));
+        is_refused(rt, front, 0, short_at(start_of(items, len)));
     }
+}
+
+// The last of these places that is not behind a place.
+fn start_of(items: &[usize], at: usize) -> usize {
+    let mut start = usize::MAX;
+    for item in items {
+        if *item <= at {
+            start = *item;
+        }
+    }
+    start
 }
 
 // Checks that no pool is at a place behind the bytes.
@@ -253,6 +259,7 @@ fn short_at(at: usize) -> ClassFault {
 #[test]
 fn tags(rt: HostRuntime) -> Result<(), Fail> {
     compare_tags(&rt, &TAGS);
+    compare_versions(&rt, &FROM_51);
     Ok(())
 }
 
@@ -269,39 +276,42 @@ fn tag_at(at: u64) -> ClassFault {
     }
 }
 
-#[test]
-fn tags_of_versions(rt: HostRuntime) -> Result<(), Fail> {
-    compare_versions(&rt, &FROM_51)
-}
-
-fn compare_versions(rt: &(impl Abort + AllocGlobal), rows: &[&[u8]]) -> Result<(), Fail> {
+// Checks that these tags are refused before version 51 alone.
+fn compare_versions(rt: &(impl Abort + AllocGlobal), rows: &[&[u8]]) {
     for bytes in rows {
-        let told = cut_pool(rt.alloc(), 50, &mut Cursor::new(bytes, 0)).err();
-        assert!(rt; told == Some(tag_at(2)), "at {bytes:?}");
-        let mut from_51 = Cursor::new(bytes, 0);
-        cut_pool(rt.alloc(), 51, &mut from_51)?;
-        assert!(rt; from_51.is_empty(), "at {bytes:?}");
+        let before = cut_whole(rt.alloc(), 50, bytes);
+        let from_51 = cut_whole(rt.alloc(), 51, bytes);
+        let is_so = before == Err(tag_at(2)) && from_51 == Ok(true);
+        assert!(rt; is_so, "at {bytes:?}");
     }
-    Ok(())
+}
+
+// Whether the pool that is cut off in a version is all of the bytes.
+fn cut_whole(alloc: Global, major: u16, bytes: &[u8]) -> Result<bool, ClassFault> {
+    let mut cursor = Cursor::new(bytes, 0);
+    cut_pool(alloc, major, &mut cursor)?;
+    Ok(cursor.is_empty())
 }
 
 #[test]
-fn fitting_constants(rt: HostRuntime) -> Result<(), Fail> {
-    compare_fitting(&rt, &FITTING)
+fn last_constants(rt: HostRuntime) -> Result<(), Fail> {
+    compare_fitting(&rt, &FITTING)?;
+    compare_faulty(&rt, &FAULTY)
 }
 
 fn compare_fitting(rt: &(impl Abort + AllocGlobal), rows: &[&[u8]]) -> Result<(), Fail> {
     for last in rows {
         let bytes = pool_with(rt.alloc(), last)?;
-        let (pool, end) = read_pool(rt.alloc(), &bytes, 0)?;
-        assert!(rt; pool.count() == 31 && end == bytes.len(), "at {last:?}");
+        let (count, end) = count_of(rt.alloc(), &bytes)?;
+        assert!(rt; count == 31 && end == bytes.len(), "at {last:?}");
     }
     Ok(())
 }
 
-#[test]
-fn faulty_constants(rt: HostRuntime) -> Result<(), Fail> {
-    compare_faulty(&rt, &FAULTY)
+// The count of the pool that bytes begin with, and its end.
+fn count_of(alloc: Global, bytes: &[u8]) -> Result<(u16, usize), Fail> {
+    let (pool, end) = read_pool(alloc, bytes, 0)?;
+    Ok((pool.count(), end))
 }
 
 fn compare_faulty(rt: &(impl Abort + AllocGlobal), rows: &[Faulty]) -> Result<(), Fail> {

@@ -1,9 +1,11 @@
+use crate::writing_tests::frame_of;
 use class_model::{
     ClassFault, Const, FileRule, Frame, Instr, ListOf, LocalTypeList, Placed, PlacedFrame,
     PlacedFrameList, PlacedList, Pool, Text, VType, push_u2,
 };
 use map_frames::{check_frames, read_frames};
 use std::alloc::Global;
+use std::fmt::Write;
 use std::process::Abort;
 use std::test::Fail;
 
@@ -49,25 +51,8 @@ fn shuffled_code(alloc: Global) -> Result<PlacedList, Fail> {
     Ok(code)
 }
 
-// The types of letters: those of descriptors, `_` for Top, N for null and U for `uninitializedThis`.
-fn types(alloc: Global, letters: &str) -> Result<LocalTypeList, Fail> {
-    let mut types = LocalTypeList::new(alloc);
-    for letter in letters.bytes() {
-        types.push(match letter {
-            b'I' => VType::Int,
-            b'F' => VType::Float,
-            b'J' => VType::Long,
-            b'D' => VType::Double,
-            b'N' => VType::Null,
-            b'U' => VType::UninitThis,
-            b'A' => VType::Object(Text::of_bytes(alloc, b"A")?),
-            b'n' => VType::Uninit(7),
-            _ => VType::Top,
-        })?;
-    }
-    Ok(types)
-}
-
+// The letter of a type: that of its descriptor, `_` for Top, A for an object of A, N for null, U for `uninitializedThis`
+// and n for a new at 7.
 fn letter_of(vtype: &VType) -> char {
     match vtype {
         VType::Top => '_',
@@ -87,25 +72,31 @@ fn letter_of(vtype: &VType) -> char {
 fn text_of(alloc: Global, frames: &PlacedFrameList) -> Result<String, Fail> {
     let mut text = String::new(alloc);
     for placed in frames.as_slice() {
-        text.push_str(&format!(in alloc; "{} ", placed.at)?)?;
-        let locals = &placed.frame.locals;
-        for at in 0..locals.len() {
-            text.push(locals.get(at).map_or('.', letter_of))?;
-        }
-        text.push('/')?;
-        for vtype in placed.frame.stack.as_slice() {
-            text.push(letter_of(vtype))?;
-        }
-        text.push(';')?;
+        push_frame(&mut text, placed)?;
     }
     Ok(text)
 }
 
-fn entry(alloc: Global, locals: &str) -> Result<Frame, Fail> {
-    Ok(Frame {
-        locals: types(alloc, locals)?,
-        stack: ListOf::new(alloc),
-    })
+fn push_frame(text: &mut String, placed: &PlacedFrame) -> Result<(), Fail> {
+    let Frame { locals, stack } = &placed.frame;
+    write!(text, "{} ", placed.at)?;
+    for at in 0..locals.len() {
+        push_letter(text, locals.get(at))?;
+    }
+    text.push('/')?;
+    for vtype in stack.as_slice() {
+        push_letter(text, Some(vtype))?;
+    }
+    text.push(';')?;
+    Ok(())
+}
+
+fn push_letter(text: &mut String, vtype: Option<&VType>) -> Result<(), Fail> {
+    text.push(match vtype {
+        Some(vtype) => letter_of(vtype),
+        None => '.',
+    })?;
+    Ok(())
 }
 
 // The letters of the entry frame's locals, a table, and its frames.
@@ -233,83 +224,79 @@ const REFUSED: [Refused; 46] = [
 ];
 
 #[test]
-fn accepted_tables(rt: HostRuntime) -> Result<(), Fail> {
-    compare_accepted(&rt, &code(rt.alloc())?, &ACCEPTED)?;
-    compare_accepted(&rt, &shuffled_code(rt.alloc())?, &ACCEPTED)
+fn tables(rt: HostRuntime) -> Result<(), Fail> {
+    let pool = pool(rt.alloc())?;
+    compare_tables(&rt, &pool, &code(rt.alloc())?)?;
+    compare_tables(&rt, &pool, &shuffled_code(rt.alloc())?)
+}
+
+fn compare_tables(
+    rt: &(impl Abort + AllocGlobal),
+    pool: &Pool,
+    code: &PlacedList,
+) -> Result<(), Fail> {
+    compare_accepted(rt, pool, code, &ACCEPTED)?;
+    let entry = frame_of(rt.alloc(), b"I", b"")?;
+    compare_refused(rt, pool, &entry, code, &REFUSED);
+    Ok(())
 }
 
 fn compare_accepted(
     rt: &(impl Abort + AllocGlobal),
+    pool: &Pool,
     code: &PlacedList,
     rows: &[Accepted],
 ) -> Result<(), Fail> {
-    let pool = pool(rt.alloc())?;
     for (locals, bytes, wanted) in rows {
-        let entry = entry(rt.alloc(), locals)?;
-        let frames = read_frames(
-            rt.alloc(),
-            &pool,
-            &entry,
-            MAX_LOCALS,
-            MAX_STACK,
-            code,
-            bytes,
-        )?;
-        let told = text_of(rt.alloc(), &frames)?;
+        let entry = frame_of(rt.alloc(), locals.as_bytes(), b"")?;
+        let told = frames_in(rt.alloc(), pool, &entry, code, bytes)?;
         assert!(rt; told.as_str() == *wanted, "{told} at {bytes:?}");
-        check_frames(
-            rt.alloc(),
-            &pool,
-            &entry,
-            MAX_LOCALS,
-            MAX_STACK,
-            code,
-            bytes,
-        )?;
     }
     Ok(())
 }
 
-#[test]
-fn refused_tables(rt: HostRuntime) -> Result<(), Fail> {
-    compare_refused(&rt, &code(rt.alloc())?, &REFUSED)?;
-    compare_refused(&rt, &shuffled_code(rt.alloc())?, &REFUSED)
+// The frames of a table that is accepted, as text.
+fn frames_in(
+    alloc: Global,
+    pool: &Pool,
+    entry: &Frame,
+    code: &PlacedList,
+    bytes: &[u8],
+) -> Result<String, Fail> {
+    check_frames(alloc, pool, entry, MAX_LOCALS, MAX_STACK, code, bytes)?;
+    let frames = read_frames(alloc, pool, entry, MAX_LOCALS, MAX_STACK, code, bytes)?;
+    text_of(alloc, &frames)
 }
 
 fn compare_refused(
     rt: &(impl Abort + AllocGlobal),
+    pool: &Pool,
+    entry: &Frame,
     code: &PlacedList,
     rows: &[Refused],
-) -> Result<(), Fail> {
-    let pool = pool(rt.alloc())?;
-    let entry = entry(rt.alloc(), "I")?;
+) {
     for (bytes, at, rule) in rows {
         let fault = ClassFault::Malformed {
             at: *at,
             rule: *rule,
         };
-        let read = read_frames(
-            rt.alloc(),
-            &pool,
-            &entry,
-            MAX_LOCALS,
-            MAX_STACK,
-            code,
-            bytes,
-        );
-        assert!(rt; read.err() == Some(fault), "reading {bytes:?}");
-        let checked = check_frames(
-            rt.alloc(),
-            &pool,
-            &entry,
-            MAX_LOCALS,
-            MAX_STACK,
-            code,
-            bytes,
-        );
-        assert!(rt; checked.err() == Some(fault), "checking {bytes:?}");
+        let is_so = is_refused(rt.alloc(), pool, entry, code, bytes, fault);
+        assert!(rt; is_so, "at {bytes:?}");
     }
-    Ok(())
+}
+
+// Whether reading a table and checking it have this fault.
+fn is_refused(
+    alloc: Global,
+    pool: &Pool,
+    entry: &Frame,
+    code: &PlacedList,
+    bytes: &[u8],
+    fault: ClassFault,
+) -> bool {
+    let read = read_frames(alloc, pool, entry, MAX_LOCALS, MAX_STACK, code, bytes).err();
+    let checked = check_frames(alloc, pool, entry, MAX_LOCALS, MAX_STACK, code, bytes).err();
+    read == Some(fault) && checked == Some(fault)
 }
 
 // ---- many frames with many locals
@@ -332,18 +319,24 @@ fn nops(alloc: Global, count: u16) -> Result<PlacedList, Fail> {
 // A full frame, whose locals are ints and floats by turns, and the same frames behind it.
 fn same_frames(alloc: Global) -> Result<Vec<u8>, Fail> {
     let mut bytes = Vec::new(alloc);
-    push_u2(&mut bytes, SAME_FRAMES + 1)?;
-    bytes.push(255)?;
-    push_u2(&mut bytes, 0)?;
-    push_u2(&mut bytes, LOCALS)?;
-    for at in 0..LOCALS {
-        bytes.push(if at % 2 == 0 { 1 } else { 2 })?;
-    }
-    push_u2(&mut bytes, 0)?;
+    push_full(&mut bytes)?;
     for _ in 0..SAME_FRAMES {
         bytes.push(0)?;
     }
     Ok(bytes)
+}
+
+// The count of these frames, and the first of them.
+fn push_full(bytes: &mut Vec<u8>) -> Result<(), Fail> {
+    push_u2(bytes, SAME_FRAMES + 1)?;
+    bytes.push(255)?;
+    push_u2(bytes, 0)?;
+    push_u2(bytes, LOCALS)?;
+    for at in 0..LOCALS {
+        bytes.push(if at % 2 == 0 { 1 } else { 2 })?;
+    }
+    push_u2(bytes, 0)?;
+    Ok(())
 }
 
 // Some units of these locals, and the type of each.
@@ -357,18 +350,18 @@ const UNITS: [(usize, VType); 5] = [
 
 #[test]
 fn same_frames_behind_many_locals(rt: HostRuntime) -> Result<(), Fail> {
-    let frames = read_frames(
-        rt.alloc(),
-        &Pool::new(rt.alloc()),
-        &entry(rt.alloc(), "")?,
-        LOCALS + 1,
-        0,
-        &nops(rt.alloc(), SAME_FRAMES + 1)?,
-        &same_frames(rt.alloc())?,
-    )?;
+    let bytes = same_frames(rt.alloc())?;
+    let frames = read_same(rt.alloc(), &bytes)?;
     assert!(rt; frames.len() == usize::from(SAME_FRAMES) + 1);
     compare_locals(&rt, frames.as_slice());
     Ok(())
+}
+
+fn read_same(alloc: Global, bytes: &[u8]) -> Result<PlacedFrameList, Fail> {
+    let entry = frame_of(alloc, b"", b"")?;
+    let code = nops(alloc, SAME_FRAMES + 1)?;
+    let pool = Pool::new(alloc);
+    Ok(read_frames(alloc, &pool, &entry, LOCALS + 1, 0, &code, bytes)?)
 }
 
 fn compare_locals(rt: &impl Abort, frames: &[PlacedFrame]) {

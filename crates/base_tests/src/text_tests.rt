@@ -1,4 +1,5 @@
 use class_model::{Text, TextFault};
+use std::alloc::Global;
 use std::process::Abort;
 use std::test::Fail;
 
@@ -51,19 +52,18 @@ fn plain_texts(rt: HostRuntime) -> Result<(), Fail> {
 #[test]
 fn lengths_of_texts(rt: HostRuntime) -> Result<(), Fail> {
     let bytes = vec![in rt.alloc(); b'a'; 65_536]?;
-    let long = Text::of_bytes(rt.alloc(), &bytes);
-    assert!(rt; matches!(long, Err(TextFault::BadText)));
+    let fault = Text::of_bytes(rt.alloc(), &bytes).err();
+    let is_long = fault == Some(TextFault::BadText);
     let longest = bytes.get(1..).unwrap_or(&[]);
-    let text = Text::of_bytes(rt.alloc(), longest)?;
-    assert!(rt; text.bytes().len() == 65_535);
-    copies_are_equal(&rt, &text)
+    assert!(rt; is_long && is_longest(rt.alloc(), longest)?);
+    Ok(())
 }
 
-// Checks a copy of a text that is not `a`.
-fn copies_are_equal(rt: &(impl Abort + AllocGlobal), text: &Text) -> Result<(), Fail> {
+// Whether these bytes are a text of the most bytes, and a copy of it is equal.
+fn is_longest(alloc: Global, bytes: &[u8]) -> Result<bool, Fail> {
+    let text = Text::of_bytes(alloc, bytes)?;
+    let other = Text::of_bytes(alloc, b"a")?;
     let copy = text.copy()?;
-    assert!(rt; copy == *text && copy.bytes() == text.bytes());
-    let other = Text::of_bytes(rt.alloc(), b"a")?;
-    assert!(rt; copy != other);
-    Ok(())
+    let is_equal = copy == text && copy.bytes() == text.bytes();
+    Ok(is_equal && text.bytes().len() == 65_535 && copy != other)
 }

@@ -4,7 +4,7 @@ ghost use Rattle.std.specs.Option.{is_some};
 ghost use Rattle.map_frames.specs.Writing.{index_of, is_by_unit, FitsType, FitsFrame, PlacesIncrease, FitsTable};
 
 use class_model::{
-    ByteList, Frame, ListOf, LocalTypeList, PlacedFrame, PlacedFrameList, Text, VType, VTypeList,
+    Frame, ListOf, LocalTypeList, PlacedFrame, PlacedFrameList, Text, VType, VTypeList,
 };
 use map_frames::{IndexOfText, NamedIndex, frame_bytes};
 use std::alloc::Global;
@@ -101,7 +101,7 @@ fn fits_table(alloc: Global, classes: &[NamedIndex], frames: &[PlacedFrame]) -> 
 
 // ---- tables in letters
 
-// A type by a letter: T for Top, I, F, J, D, N for null, U for an uninitialised this, A and B for classes,
+// A type by a letter: T or `_` for Top, I, F, J, D, N for null, U for an uninitialised this, A and B for classes,
 // and n for a new at 0x0304.
 fn type_of(alloc: Global, letter: u8) -> Result<VType, Fail> {
     Ok(match letter {
@@ -139,37 +139,32 @@ type Row<'a> = (u32, &'a [u8], &'a [u8]);
 fn frames_of(alloc: Global, rows: &[Row]) -> Result<PlacedFrameList, Fail> {
     let mut frames = ListOf::new(alloc);
     for (at, locals, stack) in rows {
-        let frame = Frame {
-            locals: locals_of(alloc, locals)?,
-            stack: types_of(alloc, stack)?,
-        };
+        let frame = frame_of(alloc, locals, stack)?;
         frames.push(PlacedFrame { at: *at, frame })?;
     }
     Ok(frames)
 }
 
-// A has the index 5, and again 9, and B has 0x0102.
-fn class_index(alloc: Global) -> Result<IndexOfText, Fail> {
-    let mut classes = ListOf::new(alloc);
-    for (name, index) in [(b'A', 5), (b'B', 0x0102), (b'A', 9)] {
-        let class = Text::of_bytes(alloc, &[name])?;
-        classes.push(NamedIndex { class, index })?;
-    }
-    Ok(classes)
+// A frame by the letters of its locals and its stack.
+pub(crate) fn frame_of(alloc: Global, locals: &[u8], stack: &[u8]) -> Result<Frame, Fail> {
+    let locals = locals_of(alloc, locals)?;
+    let stack = types_of(alloc, stack)?;
+    Ok(Frame { locals, stack })
 }
 
-// The bytes of a table, if it can be written.
-fn bytes_of(alloc: Global, entry: &[u8], rows: &[Row]) -> Result<Option<ByteList>, Fail> {
-    let entry = Frame {
-        locals: locals_of(alloc, entry)?,
-        stack: ListOf::new(alloc),
-    };
-    let frames = frames_of(alloc, rows)?;
-    let classes = class_index(alloc)?;
-    if !fits_table(alloc, classes.as_slice(), frames.as_slice())? {
-        return Ok(None);
+// A has the index 5, and again 9, and B has 0x0102.
+const CLASSES: [(u8, u16); 3] = [(b'A', 5), (b'B', 0x0102), (b'A', 9)];
+
+fn class_index(alloc: Global, rows: &[(u8, u16)]) -> Result<IndexOfText, Fail> {
+    let mut classes = ListOf::new(alloc);
+    for (name, index) in rows {
+        let class = Text::of_bytes(alloc, &[*name])?;
+        classes.push(NamedIndex {
+            class,
+            index: *index,
+        })?;
     }
-    Ok(Some(frame_bytes(alloc, &entry, &frames, &classes)?))
+    Ok(classes)
 }
 
 // The letters of the entry frame's locals, the place of a frame, those of its locals and its stack, and the table.
@@ -244,13 +239,25 @@ fn compare(
     frames: &[Row],
     bytes: &[u8],
 ) -> Result<(), Fail> {
-    let written = bytes_of(rt.alloc(), entry, frames)?;
-    let is_so = match &written {
-        Some(written) => written.as_slice() == bytes,
-        None => false,
-    };
+    let entry = frame_of(rt.alloc(), entry, b"")?;
+    let frames = frames_of(rt.alloc(), frames)?;
+    let is_so = is_written(rt.alloc(), &entry, &frames, bytes)?;
     assert!(rt; is_so, "at {bytes:?}");
     Ok(())
+}
+
+// Whether frames can be written, with these classes, and are written as these bytes.
+fn is_written(
+    alloc: Global,
+    entry: &Frame,
+    frames: &PlacedFrameList,
+    bytes: &[u8],
+) -> Result<bool, Fail> {
+    let classes = class_index(alloc, &CLASSES)?;
+    Ok(
+        fits_table(alloc, classes.as_slice(), frames.as_slice())?
+            && frame_bytes(alloc, entry, frames, &classes)?.as_slice() == bytes,
+    )
 }
 
 #[test]
