@@ -28,7 +28,7 @@
 //!   reads, and whether it was asked to write and to print;
 //! - `base_library`, how many classes it has.
 //!
-//! An answer has `\0a` where a byte is no printed ASCII, or is a backslash.
+//! An answer has `\0a` where a byte is no printable ASCII, or is a backslash.
 #![tactic(auto)]
 
 mod answers;

@@ -25,7 +25,7 @@ pub(crate) fn root_and_name(alloc: Global, text: &str) -> Option<(String, String
     Some((root, String::from_str(alloc, name).ok()?))
 }
 
-/// Bytes as a text, in which each that is no printed ASCII, and each backslash, is a backslash and two hex digits. None where
+/// Bytes as a text, in which each that is no printable ASCII, and each backslash, is a backslash and two hex digits. None where
 /// memory runs out.
 pub(crate) fn shown(alloc: Global, bytes: &[u8]) -> Option<String> {
     let mut text = String::new(alloc);
