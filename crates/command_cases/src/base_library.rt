@@ -7,54 +7,41 @@ use class_bytes::write_class;
 use class_model::{Attr, ClassFile, CodePart, Method};
 use host_tree::MemoryHost;
 use std::alloc::Global;
-use std::test::Fail;
 use work_gen::base_library;
 
-/// Puts the class files of the base library into a root, each under the name of its class.
-pub(crate) fn put_base_library(
-    alloc: Global,
-    host: &mut MemoryHost,
-    root: &str,
-) -> Result<(), Fail> {
-    put_first(alloc, host, root, usize::MAX)
+/// How many classes the library has. None where memory runs out.
+pub(crate) fn class_count(alloc: Global) -> Option<usize> {
+    Some(base_library(alloc).ok()?.len())
 }
 
-/// Puts the first class files of the base library into a root.
+/// Puts the first class files of the base library into a root, each under the name of its class. None where memory runs out.
 pub(crate) fn put_first(
     alloc: Global,
     host: &mut MemoryHost,
     root: &str,
     count: usize,
-) -> Result<(), Fail> {
-    let classes = base_library(alloc)?;
+) -> Option<()> {
+    let classes = base_library(alloc).ok()?;
     for class in classes.as_slice().iter().take(count) {
-        if is_small(class) {
-            put_class(alloc, host, root, class)?;
+        if !is_small(class) {
+            return None;
         }
+        put_class(alloc, host, root, class)?;
     }
-    Ok(())
+    Some(())
 }
 
-/// Puts a class file into a root, under the name of its class.
-fn put_class(
-    alloc: Global,
-    host: &mut MemoryHost,
-    root: &str,
-    class: &ClassFile,
-) -> Result<(), Fail>
+// Puts a class file into a root, under the name of its class.
+fn put_class(alloc: Global, host: &mut MemoryHost, root: &str, class: &ClassFile) -> Option<()>
     requires { FitsCounts class.now }
 {
-    let bytes = write_class(alloc, class)?;
-    let name = match class.pool.class_name(class.this_class) {
-        Some(name) => str::from_utf8(name.bytes()).unwrap_or(""),
-        None => "",
-    };
-    let file = format!(in alloc; "{name}.class")?;
-    host.put(alloc, root, file.as_str(), bytes.as_slice())?;
-    Ok(())
+    let bytes = write_class(alloc, class).ok()?;
+    let name = str::from_utf8(class.pool.class_name(class.this_class)?.bytes()).ok()?;
+    let file = format!(in alloc; "{name}.class").ok()?;
+    host.put(alloc, root, file.as_str(), bytes.as_slice()).ok()
 }
 
-/// Whether a class has no interfaces, fields and attributes, and few small methods. Each of the base library is so.
+// Whether a class has no interfaces, fields and attributes, and few small methods. Each of the base library is so.
 fn is_small(class: &ClassFile) -> bool
     ensures { IsTrue result → FitsCounts class.now }
 {
@@ -65,7 +52,7 @@ fn is_small(class: &ClassFile) -> bool
         && are_small(class.methods.as_slice())
 }
 
-/// Whether each of these methods is small.
+// Whether each of these methods is small.
 fn are_small(methods: &[Method]) -> bool
     ensures { IsTrue result → AllByRecursion FitsMethod methods.now }
 {
@@ -75,7 +62,7 @@ fn are_small(methods: &[Method]) -> bool
     }
 }
 
-/// Whether these are no attributes, or the code alone, which is small.
+// Whether these are no attributes, or the code alone, which is small.
 fn has_small_code(attrs: &[Attr]) -> bool
     ensures { IsTrue result → FitsAttrs attrs.now }
 {
@@ -86,16 +73,9 @@ fn has_small_code(attrs: &[Attr]) -> bool
     }
 }
 
-/// Whether a code is short, without handlers and attributes.
+// Whether a code is short, without handlers and attributes.
 fn is_small_code(part: &CodePart) -> bool
     ensures { IsTrue result → FitsPart part.now }
 {
     part.code.len() < 100 && part.handlers.is_empty() && part.attrs.is_empty()
-}
-
-#[test]
-fn a_library_of_nineteen_classes(rt: HostRuntime) -> Result<(), Fail> {
-    let classes = base_library(rt.alloc())?;
-    assert_eq!(rt; classes.len(), 19);
-    Ok(())
 }
