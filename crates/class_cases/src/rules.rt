@@ -6,28 +6,49 @@ ghost use Rattle.type_rules.specs.Scope.{scope_at};
 
 use crate::frame_text::{frame_of, text_of, type_of};
 use crate::setting::Setting;
-use class_model::{Frame, MethodAt, Placed, Text};
+use class_model::{Frame, MethodAt, Placed, Text, VType};
 use class_notation::last_method;
 use class_tree::Tree;
 use member_link::check_links;
 use std::alloc::Global;
 use type_rules::{MethodRules, RuleFault, Ruled, assignable, frame_assignable, has_code, rule};
 
-/// Whether each of some types is assignable to each of others, or the two of which the answer is another than of the first.
+/// Whether each of some types is assignable to each of others, or how often that is so and how often not.
 pub(crate) fn assignability(alloc: Global, tree: &Tree, about: &str) -> Option<String> {
     let (lows, highs) = about.split_once(" to ")?;
-    let mut first: Option<bool> = None;
+    let mut counts = Counts { yes: 0, no: 0 };
     for low in lows.split(' ') {
         let from = type_of(alloc, low)?;
+        counts.ask(alloc, tree, &from, highs)?;
+    }
+    let Counts { yes, no } = counts;
+    match (yes, no) {
+        (_, 0) => String::from_str(alloc, "true").ok(),
+        (0, _) => String::from_str(alloc, "false").ok(),
+        _ => format!(in alloc; "{yes} true and {no} false").ok(),
+    }
+}
+
+// How often a type is assignable to another, and how often not.
+#[derive(Clone, Copy)]
+struct Counts {
+    yes: u32,
+    no: u32,
+}
+
+impl Counts {
+    // Counts to how many of some types a type is assignable.
+    fn ask(&mut self, alloc: Global, tree: &Tree, from: &VType, highs: &str) -> Option<()> {
         for high in highs.split(' ') {
-            let is_assignable = assignable(tree, &from, &type_of(alloc, high)?);
-            if *first.get_or_insert(is_assignable) != is_assignable {
-                return format!(in alloc; "{is_assignable} from {low} to {high}").ok();
+            let to = type_of(alloc, high)?;
+            if assignable(tree, from, &to) {
+                self.yes = self.yes.wrapping_add(1);
+            } else {
+                self.no = self.no.wrapping_add(1);
             }
         }
+        Some(())
     }
-    let of_all = first?;
-    format!(in alloc; "{of_all}").ok()
 }
 
 /// Whether a frame is assignable to another.

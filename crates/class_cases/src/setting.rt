@@ -43,19 +43,10 @@ impl<'a> Setting<'a> {
 
     /// A folder of these classes, and the library. None where they are not in the notation or memory runs out.
     pub(crate) fn input_with(&self, alloc: Global, folder: &str) -> Option<Input> {
-        let mut input = self.usual(alloc)?;
+        let mut input = usual(alloc, self.without)?;
         input.add_headers(alloc, self.library).ok()?;
         input.add_classes(alloc, folder).ok()?;
         Some(input)
-    }
-
-    // The usual classes of the library.
-    fn usual(&self, alloc: Global) -> Option<Input> {
-        if self.without == "*" {
-            return Some(Input::empty(alloc));
-        }
-        let names = self.without.split(' ').collect::<Vec<&str>>(alloc).ok()?;
-        Input::without(alloc, &names).ok()
     }
 
     /// The hierarchy of a folder of these classes and of the library. None where there is none.
@@ -66,8 +57,20 @@ impl<'a> Setting<'a> {
     /// The hierarchy of the folder and the library, the last method of the folder with these uses besides. None where there is
     /// none.
     pub(crate) fn tree_using(&self, alloc: Global, uses: &str) -> Option<Tree> {
-        let folder = self.folder;
-        let text = format!(in alloc; "{folder}, {uses}").ok()?;
-        self.tree_with(alloc, &text)
+        self.tree_with(alloc, &with_uses(alloc, self.folder, uses)?)
     }
+}
+
+// The usual classes of the library but those of these names.
+fn usual(alloc: Global, without: &str) -> Option<Input> {
+    if without == "*" {
+        return Some(Input::empty(alloc));
+    }
+    let names = without.split(' ').collect::<Vec<&str>>(alloc).ok()?;
+    Input::without(alloc, &names).ok()
+}
+
+// The classes of a folder, the last method with these uses besides.
+fn with_uses(alloc: Global, folder: &str, uses: &str) -> Option<String> {
+    format!(in alloc; "{folder}, {uses}").ok()
 }
