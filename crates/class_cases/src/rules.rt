@@ -64,10 +64,14 @@ pub(crate) fn rule_answer(alloc: Global, setting: &Setting<'_>, about: &str) -> 
     let (uses, frames) = about.split_once(" behind ")?;
     let tree = setting.tree_using(alloc, uses)?;
     let class = Text::of_bytes(alloc, setting.class.as_bytes()).ok()?;
-    let at = last_method(&tree, &class)?;
+    answer_behind(alloc, &tree, last_method(&tree, &class)?, frames)
+}
+
+// What the rule answers behind each of some frames.
+fn answer_behind(alloc: Global, tree: &Tree, at: MethodAt, frames: &str) -> Option<String> {
     let mut first: Option<String> = None;
     for before in frames.split(" ; ") {
-        let told = answer_at(alloc, &tree, at, before)?;
+        let told = answer_at(alloc, tree, at, before)?;
         match &first {
             None => first = Some(told),
             Some(of_first) if *of_first == told => {}

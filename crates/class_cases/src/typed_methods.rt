@@ -14,17 +14,32 @@ use verify_folder::{verify_all, verify_method};
 pub(crate) fn method_answer(alloc: Global, setting: &Setting<'_>, uses: &str) -> Option<String> {
     let tree = setting.tree_using(alloc, uses)?;
     let class = Text::of_bytes(alloc, setting.class.as_bytes()).ok()?;
-    let at = last_method(&tree, &class)?;
-    let Ok(()) = check_links(alloc, &tree) else {
+    answer_at(alloc, &tree, last_method(&tree, &class)?)
+}
+
+// What verifying a method of a folder answers.
+fn answer_at(alloc: Global, tree: &Tree, at: MethodAt) -> Option<String> {
+    let Ok(()) = check_links(alloc, tree) else {
         return None;
     };
-    if !has_code(&tree, at) {
+    if !has_code(tree, at) {
         return None;
     }
-    let alone = verify_method(alloc, &tree, at);
-    let told = text_of_method(alloc, &tree, at, &alone)?;
-    let folder = verify_all(alloc, &tree);
-    let same = text_with_folder(alloc, &tree, at, &alone, &folder)?;
+    let alone = verify_method(alloc, tree, at);
+    let folder = verify_all(alloc, tree);
+    text_of_both(alloc, tree, at, &alone, &folder)
+}
+
+// The answer that a method has alone, and that of its folder where it is another.
+fn text_of_both(
+    alloc: Global,
+    tree: &Tree,
+    at: MethodAt,
+    alone: &Result<TypedMethod, VerifyFault>,
+    folder: &Result<TypedFolder, VerifyFault>,
+) -> Option<String> {
+    let told = text_of_method(alloc, tree, at, alone)?;
+    let same = text_with_folder(alloc, tree, at, alone, folder)?;
     if told == same {
         Some(told)
     } else {
