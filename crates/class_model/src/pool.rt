@@ -1,5 +1,5 @@
 //! The constant pool.
-ghost use Rattle.std.specs.Prelude.{◌≡◌, ◌+◌, ◌<◌, ◌≤◌, [], ◌∷◌, ◌++◌, length, IfOk, OnOk, OnErr};
+ghost use Rattle.std.specs.Prelude.{◌≡◌, ◌↔◌, ◌+◌, ◌<◌, ◌≤◌, [], ◌∷◌, ◌++◌, length, IfOk, OnOk, OnErr, IsTrue};
 ghost use Rattle.std.specs.Option.{option_copied};
 ghost use Rattle.class_model.specs.Pool.{constant_at, entries_of, IsPool};
 
@@ -10,7 +10,7 @@ use std::marker::Model;
 
 /// A constant (JVM Specification SE 8, 4.4), a variant for each tag. A `u16` is an index of the pool,
 /// but for the first of `InvokeDynamic`, which is one of the bootstrap methods.
-#[derive(Debug, Drop)]
+#[derive(PartialEq, Eq, Hash, Debug, Drop)]
 pub enum Const {
     Utf8(Text),
     Integer(i32),
@@ -43,6 +43,14 @@ impl Const {
             Const::Long(_) | Const::Double(_) => 2,
             _ => 1,
         }
+    }
+
+    /// Whether another constant has the same value: what `==` answers, said of the values. A float or double is
+    /// compared by its bits.
+    pub fn is_same(&self, other: &Const) -> bool
+        ensures { IsTrue result ↔ (self.now ≡ other.now) }
+    {
+        self == other
     }
 
     /// An equal constant, which shares the bytes of a text.
