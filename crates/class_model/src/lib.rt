@@ -3,6 +3,7 @@
 #![tactic(auto)]
 
 mod class_file;
+mod copies;
 mod descriptor;
 mod descriptor_bytes;
 mod fault;

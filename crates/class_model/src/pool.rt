@@ -3,6 +3,7 @@ ghost use Rattle.std.specs.Prelude.{◌≡◌, ◌↔◌, ◌+◌, ◌<◌, ◌�
 ghost use Rattle.std.specs.Option.{option_copied};
 ghost use Rattle.class_model.specs.Pool.{constant_at, entries_of, IsPool};
 
+use crate::copies::copy_items;
 use crate::memory::NoMemory;
 use crate::text::Text;
 use std::alloc::Global;
@@ -132,6 +133,15 @@ impl Pool {
             Some(entry) => entry.as_ref(),
             None => None,
         }
+    }
+
+    /// An equal pool, which shares the bytes of texts.
+    pub fn copy(&self, alloc: Global) -> Result<Pool, NoMemory>
+        ensures { IfOk result (λ copy. copy ≡ self.now) }
+    {
+        Ok(Pool {
+            entries: copy_items(alloc, self.entries.as_slice())?,
+        })
     }
 
     /// The count that a class file states: one more than its last index.
