@@ -26,13 +26,12 @@ for name in "${names[@]}"; do
     mv "crates/$name/planted" "crates/$name/must-fail"
 done
 
-# What rt says of an edit that it refused has these words; each other line is told.
-refused=0
-others=0
-while IFS= read -r line; do
-    case $line in
-        *": refused, as it must be"*) refused=$((refused + 1)) ;;
-        *) others=$((others + 1)); printf '%s\n' "$line" ;;
-    esac
-done < <(rt must-fail "${names[@]}" 2>&1; echo "rt must-fail ended with status $?")
-echo "$refused refused"
+wanted=$(find crates/*/must-fail -name '*.edit' | wc -l)
+rt must-fail "${names[@]}" >told 2>&1 || true
+grep -E 'must-fail .*: (NOT REFUSED|NOT TRIED)|BAD EDIT' told | sed 's/must-fail/planted/' || true
+refused=$(grep -c 'must-fail .*: refused, as it must be' told)
+echo "$refused of $wanted refused"
+if [ "$refused" != "$wanted" ]; then
+    grep -qE 'must-fail .*: ' told || tail -n 5 told
+    exit 1
+fi
