@@ -5,8 +5,7 @@
 set -eu
 cd "$(dirname "$0")/.."
 . bench/measures.sh
-(cd crates/code_bench && rt check && rt run -- jumps 1 1) >/dev/null
-bench=$PWD/crates/code_bench/out/code_bench
+build_bench
 
 while read -r kind count times; do
     first=

@@ -6,8 +6,7 @@
 set -eu
 cd "$(dirname "$0")/.."
 . bench/measures.sh
-(cd crates/link_bench && rt check && rt run -- link 1 1) >/dev/null
-bench=$PWD/crates/link_bench/out/link_bench
+build_bench
 
 # as many classes are linked at each size, so that one noise falls on all
 linked=80000
@@ -15,7 +14,7 @@ sizes="1000 2000 4000"
 
 for _ in $(seq 1 "$runs"); do
     for count in $sizes; do
-        turn read "$count" 1
+        turn prepare "$count" 1
         turn link "$count" $((linked / count))
     done
 done
@@ -23,7 +22,7 @@ done
 first=
 for count in $sizes; do
     links=$((linked / count))
-    read_ms=${least_ms[read $count 1]}
+    read_ms=${least_ms[prepare $count 1]}
     link_ms=$((least_ms[link $count $links] - read_ms))
     one_ms=$((link_ms / links))
     if [ -z "$first" ]; then first=$link_ms; fi
@@ -32,7 +31,7 @@ for count in $sizes; do
     wanted "a class is linked in $growth times the first's time (half as much again is let pass)" "$link_ms <= 1.5 * $first"
     wanted "linked in less than a second" "$one_ms < 1000"
     if command -v valgrind >/dev/null; then
-        class=$((($(instructions link "$count" 1) - $(instructions read "$count" 1)) / count))
+        class=$((($(instructions link "$count" 1) - $(instructions prepare "$count" 1)) / count))
         first_class=${first_class:-$class}
         wanted "$class instructions a class that is linked, the first $first_class (a tenth more is let pass)" "$class <= 1.1 * $first_class"
     else

@@ -12,6 +12,12 @@ in_memory() {
     cd "$work"
 }
 
+# build_bench: proves and builds the program $bench, of which the scripts time what a word says (crates/bench)
+build_bench() {
+    (cd "$root/crates/bench" && rt check && rt run -- jumps 1 1) >/dev/null
+    bench=$root/crates/bench/out/bench
+}
+
 # ratio ONE OTHER: one number, or what awk makes of it, by another
 ratio() { awk "BEGIN { printf \"%.2f\", $1 / $2 }"; }
 

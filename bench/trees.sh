@@ -9,8 +9,7 @@
 set -eu
 cd "$(dirname "$0")/.."
 . bench/measures.sh
-(cd crates/tree_bench && rt check && rt run -- read 1 1) >/dev/null
-bench=$PWD/crates/tree_bench/out/tree_bench
+build_bench
 
 # growth ONE OTHER: how many times the first the other is
 growth() { ratio "$2" "($1 < 1 ? 1 : $1)"; }

@@ -19,6 +19,7 @@ mod local_types;
 mod lookup;
 mod memory;
 mod names;
+pub mod opcodes;
 mod pool;
 mod text;
 mod value_laws;

@@ -1,4 +1,4 @@
-//! Classes by number, of which as many can be made as is wanted.
+//! Classes that use one another by number, of which as many can be made as is wanted.
 use class_model::{ClassFault, NoMemory};
 use class_notation::Input;
 use std::alloc::Global;

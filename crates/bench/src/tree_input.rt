@@ -1,4 +1,4 @@
-//! Classes by number, of which as many can be made as is wanted.
+//! Classes of a hierarchy by number, of which as many can be made as is wanted.
 use class_model::ClassFault;
 use class_notation::{Head, Input, OBJECT};
 use std::alloc::Global;

@@ -1,0 +1,65 @@
+//! What the scripts of `bench/` time. The words are `WHAT COUNT TIMES`, once or more: so many of a thing, so many times over. Each prints a
+//! number of what was done in all. `WHAT` is:
+//! - `jumps` or `frames`: one code with so many jumps, or one table of so many stack map frames, is read (`bench/codes.sh`);
+//! - `read`, `build` or `chain`: so many class files are read, read and their hierarchy built, or the same of a chain of superclasses
+//!   (`bench/trees.sh`); it counts the classes, or those that stand above the last;
+//! - `ask` or `few`: so many questions of subtypes about a hierarchy of so many classes, about all or about a thousand of them
+//!   (`bench/trees.sh`); it counts those that are answered by yes;
+//! - `prepare` or `link`: so many class files and seven times as many of a library are read and their hierarchy built once, and linked no
+//!   time, or so many times (`bench/links.sh`).
+#![tactic(auto)]
+
+mod codes;
+mod link_input;
+mod links;
+mod tree_input;
+mod trees;
+
+use codes::{read_jumps, read_tables};
+use links::link;
+use std::alloc::Global;
+use std::env;
+use std::process::ExitCode;
+use trees::{FEW, ask, build_chains, build_trees, read_trees};
+
+fn main(rt: HostRuntime) -> ExitCode {
+    match run(&rt) {
+        Some(()) => ExitCode::SUCCESS,
+        None => ExitCode::FAILURE,
+    }
+}
+
+// Does what the words say. None where they say nothing, or memory or the output fails.
+fn run(rt: &HostRuntime) -> Option<()> {
+    let words = env::args(rt)
+        .ok()?
+        .skip(1)
+        .collect::<Vec<String>>(rt.alloc())
+        .ok()?;
+    for three in words.chunks(3) {
+        let [what, count, times] = three else {
+            return None;
+        };
+        let count = count.parse::<u32>().ok()?;
+        let times = times.parse::<u32>().ok()?;
+        let counted = count_of(rt.alloc(), what, count, times)?;
+        println!(rt; "{counted}").ok()?;
+    }
+    Some(())
+}
+
+// Does one of these things with so many, so many times, and counts.
+fn count_of(alloc: Global, what: &str, count: u32, times: u32) -> Option<u64> {
+    match what {
+        "jumps" => read_jumps(alloc, count.try_into().ok()?, times),
+        "frames" => read_tables(alloc, count.try_into().ok()?, times),
+        "read" => read_trees(alloc, count as usize, times),
+        "build" => build_trees(alloc, count as usize, times),
+        "chain" => build_chains(alloc, count as usize, times),
+        "ask" => ask(alloc, count as usize, times, usize::MAX),
+        "few" => ask(alloc, count as usize, times, FEW),
+        "prepare" => link(alloc, count as usize, 0),
+        "link" => link(alloc, count as usize, times),
+        _ => None,
+    }
+}
