@@ -26,7 +26,8 @@ use std::alloc::Global;
 /// `NoMemory`, where memory runs out.
 pub fn encode_one(alloc: Global, instr: &Instr, at: u32) -> Result<ByteList, NoMemory>
     requires { HasSpelling at instr.now }
-    ensures { IfOk result (IsChosen at instr.now) }
+    ensures chosen { IfOk result (IsChosen at instr.now) }
+    ensures written { IfOk result (λ bytes. bytes ≡ instr_bytes at instr.now) }
 {
     let form = form_of(instr, at);
     let mut out = Vec::with_capacity(alloc, form.len() as usize)?;
@@ -38,6 +39,7 @@ pub fn encode_one(alloc: Global, instr: &Instr, at: u32) -> Result<ByteList, NoM
 pub fn code_len(instr: &Instr, at: u32) -> u32
     requires { HasSpelling at instr.now }
     ensures chosen { (bytes : List ℕ) × IsChosen at instr.now bytes × (result ≡ length bytes) }
+    ensures written { result ≡ length (instr_bytes at instr.now) }
     ensures each { (bytes : List ℕ) → IsBytes bytes → IsChosen at instr.now bytes → result ≡ length bytes }
 {
     form_of(instr, at).len()

@@ -11,3 +11,6 @@ returns-clause-chosen c =
 pub returns-clause-each : goal.returns-clause-each
 returns-clause-each c = λ bytes small chosen.
     c.len.ensures.len ∙ ap length (c.form_of.ensures.bytes ∙ sym (chosen_written c.args.at c.args.instr.now bytes small chosen))
+
+pub returns-clause-written : goal.returns-clause-written
+returns-clause-written c = c.len.ensures.len ∙ ap length c.form_of.ensures.bytes

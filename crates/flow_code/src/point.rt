@@ -1,0 +1,37 @@
+//! The points of flat code.
+use crate::handlers::FlatHandlerList;
+use class_model::{FieldTypeList, Frame, Instr, ListOf, Text};
+
+/// An instruction of flat code.
+#[derive(Debug, Drop)]
+pub enum FlatInstr {
+    /// An instruction of a class of the folder, by the class's number: its indices mean the constant pool of that class, its
+    /// jump targets are numbers of points, and its locals are units of the flat code.
+    Of { class: usize, instr: Instr },
+    /// A test of the reference in a local unit: null throws a `NullPointerException`.
+    NullTest(u16),
+}
+
+/// A point of flat code: its instruction, the types of the locals and of the stack before it, and the handlers of what it
+/// throws, in their order.
+#[derive(Debug, Drop)]
+pub struct Point {
+    pub instr: FlatInstr,
+    pub typed: Frame,
+    pub handlers: FlatHandlerList,
+}
+
+/// A list of points.
+pub type PointList = ListOf<Point>;
+
+/// A `new` whose object may be kept in locals: its point, the class, and the types of the fields of the class and of those
+/// above it, the highest class first.
+#[derive(Debug, Drop)]
+pub struct Site {
+    pub at: usize,
+    pub class: Text,
+    pub fields: FieldTypeList,
+}
+
+/// A list of sites.
+pub type SiteList = ListOf<Site>;

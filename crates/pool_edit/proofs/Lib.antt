@@ -1,0 +1,5 @@
+pub mod Slots
+pub mod Numbered
+pub mod Cuts
+pub mod Keeps
+pub mod Firsts
