@@ -1,1 +1,4 @@
 pub mod Tables
+pub mod Marking
+pub mod Spreading
+pub mod SiteSets

@@ -1,1 +1,4 @@
 pub mod Tables
+pub mod Marks
+pub mod Agreement
+pub mod Places

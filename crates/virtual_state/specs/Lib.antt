@@ -4,4 +4,5 @@ pub mod Orders
 pub mod Sites
 pub mod Depths
 pub mod Making
+pub mod Laws
 pub mod Inner

@@ -3,8 +3,14 @@
 //! Replacement for Java", CGO 2014; the definitions are this project's profile).
 #![tactic(auto)]
 
+mod marks;
 mod shared;
+mod sites;
 mod slot;
+mod spread;
+mod state;
 mod table;
 
+pub use sites::SiteSet;
 pub use slot::{Slot, SlotList, VObject, VObjectList};
+pub use state::VState;
