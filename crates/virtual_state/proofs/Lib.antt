@@ -2,3 +2,4 @@ pub mod Tables
 pub mod Marking
 pub mod Spreading
 pub mod SiteSets
+pub mod Filling

@@ -3,6 +3,7 @@ use Rattle.std.proofs.Common.{◌≡◌, ◌≢◌, ◌⊎◌, ◌==◌, ◌||�
 use Rattle.std.specs.List.{list_any, AllByRecursion}
 use Rattle.std.specs.List.Sorted.{IsBinarySearchResult}
 use Rattle.std.specs.Ordering.{nat_cmp}
+use Rattle.std.specs.Result.{is_ok}
 use Rattle.std.proofs.lemmas.Bool.{cases_lt, eq-eqb, ne_eqb, or_from}
 use Rattle.std.proofs.lemmas.List.Folds.{list_any_at, list_any-append}
 use Rattle.std.proofs.lemmas.List.Sorted.{searched}
@@ -83,3 +84,7 @@ insert_in_order (first ∷ sites) site (suc at) order gap =
       behind = λ index high within. gap.behind (suc index) (omega arith) (omega arith);
     } in
     (all_insert (λ other. first < other) sites site at order.0 (gap.before 0 (omega arith)), insert_in_order sites site at order.1 rest)
+
+pub place_tells : (sites : List ℕ) (site : ℕ) (result : Result ℕ ℕ) → IsPlaceOf sites site result → is_ok result ≡ has sites site
+place_tells sites site (Ok at) found = sym found
+place_tells sites site (Err at) gap = sym (gap_is_free sites site at gap)

@@ -2,3 +2,4 @@ pub mod Tables
 pub mod Marks
 pub mod Agreement
 pub mod Places
+pub mod Filling

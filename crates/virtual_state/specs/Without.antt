@@ -20,9 +20,13 @@ made_plain away Unusable = Unusable
 abbrev pub object_without : (ℕ → Bool) → VObject → VObject
 object_without away object = record object { fields = map (made_plain away) object.fields }
 
+-- the objects of the other sites, where those of these sites are made
+abbrev pub objects_without : (ℕ → Bool) → List VObject → List VObject
+objects_without away objects = map (object_without away) (filter (λ object. not (away object.site)) objects)
+
 -- the state without the sites of a closed set
 abbrev pub without : State → (ℕ → Bool) → State
 without state away = record {
   slots = map (made_plain away) state.slots;
-  objects = map (object_without away) (filter (λ object. not (away object.site)) state.objects);
+  objects = objects_without away state.objects;
 }

@@ -4,6 +4,7 @@
 #![tactic(auto)]
 
 mod marks;
+mod removal;
 mod shared;
 mod sites;
 mod slot;
@@ -11,6 +12,7 @@ mod spread;
 mod state;
 mod table;
 
+pub use removal::without;
 pub use sites::SiteSet;
 pub use slot::{Slot, SlotList, VObject, VObjectList};
 pub use state::VState;

@@ -47,6 +47,13 @@ impl MarkedSites {
         self.sites.len()
     }
 
+    /// Whether no site is marked.
+    pub(crate) fn is_empty(&self) -> bool
+        ensures { result ≡ (length self.now == 0) }
+    {
+        self.sites.is_empty()
+    }
+
     /// The site that was marked as the one of this number, counted from 0.
     pub(crate) fn get(&self, at: usize) -> u16
         requires { at < length self.now }
@@ -72,6 +79,16 @@ impl MarkedSites {
         grow(&mut self.marks, site)?;
         self.sites.push(site)?;
         self.marks[usize::from(site)] = true;
+        Ok(())
+    }
+
+    /// Marks sites.
+    pub(crate) fn mark_all(&mut self, sites: &[u16]) -> Result<(), NoMemory>
+        ensures { OnOk result (HasMarked self.old self.new (has sites.now)) }
+    {
+        for site in sites {
+            self.mark(*site)?;
+        }
         Ok(())
     }
 

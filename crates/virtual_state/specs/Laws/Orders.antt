@@ -8,10 +8,10 @@ use Rattle.std.proofs.lemmas.List.Folds.{list_any-append}
 use Rattle.virtual_state.specs.Orders.{IsBelow, IsJoin, IsChain}
 use Rattle.virtual_state.specs.Sites.{has, differing}
 use Rattle.virtual_state.specs.States.{State, IsState, IsEdge, object_of, is_present, names, sites_of, IsIncreasing}
-use Rattle.virtual_state.specs.Without.{IsClosed, object_without, without}
+use Rattle.virtual_state.specs.Without.{IsClosed, object_without, objects_without, without}
 use Rattle.virtual_state.specs.declared.slot.VObject.{VObject}
 use Rattle.virtual_state.specs.Laws.Objects.{same_or_not, some_or_none, found_present, present_found, not_found_absent, of_sites, object_first, object_behind}
-use Rattle.virtual_state.specs.Laws.Removals.{objects_without, stay, either, gone, stays, present_before, present_behind, present_not_away, edge_before, edge_behind, without_is_state, without_agrees, without_none, without_twice, fewer_objects}
+use Rattle.virtual_state.specs.Laws.Removals.{stay, either, gone, stays, present_before, present_behind, present_not_away, edge_before, edge_behind, without_is_state, without_agrees, without_none, without_twice, fewer_objects}
 
 -- ---- sets of sites as lists
 

@@ -5,7 +5,7 @@ use Rattle.std.specs.Option.{option_map}
 use Rattle.std.proofs.lemmas.Bool.{cases_Bool, not-true, not-false, not_from_true, not_from_false, true≢false, false≢true, both_ways, or_left, or_right}
 use Rattle.std.proofs.lemmas.Option.{none-some, same_Some}
 use Rattle.virtual_state.specs.States.{State, IsState, IsEdge, IsPath, one_edge, edge_and_path, IsReached, from_slot, from_field, object_of, is_present, is_unusable, names, sites_of, IsIncreasing}
-use Rattle.virtual_state.specs.Without.{IsClosed, made_plain, object_without, without}
+use Rattle.virtual_state.specs.Without.{IsClosed, made_plain, object_without, objects_without, without}
 use Rattle.virtual_state.specs.declared.slot.Slot.{Slot}
 use Rattle.virtual_state.specs.declared.slot.VObject.{VObject}
 use Rattle.virtual_state.specs.Laws.Objects.{some_or_none, found_present, present_found, not_found_absent, same_objects, object_behind, object_of-map, object_of-filter, sites_of-map, of_sites, filter_first, filter_behind, filter_in_order}
@@ -14,9 +14,6 @@ use Rattle.virtual_state.specs.Laws.Fields.{made, named_before, named_behind, ma
 -- the sites that stay
 abbrev pub stay : (ℕ → Bool) → ℕ → Bool
 stay away site = not (away site)
-
-abbrev pub objects_without : (ℕ → Bool) → List VObject → List VObject
-objects_without away objects = map (object_without away) (of_sites (stay away) objects)
 
 -- ---- look-ups
 
