@@ -1,13 +1,19 @@
 -- Tables of objects that are filled site by site.
-use Rattle.std.proofs.Common.{◌≡◌, ◌+◌, ◌<◌, ◌≤◌, ℕ, Bool, true, false, cond, not, List, [], ◌∷◌, Option, Some, None, IsTrue, refl, sym, ap, subst, ◌∙◌, inl, inr, arith}
+use Rattle.std.proofs.Common.{◌≡◌, ◌==◌, ◌||◌, map, length, ◌+◌, ◌<◌, ◌≤◌, ℕ, Bool, true, false, cond, not, List, [], ◌∷◌, Option, Some, None, IsTrue, refl, sym, ap, subst, ◌∙◌, inl, inr, arith}
+use Rattle.std.specs.List.{list_any}
 use Rattle.std.specs.Option.{option_map}
-use Rattle.std.proofs.lemmas.Bool.{cases_Bool, cases_lt}
-use Rattle.virtual_state.specs.Inner.Filling.{stays_as, if_among, HasPut, IsFilled}
+use Rattle.std.proofs.lemmas.Bool.{cases_Bool, cases_lt, eqb-true, or_parts}
+use Rattle.virtual_state.specs.Inner.Filling.{is_away, stays_as, if_among, HasPut, IsFilled}
+use Rattle.virtual_state.specs.Inner.Marks.{HasMarked}
 use Rattle.virtual_state.specs.Inner.Tables.{HasSet}
 use Rattle.virtual_state.specs.Laws.Objects.{same_or_not, some_or_none, found_site, same_objects, of_sites, object_of-filter}
-use Rattle.virtual_state.specs.Laws.Removals.{gone, stays}
-use Rattle.virtual_state.specs.States.{object_of, sites_of, IsIncreasing}
-use Rattle.virtual_state.specs.Without.{object_without, objects_without}
+use Rattle.virtual_state.specs.Laws.Fields.{kept_slot}
+use Rattle.virtual_state.specs.Laws.Removals.{gone, stays, without_none}
+use Rattle.virtual_state.specs.Sites.{has}
+use Rattle.virtual_state.specs.States.{State, object_of, sites_of, IsIncreasing}
+use Rattle.virtual_state.specs.Without.{IsClosed, made_plain, object_without, objects_without, without}
+use Rattle.virtual_state.specs.declared.slot.Slot.{Slot}
+use Rattle.virtual_state.specs.declared.slot.Slot.TheVariants.{Plain, Virt, Unusable}
 use Rattle.virtual_state.specs.declared.slot.VObject.{VObject}
 
 pub filled_none : (whole : List VObject) → IsFilled whole [] 0
@@ -89,3 +95,30 @@ among_found test objects site =
 
 pub among_past : (test : ℕ → Bool) (objects : List VObject) (site : ℕ) → object_of objects site ≡ None → object_of (of_sites test objects) site ≡ None
 among_past test objects site none = among_found test objects site ∙ ap (if_among test) none
+
+-- ---- where none is away
+
+pub none_made : (away : ℕ → Bool) (slots : List Slot) → list_any (is_away away) slots ≡ false → map (made_plain away) slots ≡ slots
+none_made away [] none = refl
+none_made away (Plain ∷ slots) none = ap (λ (rest : List Slot). Plain ∷ rest) (none_made away slots none)
+none_made away (Unusable ∷ slots) none = ap (λ (rest : List Slot). Unusable ∷ rest) (none_made away slots none)
+none_made away (Virt site ∷ slots) none =
+    let parts = or_parts (away site) (list_any (is_away away) slots) none in
+    λ i. kept_slot away site parts.0 i ∷ none_made away slots parts.1 i
+
+pub none_made_within : (away : ℕ → Bool) (object : VObject) → list_any (is_away away) object.fields ≡ false → object_without away object ≡ object
+none_made_within away object none = ap (λ (fields : List Slot). record object { fields = fields }) (none_made away object.fields none)
+
+pub empty_takes_none : (state : State) (sites : List ℕ) → (length sites == 0) ≡ true → without state (has sites) ≡ state
+empty_takes_none state [] empty = without_none state (λ site. false) (λ site. refl)
+empty_takes_none state (site ∷ sites) empty = absurd (omega (arith, eqb-true (length (site ∷ sites)) 0 empty))
+
+pub marked_from_none : {before after : List ℕ} {test : ℕ → Bool} → HasMarked before after test → before ≡ [] → (site : ℕ) → has after site ≡ test site
+marked_from_none {before} {after} {test} marked none site = marked.marked site ∙ ap (λ (sites : List ℕ). has sites site || test site) none
+
+-- a test in other words
+pub closed_as : {one other : ℕ → Bool} (objects : List VObject) → ((site : ℕ) → one site ≡ other site) → IsClosed other objects → IsClosed one objects
+closed_as objects same closed = λ from to edge there. same to ∙ closed from to edge (sym (same from) ∙ there)
+
+pub without_as : {one other : ℕ → Bool} (state : State) → ((site : ℕ) → one site ≡ other site) → without state one ≡ without state other
+without_as state same = ap (without state) (λ i site. same site i)

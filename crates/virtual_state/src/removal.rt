@@ -25,7 +25,8 @@ pub fn without(alloc: Global, state: &VState, sites: &SiteSet) -> Result<VState,
 {
     let mut away = MarkedSites::new(alloc);
     away.mark_all(sites.as_slice())?;
-    take_away(alloc, state, &away)
+    let rest = take_away(alloc, state, &away)?;
+    Ok(rest)
 }
 
 /// The state without the marked sites.
@@ -39,7 +40,8 @@ pub(crate) fn take_away(
 {
     state.is_state();
     if away.is_empty() {
-        return state.copy();
+        let same = state.copy()?;
+        return Ok(same);
     }
     let slots = shared_slots_without(alloc, state.shared_slots(), away)?;
     let objects = objects_without(alloc, state.objects(), away)?;
@@ -154,7 +156,8 @@ fn object_without(
 {
     let kept = object.get();
     if !holds_any(kept.fields.as_slice(), away) {
-        return object.share();
+        let same = object.share()?;
+        return Ok(same);
     }
     let changed = VObject {
         site: kept.site,

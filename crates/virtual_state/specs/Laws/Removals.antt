@@ -160,7 +160,7 @@ look_up_agrees state one other is agree site =
     | inr not_away ↦ stays away state.objects site not_away ∙ ap (option_map (object_without away)) none
   ]
 
-without_in_order : (away : ℕ → Bool) (objects : List VObject) → IsIncreasing (sites_of objects) → IsIncreasing (sites_of (objects_without away objects))
+pub without_in_order : (away : ℕ → Bool) (objects : List VObject) → IsIncreasing (sites_of objects) → IsIncreasing (sites_of (objects_without away objects))
 without_in_order away objects order = subst IsIncreasing (sym (sites_of-map (object_without away) (λ object. refl) (of_sites (stay away) objects))) (filter_in_order (stay away) objects order)
 
 pub without_agrees : (state : State) (one other : ℕ → Bool) → IsState state → AgreeOnSites state one other → without state one ≡ without state other
