@@ -8,10 +8,10 @@ use Rattle.virtual_state.specs.declared.slot.VObject.{VObject}
 abbrev pub depth_of : State → ℕ → Option ℕ
 depth_of state site = option_map (λ object. object.depth) (object_of state.objects site)
 
--- an object, with another depth if it is of this site
-abbrev pub object_with_depth : ℕ → ℕ → VObject → VObject
-object_with_depth site depth object = if object.site == site then record object { depth = depth } else object
+-- an object, where the depth is changed if it is of this site
+abbrev pub object_with_depth : ℕ → (ℕ → ℕ) → VObject → VObject
+object_with_depth site change object = if object.site == site then record object { depth = change object.depth } else object
 
--- the state with another depth of one site
-abbrev pub with_depth : State → ℕ → ℕ → State
-with_depth state site depth = record state { objects = map (object_with_depth site depth) state.objects }
+-- the state where the depth of one site is changed
+abbrev pub with_depth : State → ℕ → (ℕ → ℕ) → State
+with_depth state site change = record state { objects = map (object_with_depth site change) state.objects }

@@ -3,6 +3,8 @@
 //! Replacement for Java", CGO 2014; the definitions are this project's profile).
 #![tactic(auto)]
 
+mod depth;
+mod making;
 mod marks;
 mod removal;
 mod shared;
@@ -12,6 +14,7 @@ mod spread;
 mod state;
 mod table;
 
+pub use depth::{enter, leave};
 pub use removal::without;
 pub use sites::SiteSet;
 pub use slot::{Slot, SlotList, VObject, VObjectList};

@@ -1,5 +1,6 @@
 -- A table of objects that is filled site by site.
 use Rattle.std.specs.Prelude.{◌≡◌, ◌<◌, ◌≤◌, ℕ, Bool, List, Option, cond}
+use Rattle.std.specs.List.{filter}
 use Rattle.std.specs.declared.option.Option.TheVariants.{Some, None}
 use Rattle.virtual_state.specs.Inner.Tables.{HasSet}
 use Rattle.virtual_state.specs.States.{object_of}
@@ -18,6 +19,10 @@ is_away away Unusable = Bool.false
 abbrev pub stays_as : (ℕ → Bool) → Option VObject → Option VObject
 stays_as away None = None
 stays_as away (Some object) = cond (away object.site) None (Some (object_without away object))
+
+-- the objects of these sites
+abbrev pub of_sites : (ℕ → Bool) → List VObject → List VObject
+of_sites test objects = filter (λ object. test object.site) objects
 
 -- an object, if it is of one of these sites
 abbrev pub if_among : (ℕ → Bool) → Option VObject → Option VObject
