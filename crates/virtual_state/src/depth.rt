@@ -48,7 +48,7 @@ fn with_object(
     object: &VObject,
     depth: u16,
 ) -> Result<VState, NoMemory>
-    requires { object_of state.now.objects object.now.site ≡ Option.Some object.now }
+    requires { object_of state.now.objects object.now.site ≡ Some object.now }
     ensures { IfOk result (λ changed. changed ≡ with_depth state.now object.now.site (λ _. depth)) }
 {
     state.is_state();
