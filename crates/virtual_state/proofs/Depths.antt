@@ -131,3 +131,18 @@ redepth_agrees objects object one other order there agree =
         | inr none ↦ ap (option_map (object_with_depth site one)) none ∙ sym (ap (option_map (object_with_depth site other)) none)
       ]
       ∙ sym (redepth_found site other objects at))
+
+-- the depth of one object, and of its site
+pub depth_moves : (state : State) (object : VObject) (site : ℕ) (change : ℕ → ℕ) → IsIncreasing (sites_of state.objects) → object_of state.objects site ≡ Some object → with_depth state object.site (λ _. change object.depth) ≡ with_depth state site change
+depth_moves state object site change order found =
+    let own = found_site state.objects site object found in
+    let there = ap (object_of state.objects) own ∙ found in
+    ap (λ (objects : List VObject). record state { objects = objects }) (redepth_agrees state.objects object (λ _. change object.depth) change order there refl)
+    ∙ ap (λ (n : ℕ). with_depth state n change) own
+
+-- an object that is there has a depth
+pub no_depth : (state : State) (site : ℕ) (P : ℕ → Type 0) → object_of state.objects site ≡ None → ¬ IsSomeAnd (depth_of state site) P
+no_depth state site P none some = subst (λ (object : Option VObject). IsSomeAnd (option_map (λ one. one.depth) object) P) none some
+
+pub depth_there : (state : State) (site : ℕ) (P : ℕ → Type 0) (object : VObject) → object_of state.objects site ≡ Some object → IsSomeAnd (depth_of state site) P → P object.depth
+depth_there state site P object found some = subst (λ (option : Option VObject). IsSomeAnd (option_map (λ one. one.depth) option) P) found some

@@ -17,12 +17,16 @@ pub fn enter(alloc: Global, state: &VState, site: u16) -> Result<VState, NoMemor
     requires { IsSomeAnd (depth_of state.now site) (λ depth. depth < 65535) }
     ensures { IfOk result (λ entered. entered ≡ with_depth state.now site (λ depth. depth + 1)) }
 {
-    match state.object(site) {
+    state.is_state();
+    match state.virtual_object(site) {
         Some(object) => {
             let entered = with_object(alloc, state, object, object.depth + 1)?;
             Ok(entered)
         }
-        None => state.copy(),
+        None => {
+            let same = state.copy()?;
+            Ok(same)
+        }
     }
 }
 
@@ -32,12 +36,16 @@ pub fn leave(alloc: Global, state: &VState, site: u16) -> Result<VState, NoMemor
     requires { IsSomeAnd (depth_of state.now site) (λ depth. 0 < depth) }
     ensures { IfOk result (λ left. left ≡ with_depth state.now site (λ depth. depth - 1)) }
 {
-    match state.object(site) {
+    state.is_state();
+    match state.virtual_object(site) {
         Some(object) => {
             let left = with_object(alloc, state, object, object.depth - 1)?;
             Ok(left)
         }
-        None => state.copy(),
+        None => {
+            let same = state.copy()?;
+            Ok(same)
+        }
     }
 }
 

@@ -90,6 +90,14 @@ impl VState {
         Some(object.lend())
     }
 
+    /// The object of a site, where it is present.
+    pub(crate) fn virtual_object(&self, site: u16) -> Option<&VObject>
+        ensures { option_copied result ≡ object_of self.now.objects site }
+    {
+        let object = self.objects.get(usize::from(site))?;
+        Some(object.get())
+    }
+
     /// The same state, which shares all.
     pub fn copy(&self) -> Result<Self, NoMemory>
         ensures { IfOk result (λ copy. copy ≡ self.now) }
