@@ -1,0 +1,18 @@
+use Rattle.std.proofs.Common.{◌≡◌, map, true, sym, ap, subst, ◌∙◌}
+use Rattle.virtual_state.proofs.Filling.{empty_takes_none}
+use Rattle.virtual_state.specs.Laws.Removals.{without_is_state}
+use Rattle.virtual_state.specs.Sites.{has}
+use Rattle.virtual_state.specs.States.{State, IsState}
+use Rattle.virtual_state.specs.Without.{made_plain, objects_without, without}
+use Rattle.virtual_state.proofs.removal.take_away.Goals as goal
+
+pub returns-then-is_empty : goal.returns-then-is_empty
+returns-then-is_empty c = c.in_ok-same.ensures ∙ sym (empty_takes_none c.args.state.now c.args.away.now (sym c.is_empty.ensures ∙ c.if-is_empty.true))
+
+pub from_parts-requires : goal.from_parts-requires
+from_parts-requires c =
+    let away = has c.args.away.now in
+    let slots : c.in_ok-slots.slots.value ≡ map (made_plain away) c.args.state.now.slots = c.in_ok-slots.ensures ∙ ap (map (made_plain away)) c.shared_slots.ensures in
+    let objects : c.in_ok-objects-2.objects.value ≡ objects_without away c.args.state.now.objects = c.in_ok-objects-2.ensures.ok ∙ c.in_ok-objects.ensures ∙ ap (objects_without away) c.objects.ensures in
+    let whole : ◌≡◌ {A = State} (record { slots = c.in_ok-slots.slots.value; objects = c.in_ok-objects-2.objects.value }) (without c.args.state.now away) = λ i. record { slots = slots i; objects = objects i } in
+    subst IsState (sym whole) (without_is_state c.args.state.now away c.is_state.ensures c.requires)

@@ -1,0 +1,22 @@
+use Rattle.std.proofs.Common.{◌++◌, List, ap, ◌∙◌}
+use Rattle.std.proofs.lemmas.List.{append-nil}
+use Rattle.virtual_state.proofs.Reaching.{LookAlike, can_be_alike, state_of_alike}
+use Rattle.virtual_state.specs.States.{object_of}
+use Rattle.virtual_state.specs.declared.slot.VObject.{VObject}
+use Rattle.virtual_state.proofs.state.VState.of.Goals as goal
+
+pub reached_state-requires : goal.reached_state-requires
+reached_state-requires c =
+    let same : LookAlike c.put_all.new.table c.args.objects = λ site.
+      c.in_ok-put_all.ensures site
+      ∙ ap (λ (objects : List VObject). object_of (c.args.objects ++ objects) site) c.new-table.ensures
+      ∙ ap (λ (objects : List VObject). object_of objects site) (append-nil c.args.objects) in
+    can_be_alike c.args.slots c.put_all.new.table c.args.objects same c.requires
+
+pub returns : goal.returns
+returns c =
+    let same : LookAlike c.put_all.new.table c.args.objects = λ site.
+      c.in_ok-put_all.ensures site
+      ∙ ap (λ (objects : List VObject). object_of (c.args.objects ++ objects) site) c.new-table.ensures
+      ∙ ap (λ (objects : List VObject). object_of objects site) (append-nil c.args.objects) in
+    state_of_alike c.args.slots c.put_all.new.table c.args.objects c.in_ok-state.state same c.in_ok-state.ensures

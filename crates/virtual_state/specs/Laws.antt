@@ -1,0 +1,4 @@
+pub mod Objects
+pub mod Fields
+pub mod Removals
+pub mod Orders

@@ -1,0 +1,27 @@
+//! What a place of a frame or a field of a virtual object holds, and virtual objects.
+use class_model::ListOf;
+
+/// What a place of a frame or a field holds.
+#[derive(Clone, Copy, PartialEq, Eq, Debug)]
+pub enum Slot {
+    /// A value, or a reference to an object that was made.
+    Plain,
+    /// The virtual object of an allocation site, by the site's number.
+    Virt(u16),
+    /// A place that may not be read. No field is unusable.
+    Unusable,
+}
+
+/// Slots, in order.
+pub type SlotList = ListOf<Slot>;
+
+/// An object that is not made: the number of its allocation site, its fields, and how often its monitor is entered.
+#[derive(Debug, Drop)]
+pub struct VObject {
+    pub site: u16,
+    pub fields: SlotList,
+    pub depth: u16,
+}
+
+/// Virtual objects.
+pub type VObjectList = ListOf<VObject>;

@@ -1,0 +1,130 @@
+//! States of virtual objects.
+ghost use Rattle.std.specs.Prelude.{◌≡◌, IfOk, slice_get};
+ghost use Rattle.std.specs.Option.{option_and_then, option_copied, option_map};
+ghost use Rattle.std.specs.Rc.{rc_value};
+ghost use Rattle.virtual_state.specs.Depths.{depth_of};
+ghost use Rattle.virtual_state.specs.States.{IsState, is_present, object_of};
+
+use crate::slot::{Slot, SlotList, VObject};
+use crate::table::ObjectTable;
+use class_model::NoMemory;
+use std::marker::Model;
+use std::rc::Rc;
+
+/// What each place of a frame holds, and the virtual objects that are present: those that the places reach. Places are
+/// counted from 0. States share their slots and each object with the states that they were made of.
+#[derive(Debug, Drop)]
+pub struct VState {
+    slots: Rc<SlotList>,
+    objects: Rc<ObjectTable>,
+}
+
+impl Model for VState {
+    ghost use Rattle.virtual_state.specs.States.{State, IsState};
+
+    ghost Value = { State };
+
+    ghost view = { λ state. record { slots = state.slots.value; objects = state.objects.value } };
+
+    ghost invariant = { λ state. IsState (record { slots = state.slots.value; objects = state.objects.value }) };
+}
+
+impl VState {
+    /// The state of these slots and objects.
+    pub(crate) fn from_parts(slots: Rc<SlotList>, objects: Rc<ObjectTable>) -> Self
+        requires { IsState (record { slots = slots.value; objects = objects.value }) }
+        ensures { result ≡ record { slots = slots.value; objects = objects.value } }
+    {
+        VState { slots, objects }
+    }
+
+    /// What each state keeps.
+    pub fn is_state(&self)
+        ensures { IsState self.now }
+    {
+        let _ = &self.slots;
+    }
+
+    /// The slot of a place.
+    pub fn slot(&self, at: usize) -> Option<Slot>
+        ensures { result ≡ slice_get self.now.slots at }
+    {
+        self.slots.get(at).copied()
+    }
+
+    /// The slots of all places.
+    pub fn slots(&self) -> &[Slot]
+        ensures { result.now ≡ self.now.slots }
+    {
+        self.slots.as_slice()
+    }
+
+    /// Whether the object of a site is present.
+    pub fn present(&self, site: u16) -> bool
+        ensures { result ≡ is_present self.now.objects site }
+    {
+        self.objects.get(usize::from(site)).is_some()
+    }
+
+    /// The slot of a field of a site's object, where it is present and has such a field. Fields are counted from 0.
+    pub fn field(&self, site: u16, at: usize) -> Option<Slot>
+        ensures { result ≡ option_and_then (λ object. slice_get object.fields at) (object_of self.now.objects site) }
+    {
+        let object = self.objects.get(usize::from(site))?;
+        object.get().fields.get(at).copied()
+    }
+
+    /// How often the monitor of a site's object is entered, where it is present.
+    pub fn depth(&self, site: u16) -> Option<u16>
+        ensures { result ≡ depth_of self.now site }
+    {
+        let object = self.objects.get(usize::from(site))?;
+        Some(object.get().depth)
+    }
+
+    /// The object of a site as the state keeps it, where it is present.
+    pub fn object(&self, site: u16) -> Option<&Rc<VObject>>
+        ensures { option_map rc_value (option_copied result) ≡ object_of self.now.objects site }
+    {
+        let object = self.objects.get(usize::from(site))?;
+        Some(object.lend())
+    }
+
+    /// The object of a site, where it is present.
+    pub(crate) fn virtual_object(&self, site: u16) -> Option<&VObject>
+        ensures { option_copied result ≡ object_of self.now.objects site }
+    {
+        let object = self.objects.get(usize::from(site))?;
+        Some(object.get())
+    }
+
+    /// The same state, which shares all.
+    pub fn copy(&self) -> Result<Self, NoMemory>
+        ensures { IfOk result (λ copy. copy ≡ self.now) }
+    {
+        let slots = self.slots.clone()?;
+        let objects = self.objects.clone()?;
+        Ok(VState { slots, objects })
+    }
+
+    /// The slots as they are kept.
+    pub(crate) fn shared_slots(&self) -> &Rc<SlotList>
+        ensures { result.now.value ≡ self.now.slots }
+    {
+        &self.slots
+    }
+
+    /// The objects.
+    pub(crate) fn objects(&self) -> &ObjectTable
+        ensures { result.now ≡ self.now.objects }
+    {
+        self.objects.as_ref()
+    }
+
+    /// The objects as they are kept.
+    pub(crate) fn shared_objects(&self) -> &Rc<ObjectTable>
+        ensures { result.now.value ≡ self.now.objects }
+    {
+        &self.objects
+    }
+}
