@@ -19,6 +19,7 @@ mod lookup;
 mod memory;
 mod names;
 mod pool;
+mod rule_text;
 mod text;
 
 pub use class_file::{
