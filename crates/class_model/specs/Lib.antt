@@ -19,3 +19,4 @@ pub mod Header
 pub mod Answers
 pub mod Stated
 pub mod Laws
+pub mod RuleNames

@@ -21,6 +21,7 @@ mod memory;
 mod names;
 pub mod opcodes;
 mod pool;
+mod rule_text;
 mod text;
 mod value_laws;
 

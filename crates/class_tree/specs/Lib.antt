@@ -15,3 +15,4 @@ pub mod InterfaceNumbers
 pub mod Placing
 pub mod Laws
 pub mod Parts
+pub mod RuleNames

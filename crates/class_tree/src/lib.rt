@@ -20,6 +20,7 @@ mod names;
 mod order;
 mod place;
 mod question;
+mod rule_text;
 mod subtype;
 mod super_places;
 mod tree;

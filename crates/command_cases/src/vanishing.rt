@@ -56,4 +56,6 @@ impl Host for Vanishing {
         self.is_printed = true;
         Ok(())
     }
+
+    fn explain(&mut self, _bytes: &[u8]) {}
 }

@@ -15,6 +15,10 @@ stored host = tree_files host.tree
 abbrev pub printed_by : MemoryHost → Bytes
 printed_by host = host.printed.items
 
+-- the explanations so far
+abbrev pub explained_by : MemoryHost → Bytes
+explained_by host = host.explained.items
+
 -- how often calls of each kind have failed
 abbrev pub faults_of : MemoryHost → HostCall → ℕ
 faults_of host = count_of host.faults
@@ -34,6 +38,7 @@ refused_calls host = host.fail
 -- all but the files is as before
 pub record SameButFiles (old new : MemoryHost) : Type 0 where
   pub printed : printed_by new ≡ printed_by old
+  pub explained : explained_by new ≡ explained_by old
   pub faults : (of : HostCall) → faults_of new of ≡ faults_of old of
   pub next_call : next_call_of new ≡ next_call_of old
   pub refused : refused_calls new ≡ refused_calls old

@@ -12,6 +12,7 @@ use std::alloc::Global;
 /// A host. What it holds is told or not told, by its type. Four counts of faults, one for each kind
 /// of call, never fall, and stand still at 2^64 - 1. Each call, also a refused one, leaves the files,
 /// what was printed and the counts of the other kinds as they were, but for what its clauses say.
+/// What is explained to the user is kept apart from what is printed: no clause speaks of it.
 pub trait Host {
     /// Whether it tells its files and what was printed.
     ghost tells: { Bool };
@@ -74,4 +75,10 @@ pub trait Host {
         ensures counts { CountsOnly HostCall.Print (faults self.old) (faults self.new) }
         ensures failed { IsErrOf result HostFail.Failed → Rose (faults self.old HostCall.Print) (faults self.new HostCall.Print) }
         ensures not_absent { ¬ IsErrOf result HostFail.Absent };
+
+    /// Shows the user an explanation, a text in UTF-8, beside what is printed. It may be lost.
+    fn explain(&mut self, bytes: &[u8])
+        ensures files { IsTrue tells → SameFiles (file self.old) (file self.new) }
+        ensures printed { IsTrue tells → printed self.new ≡ printed self.old }
+        ensures counts { (call : HostCall) → faults self.new call ≡ faults self.old call };
 }

@@ -4,7 +4,7 @@ ghost use Rattle.std.specs.Option.{option_copied};
 ghost use Rattle.host_tree.specs.declared.call.HostCall.{HostCall};
 ghost use Rattle.host_tree.specs.Host.{SameFiles, SameElsewhere, IsListing, IsReadOf, IsPrefixPrinted};
 ghost use Rattle.host_tree.specs.Counts.{last_count, Rose, CountsOnly};
-ghost use Rattle.host_tree.specs.Memory.{stored, printed_by, faults_of, is_refused, next_call_of, refused_calls, SameButFiles};
+ghost use Rattle.host_tree.specs.Memory.{stored, printed_by, explained_by, faults_of, is_refused, next_call_of, refused_calls, SameButFiles};
 
 use crate::call::{HostCall, HostFail};
 use crate::faults::Faults;
@@ -19,11 +19,13 @@ pub type CallNumberList = ListOf<u64>;
 
 /// A host in memory, which tells everything. Its calls are numbered from 0 by a number that stands
 /// still at `u64::MAX`. A call whose number is among those to refuse is refused with `Failed`, and
-/// changes nothing but the count of its kind; a read of a name that is not there is `Absent` always.
+/// changes nothing but the count of its kind; a read of a name that is not there is `Absent` always. Explanations are kept, and
+/// are no numbered calls.
 #[derive(Drop)]
 pub struct MemoryHost {
     tree: FileTree,
     printed: Vec<u8>,
+    explained: Vec<u8>,
     fail: CallNumberList,
     next_call: u64,
     faults: Faults,
@@ -35,12 +37,14 @@ impl MemoryHost {
         ensures ok { IsOk result }
         ensures files { IfOk result (λ host. (root name : List ℕ) → stored host root name ≡ None) }
         ensures printed { IfOk result (λ host. printed_by host ≡ []) }
+        ensures explained { IfOk result (λ host. explained_by host ≡ []) }
         ensures counts { IfOk result (λ host. (of : HostCall) → faults_of host of ≡ 0) }
         ensures calls { IfOk result (λ host. (next_call_of host ≡ 0) × (refused_calls host ≡ fail)) }
     {
         Ok(MemoryHost {
             tree: FileTree::new(alloc),
             printed: Vec::new(alloc),
+            explained: Vec::new(alloc),
             fail,
             next_call: 0,
             faults: Faults::none(),
@@ -75,6 +79,13 @@ impl MemoryHost {
         ensures { result.now ≡ printed_by self.now }
     {
         self.printed.as_slice()
+    }
+
+    /// The explanations so far, one behind the other.
+    pub fn explained(&self) -> &[u8]
+        ensures { result.now ≡ explained_by self.now }
+    {
+        self.explained.as_slice()
     }
 
     /// How often calls of one kind have failed.
@@ -207,5 +218,16 @@ impl Host for MemoryHost {
         }
         self.printed.extend_from_slice(bytes)?;
         Ok(())
+    }
+
+    fn explain(&mut self, bytes: &[u8])
+        ensures files { SameFiles (stored self.old) (stored self.new) }
+        ensures printed { printed_by self.new ≡ printed_by self.old }
+        ensures counts { (call : HostCall) → faults_of self.new call ≡ faults_of self.old call }
+        ensures kept { (explained_by self.new ≡ explained_by self.old ++ bytes.now) ⊎ (explained_by self.new ≡ explained_by self.old) }
+        ensures not_numbered { (next_call_of self.new ≡ next_call_of self.old) × (refused_calls self.new ≡ refused_calls self.old) }
+    {
+        // An explanation for which there is no memory is lost.
+        let _ = self.explained.extend_from_slice(bytes);
     }
 }

@@ -9,7 +9,7 @@ use crate::faults::Faults;
 use crate::file_name::FileNameList;
 use crate::host::Host;
 use crate::stream::{read_first, write_all};
-use crate::walk::{list_files, path_below};
+use crate::walk::{Listing, list_files, path_below};
 use class_model::ByteList;
 use std::alloc::Global;
 use std::fs::OpenFile;
@@ -20,14 +20,14 @@ use std::{fs, io};
 /// The files of the system, and its standard output. A root is the path of a folder, and the empty
 /// root is the working folder. A walk lists regular files alone, follows no symbolic link below the root, and fails behind
 /// 1,000,000 entries; a file that is not found is `Absent`, and counted as a fault of reading; a write makes the folders above
-/// its file.
+/// its file. Explanations go to standard error, and so does why a call failed; one that can't be written is lost.
 #[derive(Drop)]
 pub struct RealHost<R> {
     rt: R,
     faults: Faults,
 }
 
-impl<R: Files + Print + AllocGlobal + Clone + Drop> RealHost<R> {
+impl<R: Files + Print + Eprint + AllocGlobal + Clone + Drop> RealHost<R> {
     /// The system, with no faults.
     pub fn new(rt: R) -> Self
         ensures { (of : HostCall) → ⟦<RealHost<R> as Host>⟧.faults result of ≡ 0 }
@@ -38,8 +38,8 @@ impl<R: Files + Print + AllocGlobal + Clone + Drop> RealHost<R> {
         }
     }
 
-    /// Why a call failed, which is counted unless memory ran out.
-    fn fail(&mut self, call: HostCall, error: &io::Error) -> HostFail
+    /// Why a call failed, which is counted and explained unless memory ran out.
+    fn fail(&mut self, call: HostCall, root: &str, name: &str, error: &io::Error) -> HostFail
         ensures failed { result ≡ HostFail.Failed → Rose (count_of self.old.faults call) (count_of self.new.faults call) }
         ensures counts { CountsOnly call (count_of self.old.faults) (count_of self.new.faults) }
         ensures not_absent { result ≢ HostFail.Absent }
@@ -47,8 +47,46 @@ impl<R: Files + Print + AllocGlobal + Clone + Drop> RealHost<R> {
         if error.kind() == ErrorKind::OutOfMemory {
             return HostFail::NoMemory;
         }
+        explain_fault(&self.rt, call, root, name, error);
         self.faults.raise(call);
         HostFail::Failed
+    }
+}
+
+/// Tells the user which call failed, of which path, and why.
+fn explain_fault<R: Eprint>(rt: &R, call: HostCall, root: &str, name: &str, error: &io::Error) {
+    // A path below the working folder has no root before it.
+    let slash = if root.is_empty() { "" } else { "/" };
+    let _ = match call {
+        HostCall::List => eprintln!(rt;
+            "pea: cannot list the files of the folder '{root}': {error}"
+        ),
+        HostCall::Read => eprintln!(rt; "pea: cannot read the file '{root}{slash}{name}': {error}"),
+        HostCall::Write => eprintln!(rt;
+            "pea: cannot write the file '{root}{slash}{name}': {error}"
+        ),
+        HostCall::Print => eprintln!(rt; "pea: cannot print to standard output: {error}"),
+    };
+    if call == HostCall::List && error.kind() == ErrorKind::NotADirectory {
+        let _ = eprintln!(rt;
+            "  it is a file; for a jar take scripts/jar.sh, or scripts/library.sh to make a library of it"
+        );
+    }
+    if call == HostCall::List && error.kind() == ErrorKind::InvalidData {
+        let _ = eprintln!(rt; "  a name of a file or folder in it is no UTF-8");
+    }
+}
+
+/// Tells the user of a root that is not there, and of symbolic links that were passed over.
+fn explain_listing<R: Eprint>(rt: &R, root: &str, listing: &Listing) {
+    if !listing.is_there {
+        let _ = eprintln!(rt;
+            "pea: note: there is no folder '{root}'; it counts as one without files"
+        );
+    }
+    let links = listing.links;
+    if links > 0 {
+        let _ = eprintln!(rt; "pea: note: {links} symbolic links below '{root}' were passed over");
     }
 }
 
@@ -92,7 +130,7 @@ fn create<R: Files>(rt: &R, path: &str) -> io::Result<R::File> {
     fs::create(rt, path)
 }
 
-impl<R: Files + Print + AllocGlobal + Clone + Drop> Host for RealHost<R> {
+impl<R: Files + Print + Eprint + AllocGlobal + Clone + Drop> Host for RealHost<R> {
     ghost tells = { false };
 
     ghost file = { λ _ _ _. None };
@@ -103,8 +141,11 @@ impl<R: Files + Print + AllocGlobal + Clone + Drop> Host for RealHost<R> {
 
     fn list(&mut self, alloc: Global, root: &str, most: u64) -> Result<FileNameList, HostFail> {
         match list_files(&self.rt, alloc, root, most) {
-            Ok(names) => Ok(names),
-            Err(error) => Err(self.fail(HostCall::List, &error)),
+            Ok(listing) => {
+                explain_listing(&self.rt, root, &listing);
+                Ok(listing.names)
+            }
+            Err(error) => Err(self.fail(HostCall::List, root, "", &error)),
         }
     }
 
@@ -118,10 +159,11 @@ impl<R: Files + Print + AllocGlobal + Clone + Drop> Host for RealHost<R> {
         match read_file(&self.rt, alloc, root, name, most) {
             Ok(bytes) => Ok(bytes),
             Err(error) if error.kind() == ErrorKind::NotFound => {
+                explain_fault(&self.rt, HostCall::Read, root, name, &error);
                 self.faults.raise(HostCall::Read);
                 Err(HostFail::Absent)
             }
-            Err(error) => Err(self.fail(HostCall::Read, &error)),
+            Err(error) => Err(self.fail(HostCall::Read, root, name, &error)),
         }
     }
 
@@ -134,14 +176,20 @@ impl<R: Files + Print + AllocGlobal + Clone + Drop> Host for RealHost<R> {
     ) -> Result<(), HostFail> {
         match write_file(&self.rt, alloc, root, name, bytes) {
             Ok(()) => Ok(()),
-            Err(error) => Err(self.fail(HostCall::Write, &error)),
+            Err(error) => Err(self.fail(HostCall::Write, root, name, &error)),
         }
     }
 
     fn print(&mut self, _alloc: Global, bytes: &[u8]) -> Result<(), HostFail> {
         match write_all(&mut io::writer(&self.rt), bytes) {
             Ok(()) => Ok(()),
-            Err(error) => Err(self.fail(HostCall::Print, &error)),
+            Err(error) => Err(self.fail(HostCall::Print, "", "", &error)),
+        }
+    }
+
+    fn explain(&mut self, bytes: &[u8]) {
+        if let Ok(text) = str::from_utf8(bytes) {
+            let _ = self.rt.eprint(text);
         }
     }
 }

@@ -13,7 +13,8 @@ use std::{fs, io};
 const MOST_ENTRIES: u64 = 1_000_000;
 
 /// A walk over a folder and those below it: how many names are wanted, the folders that are still to
-/// be entered, the names found, and how many entries were met.
+/// be entered, the names found, how many entries were met and how many of them were symbolic links, and
+/// whether the root is there.
 #[derive(Drop)]
 struct Walk {
     alloc: Global,
@@ -21,6 +22,19 @@ struct Walk {
     folders: Vec<String>,
     names: Vec<FileName>,
     entries: u64,
+    links: u64,
+    is_there: bool,
+}
+
+/// What a walk found.
+#[derive(Drop)]
+pub struct Listing {
+    /// The names of the regular files, relative to the root.
+    pub names: FileNameList,
+    /// How many symbolic links were passed over.
+    pub links: u64,
+    /// Whether the root is there.
+    pub is_there: bool,
 }
 
 /// The names of the regular files below a folder, relative to it, `most` of them where they are
@@ -30,15 +44,21 @@ pub fn list_files<R: Files + AllocGlobal + Clone + Drop>(
     alloc: Global,
     root: &str,
     most: u64,
-) -> io::Result<FileNameList>
-    ensures { IfOk result (λ names. length names ≤ most) }
+) -> io::Result<Listing>
+    ensures { IfOk result (λ listing. length listing.names ≤ most) }
 {
     let mut walk = Walk::from_root(alloc, most)?;
     // A turn for the root, one for each folder that is met, and one that finds no folder left.
     for _ in 0..MOST_ENTRIES + 2 {
         match walk.next_folder() {
             Some(folder) => walk.enter(rt, root, folder.as_str())?,
-            None => return Ok(FileNameList::from_vec(walk.names)),
+            None => {
+                return Ok(Listing {
+                    names: FileNameList::from_vec(walk.names),
+                    links: walk.links,
+                    is_there: walk.is_there,
+                });
+            }
         }
     }
     Err(too_many_entries())
@@ -74,6 +94,8 @@ impl Walk {
             folders,
             names: Vec::new(alloc),
             entries: 0,
+            links: 0,
+            is_there: true,
         })
     }
 
@@ -110,7 +132,10 @@ impl Walk {
         let path = if path.is_empty() { "." } else { path.as_str() };
         let entries = match fs::read_dir(rt, path) {
             Ok(entries) => entries,
-            Err(error) if folder.is_empty() && error.kind() == ErrorKind::NotFound => return Ok(()),
+            Err(error) if folder.is_empty() && error.kind() == ErrorKind::NotFound => {
+                self.is_there = false;
+                return Ok(());
+            }
             Err(error) => return Err(error),
         };
         for entry in entries {
@@ -138,6 +163,8 @@ impl Walk {
             self.folders.push(name)?;
         } else if kind.is_file() {
             self.names.push(FileName::new(name))?;
+        } else if kind.is_symlink() {
+            self.links = self.links.saturating_add(1);
         }
         Ok(())
     }

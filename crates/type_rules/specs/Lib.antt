@@ -27,3 +27,4 @@ pub mod Checks
 pub mod Typed
 pub mod Verified
 pub mod Laws
+pub mod RuleNames

@@ -24,6 +24,7 @@ mod operands;
 mod protected;
 mod reference;
 mod returns;
+mod rule_text;
 mod ruled;
 mod shuffles;
 mod step;
