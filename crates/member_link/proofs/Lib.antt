@@ -3,6 +3,7 @@ pub mod MethodUses
 pub mod CodeChecks
 pub mod EachUse
 pub mod OwnMembers
+pub mod ByPlace
 pub mod FieldsOnce
 pub mod UpwardsOnce
 pub mod Climbed

@@ -20,6 +20,7 @@ pub mod Resolving
 pub mod Resolutions
 pub mod NeededForms
 pub mod Linked
+pub mod LinkedPlaces
 pub mod Assignability
 pub mod OpenMethods
 pub mod FinalMethods

@@ -15,6 +15,7 @@ mod found;
 mod frames;
 mod instructions;
 mod laws;
+mod laws_linked;
 mod links;
 mod methods;
 mod names;
@@ -35,6 +36,10 @@ pub use found::Found;
 pub use laws::{
     a_look_up_finds_one_field, a_look_up_finds_one_method, a_selection_chooses_one,
     assignability_is_not_transitive,
+};
+pub use laws_linked::{
+    a_field_reference_passes, a_linked_folder_passes_by_place, a_method_reference_passes,
+    a_named_class_passes,
 };
 pub use links::check_links;
 pub use methods::find_method;
