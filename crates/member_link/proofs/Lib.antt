@@ -29,6 +29,7 @@ pub mod FoundInClass
 pub mod FoundByName
 pub mod Selecting
 pub mod SelectsOnce
+pub mod SpecialStarts
 pub mod Referents
 pub mod ToldReferences
 pub mod MethodsAbove

@@ -7,6 +7,7 @@ pub mod Methods
 pub mod Overriding
 pub mod Selection
 pub mod SelectionSteps
+pub mod SpecialStart
 pub mod Access
 pub mod Found
 pub mod Counting

@@ -4,6 +4,7 @@
 
 mod access;
 mod ask;
+mod class_access;
 mod code_uses;
 mod constants;
 mod declarations;
@@ -27,10 +28,12 @@ mod resolution;
 mod resolver;
 mod resolving;
 mod selection;
+mod special;
 mod upwards;
 mod uses;
 
 pub use access::accessible;
+pub use class_access::class_accessible;
 pub use fields::find_field;
 pub use found::Found;
 pub use laws::{
@@ -43,5 +46,7 @@ pub use laws_linked::{
 };
 pub use links::check_links;
 pub use methods::find_method;
+pub use overriding::overrides;
 pub use packages::is_same_package;
 pub use selection::{CallForm, Selected, select};
+pub use special::special_start;
