@@ -30,6 +30,8 @@ pub mod FoundByName
 pub mod Selecting
 pub mod SelectsOnce
 pub mod SpecialStarts
+pub mod DeclaredAbove
+pub mod ChosenAbove
 pub mod Referents
 pub mod ToldReferences
 pub mod MethodsAbove

@@ -6,6 +6,7 @@ pub mod Defaults
 pub mod Methods
 pub mod Overriding
 pub mod Selection
+pub mod Choices
 pub mod SelectionSteps
 pub mod SpecialStart
 pub mod Access
@@ -14,6 +15,7 @@ pub mod Counting
 pub mod DefaultsOf
 pub mod DefaultsAt
 pub mod References
+pub mod FoundAbove
 pub mod Declarations
 pub mod Forms
 pub mod Uses

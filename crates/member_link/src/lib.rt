@@ -16,6 +16,7 @@ mod found;
 mod frames;
 mod instructions;
 mod laws;
+mod laws_chosen;
 mod laws_linked;
 mod links;
 mod methods;
@@ -39,6 +40,10 @@ pub use found::Found;
 pub use laws::{
     a_look_up_finds_one_field, a_look_up_finds_one_method, a_selection_chooses_one,
     assignability_is_not_transitive,
+};
+pub use laws_chosen::{
+    a_choice_can_be_run, a_found_field_is_above, a_found_method_is_above,
+    a_special_call_starts_once,
 };
 pub use laws_linked::{
     a_field_reference_passes, a_linked_folder_passes_by_place, a_method_reference_passes,
