@@ -32,6 +32,9 @@ pub mod SelectsOnce
 pub mod SpecialStarts
 pub mod DeclaredAbove
 pub mod ChosenAbove
+pub mod FieldLinks
+pub mod DecidedMethods
+pub mod MethodLinks
 pub mod Referents
 pub mod ToldReferences
 pub mod MethodsAbove

@@ -18,6 +18,7 @@ mod instructions;
 mod laws;
 mod laws_chosen;
 mod laws_linked;
+mod laws_links;
 mod links;
 mod methods;
 mod names;
@@ -49,6 +50,7 @@ pub use laws_linked::{
     a_field_reference_passes, a_linked_folder_passes_by_place, a_method_reference_passes,
     a_named_class_passes,
 };
+pub use laws_links::a_hierarchy_has_links;
 pub use links::check_links;
 pub use methods::find_method;
 pub use overriding::overrides;
