@@ -151,7 +151,7 @@ module _ (classes : Classes) where
           handlers_pass = all_pass (handler_use_checks s) at.part.handlers (λ number handler is. passes.handlers class method number at handler is);
           inners_pass = all_pass (inner_checks s (home_of at.class) at.method at.part) at.part.attrs (λ attr_number attr attr_is.
               frames_hold s (inner_is_named at.class.pool stack_map_table attr) (stated_frames (home_of at.class) at.method at.part (decoded at.part.code) attr) (λ is_table frames read number frame is.
-                  passes.frames class method attr_number number at frame (record { attr = attr; frames = frames; attr_is = attr_is; is_table = is_table; read = read; frame_is = is })));
+              passes.frames class method attr_number number at frame (record { attr = attr; frames = frames; attr_is = attr_is; is_table = is_table; read = read; frame_is = is })));
         })
 
     attr_at : (class_number method_number attr_number : ℕ) (class : ClassFile) (method : Method) (member : Member) (attr : Attr) → slice_get classes.folder class_number ≡ Some class → slice_get class.methods method_number ≡ Some method → slice_get (header_of class).methods method_number ≡ Some member → slice_get method.attrs attr_number ≡ Some attr → AllHold (attr_checks (record { headers = headers; pool = class.pool; site = site_of (header_of class) member }) (home_of class) method attr)
@@ -174,9 +174,9 @@ module _ (classes : Classes) where
     links_by_place =
         both_hold (asked_each (declaration_checks headers) headers.folder) (asked_each (use_checks headers) classes.folder) (all_pass (declaration_checks headers) headers.folder passes.declarations)
         (all_pass (use_checks headers) classes.folder (λ class_number class class_is.
-            all_methods headers class (header_of class) class.methods (header_of class).methods (λ method_number method member method_is member_is.
-                all_pass (attr_checks (record { headers = headers; pool = class.pool; site = site_of (header_of class) member }) (home_of class) method) method.attrs (λ attr_number attr attr_is.
-                    attr_at class_number method_number attr_number class method member attr class_is method_is member_is attr_is))))
+        all_methods headers class (header_of class) class.methods (header_of class).methods (λ method_number method member method_is member_is.
+        all_pass (attr_checks (record { headers = headers; pool = class.pool; site = site_of (header_of class) member }) (home_of class) method) method.attrs (λ attr_number attr attr_is.
+        attr_at class_number method_number attr_number class method member attr class_is method_is member_is attr_is))))
 
   pub linked_by_place : IsLinked classes ↔ IsLinkedByPlace classes
   linked_by_place = (passes_by_place, links_by_place)
@@ -200,10 +200,16 @@ member_passes s reference OthersAreThere Finds HasForm once = (
   λ passes.
       let same : (other : Declared) → Finds (Some other) → passes.member ≡ other = λ other finds. same_Some passes.member other (once (Some passes.member) (Some other) passes.found finds) in (
         (passes.there, passes.others_there),
-        (passes.class_accessible,
-        ((passes.member, passes.found),
-        (λ other finds. subst HasForm (same other finds) passes.form,
-        (λ other finds. subst (IsAccessible s.headers s.site.class reference.class) (same other finds) passes.accessible, tt)))),
+        (
+          passes.class_accessible,
+          (
+            (passes.member, passes.found),
+            (
+              λ other finds. subst HasForm (same other finds) passes.form,
+              (λ other finds. subst (IsAccessible s.headers s.site.class reference.class) (same other finds) passes.accessible, tt),
+            ),
+          ),
+        ),
       ),
 )
 

@@ -144,13 +144,16 @@ module _ (headers : Headers) (hierarchy : IsHierarchy headers) where
       | inr none ↦ (abstract_choice, no_default (λ method is. none (method, named_of method is.specific.of_superinterface, is)))
       | inl one ↦ elim (some_method headers name desc (λ other. IsDefault headers class name desc other × (one.0 ≢ other)) (λ other. both (default other) (denied (same_declared one.0 other)))) [
         | inl two ↦ (several_defaults, two_defaults one.0 two.0 one.2 two.2.0 two.2.1)
-        | inr single ↦ (chosen_method one.0, the_one one.0 (record {
-          is_default = one.2;
-          only = λ other is. elim (same_declared one.0 other) [
-            | inl same ↦ sym same
-            | inr differ ↦ absurd (single (other, named_of other is.specific.of_superinterface, (is, differ)))
-          ];
-        }))
+        | inr single ↦ (
+          chosen_method one.0,
+          the_one one.0 (record {
+            is_default = one.2;
+            only = λ other is. elim (same_declared one.0 other) [
+              | inl same ↦ sym same
+              | inr differ ↦ absurd (single (other, named_of other is.specific.of_superinterface, (is, differ)))
+            ];
+          }),
+        )
       ]
     ]
 

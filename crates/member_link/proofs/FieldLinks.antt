@@ -53,26 +53,26 @@ module _ (headers : Headers) (hierarchy : IsHierarchy headers) (name desc : List
   walk_ends done kinds classes rest = rest
   walk_ends (next interface header interfaces own others is inner outer) kinds classes rest =
       first_ends interface (interfaces ++ classes) (λ other other_is.
-          let kinds_of = hierarchy.kinds interface header is in
-          let kind = subst (λ found. IfSome found (λ above. IsTrue (is_interface above))) is kinds.0 in
-          let supers : interfaces_and_super header ≡ header.interfaces ++ object ∷ [] =
-          interfaces_then_super header ∙ ap (λ (super : Option Name). header.interfaces ++ super_list super) (kinds_of.of_interface kind) in
-          subst (λ (h : Header). Ends (interfaces_and_super h)) (same_Some header other (sym is ∙ other_is))
-          (subst Ends (sym supers) (walk_ends inner kinds_of.interfaces (object ∷ []) object_ends))) (walk_ends outer kinds.1 classes rest)
+      let kinds_of = hierarchy.kinds interface header is in
+      let kind = subst (λ found. IfSome found (λ above. IsTrue (is_interface above))) is kinds.0 in
+      let supers : interfaces_and_super header ≡ header.interfaces ++ object ∷ [] =
+      interfaces_then_super header ∙ ap (λ (super : Option Name). header.interfaces ++ super_list super) (kinds_of.of_interface kind) in
+      subst (λ (h : Header). Ends (interfaces_and_super h)) (same_Some header other (sym is ∙ other_is))
+      (subst Ends (sym supers) (walk_ends inner kinds_of.interfaces (object ∷ []) object_ends))) (walk_ends outer kinds.1 classes rest)
 
   class_ends : {class : Name} {walk : List Name} → IsInterfaceWalk headers class walk → Ends (class ∷ [])
   class_ends (of_root class header walk is none inner) =
       first_ends class [] (λ other other_is.
-          let supers : interfaces_and_super header ≡ header.interfaces ++ [] =
-          interfaces_then_super header ∙ ap (λ (super : Option Name). header.interfaces ++ super_list super) none in
-          subst (λ (h : Header). Ends (interfaces_and_super h)) (same_Some header other (sym is ∙ other_is))
-          (subst Ends (sym supers) (walk_ends inner (hierarchy.kinds class header is).interfaces [] nowhere))) nowhere
+      let supers : interfaces_and_super header ≡ header.interfaces ++ [] =
+      interfaces_then_super header ∙ ap (λ (super : Option Name). header.interfaces ++ super_list super) none in
+      subst (λ (h : Header). Ends (interfaces_and_super h)) (same_Some header other (sym is ∙ other_is))
+      (subst Ends (sym supers) (walk_ends inner (hierarchy.kinds class header is).interfaces [] nowhere))) nowhere
   class_ends (below class high header walk rest is some inner outer) =
       first_ends class [] (λ other other_is.
-          let supers : interfaces_and_super header ≡ header.interfaces ++ high ∷ [] =
-          interfaces_then_super header ∙ ap (λ (super : Option Name). header.interfaces ++ super_list super) some in
-          subst (λ (h : Header). Ends (interfaces_and_super h)) (same_Some header other (sym is ∙ other_is))
-          (subst Ends (sym supers) (walk_ends inner (hierarchy.kinds class header is).interfaces (high ∷ []) (class_ends outer)))) nowhere
+      let supers : interfaces_and_super header ≡ header.interfaces ++ high ∷ [] =
+      interfaces_then_super header ∙ ap (λ (super : Option Name). header.interfaces ++ super_list super) some in
+      subst (λ (h : Header). Ends (interfaces_and_super h)) (same_Some header other (sym is ∙ other_is))
+      (subst Ends (sym supers) (walk_ends inner (hierarchy.kinds class header is).interfaces (high ∷ []) (class_ends outer)))) nowhere
 
   pub field_found : (class : Name) → (found : Option Declared) × FindsField headers class name desc found
   field_found class = by (class_named headers class) refl

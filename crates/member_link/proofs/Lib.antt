@@ -35,6 +35,8 @@ pub mod ChosenAbove
 pub mod FieldLinks
 pub mod DecidedMethods
 pub mod MethodLinks
+pub mod AlikeMembers
+pub mod AlikeLookUps
 pub mod Referents
 pub mod ToldReferences
 pub mod MethodsAbove

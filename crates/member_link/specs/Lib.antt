@@ -15,6 +15,7 @@ pub mod Counting
 pub mod DefaultsOf
 pub mod DefaultsAt
 pub mod References
+pub mod FoundNames
 pub mod FoundAbove
 pub mod Declarations
 pub mod Forms

@@ -16,6 +16,7 @@ mod found;
 mod frames;
 mod instructions;
 mod laws;
+mod laws_alike;
 mod laws_chosen;
 mod laws_linked;
 mod laws_links;
@@ -42,6 +43,7 @@ pub use laws::{
     a_look_up_finds_one_field, a_look_up_finds_one_method, a_selection_chooses_one,
     assignability_is_not_transitive,
 };
+pub use laws_alike::alike_classes_have_one_look_up;
 pub use laws_chosen::{
     a_choice_can_be_run, a_found_field_is_above, a_found_method_is_above,
     a_special_call_starts_once,

@@ -75,8 +75,8 @@ module _ (headers : Headers) (hierarchy : IsHierarchy headers) where
   class_above : {low : Name} {walk : List Name} → IsInterfaceWalk headers low walk → (high : Name) (above : Header) → class_named headers high ≡ Some above → IsFalse (is_interface above) → Decision (IsBelow headers low high)
   class_above (of_root low header walk is none inner) high above above_is kind =
       inr (λ up.
-          let climbed = class_is_climbed headers (hierarchy_is_sound headers hierarchy) (hierarchy_is_rooted headers hierarchy) up header above is above_is kind in
-          none-some climbed.0 (sym none ∙ climbed.1))
+      let climbed = class_is_climbed headers (hierarchy_is_sound headers hierarchy) (hierarchy_is_rooted headers hierarchy) up header above is above_is kind in
+      none-some climbed.0 (sym none ∙ climbed.1))
   class_above (below low next header walk rest is some inner outer) high above above_is kind =
       let step = superclass low next header is some in
       elim (same_bytes next high) [
