@@ -8,7 +8,7 @@ use Rattle.class_model.specs.declared.header.Member.{Member}
 use Rattle.class_tree.specs.Headers.{Name, Headers, class_named}
 use Rattle.class_tree.specs.Laws.Alike.{shape_of, shapes, twin, no_twin, below_alike, superinterfaces_alike}
 use Rattle.class_tree.specs.Names.{object, is_interface}
-use Rattle.class_tree.specs.Subtype.{IsArray}
+use Rattle.class_tree.specs.Order.{place_of}
 use Rattle.member_link.specs.DeclaredMembers.{Declared, declared_by, declared, IsMethod}
 use Rattle.member_link.specs.Defaults.{IsSuperinterfaceMethod, IsDefault, IsOneDefault, first_inherited}
 use Rattle.member_link.specs.DefaultsAt.{inherited_by}
@@ -25,9 +25,10 @@ use Rattle.member_link.proofs.AlikeMembers.{Signature, signature, IsPair, member
 use Rattle.member_link.proofs.FirstInherited.{first_of}
 use Rattle.member_link.proofs.OpenOverriding.{may_of}
 
--- Classes of one shape, of which each two of one name are a pair.
+-- Classes of one shape, which stand at the same places, and of which each two of one name are a pair.
 pub record AreTwins (one other : Headers) : Type 0 where
   pub shape : shapes one ≡ shapes other
+  pub places : (name : Name) → place_of one name ≡ place_of other name
   pub pairs : (name : Name) (header twin : Header) → class_named one name ≡ Some header → class_named other name ≡ Some twin → IsPair header twin
 
 module _ (one other : Headers) (are : AreTwins one other) where
@@ -161,7 +162,11 @@ module _ (one other : Headers) (are : AreTwins one other) where
         ∙ ap (first_of (inherited_by interface (option_and_then (λ (header : Header). declared name desc header.methods) (class_named other interface)))) (inherited_alike names)
 
 pub twins_back : {one other : Headers} → ((header twin : Header) → IsPair header twin → IsPair twin header) → AreTwins one other → AreTwins other one
-twins_back back are = record { shape = sym are.shape; pairs = λ name header twin is also. back twin header (are.pairs name twin header also is) }
+twins_back back are = record {
+  shape = sym are.shape;
+  places = λ name. sym (are.places name);
+  pairs = λ name header twin is also. back twin header (are.pairs name twin header also is);
+}
 
 module _ (one other : Headers) (are : AreTwins one other) (back : AreTwins other one) where
   module _ (name desc : List ℕ) (differ : name ≢ init) where

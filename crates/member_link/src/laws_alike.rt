@@ -22,4 +22,6 @@ pub fn alike_classes_have_one_look_up()
     ensures selections { (one other : Headers) (receiver : Name) (resolved : Declared) (form : CallForm) (choice : Choice) → AreAlike one other → resolved.member.name ≢ init → Selects one receiver resolved form choice ↔ Selects other receiver resolved form choice }
     ensures special_selections { (one other : Headers) (receiver : Name) (resolved : Declared) (choice : Choice) → AreAlike one other → Selects one receiver resolved Special choice ↔ Selects other receiver resolved Special choice }
     ensures starts { (one other : Headers) (current named start : Name) → AreAlike one other → StartsSpecial one current named start ↔ StartsSpecial other current named start }
-{}
+{
+    class_tree::alike_classes_have_one_hierarchy();
+}
