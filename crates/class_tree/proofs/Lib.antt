@@ -27,10 +27,13 @@ pub mod LinkedClasses
 pub mod SamePlaces
 pub mod Sought
 pub mod Subtypes
+pub mod SubtypesDecided
 pub mod Superclasses
 pub mod TreeClasses
 pub mod WalkedNames
 pub mod BuiltSteps
 pub mod HierarchyLaws
+pub mod AlikeHierarchies
+pub mod AlikePlaces
 pub mod SortedOnce
 pub mod ToldOnce

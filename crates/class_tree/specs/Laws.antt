@@ -1,7 +1,9 @@
 -- What follows from the definitions, stated once for every crate that speaks in their words. All of it is proved: a reader of
 -- the definitions need not believe it, and may pass it over.
 pub mod Above
+pub mod Alike
 pub mod Arrays
+pub mod Decided
 pub mod FirstPlaces
 pub mod Headers
 pub mod Links

@@ -7,6 +7,7 @@ pub mod Steps
 pub mod Trees
 pub mod Interfaces
 pub mod Order
+pub mod Alike
 pub mod Hierarchy
 pub mod Graphs
 pub mod MemberIndex

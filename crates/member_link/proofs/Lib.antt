@@ -3,6 +3,7 @@ pub mod MethodUses
 pub mod CodeChecks
 pub mod EachUse
 pub mod OwnMembers
+pub mod ByPlace
 pub mod FieldsOnce
 pub mod UpwardsOnce
 pub mod Climbed
@@ -28,6 +29,14 @@ pub mod FoundInClass
 pub mod FoundByName
 pub mod Selecting
 pub mod SelectsOnce
+pub mod SpecialStarts
+pub mod DeclaredAbove
+pub mod ChosenAbove
+pub mod FieldLinks
+pub mod DecidedMethods
+pub mod MethodLinks
+pub mod AlikeMembers
+pub mod AlikeLookUps
 pub mod Referents
 pub mod ToldReferences
 pub mod MethodsAbove

@@ -6,13 +6,17 @@ pub mod Defaults
 pub mod Methods
 pub mod Overriding
 pub mod Selection
+pub mod Choices
 pub mod SelectionSteps
+pub mod SpecialStart
 pub mod Access
 pub mod Found
 pub mod Counting
 pub mod DefaultsOf
 pub mod DefaultsAt
 pub mod References
+pub mod FoundNames
+pub mod FoundAbove
 pub mod Declarations
 pub mod Forms
 pub mod Uses
@@ -20,6 +24,7 @@ pub mod Resolving
 pub mod Resolutions
 pub mod NeededForms
 pub mod Linked
+pub mod LinkedPlaces
 pub mod Assignability
 pub mod OpenMethods
 pub mod FinalMethods

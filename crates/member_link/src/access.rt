@@ -93,8 +93,8 @@ pub(crate) fn is_class_accessible(tree: &Tree, from: &[u8], name: &[u8]) -> bool
     }
 }
 
-// The class of a name.
-fn class_named<'a>(tree: &'a Tree, name: &[u8]) -> Option<&'a Header>
+/// The class of a name.
+pub(crate) fn class_named<'a>(tree: &'a Tree, name: &[u8]) -> Option<&'a Header>
     ensures { option_copied result ≡ class_named (headers_of tree.now) name.now }
 {
     a_tree_is_a_hierarchy(tree);

@@ -4,6 +4,7 @@
 
 mod access;
 mod ask;
+mod class_access;
 mod code_uses;
 mod constants;
 mod declarations;
@@ -15,6 +16,10 @@ mod found;
 mod frames;
 mod instructions;
 mod laws;
+mod laws_alike;
+mod laws_chosen;
+mod laws_linked;
+mod laws_links;
 mod links;
 mod methods;
 mod names;
@@ -26,17 +31,31 @@ mod resolution;
 mod resolver;
 mod resolving;
 mod selection;
+mod special;
 mod upwards;
 mod uses;
 
 pub use access::accessible;
+pub use class_access::class_accessible;
 pub use fields::find_field;
 pub use found::Found;
 pub use laws::{
     a_look_up_finds_one_field, a_look_up_finds_one_method, a_selection_chooses_one,
     assignability_is_not_transitive,
 };
+pub use laws_alike::alike_classes_have_one_look_up;
+pub use laws_chosen::{
+    a_choice_can_be_run, a_found_field_is_above, a_found_method_is_above,
+    a_special_call_starts_once,
+};
+pub use laws_linked::{
+    a_field_reference_passes, a_linked_folder_passes_by_place, a_method_reference_passes,
+    a_named_class_passes,
+};
+pub use laws_links::a_hierarchy_has_links;
 pub use links::check_links;
 pub use methods::find_method;
+pub use overriding::overrides;
 pub use packages::is_same_package;
 pub use selection::{CallForm, Selected, select};
+pub use special::special_start;

@@ -18,8 +18,8 @@ use crate::packages::is_same_package;
 use class_model::{CLINIT, Header, INIT, Member, Text};
 use class_tree::{Place, Tree, a_tree_is_a_hierarchy, is_sub};
 
-/// Whether a method overrides another.
-pub(crate) fn overrides(tree: &Tree, low: Found, high: Found) -> bool
+/// Whether a method overrides another (JVM Specification SE 8, 5.4.5). It does not allocate.
+pub fn overrides(tree: &Tree, low: Found, high: Found) -> bool
     requires low { (method : Declared) × IsMethodFound (headers_of tree.now) low method }
     requires high { (method : Declared) × IsMethodFound (headers_of tree.now) high method }
     ensures { (low_method high_method : Declared) → IsMethodFound (headers_of tree.now) low low_method → IsMethodFound (headers_of tree.now) high high_method → IsTrue result ↔ Overrides (headers_of tree.now) low_method high_method }

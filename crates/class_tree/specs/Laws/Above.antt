@@ -172,7 +172,7 @@ module _ (headers : Headers) (sound : IsSound headers) where
     pub there_is_no_array : (name : Name) → IsThere headers name → ¬ IsArray name
     there_is_no_array name there is = false≢true (sym (ap is_some (no_array name is)) ∙ there)
 
-    class_is_subtype : {low high : Name} → IsBelow headers low high → IsSubtype headers low high
+    pub class_is_subtype : {low high : Name} → IsBelow headers low high → IsSubtype headers low high
     class_is_subtype (directly low high step) = subtype_below low high high step (itself high)
     class_is_subtype (onwards low middle high step rest) = subtype_below low middle high step (class_is_subtype rest)
 
