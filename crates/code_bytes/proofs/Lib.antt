@@ -3,6 +3,7 @@ pub mod Cutoffs
 pub mod FormLengths
 pub mod Fronts
 pub mod Offsets
+pub mod OffsetTables
 pub mod OperandForms
 pub mod Outcomes
 pub mod Pads

@@ -6,6 +6,7 @@ pub mod Numbers
 pub mod Opcodes
 pub mod Operands
 pub mod Starts
+pub mod OffsetIndexes
 pub mod Codes
 pub mod Entry
 pub mod Laws

@@ -15,6 +15,8 @@ pub mod DefaultsAt
 pub mod References
 pub mod Declarations
 pub mod Forms
+pub mod CodedMethods
+pub mod Bodies
 pub mod Uses
 pub mod Resolving
 pub mod Resolutions

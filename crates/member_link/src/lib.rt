@@ -4,6 +4,7 @@
 
 mod access;
 mod ask;
+mod body;
 mod code_uses;
 mod constants;
 mod declarations;
@@ -26,10 +27,12 @@ mod resolution;
 mod resolver;
 mod resolving;
 mod selection;
+mod stated;
 mod upwards;
 mod uses;
 
 pub use access::accessible;
+pub use body::MethodBody;
 pub use fields::find_field;
 pub use found::Found;
 pub use laws::{
