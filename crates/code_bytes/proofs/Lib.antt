@@ -5,6 +5,7 @@ pub mod FormLengths
 pub mod InstrLengths
 pub mod Fronts
 pub mod Offsets
+pub mod OffsetTables
 pub mod OperandForms
 pub mod Outcomes
 pub mod Pads

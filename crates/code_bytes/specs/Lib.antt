@@ -8,6 +8,7 @@ pub mod Operands
 pub mod Spellings
 pub mod Lengths
 pub mod Starts
+pub mod OffsetIndexes
 pub mod Codes
 pub mod Entry
 pub mod Laws

@@ -34,8 +34,8 @@ pub fn decode(alloc: Global, code: &[u8]) -> Result<PlacedList, ClassFault>
     Ok(instrs)
 }
 
-// The instructions, whose targets are not asked.
-fn instrs_of(alloc: Global, code: &[u8]) -> Result<PlacedList, ClassFault>
+/// The instructions, whose targets are not asked.
+pub(crate) fn instrs_of(alloc: Global, code: &[u8]) -> Result<PlacedList, ClassFault>
     requires { length code.now ≤ 65535 }
     ensures { Gives (decoded code.now) result }
 {

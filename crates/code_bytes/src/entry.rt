@@ -1,12 +1,12 @@
 //! The frame that the code of a method begins with (JVM Specification SE 8, 4.10.1.6).
-ghost use Rattle.std.specs.Prelude.{◌≡◌, ◌-◌, ◌++◌, length, map, replicate, IfOk, IfSome, IsSome, OnOk};
+ghost use Rattle.std.specs.Prelude.{◌≡◌, ◌-◌, ◌++◌, length, map, replicate, IfOk, OnOk};
 ghost use Rattle.std.specs.Option.{option_copied};
 ghost use Rattle.class_model.specs.Code.{verification_type};
 ghost use Rattle.class_model.specs.Descriptors.{parameters_of};
 ghost use Rattle.class_model.specs.Frames.{units, units_of_entries};
 ghost use Rattle.class_model.specs.Members as members;
 ghost use Rattle.class_model.specs.Methods.{IsDescriptorOf, entry_of, home_of};
-ghost use Rattle.class_model.specs.PoolChecks.{utf8_at};
+ghost use Rattle.class_model.specs.PoolChecks.{utf8_at, text_or_empty};
 ghost use Rattle.code_bytes.specs.Entry.{class_entry, this_entries};
 
 use crate::descriptor::method_descriptor;
@@ -16,23 +16,20 @@ use class_model::{
 };
 use std::alloc::Global;
 
-/// The frame that a method's code begins with: `this` and the parameters, a long or double followed by `Top`, and `Top` in
-/// the other locals.
+/// The frame that a method's code begins with: `this` and the parameters, which are those of its descriptor, a long or double
+/// followed by `Top`, and `Top` in the other locals.
 pub fn entry_frame(
     alloc: Global,
     class: &ClassFile,
     method: &Method,
     part: &CodePart,
+    params: &[FieldType],
 ) -> Result<Frame, NoMemory>
-    requires there { IsSome (utf8_at class.now.pool method.now.desc) }
-    requires descriptor { IfSome (utf8_at class.now.pool method.now.desc) (IsDescriptorOf method.now.flags) }
+    requires { params.now ≡ parameters_of (text_or_empty (utf8_at class.now.pool method.now.desc)) }
     ensures { IfOk result (λ frame. frame ≡ entry_of (home_of class.now) method.now part.now) }
 {
-    let Some(text) = class.pool.utf8(method.desc) else {
-        unreachable!()
-    };
     let this = class.pool.class_name(class.this_class);
-    let mut locals = entry_locals(alloc, &class.pool, this, method.flags, method.name, text)?;
+    let mut locals = locals_of(alloc, &class.pool, this, method.flags, method.name, params)?;
     locals.fill(usize::from(part.max_locals));
     Ok(Frame {
         locals,
@@ -54,9 +51,30 @@ pub fn entry_locals(
     ensures { IfOk result (λ locals. locals ≡ this_entries flags (utf8_at pool.now name) (option_copied class.entry) ++ units_of_entries (map verification_type (parameters_of desc.now))) }
 {
     let descriptor = method_descriptor(alloc, desc, flags)?;
+    locals_of(
+        alloc,
+        pool,
+        class,
+        flags,
+        name,
+        descriptor.params.as_slice(),
+    )
+}
+
+// The same, of these parameters.
+fn locals_of(
+    alloc: Global,
+    pool: &Pool,
+    class: Option<&Text>,
+    flags: u16,
+    name: u16,
+    params: &[FieldType],
+) -> Result<LocalTypeList, NoMemory>
+    ensures { IfOk result (λ locals. locals ≡ this_entries flags (utf8_at pool.now name) (option_copied class.entry) ++ units_of_entries (map verification_type params.now)) }
+{
     let mut locals = LocalTypeList::new(alloc);
     push_this(&mut locals, pool, class, flags, name)?;
-    for param in descriptor.params.as_slice() {
+    for param in params {
         push_units(&mut locals, verification_type(param)?)?;
     }
     Ok(locals)

@@ -12,6 +12,7 @@ mod instruction;
 mod jumps;
 mod laws;
 mod layouts;
+mod offset_index;
 mod opcodes;
 mod source;
 mod spelling_laws;
@@ -28,4 +29,5 @@ pub use spelling_laws::{
     a_length_does_not_depend_on_targets, a_wide_goto_spells_a_goto, each_spelling_is_of_the_table,
     the_chosen_spelling_is_of_the_table,
 };
+pub use offset_index::OffsetIndex;
 pub use starts::Starts;

@@ -1,3 +1,4 @@
+pub mod FirstAt
 pub mod FolderClasses
 pub mod MethodUses
 pub mod CodeChecks

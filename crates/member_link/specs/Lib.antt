@@ -19,6 +19,8 @@ pub mod FoundNames
 pub mod FoundAbove
 pub mod Declarations
 pub mod Forms
+pub mod CodedMethods
+pub mod Bodies
 pub mod Uses
 pub mod Resolving
 pub mod Resolutions

@@ -3,19 +3,17 @@
 -- Constants that none of these use are not linked.
 use Rattle.std.specs.Prelude.{◌==◌, not, ℕ, List, [], ◌∷◌, ◌++◌, Option, Some, None, Result, Ok, Err}
 use Rattle.class_model.specs.Checks.{Fault, Check, asked_each, asked_if}
-use Rattle.class_model.specs.Code.{inner_is_named, stack_map_table}
 use Rattle.class_model.specs.Header.{header_of}
 use Rattle.class_model.specs.Instructions.{decoded}
 use Rattle.class_model.specs.Methods.{Home, home_of}
 use Rattle.class_model.specs.Pool.{Constants, constant_at}
 use Rattle.class_model.specs.PoolChecks.{class_at, utf8_at, descriptor_at}
-use Rattle.class_model.specs.Stated.{stated_frames}
+use Rattle.class_model.specs.Stated.{stated_in}
 use Rattle.class_model.specs.declared.class_file.Attr.{Attr}
 use Rattle.class_model.specs.declared.class_file.Attr.TheVariants.{Raw, Code}
 use Rattle.class_model.specs.declared.class_file.ClassFile.{ClassFile}
 use Rattle.class_model.specs.declared.class_file.CodePart.{CodePart}
 use Rattle.class_model.specs.declared.class_file.Handler.{Handler}
-use Rattle.class_model.specs.declared.class_file.InnerAttr.{InnerAttr}
 use Rattle.class_model.specs.declared.class_file.Method.{Method}
 use Rattle.class_model.specs.declared.frame.PlacedFrame.{PlacedFrame}
 use Rattle.class_model.specs.declared.frame.VType.{VType}
@@ -174,21 +172,13 @@ type_checks s other = []
 abbrev pub frame_checks : UseScope → PlacedFrame → List (Check Problem)
 frame_checks s placed = asked_each (type_checks s) placed.frame.locals ++ asked_each (type_checks s) placed.frame.stack
 
-abbrev pub frames_checks : UseScope → Result (List PlacedFrame) Fault → List (Check Problem)
-frames_checks s (Ok frames) = asked_each (frame_checks s) frames
-frames_checks s (Err fault) = []
-
-abbrev pub inner_checks : UseScope → Home → Method → CodePart → InnerAttr → List (Check Problem)
-inner_checks s home method part attr =
-    asked_if (inner_is_named s.pool stack_map_table attr) (frames_checks s (stated_frames home method part (decoded part.code) attr))
-
 -- ---- methods
 
 abbrev pub code_use_checks : UseScope → Home → Method → CodePart → List (Check Problem)
 code_use_checks s home method part =
     instrs_checks s (decoded part.code)
     ++ asked_each (handler_use_checks s) part.handlers
-    ++ asked_each (inner_checks s home method part) part.attrs
+    ++ asked_each (frame_checks s) (stated_in home method part part.attrs)
 
 abbrev pub attr_checks : UseScope → Home → Method → Attr → List (Check Problem)
 attr_checks s home method (Code name part) = code_use_checks s home method part

@@ -10,14 +10,12 @@ ghost use Rattle.member_link.specs.Resolving.{resolved_scope};
 ghost use Rattle.member_link.specs.Uses.{code_use_checks, handler_use_checks, instr_use_checks};
 ghost use Rattle.code_bytes.specs.Codes.{IsReadMethod};
 
-use crate::frames::{MethodCode, check_inners};
+use crate::body::MethodBody;
+use crate::frames::check_frames;
 use crate::instructions::check_instr;
 use crate::resolver::{Resolver, check_class};
-use class_model::{
-    ClassFault, ClassFile, CodePart, Handler, Member, Method, NoMemory, Placed, PlacedList,
-};
+use class_model::{ClassFile, CodePart, Handler, Member, Method, Placed};
 use class_tree::LinkFault;
-use code_bytes::instructions_of;
 use std::alloc::Global;
 
 /// Asks that what the code of a method refers to is there, of the right form and accessible. The method is this member of
@@ -36,17 +34,10 @@ pub(crate) fn check_code(
     ensures same { resolver.new ≡ resolver.old }
     ensures told { Answers (code_use_checks (resolved_scope resolver.old member.now) (home_of class.now) method.now part.now) result }
 {
-    let instrs = instructions_of(alloc, part.code.as_slice())?;
-    check_instrs(alloc, resolver, member, instrs.as_slice())?;
+    let body = MethodBody::new(alloc, class, method, part)?;
+    check_instrs(alloc, resolver, member, body.instructions().as_slice())?;
     check_handlers(alloc, resolver, member, part.handlers.as_slice())?;
-    let code = MethodCode {
-        class,
-        method,
-        member,
-        part,
-        instrs: &instrs,
-    };
-    check_inners(alloc, resolver, &code)
+    check_frames(alloc, resolver, member, body.stated().as_slice())
 }
 
 // Asks that what each of these instructions refers to is there, of the right form and accessible.

@@ -5,6 +5,7 @@
 mod access;
 mod ask;
 mod class_access;
+mod body;
 mod code_uses;
 mod constants;
 mod declarations;
@@ -32,11 +33,13 @@ mod resolver;
 mod resolving;
 mod selection;
 mod special;
+mod stated;
 mod upwards;
 mod uses;
 
 pub use access::accessible;
 pub use class_access::class_accessible;
+pub use body::MethodBody;
 pub use fields::find_field;
 pub use found::Found;
 pub use laws::{

@@ -1,8 +1,9 @@
 -- The constants that the instructions of a method name are of the kinds that they may name.
-use Rattle.std.proofs.Common.{◌≡◌, inl, inr, ℕ, List, [], ◌∷◌, Result, Ok, subst}
+use Rattle.std.proofs.Common.{◌≡◌, inl, inr, ℕ, List, [], ◌∷◌, Result, Ok, Err, refl}
 use Rattle.std.specs.List.{AllByRecursion}
 use Rattle.class_model.specs.Checks.{Fault}
 use Rattle.class_model.specs.Code.{IsCalled, OperandFits}
+use Rattle.class_model.specs.Instructions.{decoded}
 use Rattle.class_model.specs.Pool.{Constants}
 use Rattle.class_model.specs.declared.class_file.Attr.TheVariants as attrs
 use Rattle.class_model.specs.declared.instr.Instr.{Instr}
@@ -10,7 +11,7 @@ use Rattle.class_model.specs.declared.instr.Instr.TheVariants.{Nop, Const, Ldc, 
 use Rattle.class_model.specs.declared.instr.Placed.{Placed}
 use Rattle.code_bytes.specs.Codes.{HaveOperands}
 use Rattle.type_rules.specs.Rule.{FitsPool, NamesMethod}
-use Rattle.type_rules.specs.Scope.{Scope}
+use Rattle.type_rules.specs.Scope.{Scope, instructions}
 
 -- the count of an invokeinterface is asked apart from the kind
 names_method : (pool : Constants) (major opcode method count : ℕ) → IsCalled pool major opcode method count → NamesMethod pool major opcode method
@@ -62,5 +63,9 @@ all_fit : (s : Scope) (max_locals : ℕ) (instrs : List Placed) → AllByRecursi
 all_fit s max_locals [] h = tt
 all_fit s max_locals (placed ∷ instrs) h = (fits_pool s max_locals placed.instr h.0, all_fit s max_locals instrs h.1)
 
-pub instrs_fit : (s : Scope) (max_locals : ℕ) (read : Result (List Placed) Fault) (instrs : List Placed) → HaveOperands s.class.pool s.class.major max_locals read → read ≡ Ok instrs → AllByRecursion (λ placed. FitsPool s placed.instr) instrs
-instrs_fit s max_locals read instrs have e = all_fit s max_locals instrs (subst (HaveOperands s.class.pool s.class.major max_locals) e have)
+pub instructions_fit : (s : Scope) (max_locals : ℕ) → HaveOperands s.class.pool s.class.major max_locals (decoded s.part.code) → AllByRecursion (λ placed. FitsPool s placed.instr) (instructions s)
+instructions_fit s max_locals have = by (decoded s.part.code) refl have
+  where
+    by : (read : Result (List Placed) Fault) → decoded s.part.code ≡ read → HaveOperands s.class.pool s.class.major max_locals read → AllByRecursion (λ placed. FitsPool s placed.instr) (instructions s)
+    by (Ok instrs) is have = rw is (all_fit s max_locals instrs have)
+    by (Err fault) is have = rw is tt

@@ -8,7 +8,6 @@ pub mod ProtectedMembers
 pub mod OwnFields
 pub mod Chains
 pub mod NewClassLaws
-pub mod OffsetTables
 pub mod InitRows
 pub mod BecomingLocals
 pub mod NameAssignability

@@ -1,5 +1,6 @@
 pub mod FrameAssignability
 pub mod Scope
+pub mod Bodies
 pub mod Operands
 pub mod Rows
 pub mod LocalRows
@@ -17,7 +18,6 @@ pub mod References
 pub mod Protected
 pub mod Steps
 pub mod Calls
-pub mod Offsets
 pub mod NewClasses
 pub mod Known
 pub mod Stated

@@ -19,7 +19,6 @@ mod locals;
 mod method_rules;
 mod need;
 mod objects;
-mod offsets;
 mod operands;
 mod protected;
 mod reference;
@@ -39,7 +38,6 @@ pub use laws::{
     a_typed_method_types_each_instruction,
 };
 pub use method_rules::MethodRules;
-pub use offsets::OffsetIndex;
 pub use ruled::Ruled;
 pub use table::rule;
 pub use typed::{TypedClass, TypedFolder, TypedMethod};

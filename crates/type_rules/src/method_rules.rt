@@ -1,5 +1,5 @@
 //! A method whose instructions are asked.
-ghost use Rattle.std.specs.Prelude.{◌≡◌, ◌↔◌, map, Some, IfOk, IsSome, IsTrue};
+ghost use Rattle.std.specs.Prelude.{◌≡◌, ◌↔◌, length, Some, IfOk, IsSome, IsTrue};
 ghost use Rattle.std.specs.List.{AllByRecursion};
 ghost use Rattle.std.specs.Option.{option_copied};
 ghost use Rattle.class_model.specs.Header.{header_of};
@@ -9,19 +9,19 @@ ghost use Rattle.member_link.specs.Linked.{IsLinked};
 ghost use Rattle.code_bytes.specs.Codes.{HasOperands, IsReadMethod};
 ghost use Rattle.type_rules.specs.MemberRows.{result_of};
 ghost use Rattle.type_rules.specs.NewClasses.{class_made};
-ghost use Rattle.type_rules.specs.Offsets.{IsIndexOf};
 ghost use Rattle.type_rules.specs.Rule.{FitsPool};
 ghost use Rattle.type_rules.specs.Scope.{class_of_new, current, instructions, is_init, own_descriptor, scope_at, scope_of};
+ghost use Rattle.type_rules.specs.Stated.{entry, stated_at};
 
 use crate::code::code_of;
 use crate::descriptors::a_descriptor_is_read_back;
-use crate::offsets::OffsetIndex;
 use class_model::{
-    ClassFile, CodePart, Descriptor, FieldType, Header, INIT, Instr, Method, MethodAt, NoMemory,
-    Placed, PlacedList, Text,
+    ClassFile, CodePart, FieldType, Frame, Header, INIT, Instr, Method, MethodAt, NoMemory,
+    PlacedList, Text,
 };
 use class_tree::{Place, Tree};
-use code_bytes::{a_class_file_has_read_methods, instructions_of, is_text, method_descriptor};
+use code_bytes::{a_class_file_has_read_methods, is_text};
+use member_link::MethodBody;
 use std::alloc::Global;
 use std::marker::Model;
 
@@ -36,10 +36,7 @@ pub struct MethodRules<'a> {
     pub(crate) header: &'a Header,
     pub(crate) method: &'a Method,
     pub(crate) part: &'a CodePart,
-    pub(crate) instrs: PlacedList,
-    // the instructions by their offsets
-    pub(crate) index: OffsetIndex,
-    pub(crate) descriptor: Descriptor,
+    pub(crate) body: MethodBody<'a>,
 }
 
 impl<'a> Model for MethodRules<'a> {
@@ -51,7 +48,7 @@ impl<'a> Model for MethodRules<'a> {
 
     ghost view = { λ rules. record { headers = headers_of rules.tree.now; class = rules.class.now; method = rules.method.now; part = rules.part.now } };
 
-    ghost invariant = { λ rules. IsKnown rules.tree.now (record { headers = headers_of rules.tree.now; class = rules.class.now; method = rules.method.now; part = rules.part.now }) rules.place rules.header.now rules.instrs rules.index rules.descriptor };
+    ghost invariant = { λ rules. IsKnown rules.tree.now (record { headers = headers_of rules.tree.now; class = rules.class.now; method = rules.method.now; part = rules.part.now }) rules.place rules.header.now rules.body };
 }
 
 impl<'a> MethodRules<'a> {
@@ -83,7 +80,7 @@ impl<'a> MethodRules<'a> {
         ensures are { result.now ≡ instructions self.now }
         ensures fit { AllByRecursion (λ placed. FitsPool self.now placed.instr) result.now }
     {
-        &self.instrs
+        self.body.instructions()
     }
 
     /// The classes around it.
@@ -121,6 +118,27 @@ impl<'a> MethodRules<'a> {
         self.part
     }
 
+    /// The length of its code, in bytes.
+    pub fn code_len(&self) -> u32
+        ensures { result ≡ length self.now.part.code }
+    {
+        self.body.code_len()
+    }
+
+    /// The frame that its code begins with.
+    pub fn entry(&self) -> &Frame
+        ensures { result.now ≡ entry self.now }
+    {
+        self.body.entry()
+    }
+
+    /// The frame that its code states for an offset, in bytes, if it states one there.
+    pub fn stated_at(&self, at: u32) -> Option<&Frame>
+        ensures { option_copied result ≡ stated_at self.now at }
+    {
+        self.body.stated_at(at)
+    }
+
     /// Whether a class is the current one.
     pub(crate) fn is_current(&self, name: &[u8]) -> bool
         ensures { IsTrue result ↔ (name.now ≡ current self.now) }
@@ -132,7 +150,7 @@ impl<'a> MethodRules<'a> {
     pub(crate) fn class_of_new(&self, at: u32) -> Option<&Text>
         ensures { option_copied result ≡ class_of_new self.now at }
     {
-        let placed = self.instrs.get(self.index.find(at)?)?;
+        let placed = self.body.instruction_at(at)?;
         self.class_made(&placed.instr)
     }
 
@@ -151,7 +169,7 @@ impl<'a> MethodRules<'a> {
         ensures { option_copied result ≡ result_of (own_descriptor self.now) }
     {
         a_descriptor_is_read_back();
-        self.descriptor.result.as_ref()
+        self.body.descriptor().result.as_ref()
     }
 
     /// Whether the method is an instance initialiser.
@@ -182,12 +200,7 @@ fn of_method<'a>(
     let Some(part) = code_of(method.attrs.as_slice()) else {
         unreachable!()
     };
-    let Some(text) = class.pool.utf8(method.desc) else {
-        unreachable!()
-    };
-    let instrs = instructions_of(alloc, part.code.as_slice())?;
-    let index = index_of(alloc, instrs.as_slice())?;
-    let descriptor = method_descriptor(alloc, text, method.flags)?;
+    let body = MethodBody::new(alloc, class, method, part)?;
     Ok(MethodRules {
         tree,
         class,
@@ -195,19 +208,6 @@ fn of_method<'a>(
         header,
         method,
         part,
-        instrs,
-        index,
-        descriptor,
+        body,
     })
-}
-
-// The instructions by their offsets.
-fn index_of(alloc: Global, instrs: &[Placed]) -> Result<OffsetIndex, NoMemory>
-    ensures { IfOk result (IsIndexOf (map (λ placed. placed.at) instrs.now)) }
-{
-    let mut offsets = Vec::new(alloc);
-    for placed in instrs {
-        offsets.push(placed.at)?;
-    }
-    OffsetIndex::of(alloc, offsets.as_slice())
 }

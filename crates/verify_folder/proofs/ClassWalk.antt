@@ -10,7 +10,7 @@ use Rattle.type_rules.specs.TypedFrames.{FolderFrames}
 use Rattle.type_rules.specs.declared.fault.VerifyFault.{VerifyFault}
 use Rattle.type_rules.specs.declared.fault.VerifyFault.TheVariants as faults
 use Rattle.type_rules.specs.Verified.{AreTypedMethods, AreTypedClasses}
-use Rattle.verify_folder.specs.Verifying.{Failure, ClassesFail, ClassVerifies, FolderIsTyped, FolderVerifies, MethodsFail}
+use Rattle.verify_folder.specs.Verifying.{Failure, ClassesFail, ClassIsTyped, ClassVerifies, FolderIsTyped, FolderVerifies, MethodsFail}
 
 pub record SoFar (headers : Headers) (folder : List ClassFile) (place : ℕ) (typed : FolderFrames) : Type 0 where
   pub typed_rest : (rest : FolderFrames) → AreTypedClasses headers (drop place folder) rest → AreTypedClasses headers folder (typed ++ rest)
@@ -60,6 +60,6 @@ pub one_typed : (headers : Headers) (folder : List ClassFile) (place : ℕ) (cla
 one_typed headers folder place class found is own types = record { typed = is.typed ++ own ∷ []; so_far = one_more headers folder place is.typed class found is.so_far own types }
 
 pub check_stops : (classes : Classes) (folder : List ClassFile) (place : ℕ) (class : ClassFile) → folder ≡ classes.folder → slice_get folder place ≡ Some class → IsTypedSoFar (headers_of classes) folder place
-    → (fault : VerifyFault) → ClassVerifies (headers_of classes) class (Err fault) → FolderIsTyped classes (Err fault)
+    → (fault : VerifyFault) → ClassIsTyped (headers_of classes) class (Err fault) → FolderIsTyped classes (Err fault)
 check_stops classes folder place class same found is (faults.Unverified name method offset rule) fails = folder_stops classes folder place is.typed class same found is.so_far (faults.Unverified name method offset rule) fails
 check_stops classes folder place class same found is faults.NoMemory fails = tt

@@ -16,7 +16,7 @@ use Rattle.type_rules.specs.Scope.{Scope, code_of, scope_at, scope_of}
 use Rattle.type_rules.specs.declared.fault.VerifyFault.{VerifyFault}
 use Rattle.type_rules.specs.declared.fault.VerifyFault.TheVariants as faults
 use Rattle.type_rules.specs.Verified.{TypesMethod, AreTypedMethods}
-use Rattle.verify_folder.specs.Verifying.{Failure, MethodFails, MethodsFail, MethodVerifies, VerifiesAs, ClassVerifies}
+use Rattle.verify_folder.specs.Verifying.{Failure, MethodFails, MethodsFail, MethodVerifies, VerifiesAs, ClassIsTyped, ClassVerifies}
 
 -- ---- where a method stands
 
@@ -81,6 +81,18 @@ pub all_typed : (headers : Headers) (class : ClassFile) (number : ℕ) (typed : 
 all_typed headers class number typed past so_far =
     subst (λ all. AreTypedMethods headers class class.methods all) (append-nil typed) (so_far.typed_rest [] (subst (λ methods. AreTypedMethods headers class methods []) (sym (drop_all number class.methods past)) tt))
 
+-- the same where the frames are not kept
+pub record IsTypedSoFar (headers : Headers) (class : ClassFile) (number : ℕ) : Type 0 where
+  pub typed : List (Option (List Frame))
+  pub so_far : SoFar headers class number typed
+
+pub none_typed : (headers : Headers) (class : ClassFile) → IsTypedSoFar headers class 0
+none_typed headers class = record { typed = []; so_far = none_so_far headers class }
+
+pub one_typed : (headers : Headers) (class : ClassFile) (number : ℕ) (method : Method) → slice_get class.methods number ≡ Some method → IsTypedSoFar headers class number → (frames : Option (List Frame)) → TypesMethod (scope_of headers class method) frames
+    → IsTypedSoFar headers class (number + 1)
+one_typed headers class number method found is frames types = record { typed = is.typed ++ frames ∷ []; so_far = one_more headers class number is.typed method found is.so_far frames types }
+
 -- ---- what a method answers
 
 pub item_at : {X : Type 0} (xs items : List X) (n : ℕ) (x d : X) → items ≡ xs → n < length items → x ≡ get_or items n d → slice_get xs n ≡ Some x
@@ -126,3 +138,7 @@ module _ (classes : Classes) (place number : ℕ) (class : ClassFile) (method : 
   class_stops typed so_far (faults.Unverified name wrong offset rule) verifies =
       stops (headers_of classes) class number typed method found so_far member.0 (record { class = name; method = wrong; offset = offset; rule = rule }) member.1 (answered (Err (faults.Unverified name wrong offset rule)) verifies)
   class_stops typed so_far faults.NoMemory verifies = tt
+
+  pub check_stops : IsTypedSoFar (headers_of classes) class number → (fault : VerifyFault) → VerifiesAs classes (record { class = place; method = number }) (Err fault) → ClassIsTyped (headers_of classes) class (Err fault)
+  check_stops is (faults.Unverified name wrong offset rule) verifies = class_stops is.typed is.so_far (faults.Unverified name wrong offset rule) verifies
+  check_stops is faults.NoMemory verifies = tt

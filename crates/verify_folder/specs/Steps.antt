@@ -1,15 +1,10 @@
 -- What the parts of verification answer.
-use Rattle.std.specs.Prelude.{◌≡◌, ◌⊎◌, ◌<◌, ℕ, List, length, Option, Some, None, Result, Ok, Err}
+use Rattle.std.specs.Prelude.{◌≡◌, ◌⊎◌, ℕ, List, Option, Some, None, Result, Ok, Err}
 use Rattle.std.specs.List.{AllByRecursion}
 use Rattle.class_model.specs.Checks.{AllHold, Check, IsFirstFault}
-use Rattle.class_model.specs.Instructions.{decoded}
 use Rattle.class_model.specs.declared.class_file.Handler.{Handler}
 use Rattle.class_model.specs.declared.frame.Frame.{Frame}
-use Rattle.class_model.specs.declared.frame.PlacedFrame.{PlacedFrame}
 use Rattle.class_model.specs.declared.instr.Placed.{Placed}
-use Rattle.class_tree.specs.Headers.{Name}
-use Rattle.class_tree.specs.Names.{throwable}
-use Rattle.code_bytes.specs.Codes.{IsReadMethod}
 use Rattle.type_rules.specs.Rule.{row_checks, ruled}
 use Rattle.type_rules.specs.Scope.{Scope, instructions}
 use Rattle.type_rules.specs.Table.{row_of}
@@ -19,7 +14,7 @@ use Rattle.type_rules.specs.declared.ruled.Ruled.{Ruled}
 use Rattle.type_rules.specs.Checks.{FailsAt, IsTypedAt, MayFlowIn, frame_before}
 use Rattle.type_rules.specs.Flow.{flows_on}
 use Rattle.type_rules.specs.Handlers.{CatchesThrowables}
-use Rattle.type_rules.specs.Stated.{entry, stated, stated_at}
+use Rattle.type_rules.specs.Stated.{entry, stated_at}
 use Rattle.type_rules.specs.Typed.{AreTyped, FailsIn, FailsInTable, IsFirstFailure, Typed}
 use Rattle.verify_folder.specs.declared.stop.Stop.{Stop}
 use Rattle.verify_folder.specs.declared.stop.Stop.TheVariants as stops
@@ -68,15 +63,3 @@ abbrev pub WalkAnswers : Scope → Result (List Frame) Stop → Type 0
 WalkAnswers s (Ok frames) = AreTyped s (Some (entry s)) (instructions s) frames
 WalkAnswers s (Err (stops.Fails offset rule)) = FailsIn s (Some (entry s)) (instructions s) offset rule
 WalkAnswers s (Err stops.NoMemory) = Unit {0}
-
--- A method whose class file was read.
-pub record IsRead (s : Scope) : Type 0 where
-  pub method : IsReadMethod s.class.pool s.method
-  pub len : length s.part.code < 65536
-  pub instrs : decoded s.part.code ≡ Ok (instructions s)
-
--- what is kept beside a method that is typed
-pub record IsTyping (s : Scope) (frames : List PlacedFrame) (all : Name) : Type 0 where
-  pub read : IsRead s
-  pub stated_is : frames ≡ stated s
-  pub all_is : all ≡ throwable

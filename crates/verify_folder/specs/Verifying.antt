@@ -68,6 +68,12 @@ ClassVerifies headers class (Ok typed) = AreTypedMethods headers class class.met
 ClassVerifies headers class (Err (faults.Unverified name method offset rule)) = MethodsFail headers class class.methods (header_of class).methods (failure_of name method offset rule)
 ClassVerifies headers class (Err faults.NoMemory) = Unit {0}
 
+-- of the methods of a class, whose frames are not kept
+abbrev pub ClassIsTyped : Headers → ClassFile → Result Unit VerifyFault → Type 0
+ClassIsTyped headers class (Ok done) = (typed : List (Option (List Frame))) × AreTypedMethods headers class class.methods typed
+ClassIsTyped headers class (Err (faults.Unverified name method offset rule)) = MethodsFail headers class class.methods (header_of class).methods (failure_of name method offset rule)
+ClassIsTyped headers class (Err faults.NoMemory) = Unit {0}
+
 -- of a folder
 abbrev pub FolderVerifies : Classes → Result FolderFrames VerifyFault → Type 0
 FolderVerifies classes (Ok typed) = TypesFolder classes typed

@@ -3,7 +3,7 @@ ghost use Rattle.std.specs.Prelude.{◌≡◌, is_some, slice_get, Some};
 ghost use Rattle.class_tree.specs.Headers.{headers_of};
 ghost use Rattle.member_link.specs.Linked.{IsLinked};
 ghost use Rattle.type_rules.specs.Scope.{code_of};
-ghost use Rattle.verify_folder.specs.Verifying.{ClassVerifies, FolderIsTyped, FolderVerifies};
+ghost use Rattle.verify_folder.specs.Verifying.{ClassIsTyped, ClassVerifies, FolderIsTyped, FolderVerifies};
 
 use crate::method::verify_method;
 use class_model::{Attr, ClassFile, MethodAt};
@@ -28,7 +28,7 @@ pub fn verify_all(alloc: Global, tree: &Tree) -> Result<TypedFolder, VerifyFault
     Ok(typed)
 }
 
-/// Verifies each method with code of a linked folder, as `verify_all`, and keeps the frames of one class at a time.
+/// Verifies each method with code of a linked folder, as `verify_all`, and keeps the frames of one method at a time.
 ///
 /// # Errors
 /// As `verify_all`.
@@ -37,7 +37,30 @@ pub fn check_all(alloc: Global, tree: &Tree) -> Result<(), VerifyFault>
     ensures { FolderIsTyped tree.now result }
 {
     for (place, class) in tree.folder().as_slice().iter().enumerate() {
-        verify_class(alloc, tree, place, class)?;
+        check_class(alloc, tree, place, class)?;
+    }
+    Ok(())
+}
+
+// Verifies each method with code of the class at a place. Their frames are not kept.
+fn check_class(
+    alloc: Global,
+    tree: &Tree,
+    place: usize,
+    class: &ClassFile,
+) -> Result<(), VerifyFault>
+    requires linked { IsLinked tree.now }
+    requires stands { slice_get tree.now.folder place ≡ Some class.now }
+    ensures { ClassIsTyped (headers_of tree.now) class.now result }
+{
+    for (number, method) in class.methods.as_slice().iter().enumerate() {
+        if has_code(method.attrs.as_slice()) {
+            let at = MethodAt {
+                class: place,
+                method: number,
+            };
+            verify_method(alloc, tree, at)?;
+        }
     }
     Ok(())
 }

@@ -7,7 +7,6 @@ mod folder;
 mod handlers;
 mod laws;
 mod method;
-mod stated;
 mod stop;
 mod typing;
 

@@ -1,17 +1,14 @@
 //! A method verifies.
-ghost use Rattle.std.specs.Prelude.{◌≡◌, Some, IfOk, IsSome};
+ghost use Rattle.std.specs.Prelude.{◌≡◌, IfOk, IsSome};
 ghost use Rattle.class_model.specs.Header.{header_of};
-ghost use Rattle.class_model.specs.declared.class_file.MethodAt.{MethodAt};
 ghost use Rattle.member_link.specs.Linked.{IsLinked};
-ghost use Rattle.type_rules.specs.Scope.{Scope, scope_at};
-ghost use Rattle.verify_folder.specs.Steps.{IsRead};
+ghost use Rattle.type_rules.specs.Scope.{scope_at};
 ghost use Rattle.verify_folder.specs.Verifying.{VerifiesAs};
 
 use crate::stop::Stop;
 use crate::typing::type_method;
 use class_model::{Member, MethodAt, NoMemory};
 use class_tree::Tree;
-use code_bytes::a_class_file_has_read_methods;
 use std::alloc::Global;
 use type_rules::{MethodRules, TypeRule, TypedMethod, VerifyFault};
 
@@ -26,7 +23,6 @@ pub fn verify_method(alloc: Global, tree: &Tree, at: MethodAt) -> Result<TypedMe
     requires has_code { IsSome (scope_at tree.now at) }
     ensures { VerifiesAs tree.now at result }
 {
-    a_method_is_read(tree);
     let rules = MethodRules::new(alloc, tree, at)?;
     match type_method(alloc, &rules) {
         Ok(frames) => Ok(frames),
@@ -38,14 +34,6 @@ pub fn verify_method(alloc: Global, tree: &Tree, at: MethodAt) -> Result<TypedMe
         }
         Err(Stop::NoMemory) => Err(VerifyFault::NoMemory),
     }
-}
-
-// A method with code of a folder was read.
-fn a_method_is_read(tree: &Tree)
-    ensures { (at : MethodAt) (s : Scope) → scope_at tree.now at ≡ Some s → IsRead s }
-{
-    a_class_file_has_read_methods();
-    tree.folder();
 }
 
 // The failure of a method, which is this member of its class's header.

@@ -8,31 +8,26 @@ ghost use Rattle.type_rules.specs.Checks.{MayGoTo, handler_checks, target_checks
 ghost use Rattle.type_rules.specs.Flow.{falls_through};
 ghost use Rattle.type_rules.specs.Handlers.{caught_frame};
 ghost use Rattle.type_rules.specs.Stated.{stated_at};
-ghost use Rattle.verify_folder.specs.Steps.{BeforeAnswers, ChecksAnswer, IsRead, RowAnswers, StepAnswers, TypingAnswers, WalkAnswers};
+ghost use Rattle.verify_folder.specs.Steps.{BeforeAnswers, ChecksAnswer, RowAnswers, StepAnswers, TypingAnswers, WalkAnswers};
 
 use crate::flow::falls_through;
 use crate::handlers::{caught_frame, check_catch_types, covers};
-use crate::stated::StatedFrames;
 use crate::stop::Stop;
 use class_model::{Frame, Handler, Instr, NoMemory, Pair, Placed, Text};
 use class_tree::THROWABLE;
-use code_bytes::entry_frame;
 use std::alloc::Global;
 use std::marker::Model;
 use type_rules::{MethodRules, RuleFault, Ruled, TypeRule, TypedMethod, frame_assignable};
 
 /// Finds the frames that type a method.
 pub(crate) fn type_method(alloc: Global, rules: &MethodRules<'_>) -> Result<TypedMethod, Stop>
-    requires { IsRead rules.now }
     ensures { TypingAnswers rules.now result }
 {
     check_catch_types(rules)?;
-    let stated = StatedFrames::of(alloc, rules)?;
     let all = throwable_name(alloc)?;
     let typing = Typing {
         alloc,
         rules,
-        stated: &stated,
         all: &all,
     };
     typing.walk()
@@ -45,24 +40,24 @@ fn throwable_name(alloc: Global) -> Result<Text, NoMemory>
     Text::of_plain(alloc, THROWABLE)
 }
 
-/// A method that is typed, the frames that its code states, and the name of all throwables. Contracts see the method.
+/// A method that is typed, and the name of all throwables. Contracts see the method.
 #[derive(Drop)]
 struct Typing<'a> {
     alloc: Global,
     rules: &'a MethodRules<'a>,
-    stated: &'a StatedFrames,
     all: &'a Text,
 }
 
 impl<'a> Model for Typing<'a> {
+    ghost use Rattle.std.specs.Prelude.{◌≡◌};
+    ghost use Rattle.class_tree.specs.Names.{throwable};
     ghost use Rattle.type_rules.specs.Scope.{Scope};
-    ghost use Rattle.verify_folder.specs.Steps.{IsTyping};
 
     ghost Value = { Scope };
 
     ghost view = { λ typing. typing.rules.now };
 
-    ghost invariant = { λ typing. IsTyping typing.rules.now typing.stated.now typing.all.now };
+    ghost invariant = { λ typing. typing.all.now ≡ throwable };
 }
 
 impl Typing<'_> {
@@ -72,14 +67,14 @@ impl Typing<'_> {
     {
         let rules = self.rules;
         let mut frames = TypedMethod::new(self.alloc);
-        let mut flows = Some(entry_frame(self.alloc, rules.class(), rules.method(), rules.part())?);
+        let mut flows = Some(rules.entry().copy(self.alloc)?);
         for placed in rules.instructions().as_slice() {
             let (before, next) = self.step(flows, placed)?;
             frames.push(before)?;
             flows = next;
         }
         match flows {
-            Some(_) => Err(fails(rules.part().code.len() as u32, TypeRule::FallsOff)),
+            Some(_) => Err(fails(rules.code_len(), TypeRule::FallsOff)),
             None => Ok(frames),
         }
     }
@@ -100,7 +95,7 @@ impl Typing<'_> {
     fn before(&self, flows: Option<Frame>, at: u32) -> Result<Frame, Stop>
         ensures { BeforeAnswers self.now flows at result }
     {
-        match (self.stated.at(at), flows) {
+        match (self.rules.stated_at(at), flows) {
             (Some(stated), Some(flows)) if !frame_assignable(self.rules.tree(), &flows, stated) =>
                 Err(fails(at, TypeRule::Mismatch)),
             (Some(stated), _) => Ok(stated.copy(self.alloc)?),
@@ -145,7 +140,7 @@ impl Typing<'_> {
     fn may_go_to(&self, frame: Option<&Frame>, to: u32) -> bool
         ensures { IsTrue result ↔ MayGoTo self.now.headers (option_copied frame.entry) (stated_at self.now to) }
     {
-        match (frame, self.stated.at(to)) {
+        match (frame, self.rules.stated_at(to)) {
             (Some(frame), Some(stated)) => frame_assignable(self.rules.tree(), frame, stated),
             _ => false,
         }

@@ -49,17 +49,22 @@ frame_is flags (Some name) (Some class) params max_locals = elim (cases_Bool (ha
 
 -- ---- the frame
 
+module _ (home : Home) (method : Method) (part : CodePart) (locals : List VType) where
+  abbrev this_of : List VType
+  this_of = this_entries method.flags (utf8_at home.pool method.name) home.name
+
+  pub entry_with : (params : List FieldType) → params ≡ parameters_of (text_or_empty (utf8_at home.pool method.desc)) → locals ≡ this_of ++ units_of_entries (map verification_type params) → frame_of (with_tops part.max_locals locals) ≡ entry_of home method part
+  entry_with params params_are are =
+      let name : Option (List ℕ) = utf8_at home.pool method.name in
+      let parts : locals ≡ units_of_entries (this_of ++ map verification_type params) =
+      are
+      ∙ ap (λ (first : List VType). first ++ units_of_entries (map verification_type params)) (sym (this_units (has method.flags STATIC) (is_text init name) home.name))
+      ∙ sym (flat_map-append units this_of (map verification_type params)) in
+      ap (λ (of : List VType). frame_of (with_tops part.max_locals of)) parts
+      ∙ sym (frame_is method.flags name home.name params part.max_locals)
+      ∙ ap (λ (own : List FieldType). entry_frame method.flags (text_or_empty name) home.name own part.max_locals) params_are
+
 pub entry_is : (home : Home) (method : Method) (part : CodePart) (text : List ℕ) (locals : List VType) → utf8_at home.pool method.desc ≡ Some text
     → locals ≡ this_entries method.flags (utf8_at home.pool method.name) home.name ++ units_of_entries (map verification_type (parameters_of text))
     → frame_of (with_tops part.max_locals locals) ≡ entry_of home method part
-entry_is home method part text locals there are =
-    let name : Option (List ℕ) = utf8_at home.pool method.name in
-    let this = this_entries method.flags name home.name in
-    let params = parameters_of text in
-    let parts : locals ≡ units_of_entries (this ++ map verification_type params) =
-    are
-    ∙ ap (λ (first : List VType). first ++ units_of_entries (map verification_type params)) (sym (this_units (has method.flags STATIC) (is_text init name) home.name))
-    ∙ sym (flat_map-append units this (map verification_type params)) in
-    ap (λ (of : List VType). frame_of (with_tops part.max_locals of)) parts
-    ∙ sym (frame_is method.flags name home.name params part.max_locals)
-    ∙ ap (λ (of : Option (List ℕ)). entry_frame method.flags (text_or_empty name) home.name (parameters_of (text_or_empty of)) part.max_locals) (sym there)
+entry_is home method part text locals there are = entry_with home method part locals (parameters_of text) (ap (λ (of : Option (List ℕ)). parameters_of (text_or_empty of)) (sym there)) are

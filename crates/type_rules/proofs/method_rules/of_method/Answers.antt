@@ -1,37 +1,30 @@
-use Rattle.std.proofs.Common.{◌≡◌, ◌∙◌, ℕ, List, Ok, map, refl, sym, ap, subst, rules}
+use Rattle.std.proofs.Common.{◌∙◌, refl, sym, ap}
 use Rattle.class_model.specs.Checks.{AllHold}
 use Rattle.class_model.specs.Instructions.{decoded}
 use Rattle.class_model.specs.declared.class_file.CodePart.{CodePart}
-use Rattle.class_model.specs.declared.instr.Placed.{Placed}
 use Rattle.class_tree.specs.Headers.{headers_of}
 use Rattle.code_bytes.specs.Codes.{HasInstrs, HasOperands, HaveOperands}
 use Rattle.code_bytes.specs.Decoding.{decoding_checks}
 use Rattle.type_rules.specs.Laws.Codes.{code_has}
-use Rattle.type_rules.specs.Offsets.{IsIndexOf}
 use Rattle.type_rules.specs.Scope.{Scope, code_of}
-use Rattle.type_rules.proofs.FittingPools.{instrs_fit}
+use Rattle.type_rules.proofs.FittingPools.{instructions_fit}
 use Rattle.type_rules.proofs.method_rules.of_method.Goals as goal
 
-pub instructions_of-requires : goal.instructions_of-requires
-instructions_of-requires c =
-    subst (λ (code : List ℕ). AllHold (decoding_checks code)) (sym c.as_slice-2.ensures)
-    (code_has HasInstrs (λ (part : CodePart). AllHold (decoding_checks part.code)) (λ name part h. h) c.args.method.now.attrs c.in-Some.part.now c.requires.read.codes (sym (c.in-Some.ensures ∙ ap code_of c.as_slice.ensures)))
+pub new-requires-clause-code : goal.new-requires-clause-code
+new-requires-clause-code c =
+    code_has HasInstrs (λ (part : CodePart). AllHold (decoding_checks part.code)) (λ name part h. h) c.args.method.now.attrs c.in-Some.part.now c.requires.read.codes (sym (c.in-Some.ensures ∙ ap code_of c.as_slice.ensures))
 
 pub invariant_of-result : goal.invariant_of-result
 invariant_of-result c =
     let class = c.args.class.now in
     let part = c.in-Some.part.now in
-    let instrs = c.in_ok-instrs.instrs in
     let found = sym (c.in-Some.ensures ∙ ap code_of c.as_slice.ensures) in
     let s : Scope = record { headers = headers_of c.args.tree.now; class = class; method = c.args.method.now; part = part } in
-    let read : decoded part.code ≡ Ok instrs = ap decoded (sym c.as_slice-2.ensures) ∙ c.in_ok-instrs.ensures in
     record {
       headers = refl;
       class_file = c.requires.class_file;
       stands = c.requires.stands;
       header_is = c.requires.header;
-      instrs_are = search rules;
-      fit = instrs_fit s part.max_locals (decoded part.code) instrs (code_has (HasOperands class.pool class.major) (λ (part : CodePart). HaveOperands class.pool class.major part.max_locals (decoded part.code)) (λ name part h. h) c.args.method.now.attrs part c.requires.operands found) read;
-      indexed = subst (λ (items : List Placed). IsIndexOf (map (λ placed. placed.at) items) c.in_ok-index.index) c.as_slice-3.ensures c.in_ok-index.ensures;
-      descriptor_is = search rules;
+      body_is = c.in_ok-body.ensures;
+      fit = instructions_fit s part.max_locals (code_has (HasOperands class.pool class.major) (λ (part : CodePart). HaveOperands class.pool class.major part.max_locals (decoded part.code)) (λ name part h. h) c.args.method.now.attrs part c.requires.operands found);
     }

@@ -4,9 +4,6 @@ use Rattle.std.specs.Option.{option_copied}
 use Rattle.verify_folder.proofs.MethodWalk.{has_member}
 use Rattle.verify_folder.proofs.method.verify_method.Goals as goal
 
-pub type_method-requires : goal.type_method-requires
-type_method-requires c = c.a_method_is_read.ensures c.args.at c.in_ok-rules.rules c.in_ok-rules.ensures
-
 pub unreachable-requires : goal.unreachable-requires
 unreachable-requires c =
     has_member c.args.tree.now c.args.at c.in_ok-rules.rules c.in_ok-rules.ensures

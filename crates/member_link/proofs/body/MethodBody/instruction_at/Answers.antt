@@ -1,0 +1,22 @@
+use Rattle.std.proofs.Common.{◌≡◌, ◌∙◌, Ok, ap, subst}
+use Rattle.std.specs.Option.{option_copied}
+use Rattle.class_model.specs.Instructions.{decoded}
+use Rattle.member_link.specs.CodedMethods.{CodedMethod}
+use Rattle.member_link.proofs.FirstAt.{no_instr, instr_found}
+use Rattle.member_link.proofs.body.MethodBody.instruction_at.Goals as goal
+
+pub returns-in_err-find : goal.returns-in_err-find
+returns-in_err-find c =
+    let own = c.self.inside in (
+      own.instrs,
+      subst (λ (m : CodedMethod). decoded m.part.code ≡ Ok own.instrs) c.self.view_is c.self.invariant.instrs_are,
+      ap option_copied c.from_residual.ensures ∙ no_instr c.args.at own.instrs own.index c.self.invariant.indexed c.in_err-find.ensures,
+    )
+
+pub returns : goal.returns
+returns c =
+    let own = c.self.inside in (
+      own.instrs,
+      subst (λ (m : CodedMethod). decoded m.part.code ≡ Ok own.instrs) c.self.view_is c.self.invariant.instrs_are,
+      instr_found c.args.at own.instrs own.index c.self.invariant.indexed c.in_ok-find.field-0 _ c.in_ok-find.ensures c.get.ensures,
+    )

@@ -1,0 +1,6 @@
+-- The method with code that a scope speaks of.
+use Rattle.member_link.specs.CodedMethods.{CodedMethod}
+use Rattle.type_rules.specs.Scope.{Scope}
+
+abbrev pub body_of : Scope → CodedMethod
+body_of s = record { class = s.class; method = s.method; part = s.part }
