@@ -3,6 +3,7 @@
 pub mod Answers
 pub mod Checks
 pub mod ClassFiles
+pub mod Codes
 pub mod Cuts
 pub mod Descriptors
 pub mod Frames

@@ -17,4 +17,6 @@ pub mod ClassOf
 pub mod Header
 pub mod Answers
 pub mod Stated
+pub mod MethodCode
+pub mod ArrayTypes
 pub mod Laws

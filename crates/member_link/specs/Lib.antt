@@ -23,3 +23,5 @@ pub mod Linked
 pub mod Assignability
 pub mod OpenMethods
 pub mod FinalMethods
+pub mod Signatures
+pub mod RowScope

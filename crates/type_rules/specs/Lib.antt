@@ -26,4 +26,3 @@ pub mod Flow
 pub mod Checks
 pub mod Typed
 pub mod Verified
-pub mod Laws

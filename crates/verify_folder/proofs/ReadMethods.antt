@@ -4,10 +4,12 @@ use Rattle.std.specs.List.{AllByRecursion}
 use Rattle.std.proofs.lemmas.Bool.{and_parts, ltb-true}
 use Rattle.std.proofs.lemmas.Option.{same_Some}
 use Rattle.class_model.specs.Checks.{AllHold, Check, Fault, asked_of}
-use Rattle.class_model.specs.Instructions.{decoded}
-use Rattle.class_model.specs.Laws.Lists.{at_index}
-use Rattle.class_model.specs.Spelling.{class_bytes}
 use Rattle.class_model.specs.ClassOf.{ClassOf}
+use Rattle.class_model.specs.Instructions.{decoded}
+use Rattle.class_model.specs.Laws.Codes.{code_has}
+use Rattle.class_model.specs.Laws.Lists.{at_index}
+use Rattle.class_model.specs.MethodCode.{code_of}
+use Rattle.class_model.specs.Spelling.{class_bytes}
 use Rattle.class_model.specs.declared.class_file.Attr.TheVariants.{Code}
 use Rattle.class_model.specs.declared.class_file.ClassFile.{ClassFile}
 use Rattle.class_model.specs.declared.class_file.CodePart.{CodePart}
@@ -16,8 +18,7 @@ use Rattle.class_model.specs.declared.class_file.MethodAt.{MethodAt}
 use Rattle.class_model.specs.declared.instr.Placed.{Placed}
 use Rattle.class_tree.specs.Headers.{Classes, Headers, headers_of, IsClassFile}
 use Rattle.code_bytes.specs.Codes.{HasInstrs, HasReadMethods, IsReadMethod}
-use Rattle.type_rules.specs.Laws.Codes.{code_has}
-use Rattle.type_rules.specs.Scope.{Scope, code_of, instructions, scope_at, scope_of}
+use Rattle.type_rules.specs.Scope.{Scope, instructions, scope_at, scope_of}
 use Rattle.verify_folder.specs.Steps.{IsRead}
 
 instrs_are : (s : Scope) (asks : List Placed → List (Check Fault)) (found : Result (List Placed) Fault) → decoded s.part.code ≡ found → AllHold (asked_of found asks) → decoded s.part.code ≡ Ok (instructions s)
