@@ -18,6 +18,7 @@ mod local_types;
 mod lookup;
 mod memory;
 mod names;
+pub mod opcodes;
 mod pool;
 mod text;
 
