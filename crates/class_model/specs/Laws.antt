@@ -4,6 +4,7 @@ pub mod AlikeAttrs
 pub mod Answers
 pub mod Checks
 pub mod ClassFiles
+pub mod Codes
 pub mod CutBack
 pub mod Cuts
 pub mod Descriptors

@@ -18,5 +18,7 @@ pub mod Values
 pub mod Header
 pub mod Answers
 pub mod Stated
+pub mod MethodCode
+pub mod ArrayTypes
 pub mod Laws
 pub mod RuleNames

@@ -30,3 +30,5 @@ pub mod LinkedPlaces
 pub mod Assignability
 pub mod OpenMethods
 pub mod FinalMethods
+pub mod Signatures
+pub mod RowScope

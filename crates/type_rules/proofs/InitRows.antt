@@ -5,8 +5,10 @@ use Rattle.class_model.specs.declared.descriptor.FieldType.{FieldType}
 use Rattle.class_model.specs.declared.frame.Frame.{Frame}
 use Rattle.class_model.specs.declared.frame.VType.{VType}
 use Rattle.member_link.specs.References.{Reference}
+use Rattle.member_link.specs.Signatures.{result_of}
+use Rattle.type_rules.proofs.RowSteps.{concluded_row}
 use Rattle.type_rules.specs.Calls.{init_signature}
-use Rattle.type_rules.specs.MemberRows.{MayInitialise, init_row, initialised_type, result_of, result_types}
+use Rattle.type_rules.specs.MemberRows.{MayInitialise, init_row, initialised_type, result_types}
 use Rattle.type_rules.specs.Operands.{AllFit, lowest_of, topmost, under}
 use Rattle.type_rules.specs.Rows.{Row}
 use Rattle.type_rules.specs.Rule.{RowRules}
@@ -14,7 +16,6 @@ use Rattle.type_rules.specs.Scope.{Scope}
 use Rattle.type_rules.specs.Steps.{Concludes}
 use Rattle.type_rules.specs.declared.fault.RuleFault.{RuleFault}
 use Rattle.type_rules.specs.declared.ruled.Ruled.{Ruled}
-use Rattle.type_rules.proofs.RowSteps.{concluded_row}
 
 module _ (s : Scope) (f : Frame) (r : Reference) (answer : Result Ruled RuleFault) where
   pub by_descriptor : (params : List FieldType) (result : Option FieldType) → parameters_of r.desc ≡ params → result_of r.desc ≡ result → RowRules s f (init_signature s f r params result) answer → RowRules s f (init_row s f r) answer

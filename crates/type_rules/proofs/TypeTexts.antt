@@ -3,15 +3,15 @@ use Rattle.std.proofs.Common.{◌≡◌, ◌≢◌, ◌+◌, ◌-◌, ℕ, Bool,
 use Rattle.std.proofs.lemmas.List.{drop_at, take_at}
 use Rattle.std.specs.List.{flat_map}
 use Rattle.class_model.specs.Descriptors.{named_text, descriptor_text, field_type_text, IsFieldType, IsReferenceName, SpellsDescriptor, parameters_of, result_text, type_of}
-use Rattle.class_model.specs.ModifiedUtf8.{IsText}
 use Rattle.class_model.specs.Laws.Descriptors.{class_text, array_head, array_text, named}
+use Rattle.class_model.specs.ModifiedUtf8.{IsText}
 use Rattle.class_model.specs.PoolChecks.{IsTypeName}
+use Rattle.class_model.specs.declared.descriptor.Descriptor.{Descriptor}
 use Rattle.class_model.specs.declared.descriptor.FieldType.{FieldType}
 use Rattle.class_model.specs.declared.descriptor.FieldType.TheVariants.{Byte, Char, Short, Bool as Boolean, Int, Long, Float, Double, Named}
-use Rattle.class_model.specs.declared.descriptor.Descriptor.{Descriptor}
-use Rattle.type_rules.specs.MemberRows.{result_of}
-use Rattle.type_rules.specs.Signatures.{IsMemberDescriptor}
+use Rattle.member_link.specs.Signatures.{result_of}
 use Rattle.type_rules.proofs.ClassTexts.{name_is_text}
+use Rattle.type_rules.specs.Signatures.{IsMemberDescriptor}
 
 -- ---- the type of a text
 

@@ -1,5 +1,6 @@
 -- Instructions on arrays (JVM Specification SE 8, 6.5).
 use Rattle.std.specs.Prelude.{◌==◌, ◌-◌, nat_lt, ℕ, List, [], ◌∷◌, length, take, replicate, codes, Option, Some, None, if◌then◌else◌}
+use Rattle.class_model.specs.ArrayTypes.{component_of}
 use Rattle.class_model.specs.Descriptors.{named_text}
 use Rattle.class_model.specs.PoolChecks.{class_at}
 use Rattle.class_model.specs.declared.descriptor.Kind.TheVariants.{Int, Long, Float, Double}
@@ -32,14 +33,6 @@ elements_of number =
     else (if number == 6 then elements (codes "[C" ∷ []) types.Int
     else (if number == 7 then elements (codes "[S" ∷ []) types.Int
     else None))))))
-
--- the component of an array of references: an array, or a class between L and ;
-abbrev pub component_of : Name → Name
-component_of [] = []
-component_of (first ∷ rest) = inner rest where
-  inner : Name → Name
-  inner [] = []
-  inner (head ∷ tail) = if head == 76 then take (length tail - 1) tail else head ∷ tail
 
 -- of null, null
 abbrev pub component_type : VType → VType

@@ -26,5 +26,4 @@ pub mod Flow
 pub mod Checks
 pub mod Typed
 pub mod Verified
-pub mod Laws
 pub mod RuleNames

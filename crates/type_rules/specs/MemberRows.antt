@@ -25,33 +25,17 @@ use Rattle.member_link.specs.DeclaredMembers.{Declared}
 use Rattle.member_link.specs.Fields.{FindsField}
 use Rattle.member_link.specs.Methods.{FindsMethod}
 use Rattle.member_link.specs.Overriding.{package_of}
-use Rattle.member_link.specs.References.{Reference, reference_at}
+use Rattle.member_link.specs.References.{Reference}
+use Rattle.member_link.specs.Signatures.{field_type, reference_of, result_of}
 use Rattle.type_rules.specs.Operands.{Need, of_kind, uninitialised, assignable_to, assignable_or_this, lowest_of}
 use Rattle.type_rules.specs.Rows.{Row, plain, conditional, ending, no_row, either}
 use Rattle.type_rules.specs.Scope.{Scope, current, is_init, own_descriptor, class_of_new}
 
--- ---- what constants and descriptors say
-
--- the member that a constant refers to
-abbrev pub reference_of : Constants → Option Const → Option Reference
-reference_of pool (Some (consts.Fieldref class member)) = reference_at pool class member
-reference_of pool (Some (consts.Methodref class member)) = reference_at pool class member
-reference_of pool (Some (consts.InterfaceMethodref class member)) = reference_at pool class member
-reference_of pool constant = None
-
--- the type of a field
-abbrev pub field_type : List ℕ → VType
-field_type desc = verification_type (type_of desc)
+-- ---- arguments and results
 
 -- what is asked of the arguments
 abbrev pub argument_needs : List ℕ → List Need
 argument_needs desc = map (λ param. assignable_to (verification_type param)) (parameters_of desc)
-
--- the result of a method descriptor: what stands behind its parameters, which is V for none
-abbrev pub result_of : List ℕ → Option FieldType
-result_of desc = of_text (drop (length (flat_map field_type_text (parameters_of desc)) + 2) desc) where
-  of_text : List ℕ → Option FieldType
-  of_text text = if bytes_eq text (codes "V") then None else Some (type_of text)
 
 abbrev pub result_types : Option FieldType → List VType
 result_types None = []

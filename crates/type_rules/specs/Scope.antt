@@ -4,10 +4,9 @@ use Rattle.class_model.specs.Checks.{Fault}
 use Rattle.class_model.specs.Header.{header_of}
 use Rattle.class_model.specs.Instructions.{decoded}
 use Rattle.class_model.specs.Members.{is_text}
+use Rattle.class_model.specs.MethodCode.{code_of}
 use Rattle.class_model.specs.Names.{init}
 use Rattle.class_model.specs.PoolChecks.{utf8_at, class_at, text_or_empty}
-use Rattle.class_model.specs.declared.class_file.Attr.{Attr}
-use Rattle.class_model.specs.declared.class_file.Attr.TheVariants.{Raw, Code}
 use Rattle.class_model.specs.declared.class_file.ClassFile.{ClassFile}
 use Rattle.class_model.specs.declared.class_file.CodePart.{CodePart}
 use Rattle.class_model.specs.declared.class_file.Method.{Method}
@@ -25,12 +24,6 @@ pub record Scope : Type 0 where
   pub part : CodePart
 
 -- ---- where a method stands
-
--- the first Code attribute
-abbrev pub code_of : List Attr → Option CodePart
-code_of [] = None
-code_of (Code name part ∷ attrs) = Some part
-code_of (Raw name bytes ∷ attrs) = code_of attrs
 
 abbrev pub scope_of : Headers → ClassFile → Method → Option Scope
 scope_of headers class method = option_map (λ part. record { headers = headers; class = class; method = method; part = part }) (code_of method.attrs)

@@ -13,10 +13,11 @@ use Rattle.class_model.specs.declared.instr.Instr.TheVariants.{Nop, Const, Ldc, 
 use Rattle.class_model.specs.declared.instr.Placed.{Placed}
 use Rattle.class_tree.specs.Headers.{Name}
 use Rattle.class_tree.specs.Names.{throwable}
+use Rattle.member_link.specs.Signatures.{reference_of}
 use Rattle.type_rules.specs.ArithmeticRows.{pure_operations, divide_operations, float_operations, operation_in, operation_row}
 use Rattle.type_rules.specs.ArrayRows.{array_load_row, array_store_row, new_array_row, new_ref_array_row, new_multi_row, length_row}
 use Rattle.type_rules.specs.LocalRows.{imm_row, const_row, load_row, store_row, iinc_row}
-use Rattle.type_rules.specs.MemberRows.{reference_of, get_static_row, put_static_row, get_field_row, put_field_row, call_row, dynamic_row, return_row}
+use Rattle.type_rules.specs.MemberRows.{get_static_row, put_static_row, get_field_row, put_field_row, call_row, dynamic_row, return_row}
 use Rattle.type_rules.specs.Operands.{Need, of_kind, initialised, assignable_to}
 use Rattle.type_rules.specs.Rows.{Row, plain, ending, no_row, either}
 use Rattle.type_rules.specs.Scope.{Scope}

@@ -3,16 +3,17 @@ ghost use Rattle.std.specs.Prelude.{◌≡◌, ◌↔◌, ◌+◌, List, bytes_e
 ghost use Rattle.std.specs.List.{list_any};
 ghost use Rattle.std.specs.Option.{option_copied};
 ghost use Rattle.class_model.specs.Descriptors.{SpellsDescriptor};
+ghost use Rattle.class_model.specs.Header.{header_of};
 ghost use Rattle.class_model.specs.Pool.{constant_at};
 ghost use Rattle.class_model.specs.PoolChecks.{descriptor_at};
-ghost use Rattle.class_model.specs.Header.{header_of};
 ghost use Rattle.class_tree.specs.Headers.{Name};
 ghost use Rattle.class_tree.specs.Subtype.{IsChain};
 ghost use Rattle.member_link.specs.Assignability.{IsAssignable};
-ghost use Rattle.type_rules.specs.MemberRows.{IsSpecialTarget, call_row, dynamic_row, instance_row, reference_of, special_row, static_row, receiver, PassesMethod};
+ghost use Rattle.member_link.specs.Signatures.{reference_of};
+ghost use Rattle.type_rules.specs.MemberRows.{IsSpecialTarget, call_row, dynamic_row, instance_row, special_row, static_row, receiver, PassesMethod};
+ghost use Rattle.type_rules.specs.Operands.{lowest_of};
 ghost use Rattle.type_rules.specs.References.{reference_meant};
 ghost use Rattle.type_rules.specs.Rule.{RowRules};
-ghost use Rattle.type_rules.specs.Operands.{lowest_of};
 ghost use Rattle.type_rules.specs.Scope.{current};
 ghost use Rattle.type_rules.specs.Signatures.{IsCallable};
 

@@ -1,7 +1,8 @@
 //! The code of methods (JVM Specification SE 8, 4.7.3).
 ghost use Rattle.std.specs.Prelude.{◌≡◌, ◌↔◌, IsSome, IsTrue};
 ghost use Rattle.std.specs.Option.{option_copied};
-ghost use Rattle.type_rules.specs.Scope.{code_of, scope_at};
+ghost use Rattle.class_model.specs.MethodCode.{code_of};
+ghost use Rattle.type_rules.specs.Scope.{scope_at};
 
 use class_model::{Attr, CodePart, MethodAt};
 use class_tree::Tree;

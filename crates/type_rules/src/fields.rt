@@ -3,7 +3,8 @@ ghost use Rattle.std.specs.Prelude.{◌≡◌, ◌↔◌, IfOk, IfSome, IsTrue, 
 ghost use Rattle.std.specs.Option.{option_map};
 ghost use Rattle.class_model.specs.Descriptors.{type_of};
 ghost use Rattle.class_model.specs.Pool.{constant_at};
-ghost use Rattle.type_rules.specs.MemberRows.{reference_of, get_static_row, put_static_row, get_field_row, put_field_row, IsOwnField, MayPut};
+ghost use Rattle.member_link.specs.Signatures.{reference_of};
+ghost use Rattle.type_rules.specs.MemberRows.{get_static_row, put_static_row, get_field_row, put_field_row, IsOwnField, MayPut};
 ghost use Rattle.type_rules.specs.References.{reference_meant};
 ghost use Rattle.type_rules.specs.Rule.{RowRules};
 

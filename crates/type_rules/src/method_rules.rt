@@ -5,9 +5,9 @@ ghost use Rattle.std.specs.Option.{option_copied};
 ghost use Rattle.class_model.specs.Header.{header_of};
 ghost use Rattle.class_tree.specs.Headers.{headers_of, IsClassFile};
 ghost use Rattle.class_tree.specs.Order.{header_at};
-ghost use Rattle.member_link.specs.Linked.{IsLinked};
 ghost use Rattle.code_bytes.specs.Codes.{HasOperands, IsReadMethod};
-ghost use Rattle.type_rules.specs.MemberRows.{result_of};
+ghost use Rattle.member_link.specs.Linked.{IsLinked};
+ghost use Rattle.member_link.specs.Signatures.{result_of};
 ghost use Rattle.type_rules.specs.NewClasses.{class_made};
 ghost use Rattle.type_rules.specs.Rule.{FitsPool};
 ghost use Rattle.type_rules.specs.Scope.{class_of_new, current, instructions, is_init, own_descriptor, scope_at, scope_of};
@@ -41,8 +41,8 @@ pub struct MethodRules<'a> {
 
 impl<'a> Model for MethodRules<'a> {
     ghost use Rattle.class_tree.specs.Headers.{headers_of};
-    ghost use Rattle.type_rules.specs.Scope.{Scope};
     ghost use Rattle.type_rules.specs.Known.{IsKnown};
+    ghost use Rattle.type_rules.specs.Scope.{Scope};
 
     ghost Value = { Scope };
 

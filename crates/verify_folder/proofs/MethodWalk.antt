@@ -5,6 +5,7 @@ use Rattle.std.proofs.lemmas.Option.{same_Some, slice_get-get_or, slice_get-map}
 use Rattle.std.specs.Option.{is_some}
 use Rattle.class_model.specs.Header.{header_of}
 use Rattle.class_model.specs.Laws.Lists.{drop_item}
+use Rattle.class_model.specs.MethodCode.{code_of}
 use Rattle.class_model.specs.declared.class_file.ClassFile.{ClassFile}
 use Rattle.class_model.specs.declared.class_file.CodePart.{CodePart}
 use Rattle.class_model.specs.declared.class_file.Method.{Method}
@@ -12,10 +13,10 @@ use Rattle.class_model.specs.declared.class_file.MethodAt.{MethodAt}
 use Rattle.class_model.specs.declared.frame.Frame.{Frame}
 use Rattle.class_model.specs.declared.header.Member.{Member}
 use Rattle.class_tree.specs.Headers.{Classes, Headers, headers_of}
-use Rattle.type_rules.specs.Scope.{Scope, code_of, scope_at, scope_of}
+use Rattle.type_rules.specs.Scope.{Scope, scope_at, scope_of}
+use Rattle.type_rules.specs.Verified.{TypesMethod, AreTypedMethods}
 use Rattle.type_rules.specs.declared.fault.VerifyFault.{VerifyFault}
 use Rattle.type_rules.specs.declared.fault.VerifyFault.TheVariants as faults
-use Rattle.type_rules.specs.Verified.{TypesMethod, AreTypedMethods}
 use Rattle.verify_folder.specs.Verifying.{Failure, MethodFails, MethodsFail, MethodVerifies, VerifiesAs, ClassIsTyped, ClassVerifies}
 
 -- ---- where a method stands

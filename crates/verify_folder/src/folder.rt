@@ -1,8 +1,8 @@
 //! A folder verifies.
 ghost use Rattle.std.specs.Prelude.{◌≡◌, is_some, slice_get, Some};
+ghost use Rattle.class_model.specs.MethodCode.{code_of};
 ghost use Rattle.class_tree.specs.Headers.{headers_of};
 ghost use Rattle.member_link.specs.Linked.{IsLinked};
-ghost use Rattle.type_rules.specs.Scope.{code_of};
 ghost use Rattle.verify_folder.specs.Verifying.{ClassIsTyped, ClassVerifies, FolderIsTyped, FolderVerifies};
 
 use crate::method::verify_method;

@@ -1,5 +1,5 @@
 use Rattle.std.proofs.Common.{◌≡◌, drop}
-use Rattle.type_rules.specs.Scope.{code_of}
+use Rattle.class_model.specs.MethodCode.{code_of}
 use Rattle.type_rules.proofs.code.code_of.Given as goal
 
 abbrev pub invariant-loop-attr : goal.invariant-loop-attr

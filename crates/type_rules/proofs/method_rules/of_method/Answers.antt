@@ -1,14 +1,15 @@
 use Rattle.std.proofs.Common.{◌∙◌, refl, sym, ap}
 use Rattle.class_model.specs.Checks.{AllHold}
 use Rattle.class_model.specs.Instructions.{decoded}
+use Rattle.class_model.specs.Laws.Codes.{code_has}
+use Rattle.class_model.specs.MethodCode.{code_of}
 use Rattle.class_model.specs.declared.class_file.CodePart.{CodePart}
 use Rattle.class_tree.specs.Headers.{headers_of}
 use Rattle.code_bytes.specs.Codes.{HasInstrs, HasOperands, HaveOperands}
 use Rattle.code_bytes.specs.Decoding.{decoding_checks}
-use Rattle.type_rules.specs.Laws.Codes.{code_has}
-use Rattle.type_rules.specs.Scope.{Scope, code_of}
 use Rattle.type_rules.proofs.FittingPools.{instructions_fit}
 use Rattle.type_rules.proofs.method_rules.of_method.Goals as goal
+use Rattle.type_rules.specs.Scope.{Scope}
 
 pub new-requires-clause-code : goal.new-requires-clause-code
 new-requires-clause-code c =
