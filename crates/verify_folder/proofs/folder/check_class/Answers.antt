@@ -2,7 +2,7 @@ use Rattle.std.proofs.Common.{◌≤◌, length, Ok, Some, ◌∙◌, subst, ap,
 use Rattle.std.proofs.lemmas.Result.{err_from_is_err_and}
 use Rattle.std.specs.Option.{is_some}
 use Rattle.class_tree.specs.Headers.{headers_of}
-use Rattle.type_rules.specs.Scope.{code_of}
+use Rattle.class_model.specs.MethodCode.{code_of}
 use Rattle.verify_folder.proofs.MethodWalk.{all_typed, answered, check_stops, item_at, no_frames, none_typed, one_typed}
 use Rattle.verify_folder.proofs.folder.check_class.Goals as goal
 use Rattle.verify_folder.proofs.folder.check_class.Goals.{then-has_code+in_ok-verify_method, else-has_code}
