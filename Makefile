@@ -2,15 +2,19 @@
 
 sources := $(shell find crates -name out -prune -o -type f -print) crates.txt
 
-.PHONY: all run test bench
+.PHONY: all run try test bench
 
 all: bin/pea
 
 bin/pea: $(sources)
+	@echo "Proving from nothing takes about an hour of four processors; what is proved is kept for the next time."
 	bash scripts/build.sh
 
 run: bin/pea
 	bash scripts/run-example.sh
+
+try:
+	bash scripts/try-example.sh
 
 test:
 	bash .ci/run
