@@ -1,5 +1,6 @@
 //! What is answered to a question, as a text.
 use crate::base_library::class_count;
+use crate::meanings::meaning;
 use crate::setting::Setting;
 use crate::statuses::{call_of, status_of, text_of};
 use crate::texts::{root_and_name, shown};
@@ -14,6 +15,7 @@ pub(crate) fn answer(alloc: Global, setting: &mut Setting, question: &str) -> Op
     let (asked, about) = word_and_rest(question);
     match asked {
         "run" => run(alloc, &mut setting.host, about),
+        "explain" => explain(alloc, &mut setting.host, about),
         "files" => files(alloc, setting, about),
         "faults" => {
             let count = setting.host.faults(call_of(about)?);
@@ -28,6 +30,10 @@ pub(crate) fn answer(alloc: Global, setting: &mut Setting, question: &str) -> Op
             format!(in alloc; "{code}").ok()
         }
         "vanishing" => vanishing(alloc, about),
+        "meaning" => {
+            let (kind, name) = about.split_once(' ')?;
+            String::from_str(alloc, meaning(kind, name)?).ok()
+        }
         "base_library" => {
             let count = class_count(alloc)?;
             format!(in alloc; "{count}").ok()
@@ -57,6 +63,14 @@ fn run(alloc: Global, host: &mut MemoryHost, words: &str) -> Option<String> {
     }
     let printed = shown(alloc, printed)?;
     format!(in alloc; "{told} | {printed}").ok()
+}
+
+// What a command explained. None where that is not behind what was explained before.
+fn explain(alloc: Global, host: &mut MemoryHost, words: &str) -> Option<String> {
+    let words = words_of(alloc, words)?;
+    let before = Vec::from_slice(alloc, host.explained()).ok()?;
+    let _ = pea(alloc, &words, host);
+    shown(alloc, host.explained().strip_prefix(before.as_slice())?)
 }
 
 // The names of the contents of files.

@@ -19,10 +19,12 @@
 //! The questions are:
 //! - `run WORDS`, the command of these words, cut at each space, so that two spaces make an empty word. The answer is the code
 //!   and the status, and behind ` | ` what was printed, if anything was;
+//! - `explain WORDS`, what the command of these words explains;
 //! - `files ROOT/FILE ..`, the name of the content of each file: `-` where no file is there, and `?` where the content has no
 //!   name;
 //! - `faults List`, or of another kind of call: how often calls of this kind have failed;
 //! - `content CONTENT`, its name, or `?`;
+//! - `meaning KIND RULE`, what a rule of the kind `file`, `link` or `type` says in words where it is broken;
 //! - `code STATUS`, the code of a status without names;
 //! - `vanishing WORDS`, the code and the status of the command over a host whose files are gone between their listing and their
 //!   reads, and whether it was asked to write and to print;
@@ -34,6 +36,7 @@
 mod answers;
 mod base_library;
 mod contents;
+mod meanings;
 mod setting;
 mod statuses;
 mod texts;

@@ -1,23 +1,26 @@
 -- What the parts of a call leave and print, as the words see it.
-use Rattle.std.proofs.Common.{◌≡◌, ◌⊎◌, ℕ, List, [], ◌++◌, map, length, refl, sym, ap, ◌∙◌, subst, inl, inr, zero-le}
-use Rattle.std.proofs.lemmas.List.{length-map, take_all}
+use Rattle.std.proofs.Common.{◌≡◌, ◌⊎◌, ℕ, ◌<◌, Bool, true, false, List, [], ◌++◌, map, length, take, arith, refl, sym, ap, ◌∙◌, subst, inl, inr, Result, Ok, Err}
+use Rattle.std.proofs.lemmas.Bool.{false≢true}
+use Rattle.std.proofs.lemmas.List.{length-map}
 use Rattle.class_model.specs.Header.{HeaderOf}
 use Rattle.class_model.specs.declared.class_file.ClassFile.{ClassFile}
 use Rattle.class_model.specs.declared.header.Header.{Header}
-use Rattle.host_tree.specs.Counts.{Rose}
+use Rattle.host_tree.specs.Counts.{NeverFalls, Rose}
 use Rattle.host_tree.specs.Host.{Bytes, Folder, Files, SameFiles, IsPrefixPrinted}
 use Rattle.host_tree.specs.declared.call.HostCall.{HostCall}
 use Rattle.host_tree.specs.declared.call.HostCall.TheVariants as calls
-use Rattle.pea_top.specs.Answer.{AreRead, CanDo, IsAnswer}
-use Rattle.pea_top.specs.CommandEffects.{LeavesWritten, PrintsWritten}
-use Rattle.pea_top.specs.Deciding.{AreInput, AreReady, IsOutcome, IsRefusal}
-use Rattle.pea_top.specs.Effects.{LeavesDone, LeavesPart, method_count, done_line, IsSummary, IsLineOf, PrintsPart, PrintsSome, PrintsRefusal}
+use Rattle.pea_top.specs.Answer.{AreRead, IsFirstOf, MustRefuse, CanDo, IsAnswer, CauseOf, HasCause}
+use Rattle.pea_top.specs.CommandEffects.{WrittenSome, some_files, all_files, LeavesWritten, LeavesPrinted}
+use Rattle.pea_top.specs.Deciding.{AreInput, AreReady, IsOutcome, Stands, IsStop}
+use Rattle.pea_top.specs.Effects.{LeavesDone, LeavesPart, method_count, done_line, IsSummary, PrintsPart, PrintsLine, before_work, in_refusal, in_writes, in_print, Leaves}
 use Rattle.pea_top.specs.Folders.{HasClassFiles}
-use Rattle.pea_top.specs.Lines.{refusal_line}
-use Rattle.pea_top.specs.Reading.{AreGoodFiles}
+use Rattle.pea_top.specs.Reading.{AreGoodFiles, StopsAt, status_of}
+use Rattle.pea_top.specs.Status.{Ending, completed, refused, failed, out_of_memory, ending, is_refused, line_of, ended}
 use Rattle.pea_top.specs.Words.{Word, Command, Optimise, Verify, input_of, library_of, Spells}
 use Rattle.pea_top.specs.Writing.{Puts, PutsSome}
 use Rattle.pea_top.specs.declared.folder.NamedFile.{NamedFile}
+use Rattle.pea_top.specs.declared.reading.ReadStop.{ReadStop}
+use Rattle.pea_top.specs.declared.reading.ReadStop.TheVariants as stops
 use Rattle.pea_top.specs.declared.status.Status.{Status}
 use Rattle.pea_top.specs.declared.status.Status.TheVariants.{Done, Usage, Malformed, Version, Unlinked, Unverified, HostFault, NoMemory}
 use Rattle.pea_top.proofs.Copying.{IsCopied-puts, IsPartlyCopied-puts}
@@ -30,14 +33,6 @@ one_value same = λ i root name. same root name i
 pub said_of_same : (P : Files → Type 0) {old mid : Files} → SameFiles old mid → P old → P mid
 said_of_same P same = subst P (sym (one_value same))
 
--- the outcome of what follows calls that left the files and printed nothing
-pub outcome_behind : (words : List Word) (old mid new : Files) (old_count mid_count new_count : ℕ) (before mid_text after : Bytes) (status : Status) → SameFiles old mid → mid_count ≡ old_count → mid_text ≡ before
-    → IsOutcome words mid new (Rose mid_count new_count) mid_text after status → IsOutcome words old new (Rose old_count new_count) before after status
-outcome_behind words old mid new old_count mid_count new_count before mid_text after status same same_count same_text outcome =
-    let at_old : IsOutcome words old new (Rose mid_count new_count) mid_text after status = subst (λ (files : Files). IsOutcome words files new (Rose mid_count new_count) mid_text after status) (one_value same) outcome in
-    let counted : IsOutcome words old new (Rose old_count new_count) mid_text after status = subst (λ (count : ℕ). IsOutcome words old new (Rose count new_count) mid_text after status) same_count at_old in
-    subst (λ (text : Bytes). IsOutcome words old new (Rose old_count new_count) text after status) same_text counted
-
 pub are_read : (folder library : Folder) (files : List NamedFile) (classes : List ClassFile) (headers : List Header) → AreGoodFiles folder files classes → HasClassFiles HeaderOf library headers → AreRead folder library classes headers
 are_read folder library files classes headers good has = record {
   classes_read = record { names = map (λ (file : NamedFile). file.name) files; are_names = good.are.names; are_read = good.are_read };
@@ -48,21 +43,58 @@ are_read folder library files classes headers good has = record {
 pub input_read : {command : Command} {old : Files} {files : List NamedFile} {classes : List ClassFile} {headers : List Header} → AreInput command old files classes headers → AreRead (old (input_of command)) (old (library_of command)) classes headers
 input_read {command} {old} {files} {classes} {headers} input = are_read (old (input_of command)) (old (library_of command)) files classes headers input.good input.library
 
--- ---- calls that stop before a line
+-- ---- calls that stop before anything is written or printed
 
-module _ (words : List Word) (old new : Files) (PrintRose : Type 0) (before after : Bytes) (same : SameFiles old new) (none : after ≡ before) where
-  pub outcome_no_memory : IsOutcome words old new PrintRose before after NoMemory
-  outcome_no_memory = record { cause = tt; files = inl same; printed = inl none }
+module _ (words : List Word) (old new : Files) (before after : Bytes) (same : SameFiles old new) (none : after ≡ before) where
+  -- where the cause is known, by how the call ended: it is not done, and no write or print failed
+  pub stop_no_memory : IsStop words old new before after NoMemory
+  stop_no_memory = record { cause = tt; stands = before_work same none }
 
-  outcome_list : IsOutcome words old new PrintRose before after (HostFault calls.List)
-  outcome_list = record { cause = tt; files = same; printed = none }
+  -- a refusal of which no line is printed yet
+  pub stop_refused : (status : Status) → is_refused (ending status) ≡ true → IsAnswer words old status → IsStop words old new before after status
+  stop_refused status refusal answer = record { cause = cause (ending status) refusal; stands = stands (ending status) refusal }
+    where
+      cause : (e : Ending) → is_refused e ≡ true → CauseOf words old (IsAnswer words old status) e
+      cause completed never = absurd (false≢true never)
+      cause (refused refusal) is = answer
+      cause (failed call) never = absurd (false≢true never)
+      cause out_of_memory never = absurd (false≢true never)
 
-  outcome_read : IsOutcome words old new PrintRose before after (HostFault calls.Read)
-  outcome_read = record { cause = tt; files = same; printed = none }
+      stands : (e : Ending) → is_refused e ≡ true → Stands words old new before after e
+      stands completed never = absurd (false≢true never)
+      stands (refused refusal) is = (same, none)
+      stands (failed call) never = absurd (false≢true never)
+      stands out_of_memory never = absurd (false≢true never)
 
-  pub outcome_not_read : (call : HostCall) → (call ≡ calls.List) ⊎ (call ≡ calls.Read) → IsOutcome words old new PrintRose before after (HostFault call)
-  outcome_not_read call (inl is) = subst (λ (call : HostCall). IsOutcome words old new PrintRose before after (HostFault call)) (sym is) outcome_list
-  outcome_not_read call (inr is) = subst (λ (call : HostCall). IsOutcome words old new PrintRose before after (HostFault call)) (sym is) outcome_read
+  stop_failed : (call : HostCall) → (call ≡ calls.List) ⊎ (call ≡ calls.Read) → IsStop words old new before after (HostFault call)
+  stop_failed call (inl is) = subst (λ (call : HostCall). IsStop words old new before after (HostFault call)) (sym is) (record { cause = tt; stands = (same, none) })
+  stop_failed call (inr is) = subst (λ (call : HostCall). IsStop words old new before after (HostFault call)) (sym is) (record { cause = tt; stands = (same, none) })
+
+  -- reading stopped
+  pub stop_reading : (command : Command) → Spells command words → (stop : ReadStop) → ((call : HostCall) → stop ≡ stops.Fault call → (call ≡ calls.List) ⊎ (call ≡ calls.Read))
+      → StopsAt (IsFirstOf (old (input_of command)) (old (library_of command))) stop → IsStop words old new before after (status_of stop)
+  stop_reading command spelled (stops.Fault call) kind why = stop_failed call (kind call refl)
+  stop_reading command spelled stops.NoMemory kind why = stop_no_memory
+  stop_reading command spelled (stops.Malformed name at rule) kind why = stop_refused (Malformed name at rule) refl (record { command = command; spelled = spelled; first = why })
+  stop_reading command spelled (stops.Version name major minor) kind why = stop_refused (Version name major minor) refl (record { command = command; spelled = spelled; first = why })
+
+-- a refusal before anything was done
+pub stop_at_once : (words : List Word) (old : Files) (before : Bytes) (status : Status) → is_refused (ending status) ≡ true → IsAnswer words old status → IsStop words old old before before status
+stop_at_once words old before status refusal answer = stop_refused words old old before before (λ root name. refl) refl status refusal answer
+
+-- what follows calls that left the files and printed nothing
+pub stop_behind : (words : List Word) (old mid new : Files) (before mid_text after : Bytes) (status : Status) → SameFiles old mid → mid_text ≡ before
+    → IsStop words mid new mid_text after status → IsStop words old new before after status
+stop_behind words old mid new before mid_text after status same same_text stop =
+    let at_old : IsStop words old new mid_text after status = subst (λ (files : Files). IsStop words files new mid_text after status) (one_value same) stop in
+    subst (λ (text : Bytes). IsStop words old new text after status) same_text at_old
+
+-- what stands before calls that leave the files and print nothing stands behind them
+pub stop_then : (words : List Word) (old mid new : Files) (before text after : Bytes) (status : Status) → SameFiles mid new → after ≡ text
+    → IsStop words old mid before text status → IsStop words old new before after status
+stop_then words old mid new before text after status same same_text stop =
+    let at_new : IsStop words old new before text status = subst (λ (files : Files). IsStop words old files before text status) (sym (one_value same)) stop in
+    subst (λ (now : Bytes). IsStop words old new before now status) (sym same_text) at_new
 
 -- ---- a command that is carried out
 
@@ -88,101 +120,136 @@ module _ (words : List Word) (command : Command) (spelled : Spells command words
     is = ready.summed_up.is_line ∙ ap (λ n. done_line command n (length ready.classes) (method_count ready.classes)) (sym (length-map files (λ file. file.name)));
   }
 
-  part_of_summary : (before after : Bytes) → IsPrefixPrinted line before after → PrintsPart words old Done before after
+  part_of_summary : (before after : Bytes) → IsPrefixPrinted line before after → PrintsPart words old before after
   part_of_summary before after prefix = record { line = line; is_line = is_summary; prefix = prefix }
-
-  some_of_summary : (before after : Bytes) → IsPrefixPrinted line before after → PrintsSome words old before after
-  some_of_summary before after prefix = record { answer = Done; is_answer = can_do; part = part_of_summary before after prefix }
 
 -- the files of the input are written
 module _ (words : List Word) (input output library : Word) (spelled : Spells (Optimise input output library) words) (old new : Files) {files : List NamedFile} {line : Bytes} (ready : AreReady (Optimise input output library) old files line)
-    (PrintRose : Type 0) (before after : Bytes) where
+    (before after : Bytes) where
   copies : Puts output files old new → LeavesDone words old new
   copies puts = record { command = Optimise input output library; spelled = spelled; files = IsCopied-puts input output files old new ready.summed_up.input.good.are puts }
 
   partly_copies : PutsSome output files old new → LeavesPart words old new
   partly_copies puts = record { command = Optimise input output library; spelled = spelled; files = IsPartlyCopied-puts input output files old new ready.summed_up.input.good.are puts }
 
-  left : SameFiles old new ⊎ (PutsSome output files old new ⊎ Puts output files old new) → SameFiles old new ⊎ (CanDo words old × (LeavesPart words old new ⊎ LeavesDone words old new))
-  left (inl same) = inl same
-  left (inr (inl puts)) = inr (can_do words _ spelled old ready, inl (partly_copies puts))
-  left (inr (inr puts)) = inr (can_do words _ spelled old ready, inr (copies puts))
+  written : (Refuses : Type 0) (e : Ending) → LeavesWritten output files line old new before after e → CauseOf words old Refuses e × Stands words old new before after e
+  written Refuses completed left = (can_do words _ spelled old ready, (copies left.0, record { line = line; is_line = is_summary words _ spelled old ready; printed = left.1 }))
+  written Refuses (refused refusal) never = absurd never
+  written Refuses (failed calls.List) never = absurd never
+  written Refuses (failed calls.Read) never = absurd never
+  written Refuses (failed calls.Write) left = (can_do words _ spelled old ready, (partly_copies left.0, left.1))
+  written Refuses (failed calls.Print) left = (can_do words _ spelled old ready, (copies left.0, part_of_summary words _ spelled old ready before after left.1))
+  written Refuses out_of_memory (some_files puts none) = (tt, in_writes (can_do words _ spelled old ready) (partly_copies puts) none)
+  written Refuses out_of_memory (all_files puts prefix) = (tt, in_print (can_do words _ spelled old ready) (copies puts) (part_of_summary words _ spelled old ready before after prefix))
 
-  pub outcome_written : (status : Status) → LeavesWritten output files old new status → PrintsWritten line before after status → IsOutcome words old new PrintRose before after status
-  outcome_written Done puts all = record { cause = can_do words _ spelled old ready; files = copies puts; printed = record { line = line; is_line = is_summary words _ spelled old ready; printed = all } }
-  outcome_written Usage never printed = absurd never
-  outcome_written (Malformed name at rule) never printed = absurd never
-  outcome_written (Version name major minor) never printed = absurd never
-  outcome_written (Unlinked class member rule) never printed = absurd never
-  outcome_written (Unverified class method offset rule) never printed = absurd never
-  outcome_written (HostFault calls.List) never printed = absurd never
-  outcome_written (HostFault calls.Read) never printed = absurd never
-  outcome_written (HostFault calls.Write) puts none = record { cause = can_do words _ spelled old ready; files = partly_copies puts; printed = none }
-  outcome_written (HostFault calls.Print) puts prefix = record { cause = can_do words _ spelled old ready; files = copies puts; printed = part_of_summary words _ spelled old ready before after prefix }
-  outcome_written NoMemory puts prefix = record { cause = tt; files = left puts; printed = inr (some_of_summary words _ spelled old ready before after prefix) }
+  pub stop_written : (status : Status) → LeavesWritten output files line old new before after (ending status) → IsStop words old new before after status
+  stop_written status left =
+      let both = written (IsAnswer words old status) (ending status) left in
+      record { cause = both.0; stands = both.1 }
 
 -- nothing is written
 module _ (words : List Word) (input library : Word) (spelled : Spells (Verify input library) words) (old new : Files) {files : List NamedFile} {line : Bytes} (ready : AreReady (Verify input library) old files line)
-    (PrintRose : Type 0) (before after : Bytes) (same : SameFiles old new) where
-  unchanged : LeavesDone words old new
-  unchanged = record { command = Verify input library; spelled = spelled; files = same }
+    (before after : Bytes) where
+  unchanged : SameFiles old new → LeavesDone words old new
+  unchanged same = record { command = Verify input library; spelled = spelled; files = same }
 
-  done : after ≡ before ++ line → IsOutcome words old new PrintRose before after Done
-  done all = record { cause = can_do words _ spelled old ready; files = unchanged; printed = record { line = line; is_line = is_summary words _ spelled old ready; printed = all } }
+  printed : (Refuses : Type 0) (e : Ending) → LeavesPrinted line old new before after e → CauseOf words old Refuses e × Stands words old new before after e
+  printed Refuses completed left = (can_do words _ spelled old ready, (unchanged left.0, record { line = line; is_line = is_summary words _ spelled old ready; printed = left.1 }))
+  printed Refuses (refused refusal) never = absurd never
+  printed Refuses (failed calls.List) never = absurd never
+  printed Refuses (failed calls.Read) never = absurd never
+  printed Refuses (failed calls.Write) never = absurd never
+  printed Refuses (failed calls.Print) left = (can_do words _ spelled old ready, (unchanged left.0, part_of_summary words _ spelled old ready before after left.1))
+  printed Refuses out_of_memory left = (tt, in_print (can_do words _ spelled old ready) (unchanged left.0) (part_of_summary words _ spelled old ready before after left.1))
 
-  not_printed : IsPrefixPrinted line before after → IsOutcome words old new PrintRose before after (HostFault calls.Print)
-  not_printed prefix = record { cause = can_do words _ spelled old ready; files = unchanged; printed = part_of_summary words _ spelled old ready before after prefix }
+  pub stop_finished : (status : Status) → LeavesPrinted line old new before after (ending status) → IsStop words old new before after status
+  stop_finished status left =
+      let both = printed (IsAnswer words old status) (ending status) left in
+      record { cause = both.0; stands = both.1 }
 
-  no_memory : IsPrefixPrinted line before after → IsOutcome words old new PrintRose before after NoMemory
-  no_memory prefix = record { cause = tt; files = inl same; printed = inr (some_of_summary words _ spelled old ready before after prefix) }
+-- files that are put, and then a line
+module _ (root : Bytes) (files : List NamedFile) (line : Bytes) (old mid new : Files) (puts : Puts root files old mid) (before after : Bytes) where
+  puts_still : SameFiles mid new → Puts root files old new
+  puts_still same = said_of_same (λ (now : Files). Puts root files old now) same puts
 
-  pub outcome_finished : (status : Status) → (status ≡ Done) ⊎ ((status ≡ HostFault calls.Print) ⊎ (status ≡ NoMemory)) → (status ≡ Done → after ≡ before ++ line) → IsPrefixPrinted line before after
-      → IsOutcome words old new PrintRose before after status
-  outcome_finished status (inl is) all prefix = subst (IsOutcome words old new PrintRose before after) (sym is) (done (all is))
-  outcome_finished status (inr (inl is)) all prefix = subst (IsOutcome words old new PrintRose before after) (sym is) (not_printed prefix)
-  outcome_finished status (inr (inr is)) all prefix = subst (IsOutcome words old new PrintRose before after) (sym is) (no_memory prefix)
+  pub written_and_printed : (e : Ending) → LeavesPrinted line mid new before after e → LeavesWritten root files line old new before after e
+  written_and_printed completed left = (puts_still left.0, left.1)
+  written_and_printed (refused refusal) never = absurd never
+  written_and_printed (failed calls.List) never = absurd never
+  written_and_printed (failed calls.Read) never = absurd never
+  written_and_printed (failed calls.Write) never = absurd never
+  written_and_printed (failed calls.Print) left = (puts_still left.0, left.1)
+  written_and_printed out_of_memory left = all_files (puts_still left.0) left.1
 
--- ---- a refusal
+-- ---- the line of a refusal
 
-module _ (words : List Word) (old new : Files) (PrintRose : Type 0) (before after : Bytes) (same : SameFiles old new) where
-  line_of_refusal : (status : Status) → IsRefusal status → IsLineOf words old status (refusal_line status)
-  line_of_refusal Done never = absurd never
-  line_of_refusal Usage is = refl
-  line_of_refusal (Malformed name at rule) is = refl
-  line_of_refusal (Version name major minor) is = refl
-  line_of_refusal (Unlinked class member rule) is = refl
-  line_of_refusal (Unverified class method offset rule) is = refl
-  line_of_refusal (HostFault call) never = absurd never
-  line_of_refusal NoMemory never = absurd never
+module _ (words : List Word) (old new : Files) (P Q : Type 0) (before after : Bytes) where
+  -- what is left does not hang on the count of failed prints, but for the line of a refusal
+  pub left_wider : (P → Q) → (e : Ending) → Leaves words old new P before after e → Leaves words old new Q before after e
+  left_wider wider completed left = left
+  left_wider wider (refused refusal) (same, inl all) = (same, inl all)
+  left_wider wider (refused refusal) (same, inr part) = (same, inr (wider part.0, part.1))
+  left_wider wider (failed calls.List) left = left
+  left_wider wider (failed calls.Read) left = left
+  left_wider wider (failed calls.Write) left = left
+  left_wider wider (failed calls.Print) left = left
+  left_wider wider out_of_memory left = left
 
-  refused : (status : Status) → IsRefusal status → IsAnswer words old status → PrintsRefusal status PrintRose before after → IsOutcome words old new PrintRose before after status
-  refused Done never answer printed = absurd never
-  refused Usage is answer printed = record { cause = answer; files = same; printed = printed }
-  refused (Malformed name at rule) is answer printed = record { cause = answer; files = same; printed = printed }
-  refused (Version name major minor) is answer printed = record { cause = answer; files = same; printed = printed }
-  refused (Unlinked class member rule) is answer printed = record { cause = answer; files = same; printed = printed }
-  refused (Unverified class method offset rule) is answer printed = record { cause = answer; files = same; printed = printed }
-  refused (HostFault call) never answer printed = absurd never
-  refused NoMemory never answer printed = absurd never
+module _ (words : List Word) (old new : Files) (P : Type 0) (before after : Bytes) where
+  -- where no line is to be printed, what stands is left
+  stands_left : (e : Ending) → is_refused e ≡ false → Stands words old new before after e → Leaves words old new P before after e
+  stands_left completed is stands = stands
+  stands_left (refused refusal) never stands = absurd (false≢true (sym never))
+  stands_left (failed calls.List) is stands = stands
+  stands_left (failed calls.Read) is stands = stands
+  stands_left (failed calls.Write) is stands = stands
+  stands_left (failed calls.Print) is stands = stands
+  stands_left out_of_memory is stands = stands
 
-  -- no memory for the line, or behind a prefix of it
-  not_told : (status : Status) → IsRefusal status → IsAnswer words old status → IsPrefixPrinted (refusal_line status) before after → IsOutcome words old new PrintRose before after NoMemory
-  not_told status is answer prefix = record {
-    cause = tt;
-    files = inl same;
-    printed = inr (record { answer = status; is_answer = answer; part = record { line = refusal_line status; is_line = line_of_refusal status is; prefix = prefix } });
-  }
+  pub outcome_kept : (status : Status) → is_refused (ending status) ≡ false → IsStop words old new before after status → IsOutcome words old new P before after status
+  outcome_kept status is stop = record { cause = stop.cause; left = stands_left (ending status) is stop.stands }
 
-  -- the answer of the words was to be printed
-  pub outcome_refused : (status : Status) → IsRefusal status → IsAnswer words old status → (result : Status) → (result ≡ status) ⊎ (result ≡ NoMemory) → (result ≡ status → PrintsRefusal status PrintRose before after)
-      → IsPrefixPrinted (refusal_line status) before after → IsOutcome words old new PrintRose before after result
-  outcome_refused status refusal answer result (inl stays) printed prefix = subst (IsOutcome words old new PrintRose before after) (sym stays) (refused status refusal answer (printed stays))
-  outcome_refused status refusal answer result (inr wants) printed prefix = subst (IsOutcome words old new PrintRose before after) (sym wants) (not_told status refusal answer prefix)
+module _ (words : List Word) (old mid new : Files) (P : Type 0) (before text after : Bytes) where
+  line_left : (e : Ending) → is_refused e ≡ true → Stands words old mid before text e → SameFiles mid new → PrintsLine (line_of e) P text after → Leaves words old new P before after e
+  line_left completed never stands same prints = absurd (false≢true never)
+  line_left (refused refusal) is stands same prints =
+      (λ root name. same root name ∙ stands.0 root name, subst (λ (t : Bytes). PrintsLine (line_of (refused refusal)) P t after) stands.1 prints)
+  line_left (failed call) never stands same prints = absurd (false≢true never)
+  line_left out_of_memory never stands same prints = absurd (false≢true never)
 
-no_line : (old new : Bytes) → IsPrefixPrinted (refusal_line NoMemory) old new → new ≡ old ++ refusal_line NoMemory
-unfolding refusal_line
-no_line old new prefix = prefix.appended ∙ ap (λ line. old ++ line) (take_all prefix.count [] zero-le)
+  -- the line was printed, or a prefix of it
+  pub outcome_printed : (status : Status) → is_refused (ending status) ≡ true → IsStop words old mid before text status → SameFiles mid new → PrintsLine (line_of (ending status)) P text after
+      → IsOutcome words old new P before after status
+  outcome_printed status is stop same prints = record { cause = stop.cause; left = line_left (ending status) is stop.stands same prints }
 
--- want of memory has the empty line
-pub printed_no_line : (status : Status) (old new : Bytes) → NoMemory ≡ status → IsPrefixPrinted (refusal_line status) old new → new ≡ old ++ refusal_line status
-printed_no_line status old new is = subst (λ (of : Status). IsPrefixPrinted (refusal_line of) old new → new ≡ old ++ refusal_line of) is (no_line old new)
+  answered : (Refuses : Type 0) (e : Ending) → is_refused e ≡ true → CauseOf words old Refuses e → Stands words old mid before text e → Refuses × (SameFiles old mid × (text ≡ before))
+  answered Refuses completed never cause stands = absurd (false≢true never)
+  answered Refuses (refused refusal) is cause stands = (cause, stands)
+  answered Refuses (failed call) never cause stands = absurd (false≢true never)
+  answered Refuses out_of_memory never cause stands = absurd (false≢true never)
+
+  -- there was no memory for the line, or behind a prefix of it
+  pub outcome_no_line : (status : Status) → is_refused (ending status) ≡ true → IsStop words old mid before text status → SameFiles mid new → IsPrefixPrinted (line_of (ending status)) text after
+      → IsOutcome words old new P before after NoMemory
+  outcome_no_line status is stop same prefix =
+      let parts = answered (IsAnswer words old status) (ending status) is stop.cause stop.stands in
+      let at_before = subst (λ (t : Bytes). IsPrefixPrinted (line_of (ending status)) t after) parts.1.1 prefix in
+      record { cause = tt; left = in_refusal status parts.0 (λ root name. same root name ∙ parts.1.0 root name) at_before }
+
+-- the stop was answered, or that memory ran out
+pub usage_answered : {P : Type 0} (result stop : Status) → (result ≡ stop) ⊎ (result ≡ NoMemory) → (stop ≡ Usage → P) → result ≡ Usage → P
+usage_answered result stop (inl same) usage is = usage (sym same ∙ is)
+usage_answered result stop (inr none) usage is = cc (none, is)
+
+-- a count that rose behind calls had risen before them or not, and rose in all
+pub Rose-behind : {old mid new : ℕ} → NeverFalls old mid → Rose mid new → Rose old new
+Rose-behind first (inl rose) = inl (omega (arith, first.later, rose))
+Rose-behind first (inr last) = inr last
+
+-- one that rose before calls
+pub Rose-before : {old mid new : ℕ} → Rose old mid → NeverFalls mid new → Rose old new
+Rose-before (inl rose) then = inl (omega (arith, rose, then.later))
+Rose-before (inr last) then = inr (then.stands last)
+
+pub outcome_wider : (words : List Word) (old new : Files) (P Q : Type 0) (before after : Bytes) (status : Status) → (P → Q) → IsOutcome words old new P before after status → IsOutcome words old new Q before after status
+outcome_wider words old new P Q before after status wider outcome = record { cause = outcome.cause; left = left_wider words old new P Q before after wider (ending status) outcome.left }

@@ -13,6 +13,7 @@ use Rattle.verify_folder.specs.Verifying.{Failure}
 use Rattle.pea_top.specs.Words.{Word, Command, input_of, library_of, Spells, IsUsage}
 use Rattle.pea_top.specs.Folders.{IsBytesBefore, names_class_file, HasClassFiles}
 use Rattle.pea_top.specs.Linking.{IsLinkProblem}
+use Rattle.pea_top.specs.Status.{Ending, completed, refused, failed, out_of_memory, ending}
 use Rattle.pea_top.specs.Verifying.{AreVerified, IsTypeFailure}
 use Rattle.pea_top.specs.declared.status.Status.{Status}
 use Rattle.pea_top.specs.declared.status.Status.TheVariants.{Done, Usage, Malformed, Version, Unlinked, Unverified, HostFault, NoMemory}
@@ -109,17 +110,17 @@ IsAnswer words files (Unverified class method offset rule) = CannotVerify words 
 IsAnswer words files (HostFault call) = ⊥
 IsAnswer words files NoMemory = ⊥
 
--- A status and its cause. A failed write or print comes only where all was decided and the command can
--- be done.
+-- The cause of an ending, where that of a refusal is given. A failed write or print comes only where all was decided and the
+-- command can be done.
+abbrev pub CauseOf : List Word → Files → Type 0 → Ending → Type 0
+CauseOf words files Refuses completed = CanDo words files
+CauseOf words files Refuses (refused refusal) = Refuses
+CauseOf words files Refuses (failed calls.List) = Unit {0}
+CauseOf words files Refuses (failed calls.Read) = Unit {0}
+CauseOf words files Refuses (failed calls.Write) = CanDo words files
+CauseOf words files Refuses (failed calls.Print) = CanDo words files
+CauseOf words files Refuses out_of_memory = Unit {0}
+
+-- a status and its cause
 abbrev pub HasCause : List Word → Files → Status → Type 0
-HasCause words files (HostFault calls.List) = Unit {0}
-HasCause words files (HostFault calls.Read) = Unit {0}
-HasCause words files (HostFault calls.Write) = CanDo words files
-HasCause words files (HostFault calls.Print) = CanDo words files
-HasCause words files NoMemory = Unit {0}
-HasCause words files Done = CanDo words files
-HasCause words files Usage = IsUsage words
-HasCause words files (Malformed name at rule) = MustRefuse words files name (broken (fault at rule))
-HasCause words files (Version name major minor) = MustRefuse words files name (other_version (record { minor = minor; major = major }))
-HasCause words files (Unlinked class member rule) = CannotLink words files (record { class = class; member = member; rule = rule })
-HasCause words files (Unverified class method offset rule) = CannotVerify words files (record { class = class; method = method; offset = offset; rule = rule })
+HasCause words files status = CauseOf words files (IsAnswer words files status) (ending status)

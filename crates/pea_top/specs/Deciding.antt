@@ -5,16 +5,16 @@ use Rattle.class_model.specs.declared.class_file.ClassFile.{ClassFile}
 use Rattle.class_model.specs.declared.header.Header.{Header}
 use Rattle.class_tree.specs.Headers.{Classes}
 use Rattle.class_tree.specs.Trees.{IsArranged, IsTree}
-use Rattle.host_tree.specs.Host.{Bytes, Files}
+use Rattle.host_tree.specs.Host.{Bytes, Files, SameFiles}
 use Rattle.pea_top.specs.Answer.{HasCause}
-use Rattle.pea_top.specs.Effects.{method_count, done_line, LeavesFiles, LeavesPrinted}
+use Rattle.pea_top.specs.Effects.{method_count, done_line, Leaves}
 use Rattle.pea_top.specs.Folders.{HasClassFiles}
 use Rattle.pea_top.specs.Reading.{AreGoodFiles}
+use Rattle.pea_top.specs.Status.{Ending, completed, refused, failed, out_of_memory, ending}
 use Rattle.pea_top.specs.Verifying.{AreVerified}
 use Rattle.pea_top.specs.Words.{Word, Command, input_of, library_of}
 use Rattle.pea_top.specs.declared.folder.NamedFile.{NamedFile}
 use Rattle.pea_top.specs.declared.status.Status.{Status}
-use Rattle.pea_top.specs.declared.status.Status.TheVariants.{Done, Usage, Malformed, Version, Unlinked, Unverified, HostFault, NoMemory}
 
 -- the files of the command's input and the headers of its library
 pub record AreInput (command : Command) (old : Files) (files : List NamedFile) (classes : List ClassFile) (headers : List Header) : Type 0 where
@@ -44,16 +44,16 @@ pub record AreReady (command : Command) (old : Files) (files : List NamedFile) (
 -- a status, with its cause, the files that it leaves and what was printed
 pub record IsOutcome (words : List Word) (old new : Files) (PrintRose : Type 0) (before after : Bytes) (status : Status) : Type 0 where
   pub cause : HasCause words old status
-  pub files : LeavesFiles words old new status
-  pub printed : LeavesPrinted words old PrintRose before after status
+  pub left : Leaves words old new PrintRose before after (ending status)
 
--- a status of which a line is printed and nothing is written
-abbrev pub IsRefusal : Status → Type 0
-IsRefusal Done = ⊥
-IsRefusal Usage = Unit {0}
-IsRefusal (Malformed name at rule) = Unit {0}
-IsRefusal (Version name major minor) = Unit {0}
-IsRefusal (Unlinked class member rule) = Unit {0}
-IsRefusal (Unverified class method offset rule) = Unit {0}
-IsRefusal (HostFault call) = ⊥
-IsRefusal NoMemory = ⊥
+-- Before the line of a refusal is printed: nothing was written or printed. Other endings have left what they leave.
+abbrev pub Stands : List Word → Files → Files → Bytes → Bytes → Ending → Type 0
+Stands words old new before after completed = Leaves words old new ⊥ before after completed
+Stands words old new before after (refused refusal) = SameFiles old new × (after ≡ before)
+Stands words old new before after (failed call) = Leaves words old new ⊥ before after (failed call)
+Stands words old new before after out_of_memory = Leaves words old new ⊥ before after out_of_memory
+
+-- a status, with its cause and what stands before its line is printed
+pub record IsStop (words : List Word) (old new : Files) (before after : Bytes) (status : Status) : Type 0 where
+  pub cause : HasCause words old status
+  pub stands : Stands words old new before after (ending status)

@@ -6,10 +6,10 @@ use Rattle.host_tree.specs.Host.{Bytes, Files, SameFiles, IsPrefixPrinted}
 use Rattle.host_tree.specs.declared.call.HostCall.TheVariants as calls
 use Rattle.pea_top.specs.Words.{Word, Command, Optimise, Verify, input_of, Spells}
 use Rattle.pea_top.specs.Folders.{IsBytesBefore, AreNames, AreReadAs}
-use Rattle.pea_top.specs.Lines.{summary_line, verified_line, refusal_line}
+use Rattle.pea_top.specs.Lines.{summary_line, verified_line}
+use Rattle.pea_top.specs.Status.{Ending, completed, refused, failed, out_of_memory, line_of, refusal_line}
 use Rattle.pea_top.specs.Answer.{CanDo, IsAnswer}
 use Rattle.pea_top.specs.declared.status.Status.{Status}
-use Rattle.pea_top.specs.declared.status.Status.TheVariants.{Done, Usage, Malformed, Version, Unlinked, Unverified, HostFault, NoMemory}
 
 -- The output has its old files with the files of the input put in, and every other root is as before.
 pub record IsCopied (input output : Bytes) (old new : Files) : Type 0 where
@@ -48,20 +48,6 @@ pub record LeavesPart (words : List Word) (old new : Files) : Type 0 where
   pub spelled : Spells command words
   pub files : PartFiles command old new
 
--- the files after a call with this status
-abbrev pub LeavesFiles : List Word → Files → Files → Status → Type 0
-LeavesFiles words old new Done = LeavesDone words old new
-LeavesFiles words old new Usage = SameFiles old new
-LeavesFiles words old new (Malformed name at rule) = SameFiles old new
-LeavesFiles words old new (Version name major minor) = SameFiles old new
-LeavesFiles words old new (Unlinked class member rule) = SameFiles old new
-LeavesFiles words old new (Unverified class method offset rule) = SameFiles old new
-LeavesFiles words old new (HostFault calls.List) = SameFiles old new
-LeavesFiles words old new (HostFault calls.Read) = SameFiles old new
-LeavesFiles words old new (HostFault calls.Write) = LeavesPart words old new
-LeavesFiles words old new (HostFault calls.Print) = LeavesDone words old new
-LeavesFiles words old new NoMemory = SameFiles old new ⊎ (CanDo words old × (LeavesPart words old new ⊎ LeavesDone words old new))
-
 -- how many methods these have together
 abbrev pub method_count : List ClassFile → ℕ
 method_count classes = sum_by (λ class. length class.methods) classes
@@ -81,49 +67,46 @@ pub record IsSummary (words : List Word) (files : Files) (line : Bytes) : Type 0
   pub are_read : AreReadAs ClassOf (files (input_of command)) names classes
   pub is : line ≡ done_line command (length names) (length classes) (method_count classes)
 
--- the line that is printed with an answer
-abbrev pub IsLineOf : List Word → Files → Status → Bytes → Type 0
-IsLineOf words files Done line = IsSummary words files line
-IsLineOf words files Usage line = line ≡ refusal_line Usage
-IsLineOf words files (Malformed name at rule) line = line ≡ refusal_line (Malformed name at rule)
-IsLineOf words files (Version name major minor) line = line ≡ refusal_line (Version name major minor)
-IsLineOf words files (Unlinked class member rule) line = line ≡ refusal_line (Unlinked class member rule)
-IsLineOf words files (Unverified class method offset rule) line = line ≡ refusal_line (Unverified class method offset rule)
-IsLineOf words files (HostFault call) line = ⊥
-IsLineOf words files NoMemory line = ⊥
-
--- a prefix of the line of the answer was printed
-pub record PrintsPart (words : List Word) (files : Files) (answer : Status) (old new : Bytes) : Type 0 where
-  pub line : Bytes
-  pub is_line : IsLineOf words files answer line
-  pub prefix : IsPrefixPrinted line old new
-
--- the line of the answer was printed, or, where the count of failed prints rose, a prefix of it
-abbrev pub PrintsRefusal : Status → Type 0 → Bytes → Bytes → Type 0
-PrintsRefusal answer PrintRose old new = (new ≡ old ++ refusal_line answer) ⊎ (PrintRose × IsPrefixPrinted (refusal_line answer) old new)
-
 -- all of the summary was printed
 pub record PrintsSummary (words : List Word) (files : Files) (old new : Bytes) : Type 0 where
   pub line : Bytes
   pub is_line : IsSummary words files line
   pub printed : new ≡ old ++ line
 
--- where memory ran out: nothing was printed, or a prefix of the answer's line
-pub record PrintsSome (words : List Word) (files : Files) (old new : Bytes) : Type 0 where
-  pub answer : Status
-  pub is_answer : IsAnswer words files answer
-  pub part : PrintsPart words files answer old new
+-- a prefix of the summary was printed
+pub record PrintsPart (words : List Word) (files : Files) (old new : Bytes) : Type 0 where
+  pub line : Bytes
+  pub is_line : IsSummary words files line
+  pub prefix : IsPrefixPrinted line old new
 
--- what a call with this status printed
-abbrev pub LeavesPrinted : List Word → Files → Type 0 → Bytes → Bytes → Status → Type 0
-LeavesPrinted words files PrintRose old new Done = PrintsSummary words files old new
-LeavesPrinted words files PrintRose old new Usage = PrintsRefusal Usage PrintRose old new
-LeavesPrinted words files PrintRose old new (Malformed name at rule) = PrintsRefusal (Malformed name at rule) PrintRose old new
-LeavesPrinted words files PrintRose old new (Version name major minor) = PrintsRefusal (Version name major minor) PrintRose old new
-LeavesPrinted words files PrintRose old new (Unlinked class member rule) = PrintsRefusal (Unlinked class member rule) PrintRose old new
-LeavesPrinted words files PrintRose old new (Unverified class method offset rule) = PrintsRefusal (Unverified class method offset rule) PrintRose old new
-LeavesPrinted words files PrintRose old new (HostFault calls.List) = new ≡ old
-LeavesPrinted words files PrintRose old new (HostFault calls.Read) = new ≡ old
-LeavesPrinted words files PrintRose old new (HostFault calls.Write) = new ≡ old
-LeavesPrinted words files PrintRose old new (HostFault calls.Print) = PrintsPart words files Done old new
-LeavesPrinted words files PrintRose old new NoMemory = (new ≡ old) ⊎ PrintsSome words files old new
+-- the line of a refusal was printed, or, where the count of failed prints rose, a prefix of it
+abbrev pub PrintsLine : Bytes → Type 0 → Bytes → Bytes → Type 0
+PrintsLine line PrintRose old new = (new ≡ old ++ line) ⊎ (PrintRose × IsPrefixPrinted line old new)
+
+-- What a call leaves and has printed where memory ran out, one of four: nothing; of a refusal a prefix of its line; where the
+-- command can be done, some of its files, or all of them and a prefix of the summary.
+pub data Unfinished (words : List Word) (old new : Files) (before after : Bytes) : Type 0 where
+  before_work : SameFiles old new → after ≡ before → Unfinished words old new before after
+  in_refusal : (answer : Status) → IsAnswer words old answer → SameFiles old new → IsPrefixPrinted (refusal_line answer) before after
+      → Unfinished words old new before after
+  in_writes : CanDo words old → LeavesPart words old new → after ≡ before → Unfinished words old new before after
+  in_print : CanDo words old → LeavesDone words old new → PrintsPart words old before after → Unfinished words old new before after
+
+-- the files after a call that ended in this way, and what it printed
+abbrev pub Leaves : List Word → Files → Files → Type 0 → Bytes → Bytes → Ending → Type 0
+Leaves words old new PrintRose before after completed = LeavesDone words old new × PrintsSummary words old before after
+Leaves words old new PrintRose before after (refused refusal) = SameFiles old new × PrintsLine (line_of (refused refusal)) PrintRose before after
+Leaves words old new PrintRose before after (failed calls.List) = SameFiles old new × (after ≡ before)
+Leaves words old new PrintRose before after (failed calls.Read) = SameFiles old new × (after ≡ before)
+Leaves words old new PrintRose before after (failed calls.Write) = LeavesPart words old new × (after ≡ before)
+Leaves words old new PrintRose before after (failed calls.Print) = LeavesDone words old new × PrintsPart words old before after
+Leaves words old new PrintRose before after out_of_memory = Unfinished words old new before after
+
+-- the command writes files
+abbrev pub IsWriting : Command → Type 0
+IsWriting (Optimise input output library) = Unit {0}
+IsWriting (Verify input library) = ⊥
+
+-- the words spell no command that writes
+abbrev pub SpellNoWrite : List Word → Type 0
+SpellNoWrite words = (command : Command) → Spells command words → ¬ IsWriting command

@@ -1,7 +1,7 @@
-pub mod Status
 pub mod Words
 pub mod Folders
 pub mod Lines
+pub mod Status
 pub mod Linking
 pub mod Verifying
 pub mod Answer

@@ -1,15 +1,7 @@
 -- The printed lines.
 use Rattle.std.specs.Prelude.{ℕ, ◌+◌, ◌/◌, ◌%◌, ◌&&◌, nat_le, nat_lt, ◌==◌, not, List, [], ◌∷◌, ◌++◌, codes, decimal, if◌then◌else◌}
 use Rattle.std.specs.List.{flat_map}
-use Rattle.class_model.specs.declared.fault.FileRule.{FileRule}
-use Rattle.class_model.specs.declared.fault.FileRule.TheVariants as rules
-use Rattle.class_tree.specs.declared.fault.LinkRule.{LinkRule}
-use Rattle.class_tree.specs.declared.fault.LinkRule.TheVariants as links
 use Rattle.host_tree.specs.Host.{Bytes}
-use Rattle.type_rules.specs.declared.fault.TypeRule.{TypeRule}
-use Rattle.type_rules.specs.declared.fault.TypeRule.TheVariants as types
-use Rattle.pea_top.specs.declared.status.Status.{Status}
-use Rattle.pea_top.specs.declared.status.Status.TheVariants.{Done, Usage, Malformed, Version, Unlinked, Unverified, HostFault, NoMemory}
 
 -- a hexadecimal digit in lower case
 abbrev pub hex_digit : ℕ → ℕ
@@ -37,67 +29,3 @@ summary_line files classes kept = line (codes "done files=" ++ decimal files ++ 
 -- what is printed where a folder was verified: how many class files it has, and how many methods these have
 unfoldable pub verified_line : ℕ → ℕ → Bytes
 verified_line classes methods = line (codes "verified " ++ decimal classes ++ codes " " ++ decimal methods)
-
--- the name of a rule
-abbrev pub rule_name : FileRule → Bytes
-rule_name rules.Short = codes "Short"
-rule_name rules.Magic = codes "Magic"
-rule_name rules.Tag = codes "Tag"
-rule_name rules.Text = codes "Text"
-rule_name rules.Extra = codes "Extra"
-rule_name rules.Index = codes "Index"
-rule_name rules.Name = codes "Name"
-rule_name rules.Descriptor = codes "Descriptor"
-rule_name rules.Flags = codes "Flags"
-rule_name rules.Twice = codes "Twice"
-rule_name rules.NoCode = codes "NoCode"
-rule_name rules.HasCode = codes "HasCode"
-rule_name rules.Constant = codes "Constant"
-rule_name rules.Attribute = codes "Attribute"
-rule_name rules.CodeLength = codes "CodeLength"
-rule_name rules.Locals = codes "Locals"
-rule_name rules.Opcode = codes "Opcode"
-rule_name rules.Operand = codes "Operand"
-rule_name rules.Jump = codes "Jump"
-rule_name rules.Range = codes "Range"
-rule_name rules.FrameKind = codes "FrameKind"
-rule_name rules.FrameType = codes "FrameType"
-rule_name rules.FrameSize = codes "FrameSize"
-rule_name rules.FramePlace = codes "FramePlace"
-
--- the name of a rule of linking
-abbrev pub link_rule_name : LinkRule → Bytes
-link_rule_name links.Duplicate = codes "Duplicate"
-link_rule_name links.Missing = codes "Missing"
-link_rule_name links.Circle = codes "Circle"
-link_rule_name links.FinalSuper = codes "FinalSuper"
-link_rule_name links.LibraryLeans = codes "LibraryLeans"
-link_rule_name links.KindOfSuper = codes "KindOfSuper"
-link_rule_name links.NoMember = codes "NoMember"
-link_rule_name links.NoAccess = codes "NoAccess"
-link_rule_name links.WrongForm = codes "WrongForm"
-link_rule_name links.FinalOverridden = codes "FinalOverridden"
-
--- the name of a rule of types
-abbrev pub type_rule_name : TypeRule → Bytes
-type_rule_name types.CatchType = codes "CatchType"
-type_rule_name types.NoFrame = codes "NoFrame"
-type_rule_name types.Mismatch = codes "Mismatch"
-type_rule_name types.Handler = codes "Handler"
-type_rule_name types.Stack = codes "Stack"
-type_rule_name types.Local = codes "Local"
-type_rule_name types.Depth = codes "Depth"
-type_rule_name types.Kind = codes "Kind"
-type_rule_name types.Target = codes "Target"
-type_rule_name types.FallsOff = codes "FallsOff"
-
--- what is printed of a refusal; the other statuses print none
-unfoldable pub refusal_line : Status → Bytes
-refusal_line Usage = line (codes "refused 1 Usage")
-refusal_line (Malformed name at rule) = line (codes "refused 2 Malformed " ++ printed_text name ++ codes " " ++ decimal at ++ codes " " ++ rule_name rule)
-refusal_line (Version name major minor) = line (codes "refused 3 Version " ++ printed_text name ++ codes " " ++ decimal major ++ codes " " ++ decimal minor)
-refusal_line (Unlinked class member rule) = line (codes "refused 4 Unlinked " ++ printed_text class ++ codes " " ++ printed_text member.name ++ codes " " ++ printed_text member.desc ++ codes " " ++ link_rule_name rule)
-refusal_line (Unverified class method offset rule) = line (codes "refused 5 Unverified " ++ printed_text class ++ codes " " ++ printed_text method.name ++ codes " " ++ printed_text method.desc ++ codes " " ++ decimal offset ++ codes " " ++ type_rule_name rule)
-refusal_line Done = []
-refusal_line (HostFault call) = []
-refusal_line NoMemory = []

@@ -11,6 +11,7 @@ use Rattle.host_tree.specs.Host.{Folder, Bytes}
 use Rattle.host_tree.specs.declared.call.HostCall.{HostCall}
 use Rattle.pea_top.specs.Answer.{Refusal, broken, other_version, IsRefusedClass, IsRefusedHeader, IsRefused}
 use Rattle.pea_top.specs.Folders.{names_class_file}
+use Rattle.pea_top.specs.Reading.{StopsAt}
 use Rattle.pea_top.specs.declared.folder.NamedFile.{NamedFile}
 use Rattle.pea_top.specs.declared.reading.ReadStop.{ReadStop}
 use Rattle.pea_top.specs.declared.reading.ReadStop.TheVariants.{Fault, NoMemory, Malformed, Version}
@@ -36,10 +37,7 @@ pub record IsGoodFile (folder : Folder) (file : NamedFile) (class : Option Class
 -- the file of this name, or that it is refused
 abbrev pub IsFileOrWhy : Folder → Bytes → Result (NamedFile × Option ClassFile) ReadStop → Type 0
 IsFileOrWhy folder name (Ok (file, class)) = (file.name ≡ name) × IsGoodFile folder file class
-IsFileOrWhy folder name (Err (Fault call)) = Unit {0}
-IsFileOrWhy folder name (Err NoMemory) = Unit {0}
-IsFileOrWhy folder name (Err (Malformed refused at rule)) = (refused ≡ name) × IsRefused IsRefusedClass folder name (broken (fault at rule))
-IsFileOrWhy folder name (Err (Version refused major minor)) = (refused ≡ name) × IsRefused IsRefusedClass folder name (other_version (record { minor = minor; major = major }))
+IsFileOrWhy folder name (Err stop) = StopsAt (λ refused why. (refused ≡ name) × IsRefused IsRefusedClass folder name why) stop
 
 -- why a class file is not written again: its bytes are refused for that, or memory ran out
 abbrev pub IsWhyNot : Bytes → ClassFault → Type 0
@@ -63,7 +61,4 @@ pub record IsGoodHeader (library : Folder) (name : Bytes) (header : Header) : Ty
 -- the header of the file of this name, or that it is refused
 abbrev pub IsHeaderOrWhy : Folder → Bytes → Result Header ReadStop → Type 0
 IsHeaderOrWhy library name (Ok header) = IsGoodHeader library name header
-IsHeaderOrWhy library name (Err (Fault call)) = Unit {0}
-IsHeaderOrWhy library name (Err NoMemory) = Unit {0}
-IsHeaderOrWhy library name (Err (Malformed refused at rule)) = (refused ≡ name) × IsRefused IsRefusedHeader library name (broken (fault at rule))
-IsHeaderOrWhy library name (Err (Version refused major minor)) = (refused ≡ name) × IsRefused IsRefusedHeader library name (other_version (record { minor = minor; major = major }))
+IsHeaderOrWhy library name (Err stop) = StopsAt (λ refused why. (refused ≡ name) × IsRefused IsRefusedHeader library name why) stop

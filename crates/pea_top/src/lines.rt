@@ -1,10 +1,11 @@
 //! The printed lines.
 ghost use Rattle.std.specs.Prelude.{◌≡◌, ◌<◌, ◌++◌, codes, IfOk, OnOk};
 ghost use Rattle.std.specs.List.{flat_map};
-ghost use Rattle.pea_top.specs.Lines.{hex_digit, printed_byte, printed_text, rule_name, link_rule_name, type_rule_name, summary_line, verified_line, refusal_line};
+ghost use Rattle.pea_top.specs.Lines.{hex_digit, printed_byte, printed_text, summary_line, verified_line};
+ghost use Rattle.pea_top.specs.Status.{refusal_line};
 
 use crate::status::Status;
-use class_model::{FileRule, Member, NoMemory, Text};
+use class_model::{Member, NoMemory, Text};
 use class_tree::LinkRule;
 use host_tree::FileName;
 use std::alloc::Global;
@@ -33,14 +34,13 @@ pub(crate) fn verified(alloc: Global, classes: usize, methods: u128) -> Result<V
 }
 
 /// The line of a refusal, which is empty for a status that prints none.
-#[tactic(auto, unfolding(crate::specs::Lines::refusal_line))]
 pub(crate) fn refusal(alloc: Global, status: &Status) -> Result<Vec<u8>, NoMemory>
     ensures { IfOk result (λ line. line.items ≡ refusal_line status.now) }
 {
     match status {
         Status::Usage => Ok(Vec::from_slice(alloc, b"refused 1 Usage\n")?),
         Status::Malformed { name, at, rule } => {
-            let rule = rule_name(*rule);
+            let rule = rule.name();
             let fault = format!(in alloc; " {at} {rule}\n")?;
             file_refusal(alloc, b"refused 2 Malformed ", name, fault.as_str())
         }
@@ -79,7 +79,6 @@ fn file_refusal(
 }
 
 /// The line of a problem of linking.
-#[tactic(auto, unfolding(crate::specs::Lines::refusal_line))]
 fn unlinked(
     alloc: Global,
     class: &Text,
@@ -88,13 +87,12 @@ fn unlinked(
 ) -> Result<Vec<u8>, NoMemory>
     ensures { IfOk result (λ line. line.items ≡ refusal_line (Status.Unlinked class.now member.now rule)) }
 {
-    let rule = link_rule_name(rule);
+    let rule = rule.name();
     let back = format!(in alloc; " {rule}\n")?;
     member_refusal(alloc, b"refused 4 Unlinked ", class, member, back.as_str())
 }
 
 /// The line of a method that does not verify.
-#[tactic(auto, unfolding(crate::specs::Lines::refusal_line))]
 fn unverified(
     alloc: Global,
     class: &Text,
@@ -104,7 +102,7 @@ fn unverified(
 ) -> Result<Vec<u8>, NoMemory>
     ensures { IfOk result (λ line. line.items ≡ refusal_line (Status.Unverified class.now method.now offset rule)) }
 {
-    let rule = type_rule_name(rule);
+    let rule = rule.name();
     let back = format!(in alloc; " {offset} {rule}\n")?;
     member_refusal(
         alloc,
@@ -133,74 +131,6 @@ fn member_refusal(
     push_text(&mut line, member.desc.bytes())?;
     line.extend_from_slice(back.as_bytes())?;
     Ok(line)
-}
-
-/// The name of a rule.
-fn rule_name(rule: FileRule) -> &'static str
-    ensures { result.now ≡ rule_name rule }
-{
-    match rule {
-        FileRule::Short => "Short",
-        FileRule::Magic => "Magic",
-        FileRule::Tag => "Tag",
-        FileRule::Text => "Text",
-        FileRule::Extra => "Extra",
-        FileRule::Index => "Index",
-        FileRule::Name => "Name",
-        FileRule::Descriptor => "Descriptor",
-        FileRule::Flags => "Flags",
-        FileRule::Twice => "Twice",
-        FileRule::NoCode => "NoCode",
-        FileRule::HasCode => "HasCode",
-        FileRule::Constant => "Constant",
-        FileRule::Attribute => "Attribute",
-        FileRule::CodeLength => "CodeLength",
-        FileRule::Locals => "Locals",
-        FileRule::Opcode => "Opcode",
-        FileRule::Operand => "Operand",
-        FileRule::Jump => "Jump",
-        FileRule::Range => "Range",
-        FileRule::FrameKind => "FrameKind",
-        FileRule::FrameType => "FrameType",
-        FileRule::FrameSize => "FrameSize",
-        FileRule::FramePlace => "FramePlace",
-    }
-}
-
-/// The name of a rule of linking.
-fn link_rule_name(rule: LinkRule) -> &'static str
-    ensures { result.now ≡ link_rule_name rule }
-{
-    match rule {
-        LinkRule::Duplicate => "Duplicate",
-        LinkRule::Missing => "Missing",
-        LinkRule::Circle => "Circle",
-        LinkRule::FinalSuper => "FinalSuper",
-        LinkRule::LibraryLeans => "LibraryLeans",
-        LinkRule::KindOfSuper => "KindOfSuper",
-        LinkRule::NoMember => "NoMember",
-        LinkRule::NoAccess => "NoAccess",
-        LinkRule::WrongForm => "WrongForm",
-        LinkRule::FinalOverridden => "FinalOverridden",
-    }
-}
-
-/// The name of a rule of types.
-fn type_rule_name(rule: TypeRule) -> &'static str
-    ensures { result.now ≡ type_rule_name rule }
-{
-    match rule {
-        TypeRule::CatchType => "CatchType",
-        TypeRule::NoFrame => "NoFrame",
-        TypeRule::Mismatch => "Mismatch",
-        TypeRule::Handler => "Handler",
-        TypeRule::Stack => "Stack",
-        TypeRule::Local => "Local",
-        TypeRule::Depth => "Depth",
-        TypeRule::Kind => "Kind",
-        TypeRule::Target => "Target",
-        TypeRule::FallsOff => "FallsOff",
-    }
 }
 
 /// Appends a text as it is printed.

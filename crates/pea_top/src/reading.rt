@@ -8,12 +8,13 @@ ghost use Rattle.host_tree.specs.Counts.{NeverFalls, Rose, CountsOnly};
 ghost use Rattle.class_model.specs.ClassOf.{ClassOf};
 ghost use Rattle.pea_top.specs.Answer.{Refusal, IsRefusedClass};
 ghost use Rattle.pea_top.specs.Folders.{AreNames, names_class_file};
-ghost use Rattle.pea_top.specs.Reading.{IsReadOrWhy, IsLibraryOrWhy, IsInputOrWhy};
+ghost use Rattle.pea_top.specs.Reading.{IsReadOrWhy, IsLibraryOrWhy, IsInputOrWhy, status_of};
 ghost use Rattle.pea_top.specs.ReadingSteps.{IsCallStop, IsFileOrWhy, IsHeaderOrWhy, IsWhyNot, stop_at};
 ghost use Rattle.pea_top.specs.declared.reading.ReadStop.TheVariants.{NoMemory as no_memory};
 
 use crate::folder::{NamedFile, is_class_file};
 use crate::sharing::SharedTexts;
+use crate::status::Status;
 use class_bytes::{push_class, read_class, read_header};
 use class_model::{
     ByteList, ClassFault, ClassFile, FileRule, Header, NoMemory, a_class_file_has_no_fault,
@@ -78,6 +79,18 @@ impl<T: Drop> From<AllocFailed<T>> for ReadStop {
     }
 }
 
+/// The status of a command whose reading stops.
+pub(crate) fn status_of(stop: ReadStop) -> Status
+    ensures { result ≡ status_of stop }
+{
+    match stop {
+        ReadStop::Fault(call) => Status::HostFault(call),
+        ReadStop::NoMemory => Status::NoMemory,
+        ReadStop::Malformed { name, at, rule } => Status::Malformed { name, at, rule },
+        ReadStop::Version { name, major, minor } => Status::Version { name, major, minor },
+    }
+}
+
 /// The files of the input, each class file read and written again, and the headers of the library. Both are listed
 /// before a file is read.
 pub(crate) fn read_input<H: Host>(
@@ -90,6 +103,7 @@ pub(crate) fn read_input<H: Host>(
     ensures printed { IsTrue H.tells → H.printed host.new ≡ H.printed host.old }
     ensures counts { (call : HostCall) → NeverFalls (H.faults host.old call) (H.faults host.new call) }
     ensures print_count { H.faults host.new HostCall.Print ≡ H.faults host.old HostCall.Print }
+    ensures write_count { H.faults host.new HostCall.Write ≡ H.faults host.old HostCall.Write }
     ensures found { IsTrue H.tells → IsInputOrWhy (H.file host.old folder.now) (H.file host.old library.now) result }
     ensures classes { IfOk result (λ input. AllByRecursion IsClassFile input.classes) }
     ensures headers { IfOk result (λ input. AllByRecursion IsLibraryClass input.headers) }

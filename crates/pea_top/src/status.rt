@@ -1,6 +1,6 @@
 //! The outcome of a call.
 ghost use Rattle.std.specs.Prelude.{◌≡◌};
-ghost use Rattle.pea_top.specs.Status.{status_code};
+ghost use Rattle.pea_top.specs.Status.{ending, is_refused, status_code};
 
 use class_model::{FileRule, Member, Text};
 use class_tree::LinkRule;
@@ -64,5 +64,12 @@ impl Status {
             Status::HostFault(_) => 6,
             Status::NoMemory => 9,
         }
+    }
+
+    /// Whether a line is printed of it, and nothing is written.
+    pub(crate) fn is_refusal(&self) -> bool
+        ensures { result ≡ is_refused (ending self.now) }
+    {
+        !matches!(self, Status::Done | Status::HostFault(_) | Status::NoMemory)
     }
 }

@@ -1,23 +1,23 @@
 //! The top call.
-ghost use Rattle.std.specs.Prelude.{◌≡◌, ◌⊎◌, List, ◌++◌, length, map, string_bytes, IsTrue, IfOk};
+ghost use Rattle.std.specs.Prelude.{◌≡◌, ◌⊎◌, List, ◌++◌, length, map, string_bytes, IsTrue, IfOk, IsErrOf};
 ghost use Rattle.std.specs.List.{AllByRecursion};
 ghost use Rattle.class_tree.specs.Headers.{IsClassFile, IsLibraryClass};
 ghost use Rattle.host_tree.specs.declared.call.HostCall.{HostCall};
-ghost use Rattle.host_tree.specs.Host.{SameFiles, IsPrefixPrinted};
+ghost use Rattle.host_tree.specs.Host.{Files, Bytes, SameFiles};
 ghost use Rattle.host_tree.specs.Counts.{NeverFalls, Rose, CountsOnly};
 ghost use Rattle.member_link.specs.Linked.{IsLinked};
 ghost use Rattle.pea_top.specs.Words.{Word, Spells, IsUsage};
 ghost use Rattle.pea_top.specs.CommandView.{command_view};
-ghost use Rattle.pea_top.specs.Lines.{refusal_line};
+ghost use Rattle.pea_top.specs.Status.{ending, ended};
 ghost use Rattle.pea_top.specs.Answer.{HasCause};
-ghost use Rattle.pea_top.specs.Effects.{method_count, done_line, LeavesFiles, LeavesPrinted, PrintsRefusal};
-ghost use Rattle.pea_top.specs.CommandEffects.{LeavesWritten, PrintsWritten};
-ghost use Rattle.pea_top.specs.Deciding.{AreInput, AreArranged, AreReady, IsOutcome};
+ghost use Rattle.pea_top.specs.Effects.{method_count, done_line, IsWriting, SpellNoWrite, Leaves};
+ghost use Rattle.pea_top.specs.CommandEffects.{LeavesWritten, LeavesPrinted};
+ghost use Rattle.pea_top.specs.Deciding.{AreInput, AreArranged, AreReady, IsOutcome, IsStop};
 
 use crate::folder::NamedFile;
 use crate::lines::{refusal, summary, verified};
 use crate::linking::link;
-use crate::reading::{Input, ReadStop, read_input};
+use crate::reading::{Input, read_input, status_of};
 use crate::status::Status;
 use crate::words::{Command, command_of};
 use crate::writing::write_files;
@@ -46,52 +46,70 @@ pub fn pea<H: Host>(alloc: Global, words: &[String], host: &mut H) -> Status
     ensures fault { (call : HostCall) → result ≡ Status.HostFault call → Rose (H.faults host.old call) (H.faults host.new call) }
     ensures counts { (call : HostCall) → NeverFalls (H.faults host.old call) (H.faults host.new call) }
 
+    // Words outside the grammar list, read and write nothing; words that spell no command that writes write nothing.
+    ensures outside_counts { IsUsage (map string_bytes words.now) → CountsOnly HostCall.Print (H.faults host.old) (H.faults host.new) }
+    ensures write_count { SpellNoWrite (map string_bytes words.now) → H.faults host.new HostCall.Write ≡ H.faults host.old HostCall.Write }
+
     // Where the host tells: the cause of the status, the files that it leaves, and what was printed.
     ensures cause { IsTrue H.tells → HasCause (map string_bytes words.now) (H.file host.old) result }
-    ensures files { IsTrue H.tells → LeavesFiles (map string_bytes words.now) (H.file host.old) (H.file host.new) result }
-    ensures printed { IsTrue H.tells → LeavesPrinted (map string_bytes words.now) (H.file host.old)
-        (Rose (H.faults host.old HostCall.Print) (H.faults host.new HostCall.Print)) (H.printed host.old) (H.printed host.new) result }
+    ensures left { IsTrue H.tells → Leaves (map string_bytes words.now) (H.file host.old) (H.file host.new)
+        (Rose (H.faults host.old HostCall.Print) (H.faults host.new HostCall.Print)) (H.printed host.old) (H.printed host.new) (ending result) }
+{
+    match run(alloc, words, host) {
+        Ok(()) => Status::Done,
+        Err(stop) => refuse(alloc, host, stop),
+    }
+}
+
+/// Does what the words ask for, up to where it stops. Of a refusal no line is printed yet.
+fn run<H: Host>(alloc: Global, words: &[String], host: &mut H) -> Result<(), Status>
+    ensures usage { IsErrOf result Status.Usage → IsUsage (map string_bytes words.now) }
+    ensures outside { IsUsage (map string_bytes words.now) → IsErrOf result Status.Usage × ((call : HostCall) → H.faults host.new call ≡ H.faults host.old call) }
+    ensures fault { (call : HostCall) → IsErrOf result (Status.HostFault call) → Rose (H.faults host.old call) (H.faults host.new call) }
+    ensures counts { (call : HostCall) → NeverFalls (H.faults host.old call) (H.faults host.new call) }
+    ensures write_count { SpellNoWrite (map string_bytes words.now) → H.faults host.new HostCall.Write ≡ H.faults host.old HostCall.Write }
+    ensures stop { IsTrue H.tells → IsStop (map string_bytes words.now) (H.file host.old) (H.file host.new) (H.printed host.old) (H.printed host.new) (ended result) }
 {
     match command_of(words) {
         Some(command) => perform(alloc, command, host),
-        None => refuse(alloc, host, Status::Usage),
+        None => Err(Status::Usage),
     }
 }
 
 /// Reads the input and the library of a command whole, and goes on with them.
-fn perform<H: Host>(alloc: Global, command: Command<'_>, host: &mut H) -> Status
-    ensures not_usage { ¬ (result ≡ Status.Usage) }
-    ensures fault { (call : HostCall) → result ≡ Status.HostFault call → Rose (H.faults host.old call) (H.faults host.new call) }
+fn perform<H: Host>(alloc: Global, command: Command<'_>, host: &mut H) -> Result<(), Status>
+    ensures not_usage { ¬ IsErrOf result Status.Usage }
+    ensures fault { (call : HostCall) → IsErrOf result (Status.HostFault call) → Rose (H.faults host.old call) (H.faults host.new call) }
     ensures counts { (call : HostCall) → NeverFalls (H.faults host.old call) (H.faults host.new call) }
-    ensures outcome { (words : List Word) → Spells (command_view command.entry) words → IsTrue H.tells → IsOutcome words (H.file host.old) (H.file host.new)
-        (Rose (H.faults host.old HostCall.Print) (H.faults host.new HostCall.Print)) (H.printed host.old) (H.printed host.new) result }
+    ensures write_count { ¬ IsWriting (command_view command.entry) → H.faults host.new HostCall.Write ≡ H.faults host.old HostCall.Write }
+    ensures stop { (words : List Word) → Spells (command_view command.entry) words → IsTrue H.tells →
+        IsStop words (H.file host.old) (H.file host.new) (H.printed host.old) (H.printed host.new) (ended result) }
 {
     match read_input(alloc, host, command.input(), command.library()) {
         Ok(input) => decide(alloc, command, host, input),
-        Err(ReadStop::Fault(call)) => Status::HostFault(call),
-        Err(ReadStop::NoMemory) => Status::NoMemory,
-        Err(ReadStop::Malformed { name, at, rule }) => {
-            refuse(alloc, host, Status::Malformed { name, at, rule })
-        }
-        Err(ReadStop::Version { name, major, minor }) => {
-            refuse(alloc, host, Status::Version { name, major, minor })
-        }
+        Err(stop) => Err(status_of(stop)),
     }
 }
 
 /// Makes the line of a command, links what was read for it, and goes on with the hierarchy.
-fn decide<H: Host>(alloc: Global, command: Command<'_>, host: &mut H, input: Input) -> Status
+fn decide<H: Host>(
+    alloc: Global,
+    command: Command<'_>,
+    host: &mut H,
+    input: Input,
+) -> Result<(), Status>
     requires read { IsTrue H.tells → AreInput (command_view command) (H.file host.old) input.files.items input.classes input.headers }
     requires classes { AllByRecursion IsClassFile input.classes }
     requires headers { AllByRecursion IsLibraryClass input.headers }
-    ensures not_usage { ¬ (result ≡ Status.Usage) }
-    ensures fault { (call : HostCall) → result ≡ Status.HostFault call → Rose (H.faults host.old call) (H.faults host.new call) }
+    ensures not_usage { ¬ IsErrOf result Status.Usage }
+    ensures fault { (call : HostCall) → IsErrOf result (Status.HostFault call) → Rose (H.faults host.old call) (H.faults host.new call) }
     ensures counts { (call : HostCall) → NeverFalls (H.faults host.old call) (H.faults host.new call) }
-    ensures outcome { (words : List Word) → Spells (command_view command.entry) words → IsTrue H.tells → IsOutcome words (H.file host.old) (H.file host.new)
-        (Rose (H.faults host.old HostCall.Print) (H.faults host.new HostCall.Print)) (H.printed host.old) (H.printed host.new) result }
+    ensures write_count { ¬ IsWriting (command_view command.entry) → H.faults host.new HostCall.Write ≡ H.faults host.old HostCall.Write }
+    ensures stop { (words : List Word) → Spells (command_view command.entry) words → IsTrue H.tells →
+        IsStop words (H.file host.old) (H.file host.new) (H.printed host.old) (H.printed host.new) (ended result) }
 {
     let Ok(line) = line_of(alloc, command, &input) else {
-        return Status::NoMemory;
+        return Err(Status::NoMemory);
     };
     match link(alloc, input.classes, input.headers) {
         Ok(tree) => verify(
@@ -102,21 +120,18 @@ fn decide<H: Host>(alloc: Global, command: Command<'_>, host: &mut H, input: Inp
             input.files.as_slice(),
             line.as_slice(),
         ),
-        Err(LinkFault::NoMemory) => Status::NoMemory,
+        Err(LinkFault::NoMemory) => Err(Status::NoMemory),
         Err(
             LinkFault::Unlinked {
                 class,
                 member,
                 rule,
             },
-        ) => {
-            let status = Status::Unlinked {
-                class,
-                member,
-                rule,
-            };
-            refuse(alloc, host, status)
-        }
+        ) => Err(Status::Unlinked {
+            class,
+            member,
+            rule,
+        }),
     }
 }
 
@@ -128,18 +143,19 @@ fn verify<H: Host>(
     tree: &Tree,
     files: &[NamedFile],
     line: &[u8],
-) -> Status
+) -> Result<(), Status>
     requires arranged { IsTrue H.tells → AreArranged (command_view command) (H.file host.old) files.now line.now tree.now }
     requires linked { IsLinked tree.now }
-    ensures not_usage { ¬ (result ≡ Status.Usage) }
-    ensures fault { (call : HostCall) → result ≡ Status.HostFault call → Rose (H.faults host.old call) (H.faults host.new call) }
+    ensures not_usage { ¬ IsErrOf result Status.Usage }
+    ensures fault { (call : HostCall) → IsErrOf result (Status.HostFault call) → Rose (H.faults host.old call) (H.faults host.new call) }
     ensures counts { (call : HostCall) → NeverFalls (H.faults host.old call) (H.faults host.new call) }
-    ensures outcome { (words : List Word) → Spells (command_view command.entry) words → IsTrue H.tells → IsOutcome words (H.file host.old) (H.file host.new)
-        (Rose (H.faults host.old HostCall.Print) (H.faults host.new HostCall.Print)) (H.printed host.old) (H.printed host.new) result }
+    ensures write_count { ¬ IsWriting (command_view command.entry) → H.faults host.new HostCall.Write ≡ H.faults host.old HostCall.Write }
+    ensures stop { (words : List Word) → Spells (command_view command.entry) words → IsTrue H.tells →
+        IsStop words (H.file host.old) (H.file host.new) (H.printed host.old) (H.printed host.new) (ended result) }
 {
     match check_all(alloc, tree) {
         Ok(()) => carry_out(alloc, command, host, files, line),
-        Err(VerifyFault::NoMemory) => Status::NoMemory,
+        Err(VerifyFault::NoMemory) => Err(Status::NoMemory),
         Err(
             VerifyFault::Unverified {
                 class,
@@ -147,15 +163,12 @@ fn verify<H: Host>(
                 offset,
                 rule,
             },
-        ) => {
-            let status = Status::Unverified {
-                class,
-                method,
-                offset,
-                rule,
-            };
-            refuse(alloc, host, status)
-        }
+        ) => Err(Status::Unverified {
+            class,
+            method,
+            offset,
+            rule,
+        }),
     }
 }
 
@@ -166,13 +179,14 @@ fn carry_out<H: Host>(
     host: &mut H,
     files: &[NamedFile],
     line: &[u8],
-) -> Status
+) -> Result<(), Status>
     requires { IsTrue H.tells → AreReady (command_view command) (H.file host.old) files.now line.now }
-    ensures not_usage { ¬ (result ≡ Status.Usage) }
-    ensures fault { (call : HostCall) → result ≡ Status.HostFault call → Rose (H.faults host.old call) (H.faults host.new call) }
+    ensures not_usage { ¬ IsErrOf result Status.Usage }
+    ensures fault { (call : HostCall) → IsErrOf result (Status.HostFault call) → Rose (H.faults host.old call) (H.faults host.new call) }
     ensures counts { (call : HostCall) → NeverFalls (H.faults host.old call) (H.faults host.new call) }
-    ensures outcome { (words : List Word) → Spells (command_view command.entry) words → IsTrue H.tells → IsOutcome words (H.file host.old) (H.file host.new)
-        (Rose (H.faults host.old HostCall.Print) (H.faults host.new HostCall.Print)) (H.printed host.old) (H.printed host.new) result }
+    ensures write_count { ¬ IsWriting (command_view command.entry) → H.faults host.new HostCall.Write ≡ H.faults host.old HostCall.Write }
+    ensures stop { (words : List Word) → Spells (command_view command.entry) words → IsTrue H.tells →
+        IsStop words (H.file host.old) (H.file host.new) (H.printed host.old) (H.printed host.new) (ended result) }
 {
     match command {
         Command::Optimise { output, .. } => write_out(alloc, host, output, files, line),
@@ -192,28 +206,6 @@ fn line_of(alloc: Global, command: Command<'_>, input: &Input) -> Result<Vec<u8>
     }
 }
 
-/// Writes the files under a root and prints a line.
-fn write_out<H: Host>(
-    alloc: Global,
-    host: &mut H,
-    root: &str,
-    files: &[NamedFile],
-    line: &[u8],
-) -> Status
-    ensures not_usage { ¬ (result ≡ Status.Usage) }
-    ensures fault { (call : HostCall) → result ≡ Status.HostFault call → Rose (H.faults host.old call) (H.faults host.new call) }
-    ensures counts { (call : HostCall) → NeverFalls (H.faults host.old call) (H.faults host.new call) }
-    ensures files { IsTrue H.tells → LeavesWritten root.now files.now (H.file host.old) (H.file host.new) result }
-    ensures printed { IsTrue H.tells → PrintsWritten line.now (H.printed host.old) (H.printed host.new) result }
-{
-    match write_files(alloc, host, root, files) {
-        Ok(()) => finish(alloc, host, line),
-        Err(HostFail::Failed) => Status::HostFault(HostCall::Write),
-        Err(HostFail::NoMemory) => Status::NoMemory,
-        Err(HostFail::Absent) => unreachable!(),
-    }
-}
-
 /// How many methods class files have together.
 fn methods(classes: &[ClassFile]) -> u128
     ensures { result ≡ method_count classes.now }
@@ -225,37 +217,58 @@ fn methods(classes: &[ClassFile]) -> u128
     total
 }
 
-/// Prints the last line of a command that was done.
-fn finish<H: Host>(alloc: Global, host: &mut H, line: &[u8]) -> Status
-    ensures answer { (result ≡ Status.Done) ⊎ ((result ≡ Status.HostFault HostCall.Print) ⊎ (result ≡ Status.NoMemory)) }
-    ensures failed { result ≡ Status.HostFault HostCall.Print → Rose (H.faults host.old HostCall.Print) (H.faults host.new HostCall.Print) }
-    ensures counts { CountsOnly HostCall.Print (H.faults host.old) (H.faults host.new) }
-    ensures files { IsTrue H.tells → SameFiles (H.file host.old) (H.file host.new) }
-    ensures all { IsTrue H.tells → result ≡ Status.Done → H.printed host.new ≡ H.printed host.old ++ line.now }
-    ensures prefix { IsTrue H.tells → IsPrefixPrinted line.now (H.printed host.old) (H.printed host.new) }
+/// Writes the files under a root and prints a line.
+fn write_out<H: Host>(
+    alloc: Global,
+    host: &mut H,
+    root: &str,
+    files: &[NamedFile],
+    line: &[u8],
+) -> Result<(), Status>
+    ensures not_usage { ¬ IsErrOf result Status.Usage }
+    ensures fault { (call : HostCall) → IsErrOf result (Status.HostFault call) → Rose (H.faults host.old call) (H.faults host.new call) }
+    ensures counts { (call : HostCall) → NeverFalls (H.faults host.old call) (H.faults host.new call) }
+    ensures left { IsTrue H.tells → LeavesWritten root.now files.now line.now (H.file host.old) (H.file host.new) (H.printed host.old) (H.printed host.new) (ending (ended result)) }
 {
-    match host.print(alloc, line) {
-        Ok(()) => Status::Done,
-        Err(HostFail::Failed) => Status::HostFault(HostCall::Print),
-        Err(HostFail::NoMemory) => Status::NoMemory,
+    match write_files(alloc, host, root, files) {
+        Ok(()) => finish(alloc, host, line),
+        Err(HostFail::Failed) => Err(Status::HostFault(HostCall::Write)),
+        Err(HostFail::NoMemory) => Err(Status::NoMemory),
         Err(HostFail::Absent) => unreachable!(),
     }
 }
 
-/// Prints the line of a refusal. The status stays where the print fails.
-fn refuse<H: Host>(alloc: Global, host: &mut H, status: Status) -> Status
-    ensures answer { (result ≡ status) ⊎ (result ≡ Status.NoMemory) }
+/// Prints the last line of a command that was done.
+fn finish<H: Host>(alloc: Global, host: &mut H, line: &[u8]) -> Result<(), Status>
+    ensures not_usage { ¬ IsErrOf result Status.Usage }
+    ensures fault { (call : HostCall) → IsErrOf result (Status.HostFault call) → Rose (H.faults host.old call) (H.faults host.new call) }
     ensures counts { CountsOnly HostCall.Print (H.faults host.old) (H.faults host.new) }
-    ensures files { IsTrue H.tells → SameFiles (H.file host.old) (H.file host.new) }
-    ensures printed { IsTrue H.tells → result ≡ status → PrintsRefusal status
-        (Rose (H.faults host.old HostCall.Print) (H.faults host.new HostCall.Print)) (H.printed host.old) (H.printed host.new) }
-    ensures prefix { IsTrue H.tells → IsPrefixPrinted (refusal_line status) (H.printed host.old) (H.printed host.new) }
+    ensures left { IsTrue H.tells → LeavesPrinted line.now (H.file host.old) (H.file host.new) (H.printed host.old) (H.printed host.new) (ending (ended result)) }
 {
-    let Ok(line) = refusal(alloc, &status) else {
+    match host.print(alloc, line) {
+        Ok(()) => Ok(()),
+        Err(HostFail::Failed) => Err(Status::HostFault(HostCall::Print)),
+        Err(HostFail::NoMemory) => Err(Status::NoMemory),
+        Err(HostFail::Absent) => unreachable!(),
+    }
+}
+
+/// The status of a command that stopped. Of a refusal its line is printed; the status stays where the print fails.
+fn refuse<H: Host>(alloc: Global, host: &mut H, stop: Status) -> Status
+    ensures answer { (result ≡ stop) ⊎ (result ≡ Status.NoMemory) }
+    ensures counts { CountsOnly HostCall.Print (H.faults host.old) (H.faults host.new) }
+    ensures outcome { (words : List Word) (old : Files) (before : Bytes) → IsTrue H.tells → IsStop words old (H.file host.old) before (H.printed host.old) stop →
+        IsOutcome words old (H.file host.new) (Rose (H.faults host.old HostCall.Print) (H.faults host.new HostCall.Print)) before (H.printed host.new) result }
+{
+    if !stop.is_refusal() {
+        return stop;
+    }
+    let Ok(line) = refusal(alloc, &stop) else {
         return Status::NoMemory;
     };
     match host.print(alloc, line.as_slice()) {
-        Ok(()) | Err(HostFail::Failed) => status,
+        Ok(()) => stop,
+        Err(HostFail::Failed) => stop,
         Err(HostFail::NoMemory) => Status::NoMemory,
         Err(HostFail::Absent) => unreachable!(),
     }
