@@ -1,16 +1,15 @@
 -- Classes of one shape are a hierarchy together.
-use Rattle.std.proofs.Common.{◌≡◌, ◌↔◌, ◌∙◌, ◌<◌, ◌+◌, ◌-◌, ◌++◌, ℕ, zero, suc, Bool, true, false, cond, List, [], ◌∷◌, map, length, nat_lt, bytes_eq, slice_get, Option, Some, None, IfSome, IsTrue, IsFalse, is_some, option_map, option_and_then, refl, sym, ap, subst}
-use Rattle.std.specs.List.{AllByRecursion, list_any}
+use Rattle.std.proofs.Common.{◌≡◌, ◌∙◌, ◌<◌, ◌+◌, ◌-◌, ◌++◌, ℕ, zero, suc, Bool, cond, List, [], ◌∷◌, map, length, nat_lt, bytes_eq, Option, Some, None, IfSome, IsTrue, IsFalse, is_some, option_map, option_and_then, refl, sym, ap, subst}
+use Rattle.std.specs.List.{AllByRecursion}
 use Rattle.std.proofs.lemmas.List.{map-append, length-map}
-use Rattle.std.proofs.lemmas.Option.{none-some, same_Some, slice_get-map}
+use Rattle.std.proofs.lemmas.Option.{slice_get-map}
 use Rattle.class_model.specs.Laws.Lists.{AllByRecursion-weaker}
 use Rattle.class_model.specs.declared.header.Header.{Header}
-use Rattle.class_tree.specs.Headers.{Name, Headers, all_headers, class_named, IsThere}
+use Rattle.class_tree.specs.Headers.{Name, Headers, class_named, IsThere}
 use Rattle.class_tree.specs.Hierarchy.{StandsAt, IsHierarchy, superclass_of, climb, height}
-use Rattle.class_tree.specs.Interfaces.{AreSuperinterfaces}
 use Rattle.class_tree.specs.Laws.Alike.{shape_of, shapes, option_twin, class_same, twin, no_twin, there_alike, below_alike, interface_walk_alike, superinterfaces_alike}
-use Rattle.class_tree.specs.Laws.Headers.{class_there, same_class, own_name}
-use Rattle.class_tree.specs.Names.{object, is_interface}
+use Rattle.class_tree.specs.Laws.Headers.{same_class, own_name}
+use Rattle.class_tree.specs.Names.{is_interface}
 use Rattle.class_tree.specs.Nodes.{number_of, place_at}
 use Rattle.class_tree.specs.Order.{first_place, header_at, place_of}
 use Rattle.class_tree.specs.Steps.{supers, FitsKinds}

@@ -8,7 +8,7 @@ use Rattle.class_model.specs.declared.header.Header.{Header}
 use Rattle.class_model.specs.declared.header.Member.{Member}
 use Rattle.class_tree.specs.Alike.{IsAlike, AreFieldsAlike}
 use Rattle.class_tree.specs.Names.{is_member}
-use Rattle.class_tree.specs.Order.{first_place, member_place}
+use Rattle.class_tree.specs.Order.{member_place}
 
 abbrev first_or : List ℕ → List ℕ → Member → Option ℕ → Option ℕ
 first_or name desc member rest = cond (is_member name desc member) (Some 0) (option_map (λ place. place + 1) rest)

@@ -1,5 +1,5 @@
 -- It is decided which type is a subtype of which.
-use Rattle.std.proofs.Common.{◌≡◌, ◌≢◌, ◌⊎◌, ◌==◌, ◌<◌, ◌≤◌, ◌+◌, ℕ, zero, suc, Bool, true, false, List, [], ◌∷◌, ◌++◌, length, get_or, drop, IsTrue, IsFalse, refl, sym, ap, subst, ◌∙◌, inl, inr, arith}
+use Rattle.std.proofs.Common.{◌≡◌, ◌<◌, ℕ, zero, suc, List, [], ◌∷◌, ◌++◌, length, get_or, drop, sym, ap, subst, ◌∙◌, inl, inr, arith}
 use Rattle.std.proofs.lemmas.Bool.{cases_eq}
 use Rattle.class_tree.specs.Headers.{Name, Headers}
 use Rattle.class_tree.specs.Hierarchy.{IsHierarchy}
@@ -7,7 +7,7 @@ use Rattle.class_tree.specs.Laws.Above.{hierarchy_is_sound}
 use Rattle.class_tree.specs.Laws.Arrays.{component_forms}
 use Rattle.class_tree.specs.Laws.Decided.{Decision, mapped, either, same_bytes, array_decided, below_decided}
 use Rattle.class_tree.specs.Names.{object, cloneable, serializable}
-use Rattle.class_tree.specs.Subtype.{IsArray, IsReferenceComponent, array, class, IsAboveArrays, IsSubtype, itself}
+use Rattle.class_tree.specs.Subtype.{IsArray, IsReferenceComponent, array, class, IsSubtype, itself}
 use Rattle.class_tree.proofs.Components.{component_is_shorter}
 use Rattle.class_tree.proofs.Subtypes.{components_decide, array_decides, other_class_decides}
 

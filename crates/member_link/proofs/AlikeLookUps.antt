@@ -1,27 +1,26 @@
 -- Look-up and selection in classes that are alike.
-use Rattle.std.proofs.Common.{◌≡◌, ◌≢◌, ◌⊎◌, ◌∙◌, ◌&&◌, not, ℕ, List, [], ◌∷◌, codes, Option, Some, None, IsTrue, IsFalse, option_map, option_and_then, refl, sym, ap, subst, inl, inr}
+use Rattle.std.proofs.Common.{◌≡◌, ◌≢◌, ◌⊎◌, ◌∙◌, ◌&&◌, not, ℕ, List, [], ◌∷◌, Option, Some, None, IsTrue, IsFalse, option_map, option_and_then, refl, sym, ap, subst, inl, inr}
 use Rattle.std.proofs.lemmas.Option.{none-some, same_Some}
 use Rattle.class_model.specs.Members.{has, PUBLIC, STATIC}
 use Rattle.class_model.specs.Names.{init}
 use Rattle.class_model.specs.declared.header.Header.{Header}
-use Rattle.class_model.specs.declared.header.Member.{Member}
 use Rattle.class_tree.specs.Headers.{Name, Headers, class_named}
 use Rattle.class_tree.specs.Laws.Alike.{shape_of, shapes, twin, no_twin, below_alike, superinterfaces_alike}
-use Rattle.class_tree.specs.Names.{object, is_interface}
+use Rattle.class_tree.specs.Names.{is_interface}
 use Rattle.class_tree.specs.Order.{place_of}
 use Rattle.member_link.specs.DeclaredMembers.{Declared, declared_by, declared, IsMethod}
 use Rattle.member_link.specs.Defaults.{IsSuperinterfaceMethod, IsDefault, IsOneDefault, first_inherited}
 use Rattle.member_link.specs.DefaultsAt.{inherited_by}
 use Rattle.member_link.specs.Fields.{interfaces_and_super, FindsFirst, in_no_class, in_class, above_class, in_other_class, absent_class}
 use Rattle.member_link.specs.FoundNames.{named_by, FindsFieldNamed}
-use Rattle.member_link.specs.Methods.{CountsFor, FindsInInterfaces, one_default, first_of_all, FindsInClass, nowhere, upwards, in_interfaces, first_named, IsPolymorphic, FindsMethod, initialiser, polymorphic, of_array, of_class}
+use Rattle.member_link.specs.Methods.{CountsFor, FindsInInterfaces, one_default, first_of_all, FindsInClass, nowhere, upwards, in_interfaces, first_named, FindsMethod, initialiser, polymorphic, of_array, of_class}
 use Rattle.member_link.specs.Overriding.{MayOverride, Overrides, overrides_open, overrides_in_package, overrides_through}
 use Rattle.member_link.specs.References.{Reference}
-use Rattle.member_link.specs.Selection.{Choice, choice_of, public_choice_of, ChoosesDefault, the_one, no_default, two_defaults, Chooses, first_upwards, by_default, start_of, IsOrOverrides, CountsForSpecial, Selects, of_private, of_virtual, of_interface, of_initialiser, of_special}
+use Rattle.member_link.specs.Selection.{Choice, ChoosesDefault, the_one, no_default, two_defaults, Chooses, first_upwards, by_default, start_of, IsOrOverrides, CountsForSpecial, Selects, of_private, of_virtual, of_interface, of_initialiser, of_special}
 use Rattle.member_link.specs.Upwards.{FirstUpwards, in_itself, in_superclass, in_no_superclass, in_absent_class}
 use Rattle.member_link.specs.declared.selection.CallForm.{CallForm}
 use Rattle.member_link.specs.declared.selection.CallForm.TheVariants.{Special}
-use Rattle.member_link.proofs.AlikeMembers.{Signature, signature, IsPair, member_twin, member_no_twin}
+use Rattle.member_link.proofs.AlikeMembers.{Signature, IsPair, member_twin, member_no_twin}
 use Rattle.member_link.proofs.FirstInherited.{first_of}
 use Rattle.member_link.proofs.OpenOverriding.{may_of}
 

@@ -1,6 +1,6 @@
 -- What a linked folder is asked, place by place.
-use Rattle.std.proofs.Common.{◌≡◌, ◌↔◌, ℕ, zero, suc, Bool, true, false, List, [], ◌∷◌, ◌++◌, slice_get, Option, Some, None, Result, Ok, Err, IsTrue, refl, sym, ap, subst, ◌∙◌}
-use Rattle.std.proofs.lemmas.Option.{same_Some, slice_get-map}
+use Rattle.std.proofs.Common.{◌≡◌, ◌↔◌, ℕ, zero, suc, Bool, true, false, List, [], ◌∷◌, ◌++◌, slice_get, Option, Some, Result, Ok, Err, refl, subst}
+use Rattle.std.proofs.lemmas.Option.{same_Some}
 use Rattle.class_model.specs.Checks.{Check, Fault, AllHold, asked_each, asked_if}
 use Rattle.class_model.specs.Laws.Checks.{both_hold, first_holds, others_hold}
 use Rattle.class_model.specs.Code.{inner_is_named, stack_map_table}
@@ -12,8 +12,6 @@ use Rattle.class_model.specs.declared.class_file.Attr.{Attr}
 use Rattle.class_model.specs.declared.class_file.Attr.TheVariants.{Raw, Code}
 use Rattle.class_model.specs.declared.class_file.ClassFile.{ClassFile}
 use Rattle.class_model.specs.declared.class_file.CodePart.{CodePart}
-use Rattle.class_model.specs.declared.class_file.Handler.{Handler}
-use Rattle.class_model.specs.declared.class_file.InnerAttr.{InnerAttr}
 use Rattle.class_model.specs.declared.class_file.Method.{Method}
 use Rattle.class_model.specs.declared.frame.PlacedFrame.{PlacedFrame}
 use Rattle.class_model.specs.declared.header.Header.{Header}
@@ -25,7 +23,7 @@ use Rattle.member_link.specs.Access.{IsAccessible}
 use Rattle.member_link.specs.Declarations.{declaration_checks, site_of}
 use Rattle.member_link.specs.DeclaredMembers.{Declared}
 use Rattle.member_link.specs.Linked.{IsLinked}
-use Rattle.member_link.specs.LinkedPlaces.{CodeAt, use_scope, FrameAt, IsLinkedByPlace, ClassPasses, MemberPasses, FieldPasses, MethodPasses}
+use Rattle.member_link.specs.LinkedPlaces.{CodeAt, use_scope, IsLinkedByPlace, ClassPasses, MemberPasses, FieldPasses, MethodPasses}
 use Rattle.member_link.specs.Fields.{FindsField}
 use Rattle.member_link.specs.Methods.{FindsMethod}
 use Rattle.member_link.specs.References.{Reference, FieldTypeNames, DescriptorNames}

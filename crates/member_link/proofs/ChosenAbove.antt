@@ -1,20 +1,18 @@
 -- What holds of the method that a selection chooses.
-use Rattle.std.proofs.Common.{◌≡◌, ◌⊎◌, ◌==◌, ◌&&◌, not, ℕ, Bool, true, false, cond, List, [], ◌∷◌, Option, Some, None, IsTrue, IsFalse, refl, sym, ap, subst, ◌∙◌, inl, inr}
-use Rattle.std.proofs.lemmas.Bool.{false≢true, and_parts, eqb-true, cases_Bool}
+use Rattle.std.proofs.Common.{◌≡◌, ◌⊎◌, ◌==◌, ◌&&◌, not, ℕ, Bool, true, false, cond, List, [], ◌∷◌, Option, Some, IsTrue, IsFalse, refl, sym, ap, subst, ◌∙◌, inl, inr}
+use Rattle.std.proofs.lemmas.Bool.{eqb-true}
 use Rattle.std.proofs.lemmas.Option.{none-some, same_Some}
 use Rattle.class_model.specs.Members.{has, PRIVATE, STATIC, ABSTRACT, PUBLIC}
-use Rattle.class_model.specs.declared.header.Header.{Header}
 use Rattle.class_model.specs.declared.header.Member.{Member}
-use Rattle.class_tree.specs.Headers.{Name, Headers, class_named}
+use Rattle.class_tree.specs.Headers.{Name, Headers}
 use Rattle.class_tree.specs.Hierarchy.{IsHierarchy}
 use Rattle.class_tree.specs.Laws.Above.{class_is_subtype, nothing_above_object, hierarchy_is_sound, hierarchy_is_rooted}
 use Rattle.class_tree.specs.Names.{object}
-use Rattle.class_tree.specs.Subtype.{IsArray, IsDirectlyBelow, superclass, IsBelow, directly, onwards, IsSubtype, itself, of_arrays}
+use Rattle.class_tree.specs.Subtype.{IsArray, IsDirectlyBelow, superclass, directly, onwards, IsSubtype, itself, of_arrays}
 use Rattle.member_link.specs.Access.{IsAtOrBelow}
 use Rattle.member_link.specs.Choices.{IsRunnable}
 use Rattle.member_link.specs.DeclaredMembers.{Declared, declared_by, declared, IsMethod, is_inherited}
-use Rattle.member_link.specs.Defaults.{IsSuperinterfaceMethod, IsDefault}
-use Rattle.member_link.specs.Overriding.{Overrides}
+use Rattle.member_link.specs.Defaults.{IsDefault}
 use Rattle.member_link.specs.Selection.{Choice, chosen_method, abstract_choice, several_defaults, choice_not_public, choice_of, public_choice_of, ChoosesDefault, the_one, no_default, two_defaults, Chooses, first_upwards, by_default, start_of, IsOrOverrides, CountsForSpecial, Selects, of_private, of_virtual, of_interface, of_initialiser, of_special}
 use Rattle.member_link.specs.Upwards.{FirstUpwards, in_itself, in_superclass, in_no_superclass, in_absent_class}
 use Rattle.member_link.specs.declared.selection.CallForm.{CallForm}

@@ -1,6 +1,6 @@
 -- In a hierarchy it is decided which methods count, which are defaults, and which override which.
-use Rattle.std.proofs.Common.{◌≡◌, ◌≢◌, ◌⊎◌, ◌↔◌, ◌&&◌, not, ℕ, Bool, true, false, List, [], ◌∷◌, ◌++◌, map, bytes_eq, cond, Option, Some, None, IsTrue, IsFalse, is_some, refl, sym, ap, subst, ◌∙◌, inl, inr}
-use Rattle.std.proofs.lemmas.Bool.{false≢true, cases_eq, cases_Bool, or_right}
+use Rattle.std.proofs.Common.{◌≡◌, ◌≢◌, ◌⊎◌, ◌&&◌, not, ℕ, Bool, true, false, List, [], ◌∷◌, map, bytes_eq, cond, Option, Some, None, IsTrue, refl, sym, ap, subst, ◌∙◌, inl, inr}
+use Rattle.std.proofs.lemmas.Bool.{cases_eq, or_right}
 use Rattle.std.proofs.lemmas.Option.{none-some, same_Some}
 use Rattle.std.proofs.lemmas.Slice.Eq.{bytes_eq-Decides}
 use Rattle.class_model.specs.Members.{has, PUBLIC, STATIC, ABSTRACT}
@@ -13,14 +13,14 @@ use Rattle.class_tree.specs.Laws.Decided.{Decision, mapped, both, either, denied
 use Rattle.class_tree.specs.Laws.Names.{IsOneName, none_of_none, one_name_first, one_of_first}
 use Rattle.class_tree.specs.Names.{object, is_interface}
 use Rattle.class_tree.specs.Subtype.{IsBelow}
-use Rattle.member_link.specs.DeclaredMembers.{Declared, declared_by, declared, IsMethod, is_inherited, is_open}
-use Rattle.member_link.specs.Defaults.{IsSuperinterfaceMethod, IsMaximallySpecific, IsDefault, IsOneDefault}
+use Rattle.member_link.specs.DeclaredMembers.{Declared, declared_by, declared, is_inherited, is_open}
+use Rattle.member_link.specs.Defaults.{IsSuperinterfaceMethod, IsDefault}
 use Rattle.member_link.specs.Methods.{CountsFor}
-use Rattle.member_link.specs.OpenMethods.{IsAbove, OpensPackage}
+use Rattle.member_link.specs.OpenMethods.{OpensPackage}
 use Rattle.member_link.specs.Overriding.{MayOverride, Overrides, package_of}
 use Rattle.member_link.specs.Selection.{Choice, chosen_method, abstract_choice, several_defaults, ChoosesDefault, the_one, no_default, two_defaults, IsOrOverrides, CountsForSpecial}
 use Rattle.member_link.proofs.ChosenAbove.{declared_again}
-use Rattle.member_link.proofs.OpenOverriding.{IsOpened, Reaches, overriding_decided}
+use Rattle.member_link.proofs.OpenOverriding.{IsOpened, overriding_decided}
 use Rattle.member_link.proofs.OwnMembers.{own_of_declared}
 
 -- ---- equality

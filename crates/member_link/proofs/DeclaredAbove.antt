@@ -7,12 +7,11 @@ use Rattle.class_model.specs.declared.header.Header.{Header}
 use Rattle.class_model.specs.declared.header.Member.{Member}
 use Rattle.class_tree.specs.Headers.{Name, Headers, class_named}
 use Rattle.class_tree.specs.Hierarchy.{IsHierarchy}
-use Rattle.class_tree.specs.Interfaces.{AreSuperinterfaces}
 use Rattle.class_tree.specs.Laws.Names.{IsOneName, none_of_none, one_name_first, one_of_first, one_of_either, each_of_names}
 use Rattle.class_tree.specs.Names.{is_interface, is_member}
-use Rattle.class_tree.specs.Subtype.{IsDirectlyBelow, superclass, interface, IsBelow, directly, onwards, IsSubtype, itself, of_arrays}
+use Rattle.class_tree.specs.Subtype.{IsDirectlyBelow, superclass, interface, directly, onwards, IsSubtype, itself, of_arrays}
 use Rattle.member_link.specs.Access.{IsAtOrBelow}
-use Rattle.member_link.specs.DeclaredMembers.{Declared, declared_by, declared, own_method, IsMethod, is_inherited}
+use Rattle.member_link.specs.DeclaredMembers.{Declared, declared_by, declared, IsMethod, is_inherited}
 use Rattle.member_link.specs.Defaults.{first_inherited}
 use Rattle.member_link.specs.DefaultsAt.{inherited_by}
 use Rattle.member_link.specs.FieldSearch.{super_list}

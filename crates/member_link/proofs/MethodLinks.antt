@@ -1,5 +1,5 @@
 -- In a hierarchy each look-up of a method ends, and each selection.
-use Rattle.std.proofs.Common.{◌≡◌, ◌≢◌, ◌⊎◌, ℕ, Bool, true, false, List, codes, Option, Some, None, IsTrue, IsFalse, refl, sym, ap, subst, ◌∙◌, inl, inr}
+use Rattle.std.proofs.Common.{◌≡◌, ◌⊎◌, ℕ, List, codes, Option, Some, None, IsFalse, refl, sym, subst, ◌∙◌, inl, inr}
 use Rattle.std.proofs.lemmas.Bool.{cases_Bool}
 use Rattle.std.proofs.lemmas.Option.{none-some, same_Some}
 use Rattle.class_model.specs.Members.{has, PRIVATE, STATIC}
@@ -12,7 +12,7 @@ use Rattle.class_tree.specs.Interfaces.{IsInterfaceWalk, of_root, below, each_on
 use Rattle.class_tree.specs.Laws.Decided.{Decision, both, either, same_bytes, is_false, array_decided}
 use Rattle.class_tree.specs.Names.{object, method_handle}
 use Rattle.member_link.specs.DeclaredMembers.{Declared, declared_by, declared, own_method}
-use Rattle.member_link.specs.Defaults.{IsOneDefault, first_inherited}
+use Rattle.member_link.specs.Defaults.{first_inherited}
 use Rattle.member_link.specs.Methods.{CountsFor, FindsInInterfaces, one_default, first_of_all, FindsInClass, nowhere, upwards, in_interfaces, IsPolymorphic, FindsMethod, initialiser, polymorphic, of_array, of_class}
 use Rattle.member_link.specs.Selection.{Choice, choice_of, public_choice_of, ChoosesDefault, the_one, no_default, two_defaults, Chooses, first_upwards, by_default, start_of, IsOrOverrides, CountsForSpecial, Selects, of_private, of_virtual, of_interface, of_initialiser, of_special}
 use Rattle.member_link.specs.Upwards.{IsPassedOver, FirstUpwards, in_itself, in_superclass, in_no_superclass, in_absent_class}
