@@ -7,7 +7,7 @@ use Rattle.class_tree.specs.Names.{is_member}
 use Rattle.class_tree.specs.Order.{first_place, header_at, member_place}
 use Rattle.class_tree.specs.declared.place.Place.{Place}
 use Rattle.member_link.specs.References.{Reference}
-use Rattle.type_rules.specs.MemberRows.{IsOwnField}
+use Rattle.member_link.specs.Rows.MemberRows.{IsOwnField}
 use Rattle.type_rules.specs.Scope.{Scope, current}
 
 one_more : (found : Option ℕ) → is_some (option_map (λ place. place + 1) found) ≡ is_some found

@@ -1,10 +1,10 @@
 use Rattle.std.proofs.Common.{subst, sym}
 use Rattle.class_model.specs.Pool.{constant_at}
+use Rattle.type_rules.proofs.PoolFacts.{method_descriptor}
+use Rattle.type_rules.proofs.calls.call.Goals as goal
 use Rattle.type_rules.specs.References.{reference_meant}
 use Rattle.type_rules.specs.Scope.{Scope}
 use Rattle.type_rules.specs.Signatures.{IsCallable}
-use Rattle.type_rules.proofs.PoolFacts.{method_descriptor}
-use Rattle.type_rules.proofs.calls.call.Goals as goal
 
 pub method_descriptor-requires : goal.method_descriptor-requires
 method_descriptor-requires c =

@@ -1,10 +1,10 @@
 use Rattle.std.proofs.Common.{◌≡◌, ◌↔◌, ◌∙◌, IsTrue, subst, sym}
 use Rattle.class_tree.specs.Headers.{headers_of}
-use Rattle.type_rules.specs.MemberRows.{IsOwnField}
-use Rattle.type_rules.specs.References.{reference_meant}
-use Rattle.type_rules.specs.Scope.{Scope, current}
+use Rattle.member_link.specs.Rows.MemberRows.{IsOwnField}
 use Rattle.type_rules.proofs.OwnFields.{own_field}
 use Rattle.type_rules.proofs.fields.is_own_field.Goals as goal
+use Rattle.type_rules.specs.References.{reference_meant}
+use Rattle.type_rules.specs.Scope.{Scope, current}
 
 pub returns-then-is_current : goal.returns-then-is_current
 returns-then-is_current c =
