@@ -32,3 +32,6 @@ pub mod OpenMethods
 pub mod FinalMethods
 pub mod Signatures
 pub mod RowScope
+pub mod Rows
+pub mod BodyTyping
+pub mod BodyParts

@@ -24,3 +24,6 @@ pub mod MethodParts
 pub mod UninitThis
 pub mod OneTyping
 pub mod EachTyped
+pub mod Places
+pub mod ByPlace
+pub mod CallRows

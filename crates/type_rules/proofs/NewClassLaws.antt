@@ -5,7 +5,7 @@ use Rattle.class_model.specs.Instructions.{decoded}
 use Rattle.class_model.specs.declared.instr.Placed.{Placed}
 use Rattle.class_tree.specs.Headers.{Name}
 use Rattle.member_link.specs.CodedMethods.{CodedMethod, placed_at}
-use Rattle.type_rules.specs.Bodies.{body_of}
+use Rattle.type_rules.specs.CodedScopes.{coded_of}
 use Rattle.type_rules.specs.NewClasses.{class_made}
 use Rattle.type_rules.specs.Scope.{Scope, class_of_new, instructions}
 
@@ -30,6 +30,6 @@ module _ (s : Scope) (at : ℕ) where
   first_made (placed ∷ others) = one_more (placed.at == at) placed (placed_at others at) (new_among others) (first_made others)
 
   -- what the body says of the offset
-  pub made_there : (body : CodedMethod) → body ≡ body_of s → (found : Option Placed) → (instrs : List Placed) × (decoded body.part.code ≡ Ok instrs) × (found ≡ placed_at instrs at) → made_by found ≡ class_of_new s at
+  pub made_there : (body : CodedMethod) → body ≡ coded_of s → (found : Option Placed) → (instrs : List Placed) × (decoded body.part.code ≡ Ok instrs) × (found ≡ placed_at instrs at) → made_by found ≡ class_of_new s at
   made_there body own found (instrs, read, is) =
       ap made_by is ∙ first_made instrs ∙ ap new_among (are_own s instrs (subst (λ (m : CodedMethod). decoded m.part.code ≡ Ok instrs) own read))

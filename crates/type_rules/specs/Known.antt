@@ -7,7 +7,7 @@ use Rattle.class_tree.specs.Headers.{Classes, headers_of, IsClassFile}
 use Rattle.class_tree.specs.Order.{header_at}
 use Rattle.class_tree.specs.declared.place.Place.{Place}
 use Rattle.member_link.specs.CodedMethods.{CodedMethod}
-use Rattle.type_rules.specs.Bodies.{body_of}
+use Rattle.type_rules.specs.CodedScopes.{coded_of}
 use Rattle.type_rules.specs.Rule.{FitsPool}
 use Rattle.type_rules.specs.Scope.{Scope, instructions}
 
@@ -16,5 +16,5 @@ pub record IsKnown (classes : Classes) (s : Scope) (place : Place) (header : Hea
   pub class_file : IsClassFile s.class
   pub stands : header_at s.headers place ≡ Some header
   pub header_is : header ≡ header_of s.class
-  pub body_is : body ≡ body_of s
+  pub body_is : body ≡ coded_of s
   pub fit : AllByRecursion (λ placed. FitsPool s placed.instr) (instructions s)

@@ -4,3 +4,4 @@ pub mod Stepping
 pub mod Walking
 pub mod MethodWalk
 pub mod ClassWalk
+pub mod HandlerWalk

@@ -2,5 +2,5 @@
 use Rattle.member_link.specs.CodedMethods.{CodedMethod}
 use Rattle.type_rules.specs.Scope.{Scope}
 
-abbrev pub body_of : Scope → CodedMethod
-body_of s = record { class = s.class; method = s.method; part = s.part }
+abbrev pub coded_of : Scope → CodedMethod
+coded_of s = record { class = s.class; method = s.method; part = s.part }
