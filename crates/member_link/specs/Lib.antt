@@ -25,3 +25,6 @@ pub mod OpenMethods
 pub mod FinalMethods
 pub mod Signatures
 pub mod RowScope
+pub mod Rows
+pub mod Bodies
+pub mod BodyTyping

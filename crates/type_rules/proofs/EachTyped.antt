@@ -6,13 +6,11 @@ use Rattle.class_model.specs.declared.class_file.ClassFile.{ClassFile}
 use Rattle.class_model.specs.declared.class_file.Method.{Method}
 use Rattle.class_model.specs.declared.class_file.MethodAt.{MethodAt}
 use Rattle.class_model.specs.declared.frame.Frame.{Frame}
-use Rattle.class_model.specs.declared.instr.Placed.{Placed}
 use Rattle.class_tree.specs.Headers.{Classes, Headers, headers_of}
+use Rattle.member_link.specs.Bodies.{Body, BodyPoint, flows_on}
 use Rattle.type_rules.specs.Checks.{IsTypedAt}
-use Rattle.type_rules.specs.Flow.{flows_on}
-use Rattle.type_rules.specs.Scope.{Scope, instructions, scope_at, scope_of}
-use Rattle.type_rules.specs.Stated.{entry}
-use Rattle.type_rules.specs.Typed.{AreTyped, Typed, flows_into}
+use Rattle.type_rules.specs.Scope.{scope_at, scope_of}
+use Rattle.type_rules.specs.Typed.{AreTyped, TypesBody, flows_into}
 use Rattle.type_rules.specs.TypedFrames.{FolderFrames, typed_frames_at}
 use Rattle.type_rules.specs.Verified.{AreTypedClasses, AreTypedMethods, TypesFolder, TypesMethod}
 
@@ -40,62 +38,62 @@ each_method classes typed are at = class_typed (headers_of classes) classes.fold
 -- ---- instructions
 
 -- what flows into the instruction of each number
-record FlowsInto (s : Scope) (flows : Option Frame) (instrs : List Placed) (frames : List Frame) (into : ℕ → Option Frame) : Type 0 where
+record FlowsInto (b : Body) (flows : Option Frame) (points : List BodyPoint) (frames : List Frame) (into : ℕ → Option Frame) : Type 0 where
   first : into 0 ≡ flows
-  behind : (number : ℕ) (placed : Placed) (frame : Frame) → slice_get instrs number ≡ Some placed → slice_get frames number ≡ Some frame → into (suc number) ≡ flows_on s placed frame
+  behind : (number : ℕ) (point : BodyPoint) (frame : Frame) → slice_get points number ≡ Some point → slice_get frames number ≡ Some frame → into (suc number) ≡ flows_on point frame
 
-from_next : (s : Scope) (flows : Option Frame) (placed : Placed) (instrs : List Placed) (frame : Frame) (frames : List Frame) (into : ℕ → Option Frame) → FlowsInto s flows (placed ∷ instrs) (frame ∷ frames) into → FlowsInto s (flows_on s placed frame) instrs frames (λ number. into (suc number))
-from_next s flows placed instrs frame frames into is = record {
-  first = is.behind 0 placed frame refl refl;
+from_next : (b : Body) (flows : Option Frame) (point : BodyPoint) (points : List BodyPoint) (frame : Frame) (frames : List Frame) (into : ℕ → Option Frame) → FlowsInto b flows (point ∷ points) (frame ∷ frames) into → FlowsInto b (flows_on point frame) points frames (λ number. into (suc number))
+from_next b flows point points frame frames into is = record {
+  first = is.behind 0 point frame refl refl;
   behind = λ number later its_frame. is.behind (suc number) later its_frame;
 }
 
-into_behind : (s : Scope) (frames : List Frame) (number : ℕ) (placed : Placed) (frame : Frame) → slice_get (instructions s) number ≡ Some placed → slice_get frames number ≡ Some frame → flows_into s frames (suc number) ≡ flows_on s placed frame
-into_behind s frames number placed frame is frame_is = rw (is, frame_is) refl
+pub into_behind : (b : Body) (frames : List Frame) (number : ℕ) (point : BodyPoint) (frame : Frame) → slice_get b.points number ≡ Some point → slice_get frames number ≡ Some frame → flows_into b frames (suc number) ≡ flows_on point frame
+into_behind b frames number point frame is frame_is = rw (is, frame_is) refl
 
-into_each : (s : Scope) (frames : List Frame) → FlowsInto s (Some (entry s)) (instructions s) frames (flows_into s frames)
-into_each s frames = record { first = refl; behind = into_behind s frames }
+into_each : (b : Body) (frames : List Frame) → FlowsInto b (Some b.entry) b.points frames (flows_into b frames)
+into_each b frames = record { first = refl; behind = into_behind b frames }
 
-counted : (s : Scope) (flows : Option Frame) (instrs : List Placed) (frames : List Frame) → AreTyped s flows instrs frames → length frames ≡ length instrs
-counted s flows [] [] are = refl
-counted s flows [] (frame ∷ frames) are = absurd are
-counted s flows (placed ∷ instrs) [] are = absurd are
-counted s flows (placed ∷ instrs) (frame ∷ frames) are = ap suc (counted s (flows_on s placed frame) instrs frames are.1)
+counted : (b : Body) (flows : Option Frame) (points : List BodyPoint) (frames : List Frame) → AreTyped b flows points frames → length frames ≡ length points
+counted b flows [] [] are = refl
+counted b flows [] (frame ∷ frames) are = absurd are
+counted b flows (point ∷ points) [] are = absurd are
+counted b flows (point ∷ points) (frame ∷ frames) are = ap suc (counted b (flows_on point frame) points frames are.1)
 
-nothing_past : (s : Scope) (flows : Option Frame) (instrs : List Placed) (frames : List Frame) (into : ℕ → Option Frame) → FlowsInto s flows instrs frames into → AreTyped s flows instrs frames → into (length instrs) ≡ None
-nothing_past s flows [] [] into is are = is.first ∙ are
-nothing_past s flows [] (frame ∷ frames) into is are = absurd are
-nothing_past s flows (placed ∷ instrs) [] into is are = absurd are
-nothing_past s flows (placed ∷ instrs) (frame ∷ frames) into is are =
-    nothing_past s (flows_on s placed frame) instrs frames (λ number. into (suc number)) (from_next s flows placed instrs frame frames into is) are.1
+nothing_past : (b : Body) (flows : Option Frame) (points : List BodyPoint) (frames : List Frame) (into : ℕ → Option Frame) → FlowsInto b flows points frames into → AreTyped b flows points frames → into (length points) ≡ None
+nothing_past b flows [] [] into is are = is.first ∙ are
+nothing_past b flows [] (frame ∷ frames) into is are = absurd are
+nothing_past b flows (point ∷ points) [] into is are = absurd are
+nothing_past b flows (point ∷ points) (frame ∷ frames) into is are =
+    nothing_past b (flows_on point frame) points frames (λ number. into (suc number)) (from_next b flows point points frame frames into is) are.1
 
 -- the frame of a number, which types its instruction
-record HasFrame (s : Scope) (flows : Option Frame) (placed : Placed) (frames : List Frame) (number : ℕ) : Type 0 where
+record HasFrame (b : Body) (flows : Option Frame) (point : BodyPoint) (frames : List Frame) (number : ℕ) : Type 0 where
   frame : Frame
   frame_is : slice_get frames number ≡ Some frame
-  types : IsTypedAt s flows placed frame
+  types : IsTypedAt b flows point frame
 
-has_frame : (s : Scope) (flows : Option Frame) (instrs : List Placed) (frames : List Frame) (into : ℕ → Option Frame) → FlowsInto s flows instrs frames into → AreTyped s flows instrs frames → (number : ℕ) (placed : Placed) → slice_get instrs number ≡ Some placed → HasFrame s (into number) placed frames number
-has_frame s flows [] frames into is are number placed stands = absurd cc
-has_frame s flows (first ∷ instrs) [] into is are number placed stands = absurd are
-has_frame s flows (first ∷ instrs) (frame ∷ frames) into is are zero placed stands = record {
+has_frame : (b : Body) (flows : Option Frame) (points : List BodyPoint) (frames : List Frame) (into : ℕ → Option Frame) → FlowsInto b flows points frames into → AreTyped b flows points frames → (number : ℕ) (point : BodyPoint) → slice_get points number ≡ Some point → HasFrame b (into number) point frames number
+has_frame b flows [] frames into is are number point stands = absurd cc
+has_frame b flows (first ∷ points) [] into is are number point stands = absurd are
+has_frame b flows (first ∷ points) (frame ∷ frames) into is are zero point stands = record {
   frame = frame;
   frame_is = refl;
-  types = subst (λ (p : Placed). IsTypedAt s (into 0) p frame) (same_Some first placed stands) (subst (λ (o : Option Frame). IsTypedAt s o first frame) (sym is.first) are.0);
+  types = subst (λ (p : BodyPoint). IsTypedAt b (into 0) p frame) (same_Some first point stands) (subst (λ (o : Option Frame). IsTypedAt b o first frame) (sym is.first) are.0);
 }
-has_frame s flows (first ∷ instrs) (frame ∷ frames) into is are (suc number) placed stands =
-    let later = has_frame s (flows_on s first frame) instrs frames (λ number. into (suc number)) (from_next s flows first instrs frame frames into is) are.1 number placed stands in
+has_frame b flows (first ∷ points) (frame ∷ frames) into is are (suc number) point stands =
+    let later = has_frame b (flows_on first frame) points frames (λ number. into (suc number)) (from_next b flows first points frame frames into is) are.1 number point stands in
     record { frame = later.frame; frame_is = later.frame_is; types = later.types }
 
--- ---- a method
+-- ---- a body
 
-pub frames_counted : (s : Scope) (frames : List Frame) → Typed s frames → length frames ≡ length (instructions s)
-frames_counted s frames typed = counted s (Some (entry s)) (instructions s) frames typed.instrs
+pub frames_counted : (b : Body) (frames : List Frame) → TypesBody b frames → length frames ≡ length b.points
+frames_counted b frames typed = counted b (Some b.entry) b.points frames typed.instrs
 
-pub each_instruction : (s : Scope) (frames : List Frame) → Typed s frames → (number : ℕ) (placed : Placed) → slice_get (instructions s) number ≡ Some placed → (frame : Frame) × (slice_get frames number ≡ Some frame) × IsTypedAt s (flows_into s frames number) placed frame
-each_instruction s frames typed number placed stands =
-    let found = has_frame s (Some (entry s)) (instructions s) frames (flows_into s frames) (into_each s frames) typed.instrs number placed stands in
+pub each_instruction : (b : Body) (frames : List Frame) → TypesBody b frames → (number : ℕ) (point : BodyPoint) → slice_get b.points number ≡ Some point → (frame : Frame) × (slice_get frames number ≡ Some frame) × IsTypedAt b (flows_into b frames number) point frame
+each_instruction b frames typed number point stands =
+    let found = has_frame b (Some b.entry) b.points frames (flows_into b frames) (into_each b frames) typed.instrs number point stands in
     (found.frame, found.frame_is, found.types)
 
-pub nothing_flows_past : (s : Scope) (frames : List Frame) → Typed s frames → flows_into s frames (length (instructions s)) ≡ None
-nothing_flows_past s frames typed = nothing_past s (Some (entry s)) (instructions s) frames (flows_into s frames) (into_each s frames) typed.instrs
+pub nothing_flows_past : (b : Body) (frames : List Frame) → TypesBody b frames → flows_into b frames (length b.points) ≡ None
+nothing_flows_past b frames typed = nothing_past b (Some b.entry) b.points frames (flows_into b frames) (into_each b frames) typed.instrs

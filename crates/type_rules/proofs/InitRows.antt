@@ -5,30 +5,30 @@ use Rattle.class_model.specs.declared.descriptor.FieldType.{FieldType}
 use Rattle.class_model.specs.declared.frame.Frame.{Frame}
 use Rattle.class_model.specs.declared.frame.VType.{VType}
 use Rattle.member_link.specs.References.{Reference}
+use Rattle.member_link.specs.RowScope.{RowScope}
+use Rattle.member_link.specs.Rows.MemberRows.{MayInitialise, PassesInitialiser, init_row, initialised_type, result_types}
+use Rattle.member_link.specs.Rows.Operands.{AllFit, lowest_of, topmost, under}
+use Rattle.member_link.specs.Rows.Row.{Row}
 use Rattle.member_link.specs.Signatures.{result_of}
 use Rattle.type_rules.proofs.RowSteps.{concluded_row}
 use Rattle.type_rules.specs.Calls.{init_signature}
-use Rattle.type_rules.specs.MemberRows.{MayInitialise, init_row, initialised_type, result_types}
-use Rattle.type_rules.specs.Operands.{AllFit, lowest_of, topmost, under}
-use Rattle.type_rules.specs.Rows.{Row}
 use Rattle.type_rules.specs.Rule.{RowRules}
-use Rattle.type_rules.specs.Scope.{Scope}
 use Rattle.type_rules.specs.Steps.{Concludes}
 use Rattle.type_rules.specs.declared.fault.RuleFault.{RuleFault}
 use Rattle.type_rules.specs.declared.ruled.Ruled.{Ruled}
 
-module _ (s : Scope) (f : Frame) (r : Reference) (answer : Result Ruled RuleFault) where
+module _ (s : RowScope) (f : Frame) (r : Reference) (answer : Result Ruled RuleFault) where
   pub by_descriptor : (params : List FieldType) (result : Option FieldType) → parameters_of r.desc ≡ params → result_of r.desc ≡ result → RowRules s f (init_signature s f r params result) answer → RowRules s f (init_row s f r) answer
   by_descriptor params result params_are result_is rules =
       subst (λ (types : List FieldType). RowRules s f (init_signature s f r types (result_of r.desc)) answer) (sym params_are)
       (subst (λ (type : Option FieldType). RowRules s f (init_signature s f r params type) answer) (sym result_is) rules)
 
-  pub by_parts : (params : List FieldType) (result : Option FieldType) (count : ℕ) (receiver : VType) (stack locals gives : List VType) (may : Bool)
+  pub by_parts : (params : List FieldType) (result : Option FieldType) (count : ℕ) (receiver : VType) (stack locals gives : List VType) (may passes : Bool)
       → let row = init_signature s f r params result in
-      AllFit s.headers row.takes (topmost (length row.takes) f.stack) → count ≡ length row.takes → receiver ≡ lowest_of (length params + 1) f.stack → gives ≡ result_types result
-      → stack ≡ map (initialised_type s r receiver) (under count f.stack) ++ gives → locals ≡ map (initialised_type s r receiver) f.locals → (IsTrue may ↔ MayInitialise s r receiver) → Concludes s f stack locals (IsTrue may) answer
+      AllFit s row.takes (topmost (length row.takes) f.stack) → count ≡ length row.takes → receiver ≡ lowest_of (length params + 1) f.stack → gives ≡ result_types result
+      → stack ≡ map (initialised_type s r receiver) (under count f.stack) ++ gives → locals ≡ map (initialised_type s r receiver) f.locals → (IsTrue may ↔ MayInitialise s r receiver) → (IsTrue passes ↔ PassesInitialiser s r receiver) → Concludes s f stack locals (IsTrue may) (IsTrue passes) answer
       → RowRules s f row answer
-  by_parts params result count receiver stack locals gives may fits counted receiver_is gives_are stack_is locals_are may_is concludes =
+  by_parts params result count receiver stack locals gives may passes fits counted receiver_is gives_are stack_is locals_are may_is passes_is concludes =
       let row : Row = init_signature s f r params result in
       let wanted : VType = lowest_of (length params + 1) f.stack in
       let becoming : VType → List VType → List VType = λ object entries. map (initialised_type s r object) entries in
@@ -38,4 +38,5 @@ module _ (s : Scope) (f : Frame) (r : Reference) (answer : Result Ruled RuleFaul
       ∙ ap (λ (given : List VType). becoming wanted (under (length row.takes) f.stack) ++ given) gives_are in
       let locals_wanted : locals ≡ becoming wanted f.locals = locals_are ∙ ap (λ (object : VType). becoming object f.locals) receiver_is in
       let may_wanted : IsTrue may ↔ MayInitialise s r wanted = subst (λ (object : VType). IsTrue may ↔ MayInitialise s r object) receiver_is may_is in
-      concluded_row s f row stack locals (IsTrue may) answer fits tt refl stack_wanted locals_wanted may_wanted.0 may_wanted.1 concludes
+      let passes_wanted : IsTrue passes ↔ PassesInitialiser s r wanted = subst (λ (object : VType). IsTrue passes ↔ PassesInitialiser s r object) receiver_is passes_is in
+      concluded_row s f row stack locals (IsTrue may) (IsTrue passes) answer fits tt refl stack_wanted locals_wanted (λ h. (may_wanted.0 h.0, passes_wanted.0 h.1)) (λ h. (may_wanted.1 h.0, passes_wanted.1 h.1)) concludes

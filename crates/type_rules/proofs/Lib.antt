@@ -25,3 +25,6 @@ pub mod MethodParts
 pub mod UninitThis
 pub mod OneTyping
 pub mod EachTyped
+pub mod Places
+pub mod ByPlace
+pub mod CallRows

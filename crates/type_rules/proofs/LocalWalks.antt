@@ -10,7 +10,7 @@ use Rattle.class_model.specs.declared.frame.VType.TheVariants.{Top, UninitThis}
 use Rattle.class_tree.specs.Headers.{Headers}
 use Rattle.member_link.specs.Assignability.{IsAssignable}
 use Rattle.member_link.specs.Assignability.IsAssignable.{to_top}
-use Rattle.type_rules.specs.FrameAssignability.{AreAssignable, is_uninit_this}
+use Rattle.member_link.specs.Rows.FrameAssignability.{AreAssignable, is_uninit_this}
 use Rattle.type_rules.proofs.Pairwise.{are_as_long}
 
 -- one unit more

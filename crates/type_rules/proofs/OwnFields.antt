@@ -7,8 +7,8 @@ use Rattle.class_tree.specs.Names.{is_member}
 use Rattle.class_tree.specs.Order.{first_place, header_at, member_place}
 use Rattle.class_tree.specs.declared.place.Place.{Place}
 use Rattle.member_link.specs.References.{Reference}
-use Rattle.type_rules.specs.MemberRows.{IsOwnField}
-use Rattle.type_rules.specs.Scope.{Scope, current}
+use Rattle.member_link.specs.Rows.MemberRows.{IsOwnField}
+use Rattle.type_rules.specs.Scope.{Scope, current, row_scope}
 
 one_more : (found : Option ℕ) → is_some (option_map (λ place. place + 1) found) ≡ is_some found
 one_more None = refl
@@ -23,7 +23,7 @@ some_place test [] = refl
 some_place test (x ∷ xs) = one_place (test x) (first_place test xs) (list_any test xs) (some_place test xs)
 
 pub own_field : (s : Scope) (place : Place) (header : Header) (reference : Reference) (found : Option ℕ) → header_at s.headers place ≡ Some header → header ≡ header_of s.class
-    → found ≡ option_and_then (λ (h : Header). member_place reference.name reference.desc h.fields) (header_at s.headers place) → reference.class ≡ current s → (answer : Bool) → answer ≡ is_some found → IsTrue answer ↔ IsOwnField s reference
+    → found ≡ option_and_then (λ (h : Header). member_place reference.name reference.desc h.fields) (header_at s.headers place) → reference.class ≡ current s → (answer : Bool) → answer ≡ is_some found → IsTrue answer ↔ IsOwnField (row_scope s) reference
 own_field s place header reference found stands is found_is same answer answer_is =
     let there : header_at s.headers place ≡ Some (header_of s.class) = stands ∙ ap Some is in
     let e : answer ≡ list_any (is_member reference.name reference.desc) (header_of s.class).fields =

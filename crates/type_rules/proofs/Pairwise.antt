@@ -6,8 +6,9 @@ use Rattle.std.proofs.lemmas.Bool.{false≢true}
 use Rattle.class_model.specs.declared.frame.VType.{VType}
 use Rattle.class_tree.specs.Headers.{Headers}
 use Rattle.member_link.specs.Assignability.{IsAssignable}
-use Rattle.type_rules.specs.FrameAssignability.{AreAssignable}
-use Rattle.type_rules.specs.Operands.{Need, Fits, AllFit}
+use Rattle.member_link.specs.RowScope.{RowScope}
+use Rattle.member_link.specs.Rows.FrameAssignability.{AreAssignable}
+use Rattle.member_link.specs.Rows.Operands.{Need, Fits, AllFit}
 
 each_pair : {A B : Type 0} (R : A → B → Type 0) (xs : List A) (ys : List B) → length xs ≡ length ys → AllWithin (λ p. R p.0 p.1) (zip xs ys) 0 (length (zip xs ys)) → AllZip R xs ys
 each_pair R [] [] long within = tt
@@ -41,16 +42,16 @@ are_as_long headers (low ∷ lows) [] all = absurd all
 are_as_long headers (low ∷ lows) (high ∷ highs) all = omega (arith, are_as_long headers lows highs all.1)
 
 -- needs by what they mean
-pub all_fit_pairs : {A : Type 0} (headers : Headers) (meant : A → Need) (needs : List A) (types : List VType) → AllZip (λ need type. Fits headers (meant need) type) needs types ↔ AllFit headers (map meant needs) types
-all_fit_pairs headers meant [] [] = (λ all. tt, λ all. tt)
-all_fit_pairs headers meant [] (type ∷ types) = (λ all. absurd all, λ all. absurd all)
-all_fit_pairs headers meant (need ∷ needs) [] = (λ all. absurd all, λ all. absurd all)
-all_fit_pairs headers meant (need ∷ needs) (type ∷ types) =
-    let rest = all_fit_pairs headers meant needs types in
+pub all_fit_pairs : {A : Type 0} (s : RowScope) (meant : A → Need) (needs : List A) (types : List VType) → AllZip (λ need type. Fits s (meant need) type) needs types ↔ AllFit s (map meant needs) types
+all_fit_pairs s meant [] [] = (λ all. tt, λ all. tt)
+all_fit_pairs s meant [] (type ∷ types) = (λ all. absurd all, λ all. absurd all)
+all_fit_pairs s meant (need ∷ needs) [] = (λ all. absurd all, λ all. absurd all)
+all_fit_pairs s meant (need ∷ needs) (type ∷ types) =
+    let rest = all_fit_pairs s meant needs types in
     (λ all. (all.0, rest.0 all.1), λ all. (all.0, rest.1 all.1))
 
-pub fit_as_long : {A : Type 0} (headers : Headers) (meant : A → Need) (needs : List A) (types : List VType) → AllFit headers (map meant needs) types → length needs ≡ length types
-fit_as_long headers meant [] [] all = refl
-fit_as_long headers meant [] (type ∷ types) all = absurd all
-fit_as_long headers meant (need ∷ needs) [] all = absurd all
-fit_as_long headers meant (need ∷ needs) (type ∷ types) all = omega (arith, fit_as_long headers meant needs types all.1)
+pub fit_as_long : {A : Type 0} (s : RowScope) (meant : A → Need) (needs : List A) (types : List VType) → AllFit s (map meant needs) types → length needs ≡ length types
+fit_as_long s meant [] [] all = refl
+fit_as_long s meant [] (type ∷ types) all = absurd all
+fit_as_long s meant (need ∷ needs) [] all = absurd all
+fit_as_long s meant (need ∷ needs) (type ∷ types) all = omega (arith, fit_as_long s meant needs types all.1)

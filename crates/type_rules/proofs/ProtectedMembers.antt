@@ -8,11 +8,11 @@ use Rattle.class_model.specs.declared.frame.VType.TheVariants as types
 use Rattle.member_link.specs.DeclaredMembers.{Declared}
 use Rattle.member_link.specs.Overriding.{package_of}
 use Rattle.member_link.specs.References.{Reference}
-use Rattle.type_rules.specs.MemberRows.{PassesProtected}
+use Rattle.member_link.specs.RowScope.{RowScope}
+use Rattle.member_link.specs.Rows.MemberRows.{PassesProtected}
 use Rattle.type_rules.specs.Protected.{IsBound, IsForeign, Lends}
-use Rattle.type_rules.specs.Scope.{Scope, current}
 
-module _ (s : Scope) (reference : Reference) (Finds : Option Declared → Type 0) where
+module _ (s : RowScope) (reference : Reference) (Finds : Option Declared → Type 0) where
   -- a foreign member that passes is lent
   lent : (receiver : VType) (member : Declared) → Finds (Some member) → IsForeign s (Some member) → IsBound s reference receiver → PassesProtected s reference Finds receiver → Lends s reference receiver
   lent (types.Object name) member finds foreign bound passes = passes member finds foreign.0 foreign.1 bound.1
@@ -44,14 +44,14 @@ module _ (s : Scope) (reference : Reference) (Finds : Option Declared → Type 0
       known foreign is receiver bound,
     )
 
-    -- a member that is not foreign, behind another condition
+    -- a member that is not foreign
     same_package : (one other : List ℕ) → ¬ (one ≢ other) → one ≡ other
     same_package one other h = by (bytes_eq one other) refl where
       by : (same : Bool) → bytes_eq one other ≡ same → one ≡ other
       by true e = (bytes_eq-Decides one other).0 e
       by false e = absurd (h (λ equal. false≢true (sym e ∙ (bytes_eq-Decides one other).1 equal)))
 
-    no_foreign : (found : Option Declared) → member ≡ found → ((own : Declared) → Finds (Some own) → IsTrue (has own.member.flags PROTECTED) → package_of own.class ≡ package_of (current s)) → ¬ IsForeign s found
+    no_foreign : (found : Option Declared) → member ≡ found → ((own : Declared) → Finds (Some own) → IsTrue (has own.member.flags PROTECTED) → package_of own.class ≡ package_of s.own.name) → ¬ IsForeign s found
     no_foreign None e own_package foreign = foreign
     no_foreign (Some own) e own_package foreign = foreign.1 (own_package own (subst Finds e finds) foreign.0)
 
@@ -59,9 +59,9 @@ module _ (s : Scope) (reference : Reference) (Finds : Option Declared → Type 0
     foreign_refused true is none = absurd (none (is.0 refl))
     foreign_refused false is none = refl
 
-    pub own_package : (foreign : Bool) → (IsTrue foreign ↔ IsForeign s member) → (Made : Type 0) → Made
-        → IsTrue (not foreign) ↔ (Made × ((own : Declared) → Finds (Some own) → IsTrue (has own.member.flags PROTECTED) → package_of own.class ≡ package_of (current s)))
-    own_package foreign is Made made = (
-      λ e. (made, λ own found protected. same_package (package_of own.class) (package_of (current s)) (λ differ. not_foreign foreign is e (subst (IsForeign s) (once (Some own) member found finds) (protected, differ)))),
-      λ h. foreign_refused foreign is (no_foreign member refl h.1),
+    pub own_package : (foreign : Bool) → (IsTrue foreign ↔ IsForeign s member)
+        → IsTrue (not foreign) ↔ ((own : Declared) → Finds (Some own) → IsTrue (has own.member.flags PROTECTED) → package_of own.class ≡ package_of s.own.name)
+    own_package foreign is = (
+      λ e own found protected. same_package (package_of own.class) (package_of s.own.name) (λ differ. not_foreign foreign is e (subst (IsForeign s) (once (Some own) member found finds) (protected, differ))),
+      λ h. foreign_refused foreign is (no_foreign member refl h),
     )

@@ -5,15 +5,15 @@ use Rattle.std.proofs.lemmas.Grind.{flat_map-append}
 use Rattle.std.proofs.lemmas.List.{length-map, take_more, append-nil}
 use Rattle.class_model.specs.declared.frame.Frame.{Frame}
 use Rattle.class_model.specs.declared.frame.VType.{VType}
-use Rattle.class_tree.specs.Headers.{Headers}
-use Rattle.type_rules.specs.Operands.{AllFit, topmost, under}
-use Rattle.type_rules.specs.Rule.{RowRules, stack_behind, ruled}
-use Rattle.type_rules.specs.Scope.{Scope}
-use Rattle.type_rules.specs.ShuffleRows.{Width, one, two, Form, need_of, has_width, have_widths, form_in, picked, form_row}
+use Rattle.member_link.specs.RowScope.{RowScope}
+use Rattle.member_link.specs.Rows.Operands.{AllFit, topmost, under}
+use Rattle.member_link.specs.Rows.Row.{stack_behind}
+use Rattle.member_link.specs.Rows.ShuffleRows.{Width, one, two, Form, need_of, has_width, have_widths, form_in, picked, form_row}
+use Rattle.type_rules.proofs.RowSteps.{ends_row, same_further}
+use Rattle.type_rules.specs.Rule.{RowRules, ruled}
 use Rattle.type_rules.specs.Steps.{Concludes}
 use Rattle.type_rules.specs.declared.fault.RuleFault.{RuleFault}
 use Rattle.type_rules.specs.declared.ruled.Ruled.{Ruled}
-use Rattle.type_rules.proofs.RowSteps.{ends_row, same_further}
 
 -- the topmost entries have the widths of the form that is found
 form_fits : (forms : List Form) (stack : List VType) (found : Form) → form_in forms stack ≡ Some found → have_widths found.takes (topmost (length found.takes) stack) ≡ true
@@ -27,25 +27,25 @@ form_fits (first ∷ others) stack found is =
       | inr other ↦ form_fits others stack found (rw other at is)
     ]
 
-widths_fit : (headers : Headers) (widths : List Width) (operands : List VType) → have_widths widths operands ≡ true → AllFit headers (map need_of widths) operands
-widths_fit headers [] [] have = tt
-widths_fit headers [] (operand ∷ operands) have = absurd (false≢true have)
-widths_fit headers (one ∷ widths) [] have = absurd (false≢true have)
-widths_fit headers (two ∷ widths) [] have = absurd (false≢true have)
-widths_fit headers (one ∷ widths) (operand ∷ operands) have =
+widths_fit : (s : RowScope) (widths : List Width) (operands : List VType) → have_widths widths operands ≡ true → AllFit s (map need_of widths) operands
+widths_fit s [] [] have = tt
+widths_fit s [] (operand ∷ operands) have = absurd (false≢true have)
+widths_fit s (one ∷ widths) [] have = absurd (false≢true have)
+widths_fit s (two ∷ widths) [] have = absurd (false≢true have)
+widths_fit s (one ∷ widths) (operand ∷ operands) have =
     let parts = and_parts (has_width one operand) (have_widths widths operands) have in
-    (parts.0, widths_fit headers widths operands parts.1)
-widths_fit headers (two ∷ widths) (operand ∷ operands) have =
+    (parts.0, widths_fit s widths operands parts.1)
+widths_fit s (two ∷ widths) (operand ∷ operands) have =
     let parts = and_parts (has_width two operand) (have_widths widths operands) have in
-    (parts.0, widths_fit headers widths operands parts.1)
+    (parts.0, widths_fit s widths operands parts.1)
 
 -- the rule of a form
-shuffled : (s : Scope) (f : Frame) (form : Form) (result : Result Ruled RuleFault) (count : ℕ) (stack locals : List VType)
+shuffled : (s : RowScope) (f : Frame) (form : Form) (result : Result Ruled RuleFault) (count : ℕ) (stack locals : List VType)
     → have_widths form.takes (topmost (length form.takes) f.stack) ≡ true
     → count ≡ length form.takes
     → stack ≡ under count f.stack ++ picked (topmost count f.stack) form.gives
     → locals ≡ f.locals
-    → Concludes s f stack locals (IsTrue true) result
+    → Concludes s f stack locals (IsTrue true) (IsTrue true) result
     → RowRules s f (form_row f (Some form)) result
 shuffled s f form result count stack locals have count_is stack_is locals_are concludes =
     let row = form_row f (Some form) in
@@ -53,20 +53,20 @@ shuffled s f form result count stack locals have count_is stack_is locals_are co
     let behind : stack ≡ stack_behind f row =
     stack_is ∙ ap (λ (n : ℕ). under n f.stack ++ picked (topmost n f.stack) form.gives) count_is
     ∙ ap (λ (n : ℕ). under n f.stack ++ picked (topmost (length form.takes) f.stack) form.gives) (sym (length-map form.takes need_of)) in
-    let fits : AllFit s.headers row.takes (topmost (length row.takes) f.stack) =
-    subst (λ (n : ℕ). AllFit s.headers row.takes (topmost n f.stack)) (sym (length-map form.takes need_of)) (widths_fit s.headers form.takes _ have) in
-    let ends : Concludes s f (stack_behind f row) f.locals (IsTrue true) result =
-    subst (λ (l : List VType). Concludes s f (stack_behind f row) l (IsTrue true) result) locals_are
-    (subst (λ (l : List VType). Concludes s f l locals (IsTrue true) result) behind concludes) in
-    ends_row s f row result fits tt (same_further s (stack_behind f row) (IsTrue true) (Unit {0}) (ruled f row) result (λ _. tt) (λ _. refl) ends)
+    let fits : AllFit s row.takes (topmost (length row.takes) f.stack) =
+    subst (λ (n : ℕ). AllFit s row.takes (topmost n f.stack)) (sym (length-map form.takes need_of)) (widths_fit s form.takes _ have) in
+    let ends : Concludes s f (stack_behind f row) f.locals (IsTrue true) (IsTrue true) result =
+    subst (λ (l : List VType). Concludes s f (stack_behind f row) l (IsTrue true) (IsTrue true) result) locals_are
+    (subst (λ (l : List VType). Concludes s f l locals (IsTrue true) (IsTrue true) result) behind concludes) in
+    ends_row s f row result fits tt (same_further s (stack_behind f row) (IsTrue true × IsTrue true) (Unit {0} × Unit {0}) (ruled f row) result (λ _. (tt, tt)) (λ _. (refl, refl)) ends)
 
 -- what the code's search for a form found
-pub row_of_form : (s : Scope) (f : Frame) (forms : List Form) (result : Result Ruled RuleFault) (form : Form) (count : ℕ) (stack locals : List VType)
+pub row_of_form : (s : RowScope) (f : Frame) (forms : List Form) (result : Result Ruled RuleFault) (form : Form) (count : ℕ) (stack locals : List VType)
     → form_in forms f.stack ≡ Some form
     → count ≡ length form.takes
     → stack ≡ under count f.stack ++ picked (topmost count f.stack) form.gives
     → locals ≡ f.locals
-    → Concludes s f stack locals (IsTrue true) result
+    → Concludes s f stack locals (IsTrue true) (IsTrue true) result
     → RowRules s f (form_row f (form_in forms f.stack)) result
 row_of_form s f forms result form count stack locals found count_is stack_is locals_are concludes =
     subst (λ (o : Option Form). RowRules s f (form_row f o) result) (sym found)

@@ -1,8 +1,8 @@
 -- What a store pops and writes.
 use Rattle.std.proofs.Common.{◌≡◌, ◌-◌, ℕ, zero, suc, List, [], ◌∷◌, length, drop, slice_get, Some, refl, ap, sym, subst, ◌∙◌}
 use Rattle.class_model.specs.declared.frame.VType.{VType}
-use Rattle.type_rules.specs.LocalRows.{stored}
-use Rattle.type_rules.specs.Operands.{lowest_of}
+use Rattle.member_link.specs.Rows.LocalRows.{stored}
+use Rattle.member_link.specs.Rows.Operands.{lowest_of}
 
 from_there : (stack : List VType) (at : ℕ) (value : VType) → slice_get stack at ≡ Some value → drop at stack ≡ value ∷ drop (suc at) stack
 from_there [] at value there = absurd (cc there)

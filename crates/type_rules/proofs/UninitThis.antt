@@ -4,8 +4,8 @@ use Rattle.std.proofs.lemmas.Bool.{false≢true}
 use Rattle.std.specs.List.{list_any}
 use Rattle.class_model.specs.declared.frame.VType.{VType}
 use Rattle.class_model.specs.declared.frame.VType.TheVariants.{Top, Int, Float, Long, Double, Null, UninitThis, Object, Uninit}
-use Rattle.type_rules.specs.FrameAssignability.{is_uninit_this}
-use Rattle.type_rules.specs.MemberRows.{NoUninitThis}
+use Rattle.member_link.specs.Rows.FrameAssignability.{is_uninit_this}
+use Rattle.member_link.specs.Rows.MemberRows.{NoUninitThis}
 
 -- a type is one, or is not
 decide : (type : VType) → ((type ≡ UninitThis) × (is_uninit_this type ≡ true)) ⊎ ((type ≢ UninitThis) × (is_uninit_this type ≡ false))

@@ -1,6 +1,6 @@
 -- What the code's forms of instructions that move stack entries mean.
-use Rattle.type_rules.specs.ShuffleRows as meant
 use Rattle.std.specs.Prelude.{map}
+use Rattle.member_link.specs.Rows.ShuffleRows as meant
 use Rattle.type_rules.specs.declared.shuffles.Form.{Form}
 use Rattle.type_rules.specs.declared.shuffles.Width.{Width}
 use Rattle.type_rules.specs.declared.shuffles.Width.TheVariants as widths

@@ -1,15 +1,6 @@
-pub mod FrameAssignability
 pub mod Scope
-pub mod Operands
-pub mod Rows
-pub mod LocalRows
-pub mod ArithmeticRows
-pub mod ShuffleRows
 pub mod Forms
-pub mod ArrayRows
 pub mod Signatures
-pub mod MemberRows
-pub mod Table
 pub mod Rule
 pub mod TypedFrames
 pub mod Meanings
@@ -22,7 +13,7 @@ pub mod NewClasses
 pub mod Known
 pub mod Stated
 pub mod Handlers
-pub mod Flow
+pub mod MethodBodies
 pub mod Checks
 pub mod Typed
 pub mod Verified

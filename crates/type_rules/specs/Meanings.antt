@@ -2,7 +2,7 @@
 use Rattle.std.specs.Prelude.{[], ◌∷◌}
 use Rattle.class_model.specs.Code.{verification_type}
 use Rattle.class_model.specs.declared.frame.VType.TheVariants as types
-use Rattle.type_rules.specs.Operands as meant
+use Rattle.member_link.specs.Rows.Operands as meant
 use Rattle.type_rules.specs.declared.need.Need.{Need}
 use Rattle.type_rules.specs.declared.need.Need.TheVariants as needs
 

@@ -5,7 +5,7 @@ use Rattle.class_model.specs.Header.{header_of}
 use Rattle.class_model.specs.Instructions.{decoded}
 use Rattle.class_model.specs.Members.{is_text}
 use Rattle.class_model.specs.MethodCode.{code_of}
-use Rattle.class_model.specs.Names.{init}
+use Rattle.class_model.specs.Names.{clinit, init}
 use Rattle.class_model.specs.PoolChecks.{utf8_at, class_at, text_or_empty}
 use Rattle.class_model.specs.declared.class_file.ClassFile.{ClassFile}
 use Rattle.class_model.specs.declared.class_file.CodePart.{CodePart}
@@ -15,6 +15,8 @@ use Rattle.class_model.specs.declared.instr.Instr.{Instr}
 use Rattle.class_model.specs.declared.instr.Instr.TheVariants.{New}
 use Rattle.class_model.specs.declared.instr.Placed.{Placed}
 use Rattle.class_tree.specs.Headers.{Name, Classes, Headers, headers_of}
+use Rattle.member_link.specs.RowScope.{RowScope}
+use Rattle.member_link.specs.Signatures.{result_of}
 
 -- the classes, the class file, its method, and the method's code
 pub record Scope : Type 0 where
@@ -64,3 +66,22 @@ class_of_new s at = new_in (instructions s) where
   new_in : List Placed → Option Name
   new_in [] = None
   new_in (placed ∷ others) = if placed.at == at then named placed.instr else new_in others
+
+-- the method is a class initialiser
+abbrev pub is_clinit : Scope → Bool
+is_clinit s = is_text clinit (utf8_at s.class.pool s.method.name)
+
+-- ---- what its rows read
+
+abbrev pub row_scope : Scope → RowScope
+row_scope s = record {
+  headers = s.headers;
+  pool = s.class.pool;
+  major = s.class.major;
+  own = header_of s.class;
+  is_init = is_init s;
+  is_clinit = is_clinit s;
+  result = result_of (own_descriptor s);
+  max_stack = s.part.max_stack;
+  new_class = class_of_new s;
+}

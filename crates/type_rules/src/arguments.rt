@@ -1,17 +1,17 @@
 //! The receiver and the arguments of a call.
 ghost use Rattle.std.specs.Prelude.{◌≡◌, ◌↔◌, IsTrue, length};
-ghost use Rattle.class_tree.specs.Headers.{headers_of};
+ghost use Rattle.member_link.specs.Rows.Operands.{AllFit};
 ghost use Rattle.type_rules.specs.Calls.{TakesSo, operand_needs, signature_row};
-ghost use Rattle.type_rules.specs.Operands.{AllFit};
 ghost use Rattle.type_rules.specs.Rule.{RowRules};
+ghost use Rattle.type_rules.specs.Scope.{row_scope};
 
 use crate::descriptors::result_type;
 use crate::fault::{RuleFault, TypeRule};
+use crate::method_rules::MethodRules;
 use crate::need::{Need, are_values_of, topmost};
 use crate::ruled::Ruled;
 use crate::step::Step;
 use class_model::{Descriptor, FieldType, VType};
-use class_tree::Tree;
 
 /// Calls a method of this descriptor, on a receiver or none.
 pub(crate) fn call_with(
@@ -19,13 +19,14 @@ pub(crate) fn call_with(
     receiver: Option<Need<'_>>,
     descriptor: &Descriptor,
     further: bool,
+    access: bool,
 ) -> Result<Ruled, RuleFault>
-    ensures { RowRules step.now.rules.now step.now.before.now (signature_row step.now.before.now receiver.entry descriptor.now (IsTrue further)) result }
+    ensures { RowRules (row_scope step.now.rules.now) step.now.before.now (signature_row step.now.before.now receiver.entry descriptor.now (IsTrue further) (IsTrue access)) result }
 {
     let count = take_operands(step, receiver, descriptor)?;
     let stack = step.replaced(count, result_type(descriptor)?)?;
     let locals = step.before.locals.copy(step.alloc)?;
-    step.conclude(stack, locals, further)
+    step.conclude(stack, locals, further, access)
 }
 
 /// Asks that the topmost entries of the stack are a receiver, if there is one, and arguments, and counts them.
@@ -37,13 +38,13 @@ pub(crate) fn take_operands(
     receiver: Option<Need<'_>>,
     descriptor: &Descriptor,
 ) -> Result<usize, RuleFault>
-    ensures { TakesSo step.now.rules.now step.now.before.now (operand_needs receiver.entry descriptor.now.params) result }
+    ensures { TakesSo (row_scope step.now.rules.now) step.now.before.now (operand_needs receiver.entry descriptor.now.params) result }
 {
     let rules = step.rules;
     let params = descriptor.params.as_slice();
     let count = operand_count(receiver, params);
     let operands = topmost(step.before.stack.as_slice(), count);
-    if are_operands(rules.tree, receiver, params, operands) {
+    if are_operands(rules, receiver, params, operands) {
         Ok(count)
     } else {
         Err(RuleFault::Fails(TypeRule::Stack))
@@ -62,19 +63,19 @@ fn operand_count(receiver: Option<Need<'_>>, params: &[FieldType]) -> usize
 
 // Whether operands are a receiver, if there is one, and arguments.
 fn are_operands(
-    tree: &Tree,
+    rules: &MethodRules<'_>,
     receiver: Option<Need<'_>>,
     params: &[FieldType],
     operands: &[VType],
 ) -> bool
-    ensures { IsTrue result ↔ AllFit (headers_of tree.now) (operand_needs receiver.entry params.now) operands.now }
+    ensures { IsTrue result ↔ AllFit (row_scope rules.now) (operand_needs receiver.entry params.now) operands.now }
 {
     match receiver {
         Some(need) => match operands.split_first() {
-            Some((first, arguments)) => need.fits(tree, first)
-                && are_values_of(tree, params, arguments),
+            Some((first, arguments)) => need.fits(rules, first)
+                && are_values_of(rules, params, arguments),
             None => false,
         },
-        None => are_values_of(tree, params, operands),
+        None => are_values_of(rules, params, operands),
     }
 }

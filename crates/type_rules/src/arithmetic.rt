@@ -1,6 +1,7 @@
 //! The rules of arithmetic, conversions and comparisons (JVM Specification SE 8, 6.5).
-ghost use Rattle.type_rules.specs.ArithmeticRows.{pure_operations, divide_operations, float_operations, operation_in, operation_row};
+ghost use Rattle.member_link.specs.Rows.ArithmeticRows.{pure_operations, divide_operations, float_operations, operation_in, operation_row};
 ghost use Rattle.type_rules.specs.Rule.{RowRules};
+ghost use Rattle.type_rules.specs.Scope.{row_scope};
 
 use crate::fault::RuleFault;
 use crate::need::Need;
@@ -18,7 +19,7 @@ const DOUBLE: Need<'static> = Need::OfKind(Kind::Double);
 
 /// Arithmetic of int and long that raises nothing.
 pub(crate) fn pure(step: &Step<'_>, opcode: u8) -> Result<Ruled, RuleFault>
-    ensures { RowRules step.now.rules.now step.now.before.now (operation_row step.now.before.now (operation_in pure_operations opcode)) result }
+    ensures { RowRules (row_scope step.now.rules.now) step.now.before.now (operation_row step.now.before.now (operation_in pure_operations opcode)) result }
 {
     match opcode {
         // iadd, isub, imul, ishl, ishr, iushr, iand, ior, ixor
@@ -43,7 +44,7 @@ pub(crate) fn pure(step: &Step<'_>, opcode: u8) -> Result<Ruled, RuleFault>
 
 /// A division or remainder of int or long.
 pub(crate) fn divide(step: &Step<'_>, opcode: u8) -> Result<Ruled, RuleFault>
-    ensures { RowRules step.now.rules.now step.now.before.now (operation_row step.now.before.now (operation_in divide_operations opcode)) result }
+    ensures { RowRules (row_scope step.now.rules.now) step.now.before.now (operation_row step.now.before.now (operation_in divide_operations opcode)) result }
 {
     match opcode {
         // idiv, irem
@@ -56,7 +57,7 @@ pub(crate) fn divide(step: &Step<'_>, opcode: u8) -> Result<Ruled, RuleFault>
 
 /// An operation of float or double.
 pub(crate) fn float(step: &Step<'_>, opcode: u8) -> Result<Ruled, RuleFault>
-    ensures { RowRules step.now.rules.now step.now.before.now (operation_row step.now.before.now (operation_in float_operations opcode)) result }
+    ensures { RowRules (row_scope step.now.rules.now) step.now.before.now (operation_row step.now.before.now (operation_in float_operations opcode)) result }
 {
     match opcode {
         // fadd, fsub, fmul, fdiv, frem

@@ -7,7 +7,7 @@ ghost use Rattle.class_tree.specs.Headers.{Name, headers_of, class_named};
 ghost use Rattle.class_tree.specs.Subtype.{IsReferenceComponent};
 ghost use Rattle.member_link.specs.Assignability.{IsAssignable, IsNameAssignable};
 ghost use Rattle.member_link.specs.Forms.{IsInterfaceNamed};
-ghost use Rattle.type_rules.specs.FrameAssignability.{AreAssignable, IsFrameAssignable, is_uninit_this};
+ghost use Rattle.member_link.specs.Rows.FrameAssignability.{AreAssignable, IsFrameAssignable, is_uninit_this};
 
 use class_model::{ACC_INTERFACE, FieldType, Frame, Header, LocalTypeList, VType, has};
 use class_tree::{Tree, a_tree_is_a_hierarchy, innermost, is_above_arrays, is_array, is_below};

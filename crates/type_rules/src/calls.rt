@@ -4,17 +4,19 @@ ghost use Rattle.std.specs.List.{list_any};
 ghost use Rattle.std.specs.Option.{option_copied};
 ghost use Rattle.class_model.specs.Descriptors.{SpellsDescriptor};
 ghost use Rattle.class_model.specs.Header.{header_of};
+ghost use Rattle.class_model.specs.Names.{init};
 ghost use Rattle.class_model.specs.Pool.{constant_at};
 ghost use Rattle.class_model.specs.PoolChecks.{descriptor_at};
 ghost use Rattle.class_tree.specs.Headers.{Name};
 ghost use Rattle.class_tree.specs.Subtype.{IsChain};
-ghost use Rattle.member_link.specs.Assignability.{IsAssignable};
+ghost use Rattle.member_link.specs.Rows.Assigning.{IsAssignableIn};
+ghost use Rattle.member_link.specs.Rows.MemberRows.{IsSpecialTarget, call_row, init_row, dynamic_row, instance_row, special_row, static_row, receiver, PassesMethod};
+ghost use Rattle.member_link.specs.Rows.Operands.{lowest_of};
+ghost use Rattle.member_link.specs.Rows.Row.{either};
 ghost use Rattle.member_link.specs.Signatures.{reference_of};
-ghost use Rattle.type_rules.specs.MemberRows.{IsSpecialTarget, call_row, dynamic_row, instance_row, special_row, static_row, receiver, PassesMethod};
-ghost use Rattle.type_rules.specs.Operands.{lowest_of};
 ghost use Rattle.type_rules.specs.References.{reference_meant};
 ghost use Rattle.type_rules.specs.Rule.{RowRules};
-ghost use Rattle.type_rules.specs.Scope.{current};
+ghost use Rattle.type_rules.specs.Scope.{current, row_scope};
 ghost use Rattle.type_rules.specs.Signatures.{IsCallable};
 
 use crate::arguments::call_with;
@@ -29,13 +31,10 @@ use crate::protected::passes_method;
 use crate::reference::{Reference, reference_at};
 use crate::ruled::Ruled;
 use crate::step::Step;
+use class_model::opcodes::{INVOKESPECIAL, INVOKESTATIC};
 use class_model::{Const, Descriptor, INIT, NoMemory, Pool, Text, VType};
 use class_tree::{a_tree_is_a_hierarchy, chain};
 use std::alloc::Global;
-
-const INVOKESPECIAL: u8 = 183;
-
-const INVOKESTATIC: u8 = 184;
 
 // The version from which on a direct superinterface is a target of invokespecial.
 const INTERFACE_TARGETS: u16 = 52;
@@ -43,28 +42,25 @@ const INTERFACE_TARGETS: u16 = 52;
 /// Calls a method, by its opcode.
 pub(crate) fn call(step: &Step<'_>, opcode: u8, index: u16) -> Result<Ruled, RuleFault>
     requires { IsCallable (constant_at step.now.rules.now.class.pool index) }
-    ensures { RowRules step.now.rules.now step.now.before.now (call_row step.now.rules.now step.now.before.now opcode (reference_of step.now.rules.now.class.pool (constant_at step.now.rules.now.class.pool index))) result }
+    ensures { RowRules (row_scope step.now.rules.now) step.now.before.now (call_row (row_scope step.now.rules.now) step.now.before.now opcode (reference_of step.now.rules.now.class.pool (constant_at step.now.rules.now.class.pool index))) result }
 {
     let rules = step.rules;
     let Some(reference) = reference_at(rules.class, index) else {
         return step.no_row();
     };
     let descriptor = method_descriptor(step.alloc, reference.desc)?;
-    match opcode {
-        INVOKESTATIC => call_static(step, &reference, &descriptor),
-        INVOKESPECIAL if reference.name.bytes() == INIT => initialise(
-            step,
-            &reference,
-            &descriptor,
-        ),
-        INVOKESPECIAL => call_special(step, &reference, &descriptor),
-        _ => call_virtual(step, &reference, &descriptor),
+    if opcode == INVOKESTATIC {
+        return call_static(step, &reference, &descriptor);
     }
+    if opcode == INVOKESPECIAL {
+        return call_named(step, &reference, &descriptor);
+    }
+    call_virtual(step, &reference, &descriptor)
 }
 
 /// Calls a call site.
 pub(crate) fn call_dynamic(step: &Step<'_>, index: u16) -> Result<Ruled, RuleFault>
-    ensures { RowRules step.now.rules.now step.now.before.now (dynamic_row step.now.rules.now step.now.before.now (constant_at step.now.rules.now.class.pool index)) result }
+    ensures { RowRules (row_scope step.now.rules.now) step.now.before.now (dynamic_row (row_scope step.now.rules.now) step.now.before.now (constant_at step.now.rules.now.class.pool index)) result }
 {
     let rules = step.rules;
     let Some(Const::InvokeDynamic(_, member)) = rules.class.pool.get(index) else {
@@ -75,7 +71,7 @@ pub(crate) fn call_dynamic(step: &Step<'_>, index: u16) -> Result<Ruled, RuleFau
     };
     a_descriptor_is_read_back();
     let descriptor = method_descriptor(step.alloc, desc)?;
-    call_with(step, None, &descriptor, true)
+    call_with(step, None, &descriptor, true, true)
 }
 
 // The descriptor of the NameAndType constant at an index, if one is there.
@@ -93,10 +89,10 @@ fn call_static(
     descriptor: &Descriptor,
 ) -> Result<Ruled, RuleFault>
     requires { SpellsDescriptor reference.now.desc.now descriptor.now }
-    ensures { RowRules step.now.rules.now step.now.before.now (static_row step.now.before.now (reference_meant reference.now)) result }
+    ensures { RowRules (row_scope step.now.rules.now) step.now.before.now (static_row step.now.before.now (reference_meant reference.now)) result }
 {
     a_descriptor_is_read_back();
-    call_with(step, None, descriptor, true)
+    call_with(step, None, descriptor, true, true)
 }
 
 // Calls a method on an object of the named class.
@@ -105,9 +101,10 @@ fn call_on(
     reference: &Reference<'_>,
     descriptor: &Descriptor,
     further: bool,
+    access: bool,
 ) -> Result<Ruled, RuleFault>
     requires { SpellsDescriptor reference.now.desc.now descriptor.now }
-    ensures { RowRules step.now.rules.now step.now.before.now (instance_row step.now.before.now (reference_meant reference.now) (IsTrue further)) result }
+    ensures { RowRules (row_scope step.now.rules.now) step.now.before.now (instance_row step.now.before.now (reference_meant reference.now) (IsTrue further) (IsTrue access)) result }
 {
     a_descriptor_is_read_back();
     call_with(
@@ -115,6 +112,7 @@ fn call_on(
         Some(Need::Object(reference.class.bytes())),
         descriptor,
         further,
+        access,
     )
 }
 
@@ -125,13 +123,29 @@ fn call_virtual(
     descriptor: &Descriptor,
 ) -> Result<Ruled, RuleFault>
     requires { SpellsDescriptor reference.now.desc.now descriptor.now }
-    ensures { RowRules step.now.rules.now step.now.before.now (instance_row step.now.before.now (reference_meant reference.now) (PassesMethod step.now.rules.now (reference_meant reference.now) (receiver step.now.before.now reference.now.desc.now))) result }
+    ensures { RowRules (row_scope step.now.rules.now) step.now.before.now (instance_row step.now.before.now (reference_meant reference.now) (Unit {0}) (PassesMethod (row_scope step.now.rules.now) (reference_meant reference.now) (receiver step.now.before.now reference.now.desc.now))) result }
 {
     a_descriptor_is_read_back();
     let top = VType::Top;
     let object = receiver_of(step.before.stack.as_slice(), descriptor, &top);
     let passes = passes_method(step.rules, reference, object);
-    call_on(step, reference, descriptor, passes)
+    call_on(step, reference, descriptor, true, passes)
+}
+
+// Calls an initialiser, or a method that is not chosen by the object.
+fn call_named(
+    step: &Step<'_>,
+    reference: &Reference<'_>,
+    descriptor: &Descriptor,
+) -> Result<Ruled, RuleFault>
+    requires { SpellsDescriptor reference.now.desc.now descriptor.now }
+    ensures { RowRules (row_scope step.now.rules.now) step.now.before.now (either (bytes_eq reference.now.name.now init) (init_row (row_scope step.now.rules.now) step.now.before.now (reference_meant reference.now)) (special_row (row_scope step.now.rules.now) step.now.before.now (reference_meant reference.now))) result }
+{
+    if reference.name.bytes() == INIT {
+        initialise(step, reference, descriptor)
+    } else {
+        call_special(step, reference, descriptor)
+    }
 }
 
 // Calls a method of the current class or of one above it, on an object of the current class.
@@ -141,13 +155,13 @@ fn call_special(
     descriptor: &Descriptor,
 ) -> Result<Ruled, RuleFault>
     requires { SpellsDescriptor reference.now.desc.now descriptor.now }
-    ensures { RowRules step.now.rules.now step.now.before.now (special_row step.now.rules.now step.now.before.now (reference_meant reference.now)) result }
+    ensures { RowRules (row_scope step.now.rules.now) step.now.before.now (special_row (row_scope step.now.rules.now) step.now.before.now (reference_meant reference.now)) result }
 {
     a_descriptor_is_read_back();
     let top = VType::Top;
     let object = receiver_of(step.before.stack.as_slice(), descriptor, &top);
     let fits = fits_special(step.alloc, step.rules, reference.class, object)?;
-    call_on(step, reference, descriptor, fits)
+    call_on(step, reference, descriptor, fits, true)
 }
 
 /// The receiver of a call, or `top` where there is none.
@@ -169,7 +183,7 @@ fn fits_special(
     name: &Text,
     object: &VType,
 ) -> Result<bool, NoMemory>
-    ensures { IfOk result (λ fits. IsTrue fits ↔ (IsSpecialTarget rules.now name.now × IsAssignable rules.now.headers object.now (VType.Object (current rules.now)))) }
+    ensures { IfOk result (λ fits. IsTrue fits ↔ (IsSpecialTarget (row_scope rules.now) name.now × IsAssignableIn rules.now.headers rules.now.class.major object.now (VType.Object (current rules.now)))) }
 {
     if !is_object_of(rules.tree, object, rules.header.name.bytes()) {
         return Ok(false);

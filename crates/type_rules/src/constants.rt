@@ -1,8 +1,9 @@
 //! The rules of constants (JVM Specification SE 8, 6.5.ldc and the like).
 ghost use Rattle.std.specs.Prelude.{◌≡◌, IfOk};
 ghost use Rattle.class_model.specs.Pool.{constant_at};
-ghost use Rattle.type_rules.specs.LocalRows.{imm_row, const_row, type_of_imm, type_of_const};
+ghost use Rattle.member_link.specs.Rows.LocalRows.{imm_row, const_row, type_of_imm, type_of_const};
 ghost use Rattle.type_rules.specs.Rule.{RowRules};
+ghost use Rattle.type_rules.specs.Scope.{row_scope};
 
 use crate::fault::RuleFault;
 use crate::ruled::Ruled;
@@ -17,14 +18,14 @@ const STRING: &[u8] = b"java/lang/String";
 
 /// Pushes a number or null that the instruction has itself.
 pub(crate) fn push_imm(step: &Step<'_>, imm: Imm) -> Result<Ruled, RuleFault>
-    ensures { RowRules step.now.rules.now step.now.before.now (imm_row step.now.before.now imm) result }
+    ensures { RowRules (row_scope step.now.rules.now) step.now.before.now (imm_row step.now.before.now imm) result }
 {
     step.plain(&[], Some(type_of_imm(imm)))
 }
 
 /// Pushes a constant of the pool.
 pub(crate) fn push_constant(step: &Step<'_>, index: u16) -> Result<Ruled, RuleFault>
-    ensures { RowRules step.now.rules.now step.now.before.now (const_row step.now.before.now (constant_at step.now.rules.now.class.pool index)) result }
+    ensures { RowRules (row_scope step.now.rules.now) step.now.before.now (const_row step.now.before.now (constant_at step.now.rules.now.class.pool index)) result }
 {
     let rules = step.rules;
     match rules.class.pool.get(index) {
@@ -35,7 +36,7 @@ pub(crate) fn push_constant(step: &Step<'_>, index: u16) -> Result<Ruled, RuleFa
 
 // Pushes a constant that is there.
 fn push_type(step: &Step<'_>, constant: &Const) -> Result<Ruled, RuleFault>
-    ensures { RowRules step.now.rules.now step.now.before.now (const_row step.now.before.now (Some constant.now)) result }
+    ensures { RowRules (row_scope step.now.rules.now) step.now.before.now (const_row step.now.before.now (Some constant.now)) result }
 {
     match type_of_const(step.alloc, constant)? {
         Some(given) => step.plain(&[], Some(given)),

@@ -4,8 +4,8 @@ ghost use Rattle.class_model.specs.Descriptors.{SpellsDescriptor, parameters_of,
 ghost use Rattle.class_model.specs.ModifiedUtf8.{IsText};
 ghost use Rattle.class_model.specs.PoolChecks.{IsMethodDescriptor};
 ghost use Rattle.class_model.specs.declared.descriptor.Descriptor.{Descriptor};
+ghost use Rattle.member_link.specs.Rows.MemberRows.{result_types};
 ghost use Rattle.member_link.specs.Signatures.{result_of};
-ghost use Rattle.type_rules.specs.MemberRows.{result_types};
 ghost use Rattle.type_rules.specs.Signatures.{IsMemberDescriptor};
 ghost use Rattle.type_rules.specs.Steps.{given};
 

@@ -3,10 +3,11 @@ ghost use Rattle.std.specs.Prelude.{◌≡◌, ◌↔◌, IfOk, IfSome, IsTrue, 
 ghost use Rattle.std.specs.Option.{option_map};
 ghost use Rattle.class_model.specs.Descriptors.{type_of};
 ghost use Rattle.class_model.specs.Pool.{constant_at};
+ghost use Rattle.member_link.specs.Rows.MemberRows.{get_static_row, put_static_row, get_field_row, put_field_row, IsOwnField, MayPut, PassesPut};
 ghost use Rattle.member_link.specs.Signatures.{reference_of};
-ghost use Rattle.type_rules.specs.MemberRows.{get_static_row, put_static_row, get_field_row, put_field_row, IsOwnField, MayPut};
 ghost use Rattle.type_rules.specs.References.{reference_meant};
 ghost use Rattle.type_rules.specs.Rule.{RowRules};
+ghost use Rattle.type_rules.specs.Scope.{row_scope};
 
 use crate::descriptors::field_type;
 use crate::fault::RuleFault;
@@ -30,7 +31,7 @@ struct FieldReference<'a> {
 
 /// Pushes a static field.
 pub(crate) fn get_static(step: &Step<'_>, index: u16) -> Result<Ruled, RuleFault>
-    ensures { RowRules step.now.rules.now step.now.before.now (get_static_row step.now.before.now (reference_of step.now.rules.now.class.pool (constant_at step.now.rules.now.class.pool index))) result }
+    ensures { RowRules (row_scope step.now.rules.now) step.now.before.now (get_static_row step.now.before.now (reference_of step.now.rules.now.class.pool (constant_at step.now.rules.now.class.pool index))) result }
 {
     match field_at(step.alloc, step.rules, index)? {
         Some(field) => step.plain(&[], Some(verification_type(&field.field_type)?)),
@@ -40,7 +41,7 @@ pub(crate) fn get_static(step: &Step<'_>, index: u16) -> Result<Ruled, RuleFault
 
 /// Pops a value into a static field.
 pub(crate) fn put_static(step: &Step<'_>, index: u16) -> Result<Ruled, RuleFault>
-    ensures { RowRules step.now.rules.now step.now.before.now (put_static_row step.now.before.now (reference_of step.now.rules.now.class.pool (constant_at step.now.rules.now.class.pool index))) result }
+    ensures { RowRules (row_scope step.now.rules.now) step.now.before.now (put_static_row step.now.before.now (reference_of step.now.rules.now.class.pool (constant_at step.now.rules.now.class.pool index))) result }
 {
     match field_at(step.alloc, step.rules, index)? {
         Some(field) => step.plain(&[Need::Value(&field.field_type)], None),
@@ -50,7 +51,7 @@ pub(crate) fn put_static(step: &Step<'_>, index: u16) -> Result<Ruled, RuleFault
 
 /// Pushes a field of an object.
 pub(crate) fn get_field(step: &Step<'_>, index: u16) -> Result<Ruled, RuleFault>
-    ensures { RowRules step.now.rules.now step.now.before.now (get_field_row step.now.rules.now step.now.before.now (reference_of step.now.rules.now.class.pool (constant_at step.now.rules.now.class.pool index))) result }
+    ensures { RowRules (row_scope step.now.rules.now) step.now.before.now (get_field_row (row_scope step.now.rules.now) step.now.before.now (reference_of step.now.rules.now.class.pool (constant_at step.now.rules.now.class.pool index))) result }
 {
     match field_at(step.alloc, step.rules, index)? {
         Some(field) => get_from(step, &field),
@@ -61,7 +62,7 @@ pub(crate) fn get_field(step: &Step<'_>, index: u16) -> Result<Ruled, RuleFault>
 // Pushes this field of an object.
 fn get_from(step: &Step<'_>, field: &FieldReference<'_>) -> Result<Ruled, RuleFault>
     requires { field.now.field_type ≡ type_of field.now.reference.desc.now }
-    ensures { RowRules step.now.rules.now step.now.before.now (get_field_row step.now.rules.now step.now.before.now (Some (reference_meant field.now.reference))) result }
+    ensures { RowRules (row_scope step.now.rules.now) step.now.before.now (get_field_row (row_scope step.now.rules.now) step.now.before.now (Some (reference_meant field.now.reference))) result }
 {
     let reference = &field.reference;
     let top = VType::Top;
@@ -69,13 +70,14 @@ fn get_from(step: &Step<'_>, field: &FieldReference<'_>) -> Result<Ruled, RuleFa
     step.conditional(
         &[Need::Object(reference.class.bytes())],
         Some(verification_type(&field.field_type)?),
+        true,
         passes_field(step.rules, reference, receiver),
     )
 }
 
 /// Pops a value into a field of an object.
 pub(crate) fn put_field(step: &Step<'_>, index: u16) -> Result<Ruled, RuleFault>
-    ensures { RowRules step.now.rules.now step.now.before.now (put_field_row step.now.rules.now step.now.before.now (reference_of step.now.rules.now.class.pool (constant_at step.now.rules.now.class.pool index))) result }
+    ensures { RowRules (row_scope step.now.rules.now) step.now.before.now (put_field_row (row_scope step.now.rules.now) step.now.before.now (reference_of step.now.rules.now.class.pool (constant_at step.now.rules.now.class.pool index))) result }
 {
     match field_at(step.alloc, step.rules, index)? {
         Some(field) => put_into(step, &field),
@@ -86,7 +88,7 @@ pub(crate) fn put_field(step: &Step<'_>, index: u16) -> Result<Ruled, RuleFault>
 // Pops a value into this field of an object.
 fn put_into(step: &Step<'_>, field: &FieldReference<'_>) -> Result<Ruled, RuleFault>
     requires { field.now.field_type ≡ type_of field.now.reference.desc.now }
-    ensures { RowRules step.now.rules.now step.now.before.now (put_field_row step.now.rules.now step.now.before.now (Some (reference_meant field.now.reference))) result }
+    ensures { RowRules (row_scope step.now.rules.now) step.now.before.now (put_field_row (row_scope step.now.rules.now) step.now.before.now (Some (reference_meant field.now.reference))) result }
 {
     let reference = &field.reference;
     let top = VType::Top;
@@ -98,22 +100,33 @@ fn put_into(step: &Step<'_>, field: &FieldReference<'_>) -> Result<Ruled, RuleFa
         ],
         None,
         may_put(step.rules, reference, receiver),
+        passes_put(step.rules, reference, receiver),
     )
 }
 
 // Whether a field of a receiver may be written: an uninitialised this has its own fields written.
 fn may_put(rules: &MethodRules<'_>, reference: &Reference<'_>, receiver: &VType) -> bool
-    ensures { IsTrue result ↔ MayPut rules.now (reference_meant reference.now) receiver.now }
+    ensures { IsTrue result ↔ MayPut (row_scope rules.now) (reference_meant reference.now) receiver.now }
 {
     match receiver {
         VType::UninitThis => is_own_field(rules, reference),
+        _ => true,
+    }
+}
+
+// Whether another object lends the field, if it is protected.
+fn passes_put(rules: &MethodRules<'_>, reference: &Reference<'_>, receiver: &VType) -> bool
+    ensures { IsTrue result ↔ PassesPut (row_scope rules.now) (reference_meant reference.now) receiver.now }
+{
+    match receiver {
+        VType::UninitThis => true,
         _ => passes_field(rules, reference, receiver),
     }
 }
 
 // Whether a field is one of the current class, and named there.
 fn is_own_field(rules: &MethodRules<'_>, reference: &Reference<'_>) -> bool
-    ensures { IsTrue result ↔ IsOwnField rules.now (reference_meant reference.now) }
+    ensures { IsTrue result ↔ IsOwnField (row_scope rules.now) (reference_meant reference.now) }
 {
     rules.is_current(reference.class.bytes())
         && rules

@@ -4,12 +4,12 @@ ghost use Rattle.std.specs.Option.{option_copied};
 ghost use Rattle.class_model.specs.Descriptors.{SpellsDescriptor};
 ghost use Rattle.class_model.specs.Header.{header_of};
 ghost use Rattle.class_model.specs.declared.frame.VType.{VType as entry_type};
+ghost use Rattle.member_link.specs.Rows.MemberRows.{MayInitialise, PassesInitialiser, init_row, initialised_type};
+ghost use Rattle.member_link.specs.Rows.Operands.{under};
 ghost use Rattle.type_rules.specs.Calls.{Becomes, init_signature};
-ghost use Rattle.type_rules.specs.MemberRows.{MayInitialise, init_row, initialised_type};
-ghost use Rattle.type_rules.specs.Operands.{under};
 ghost use Rattle.type_rules.specs.References.{reference_meant};
 ghost use Rattle.type_rules.specs.Rule.{RowRules};
-ghost use Rattle.type_rules.specs.Scope.{class_of_new};
+ghost use Rattle.type_rules.specs.Scope.{class_of_new, row_scope};
 ghost use Rattle.type_rules.specs.Steps.{given};
 
 use crate::arguments::take_operands;
@@ -32,7 +32,7 @@ pub(crate) fn initialise(
     descriptor: &Descriptor,
 ) -> Result<Ruled, RuleFault>
     requires { SpellsDescriptor reference.now.desc.now descriptor.now }
-    ensures { RowRules step.now.rules.now step.now.before.now (init_row step.now.rules.now step.now.before.now (reference_meant reference.now)) result }
+    ensures { RowRules (row_scope step.now.rules.now) step.now.before.now (init_row (row_scope step.now.rules.now) step.now.before.now (reference_meant reference.now)) result }
 {
     a_descriptor_is_read_back();
     initialise_by(step, reference, descriptor)
@@ -44,39 +44,46 @@ fn initialise_by(
     reference: &Reference<'_>,
     descriptor: &Descriptor,
 ) -> Result<Ruled, RuleFault>
-    ensures { RowRules step.now.rules.now step.now.before.now (init_signature step.now.rules.now step.now.before.now (reference_meant reference.now) descriptor.now.params descriptor.now.result) result }
+    ensures { RowRules (row_scope step.now.rules.now) step.now.before.now (init_signature (row_scope step.now.rules.now) step.now.before.now (reference_meant reference.now) descriptor.now.params descriptor.now.result) result }
 {
     let count = take_operands(step, Some(Need::Uninitialised), descriptor)?;
     let top = VType::Top;
     let receiver = receiver_of(step.before.stack.as_slice(), descriptor, &top);
     let may = may_initialise(step.rules, reference, receiver);
+    let passes = passes_initialiser(step.rules, reference, receiver);
     let gives = result_type(descriptor)?;
     let stack = initialised_stack(step, reference, receiver, count, gives)?;
     let locals = initialised_locals(step, reference, receiver)?;
-    step.conclude(stack, locals, may)
+    step.conclude(stack, locals, may, passes)
 }
 
 // Whether an initialiser is one of a receiver.
 fn may_initialise(rules: &MethodRules<'_>, reference: &Reference<'_>, receiver: &VType) -> bool
-    ensures { IsTrue result ↔ MayInitialise rules.now (reference_meant reference.now) receiver.now }
+    ensures { IsTrue result ↔ MayInitialise (row_scope rules.now) (reference_meant reference.now) receiver.now }
 {
     match receiver {
-        VType::Uninit(at) => may_initialise_new(rules, reference, *at),
+        VType::Uninit(at) => is_made_of(rules, *at, reference.class),
         VType::UninitThis => rules.is_current(reference.class.bytes())
             || is_super(rules, reference.class),
         _ => false,
     }
 }
 
-// Whether an initialiser is one of the object that a `new` made: one of its class, and no protected one of another
-// package.
-fn may_initialise_new(rules: &MethodRules<'_>, reference: &Reference<'_>, at: u32) -> bool
-    ensures { IsTrue result ↔ MayInitialise rules.now (reference_meant reference.now) (VType.Uninit at) }
+// Whether an initialiser of another object than this is no protected one of another package.
+fn passes_initialiser(rules: &MethodRules<'_>, reference: &Reference<'_>, receiver: &VType) -> bool
+    ensures { IsTrue result ↔ PassesInitialiser (row_scope rules.now) (reference_meant reference.now) receiver.now }
+{
+    match receiver {
+        VType::Uninit(at) => passes_initialiser_of(rules, reference, *at),
+        _ => true,
+    }
+}
+
+// The same of the object that the `new` at an offset made.
+fn passes_initialiser_of(rules: &MethodRules<'_>, reference: &Reference<'_>, at: u32) -> bool
+    ensures { IsTrue result ↔ PassesInitialiser (row_scope rules.now) (reference_meant reference.now) (VType.Uninit at) }
 {
     a_look_up_finds_one_method();
-    if !is_made_of(rules, at, reference.class) {
-        return false;
-    }
     let found = find_method(rules.tree, reference.class, reference.name, reference.desc);
     !is_foreign(rules, found)
 }
@@ -110,7 +117,7 @@ fn initialised_stack(
     count: usize,
     gives: Option<VType>,
 ) -> Result<VTypeList, NoMemory>
-    ensures { IfOk result (λ stack. stack ≡ map (initialised_type step.now.rules.now (reference_meant reference.now) receiver.now) (under count step.now.before.now.stack) ++ given gives) }
+    ensures { IfOk result (λ stack. stack ≡ map (initialised_type (row_scope step.now.rules.now) (reference_meant reference.now) receiver.now) (under count step.now.before.now.stack) ++ given gives) }
 {
     let mut stack = initialised_under(step, reference, receiver, count)?;
     if let Some(value) = gives {
@@ -126,7 +133,7 @@ fn initialised_under(
     receiver: &VType,
     count: usize,
 ) -> Result<VTypeList, NoMemory>
-    ensures { IfOk result (λ stack. stack ≡ map (initialised_type step.now.rules.now (reference_meant reference.now) receiver.now) (under count step.now.before.now.stack)) }
+    ensures { IfOk result (λ stack. stack ≡ map (initialised_type (row_scope step.now.rules.now) (reference_meant reference.now) receiver.now) (under count step.now.before.now.stack)) }
 {
     let before = step.under(count)?;
     let mut stack = VTypeList::new(step.alloc);
@@ -143,7 +150,7 @@ fn initialised(
     receiver: &VType,
     entry: &VType,
 ) -> Result<VType, NoMemory>
-    ensures { IfOk result (λ after. after ≡ initialised_type rules.now (reference_meant reference.now) receiver.now entry.now) }
+    ensures { IfOk result (λ after. after ≡ initialised_type (row_scope rules.now) (reference_meant reference.now) receiver.now entry.now) }
 {
     match class_after(rules, reference, receiver, entry) {
         Some(name) => Ok(VType::Object(name.copy()?)),
@@ -157,7 +164,7 @@ fn initialised_locals(
     reference: &Reference<'_>,
     receiver: &VType,
 ) -> Result<LocalTypeList, NoMemory>
-    ensures { IfOk result (λ locals. locals ≡ map (initialised_type step.now.rules.now (reference_meant reference.now) receiver.now) step.now.before.now.locals) }
+    ensures { IfOk result (λ locals. locals ≡ map (initialised_type (row_scope step.now.rules.now) (reference_meant reference.now) receiver.now) step.now.before.now.locals) }
 {
     let before = &step.before.locals;
     let mut after = before.copy(step.alloc)?;
@@ -177,7 +184,7 @@ fn class_of_local<'a>(
     locals: &LocalTypeList,
     index: usize,
 ) -> Option<&'a Text>
-    ensures { (local : entry_type) → slice_get locals.now index ≡ Some local → Becomes rules.now (reference_meant reference.now) receiver.now local (option_copied result) }
+    ensures { (local : entry_type) → slice_get locals.now index ≡ Some local → Becomes (row_scope rules.now) (reference_meant reference.now) receiver.now local (option_copied result) }
 {
     match locals.get(index) {
         Some(local) => class_after(rules, reference, receiver, local),
@@ -192,7 +199,7 @@ fn class_after<'a>(
     receiver: &VType,
     entry: &VType,
 ) -> Option<&'a Text>
-    ensures { Becomes rules.now (reference_meant reference.now) receiver.now entry.now (option_copied result) }
+    ensures { Becomes (row_scope rules.now) (reference_meant reference.now) receiver.now entry.now (option_copied result) }
 {
     match (receiver, entry) {
         (VType::Uninit(at), VType::Uninit(other)) if at == other => Some(reference.class),

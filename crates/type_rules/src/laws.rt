@@ -2,24 +2,25 @@
 ghost use Rattle.std.specs.Prelude.{◌≡◌, ℕ, List, length, slice_get, Some, None};
 ghost use Rattle.class_model.specs.declared.class_file.MethodAt.{MethodAt};
 ghost use Rattle.class_model.specs.declared.frame.Frame.{Frame};
-ghost use Rattle.class_model.specs.declared.instr.Placed.{Placed};
 ghost use Rattle.class_tree.specs.Headers.{Classes};
+ghost use Rattle.member_link.specs.Bodies.{Body, BodyPoint};
+ghost use Rattle.member_link.specs.BodyTyping.{AreInOrder, HasFrames};
 ghost use Rattle.type_rules.specs.Checks.{IsTypedAt};
-ghost use Rattle.type_rules.specs.Scope.{Scope, instructions, scope_at};
-ghost use Rattle.type_rules.specs.Typed.{IsFirstFailure, Typed, flows_into};
+ghost use Rattle.type_rules.specs.Scope.{scope_at};
+ghost use Rattle.type_rules.specs.Typed.{BodyFails, TypesBody, flows_into};
 ghost use Rattle.type_rules.specs.TypedFrames.{FolderFrames, typed_frames_at};
 ghost use Rattle.type_rules.specs.Verified.{TypesFolder, TypesMethod};
 ghost use Rattle.type_rules.specs.declared.fault.TypeRule.{TypeRule};
 
-/// There is at most one list of frames that types a method.
+/// There is at most one list of frames that types a body, and so a method.
 pub fn a_method_has_one_typing()
-    ensures { (s : Scope) (one other : List Frame) → Typed s one → Typed s other → one ≡ other }
+    ensures { (b : Body) (one other : List Frame) → TypesBody b one → TypesBody b other → one ≡ other }
 {}
 
-/// Where a method fails, no frames type it, and it fails first in one place by one rule.
+/// Where a body fails, as that of a method, no frames type it, and it fails first in one place by one rule.
 pub fn a_failing_method_has_no_frames()
-    ensures none { (s : Scope) (frames : List Frame) (offset : ℕ) (rule : TypeRule) → IsFirstFailure s offset rule → ¬ Typed s frames }
-    ensures one { (s : Scope) (offset other : ℕ) (rule other_rule : TypeRule) → IsFirstFailure s offset rule → IsFirstFailure s other other_rule → (offset ≡ other) × (rule ≡ other_rule) }
+    ensures none { (b : Body) (frames : List Frame) (offset : ℕ) (rule : TypeRule) → BodyFails b offset rule → ¬ TypesBody b frames }
+    ensures one { (b : Body) (offset other : ℕ) (rule other_rule : TypeRule) → BodyFails b offset rule → BodyFails b other other_rule → (offset ≡ other) × (rule ≡ other_rule) }
 {}
 
 /// A typed folder types each method by its numbers: one with code has frames that type it, and one without has none.
@@ -27,9 +28,17 @@ pub fn a_typed_folder_types_each_method()
     ensures { (classes : Classes) (typed : FolderFrames) → TypesFolder classes typed → (at : MethodAt) → TypesMethod (scope_at classes at) (typed_frames_at typed at) }
 {}
 
-/// In a typed method each instruction is typed by its frame behind what flows into it, and nothing flows past the last.
+/// In a typed body, as that of a method, each instruction is typed by its frame behind what flows into it, and nothing flows
+/// past the last.
 pub fn a_typed_method_types_each_instruction()
-    ensures count { (s : Scope) (frames : List Frame) → Typed s frames → length frames ≡ length (instructions s) }
-    ensures each { (s : Scope) (frames : List Frame) → Typed s frames → (number : ℕ) (placed : Placed) → slice_get (instructions s) number ≡ Some placed → (frame : Frame) × (slice_get frames number ≡ Some frame) × IsTypedAt s (flows_into s frames number) placed frame }
-    ensures past { (s : Scope) (frames : List Frame) → Typed s frames → flows_into s frames (length (instructions s)) ≡ None }
+    ensures count { (b : Body) (frames : List Frame) → TypesBody b frames → length frames ≡ length b.points }
+    ensures each { (b : Body) (frames : List Frame) → TypesBody b frames → (number : ℕ) (point : BodyPoint) → slice_get b.points number ≡ Some point → (frame : Frame) × (slice_get frames number ≡ Some frame) × IsTypedAt b (flows_into b frames number) point frame }
+    ensures past { (b : Body) (frames : List Frame) → TypesBody b frames → flows_into b frames (length b.points) ≡ None }
+{}
+
+/// Frames type a body whose points stand in order exactly where, place by place, what flows in, what is stated and where control
+/// may go agree: the frame at each place where one is stated is equal to it, and so is that at each target and each handler.
+pub fn frames_type_a_body_by_its_places()
+    ensures places { (b : Body) (frames : List Frame) → AreInOrder b.points → TypesBody b frames → HasFrames b frames }
+    ensures types { (b : Body) (frames : List Frame) → AreInOrder b.points → HasFrames b frames → TypesBody b frames }
 {}

@@ -35,7 +35,7 @@ pub use code::{code_of, has_code};
 pub use fault::{RuleFault, TypeRule, VerifyFault};
 pub use laws::{
     a_failing_method_has_no_frames, a_method_has_one_typing, a_typed_folder_types_each_method,
-    a_typed_method_types_each_instruction,
+    a_typed_method_types_each_instruction, frames_type_a_body_by_its_places,
 };
 pub use method_rules::MethodRules;
 pub use offsets::OffsetIndex;

@@ -2,24 +2,23 @@
 ghost use Rattle.std.specs.Prelude.{◌≡◌, ◌↔◌, ◌+◌, ◌≤◌, length, slice_get, Some, MatchOption, IfOk, OnOk, IsTrue};
 ghost use Rattle.std.specs.Option.{option_copied};
 ghost use Rattle.class_model.specs.Frames.{is_wide, units};
-ghost use Rattle.type_rules.specs.LocalRows.{HasRoom, HoldsKind, cut_before, stored, load_row, store_row, iinc_row};
-ghost use Rattle.type_rules.specs.Operands.{IsOfKind};
+ghost use Rattle.member_link.specs.Rows.LocalRows.{HasRoom, HoldsKind, cut_before, stored, load_row, store_row, iinc_row};
+ghost use Rattle.member_link.specs.Rows.Operands.{IsOfKind};
 ghost use Rattle.type_rules.specs.Rule.{RowRules};
+ghost use Rattle.type_rules.specs.Scope.{row_scope};
 
 use crate::fault::{RuleFault, TypeRule};
-use crate::need::Need;
+use crate::need::{Need, is_of_kind};
 use crate::ruled::Ruled;
 use crate::step::Step;
 use class_model::{Frame, Kind, LocalTypeList, NoMemory, VType};
-use class_tree::Tree;
 use std::alloc::Global;
 
 /// Pushes a local.
 pub(crate) fn load(step: &Step<'_>, kind: Kind, local: u16) -> Result<Ruled, RuleFault>
-    ensures { RowRules step.now.rules.now step.now.before.now (load_row step.now.before.now kind local) result }
+    ensures { RowRules (row_scope step.now.rules.now) step.now.before.now (load_row step.now.before.now kind local) result }
 {
-    let rules = step.rules;
-    match held(rules.tree, step.before, kind, local) {
+    match held(step.before, kind, local) {
         Some(unit) => step.plain(&[], Some(unit.copy()?)),
         None => Err(RuleFault::Fails(TypeRule::Local)),
     }
@@ -27,7 +26,7 @@ pub(crate) fn load(step: &Step<'_>, kind: Kind, local: u16) -> Result<Ruled, Rul
 
 /// Pops a value into a local. The long or double that it cuts is none any more.
 pub(crate) fn store(step: &Step<'_>, kind: Kind, local: u16) -> Result<Ruled, RuleFault>
-    ensures { RowRules step.now.rules.now step.now.before.now (store_row step.now.before.now kind local) result }
+    ensures { RowRules (row_scope step.now.rules.now) step.now.before.now (store_row step.now.before.now kind local) result }
 {
     let before = step.before;
     step.takes(&[Need::OfKind(kind)])?;
@@ -39,26 +38,25 @@ pub(crate) fn store(step: &Step<'_>, kind: Kind, local: u16) -> Result<Ruled, Ru
     };
     let locals = stored(step.alloc, &before.locals, usize::from(local), value)?;
     let stack = step.under(1)?;
-    step.conclude(stack, locals, true)
+    step.conclude(stack, locals, true, true)
 }
 
 /// Adds to a local.
 pub(crate) fn increment(step: &Step<'_>, local: u16) -> Result<Ruled, RuleFault>
-    ensures { RowRules step.now.rules.now step.now.before.now (iinc_row step.now.before.now local) result }
+    ensures { RowRules (row_scope step.now.rules.now) step.now.before.now (iinc_row step.now.before.now local) result }
 {
-    let rules = step.rules;
-    match held(rules.tree, step.before, Kind::Int, local) {
+    match held(step.before, Kind::Int, local) {
         Some(_) => step.plain(&[], None),
         None => Err(RuleFault::Fails(TypeRule::Local)),
     }
 }
 
 // A local, if it is there and of a kind.
-fn held<'a>(tree: &Tree, frame: &'a Frame, kind: Kind, local: u16) -> Option<&'a VType>
+fn held(frame: &Frame, kind: Kind, local: u16) -> Option<&VType>
     ensures { MatchOption (option_copied result) (¬ HoldsKind kind frame.now.locals local) (λ unit. (slice_get frame.now.locals local ≡ Some unit) × IsOfKind kind unit) }
 {
     match frame.locals.get(usize::from(local)) {
-        Some(unit) if Need::OfKind(kind).fits(tree, unit) => Some(unit),
+        Some(unit) if is_of_kind(kind, unit) => Some(unit),
         _ => None,
     }
 }

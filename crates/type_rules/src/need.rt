@@ -1,14 +1,16 @@
 //! What instructions ask of operands.
 ghost use Rattle.std.specs.Prelude.{◌≡◌, ◌↔◌, [], ◌∷◌, length, map, IsTrue};
 ghost use Rattle.class_model.specs.Code.{verification_type};
-ghost use Rattle.class_tree.specs.Headers.{Name, headers_of};
+ghost use Rattle.class_tree.specs.Headers.{Name};
 ghost use Rattle.class_tree.specs.Subtype.{IsArray, IsReferenceComponent};
+ghost use Rattle.member_link.specs.Rows.Operands.{Fits, AllFit, IsAmong, IsNullOr, IsOfKind, assignable_to, topmost};
 ghost use Rattle.type_rules.specs.Meanings.{need_meant};
-ghost use Rattle.type_rules.specs.Operands.{Fits, AllFit, IsAmong, IsNullOr, IsOfKind, assignable_to, topmost};
+ghost use Rattle.type_rules.specs.Scope.{row_scope};
 
 use crate::assignability::{is_object_of, is_value_of};
+use crate::method_rules::MethodRules;
 use class_model::{FieldType, Kind, VType};
-use class_tree::{Tree, component, is_array};
+use class_tree::{component, is_array};
 
 /// What an instruction asks of an operand.
 #[derive(Clone, Copy)]
@@ -35,17 +37,17 @@ pub(crate) enum Need<'a> {
 
 impl Need<'_> {
     /// Whether an operand fits.
-    pub(crate) fn fits(&self, tree: &Tree, operand: &VType) -> bool
-        ensures { IsTrue result ↔ Fits (headers_of tree.now) (need_meant self.now) operand.now }
+    pub(crate) fn fits(&self, rules: &MethodRules<'_>, operand: &VType) -> bool
+        ensures { IsTrue result ↔ Fits (row_scope rules.now) (need_meant self.now) operand.now }
     {
         match self {
             Need::OfKind(kind) => is_of_kind(*kind, operand),
             Need::Initialised => matches!(operand, VType::Null | VType::Object(_)),
             Need::Uninitialised => matches!(operand, VType::UninitThis | VType::Uninit(_)),
-            Need::Value(to) => is_value_of(tree, operand, to),
-            Need::Object(to) => is_object_of(tree, operand, to),
+            Need::Value(to) => is_value_of(rules.tree, operand, to),
+            Need::Object(to) => is_object_of(rules.tree, operand, to),
             Need::ObjectOrThis(to) => {
-                matches!(operand, VType::UninitThis) || is_object_of(tree, operand, to)
+                matches!(operand, VType::UninitThis) || is_object_of(rules.tree, operand, to)
             }
             Need::ArrayAmong(one, other) => is_null_or_among(operand, one, other),
             Need::ArrayOfReferences => is_null_or_array_of_references(operand),
@@ -54,8 +56,8 @@ impl Need<'_> {
     }
 }
 
-// Whether an operand is a value of a kind.
-fn is_of_kind(kind: Kind, operand: &VType) -> bool
+/// Whether an operand is a value of a kind.
+pub(crate) fn is_of_kind(kind: Kind, operand: &VType) -> bool
     ensures { IsTrue result ↔ IsOfKind kind operand.now }
 {
     match kind {
@@ -104,26 +106,26 @@ fn is_null_or_array(operand: &VType) -> bool
 }
 
 /// Whether the topmost entries of a stack fit, the topmost last.
-pub(crate) fn all_fit(tree: &Tree, needs: &[Need<'_>], stack: &[VType]) -> bool
-    ensures { IsTrue result ↔ AllFit (headers_of tree.now) (map need_meant needs.now) (topmost (length needs.now) stack.now) }
+pub(crate) fn all_fit(rules: &MethodRules<'_>, needs: &[Need<'_>], stack: &[VType]) -> bool
+    ensures { IsTrue result ↔ AllFit (row_scope rules.now) (map need_meant needs.now) (topmost (length needs.now) stack.now) }
 {
     let operands = topmost(stack, needs.len());
     needs.len() == operands.len()
         && needs
             .iter()
             .zip(operands)
-            .all(|(need, operand)| need.fits(tree, operand))
+            .all(|(need, operand)| need.fits(rules, operand))
 }
 
 /// Whether entries are assignable to field types, one by one.
-pub(crate) fn are_values_of(tree: &Tree, types: &[FieldType], entries: &[VType]) -> bool
-    ensures { IsTrue result ↔ AllFit (headers_of tree.now) (map (λ type. assignable_to (verification_type type)) types.now) entries.now }
+pub(crate) fn are_values_of(rules: &MethodRules<'_>, types: &[FieldType], entries: &[VType]) -> bool
+    ensures { IsTrue result ↔ AllFit (row_scope rules.now) (map (λ type. assignable_to (verification_type type)) types.now) entries.now }
 {
     types.len() == entries.len()
         && types
             .iter()
             .zip(entries)
-            .all(|(to, from)| is_value_of(tree, from, to))
+            .all(|(to, from)| is_value_of(rules.tree, from, to))
 }
 
 /// The topmost entries of a stack, so many, or all of them where there are fewer.

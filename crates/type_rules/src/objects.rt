@@ -2,8 +2,9 @@
 ghost use Rattle.std.specs.Prelude.{◌≡◌, ◌≢◌, ◌↔◌, map, slice_get, IfOk, IsTrue};
 ghost use Rattle.std.specs.List.{AllByRecursion};
 ghost use Rattle.class_model.specs.PoolChecks.{class_at};
+ghost use Rattle.member_link.specs.Rows.Table.{new_row, cast_row, throw_row, without_older};
 ghost use Rattle.type_rules.specs.Rule.{RowRules};
-ghost use Rattle.type_rules.specs.Table.{new_row, cast_row, throw_row, without_older};
+ghost use Rattle.type_rules.specs.Scope.{row_scope};
 
 use crate::fault::RuleFault;
 use crate::need::Need;
@@ -15,18 +16,18 @@ use std::alloc::Global;
 
 /// Makes an object at an offset, in bytes. No local keeps an older one of that offset.
 pub(crate) fn new_object(step: &Step<'_>, at: u32) -> Result<Ruled, RuleFault>
-    ensures { RowRules step.now.rules.now step.now.before.now (new_row step.now.before.now at) result }
+    ensures { RowRules (row_scope step.now.rules.now) step.now.before.now (new_row step.now.before.now at) result }
 {
     let before = step.before;
     let is_first = has_none_made(&before.stack, at);
     let stack = step.replaced(0, Some(VType::Uninit(at)))?;
     let locals = without_older(step.alloc, &before.locals, at)?;
-    step.conclude(stack, locals, is_first)
+    step.conclude(stack, locals, is_first, true)
 }
 
 /// Casts a reference to a class or array.
 pub(crate) fn cast(step: &Step<'_>, index: u16) -> Result<Ruled, RuleFault>
-    ensures { RowRules step.now.rules.now step.now.before.now (cast_row step.now.before.now (class_at step.now.rules.now.class.pool index)) result }
+    ensures { RowRules (row_scope step.now.rules.now) step.now.before.now (cast_row step.now.before.now (class_at step.now.rules.now.class.pool index)) result }
 {
     let rules = step.rules;
     match rules.class.pool.class_name(index) {
@@ -37,7 +38,7 @@ pub(crate) fn cast(step: &Step<'_>, index: u16) -> Result<Ruled, RuleFault>
 
 /// Throws an object.
 pub(crate) fn throw(step: &Step<'_>) -> Result<Ruled, RuleFault>
-    ensures { RowRules step.now.rules.now step.now.before.now (throw_row step.now.before.now) result }
+    ensures { RowRules (row_scope step.now.rules.now) step.now.before.now (throw_row step.now.before.now) result }
 {
     let needs = [Need::Object(THROWABLE)];
     step.takes(&needs)?;

@@ -1,6 +1,6 @@
 //! Operands on the stack.
 ghost use Rattle.std.specs.Prelude.{◌≡◌};
-ghost use Rattle.type_rules.specs.Operands.{lowest_of};
+ghost use Rattle.member_link.specs.Rows.Operands.{lowest_of};
 
 use crate::need::topmost;
 use class_model::VType;

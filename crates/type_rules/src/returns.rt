@@ -1,9 +1,10 @@
 //! The rules of returns (JVM Specification SE 8, 6.5).
 ghost use Rattle.std.specs.Prelude.{◌≡◌, ◌↔◌, IsTrue, Some};
 ghost use Rattle.class_model.specs.Code.{verification_type};
-ghost use Rattle.member_link.specs.Assignability.{IsAssignable};
-ghost use Rattle.type_rules.specs.MemberRows.{MayReturn, MayReturnValue, NoUninitThis, return_row};
+ghost use Rattle.member_link.specs.Rows.Assigning.{IsAssignableIn};
+ghost use Rattle.member_link.specs.Rows.MemberRows.{MayReturn, MayReturnValue, NoUninitThis, return_row};
 ghost use Rattle.type_rules.specs.Rule.{RowRules};
+ghost use Rattle.type_rules.specs.Scope.{row_scope};
 
 use crate::assignability::{has_uninit_this, is_value_of};
 use crate::fault::RuleFault;
@@ -16,7 +17,7 @@ use class_model::{FieldType, Frame, Kind, VType};
 
 /// Returns, with a value of a kind or none.
 pub(crate) fn give_back(step: &Step<'_>, kind: Option<Kind>) -> Result<Ruled, RuleFault>
-    ensures { RowRules step.now.rules.now step.now.before.now (return_row step.now.rules.now step.now.before.now kind) result }
+    ensures { RowRules (row_scope step.now.rules.now) step.now.before.now (return_row (row_scope step.now.rules.now) step.now.before.now kind) result }
 {
     match kind {
         Some(kind) => give_back_value(step, kind),
@@ -26,7 +27,7 @@ pub(crate) fn give_back(step: &Step<'_>, kind: Option<Kind>) -> Result<Ruled, Ru
 
 // Returns with a value of a kind.
 fn give_back_value(step: &Step<'_>, kind: Kind) -> Result<Ruled, RuleFault>
-    ensures { RowRules step.now.rules.now step.now.before.now (return_row step.now.rules.now step.now.before.now (Some kind)) result }
+    ensures { RowRules (row_scope step.now.rules.now) step.now.before.now (return_row (row_scope step.now.rules.now) step.now.before.now (Some kind)) result }
 {
     let needs = [Need::OfKind(kind)];
     step.takes(&needs)?;
@@ -37,7 +38,7 @@ fn give_back_value(step: &Step<'_>, kind: Kind) -> Result<Ruled, RuleFault>
 
 // Whether a method may return none behind a frame: an instance initialiser when its this is initialised.
 fn may_return(rules: &MethodRules<'_>, frame: &Frame) -> bool
-    ensures { IsTrue result ↔ MayReturn rules.now frame.now }
+    ensures { IsTrue result ↔ MayReturn (row_scope rules.now) frame.now }
 {
     rules.result().is_none() && (!rules.is_init() || is_this_initialised(frame))
 }
@@ -60,7 +61,7 @@ fn has_no_uninit_this(entries: &[VType]) -> bool
 
 // Whether a method may return a value of a kind.
 fn may_return_value(rules: &MethodRules<'_>, kind: Kind, value: &VType) -> bool
-    ensures { IsTrue result ↔ MayReturnValue rules.now kind value.now }
+    ensures { IsTrue result ↔ MayReturnValue (row_scope rules.now) kind value.now }
 {
     match rules.result() {
         Some(result) => result.kind() == kind && is_value_if_ref(rules, kind, value, result),
@@ -75,7 +76,7 @@ fn is_value_if_ref(
     value: &VType,
     field_type: &FieldType,
 ) -> bool
-    ensures { IsTrue result ↔ (kind ≡ Kind.Ref → IsAssignable rules.now.headers value.now (verification_type field_type.now)) }
+    ensures { IsTrue result ↔ (kind ≡ Kind.Ref → IsAssignableIn rules.now.headers rules.now.class.major value.now (verification_type field_type.now)) }
 {
     match kind {
         Kind::Ref => is_value_of(rules.tree, value, field_type),

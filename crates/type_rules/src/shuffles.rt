@@ -1,9 +1,10 @@
 //! The rules of instructions that move stack entries (JVM Specification SE 8, 6.5: pop to swap).
 ghost use Rattle.std.specs.Prelude.{◌≡◌, ◌++◌, map, OnOk};
 ghost use Rattle.std.specs.Option.{option_map, option_copied};
+ghost use Rattle.member_link.specs.Rows.ShuffleRows.{forms_of, form_in, has_width, have_widths, picked, shuffle_row};
 ghost use Rattle.type_rules.specs.Forms.{form_meant, width_meant};
 ghost use Rattle.type_rules.specs.Rule.{RowRules};
-ghost use Rattle.type_rules.specs.ShuffleRows.{forms_of, form_in, has_width, have_widths, picked, shuffle_row};
+ghost use Rattle.type_rules.specs.Scope.{row_scope};
 
 use crate::fault::RuleFault;
 use crate::need::topmost;
@@ -14,7 +15,7 @@ use class_model::{NoMemory, VType, VTypeList};
 
 /// Moves, copies or drops the topmost entries.
 pub(crate) fn shuffle(step: &Step<'_>, opcode: u8) -> Result<Ruled, RuleFault>
-    ensures { RowRules step.now.rules.now step.now.before.now (shuffle_row step.now.before.now opcode) result }
+    ensures { RowRules (row_scope step.now.rules.now) step.now.before.now (shuffle_row step.now.before.now opcode) result }
 {
     let stack = step.before.stack.as_slice();
     let Some(form) = form_in(forms_of(opcode), stack) else {
@@ -24,7 +25,7 @@ pub(crate) fn shuffle(step: &Step<'_>, opcode: u8) -> Result<Ruled, RuleFault>
     let mut behind = step.under(form.takes.len())?;
     push_picked(&mut behind, operands, form.gives)?;
     let locals = step.before.locals.copy(step.alloc)?;
-    step.conclude(behind, locals, true)
+    step.conclude(behind, locals, true, true)
 }
 
 /// How many units a value takes.

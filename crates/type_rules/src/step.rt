@@ -1,10 +1,11 @@
 //! An instruction behind a frame, as its rule sees it.
 ghost use Rattle.std.specs.Prelude.{◌≡◌, ◌↔◌, ◌≤◌, [], ◌∷◌, ◌++◌, length, map, IsTrue, IfOk};
 ghost use Rattle.class_model.specs.Frames.{depth};
+ghost use Rattle.member_link.specs.Rows.Operands.{under};
+ghost use Rattle.member_link.specs.Rows.Row.{plain, conditional, no_row};
 ghost use Rattle.type_rules.specs.Meanings.{need_meant};
-ghost use Rattle.type_rules.specs.Operands.{under};
-ghost use Rattle.type_rules.specs.Rows.{plain, conditional, no_row};
 ghost use Rattle.type_rules.specs.Rule.{RowRules};
+ghost use Rattle.type_rules.specs.Scope.{row_scope};
 ghost use Rattle.type_rules.specs.Steps.{Concludes, Ends, Holds, TakesNeeds, given, thrown};
 
 use crate::fault::{RuleFault, TypeRule};
@@ -28,10 +29,10 @@ impl Step<'_> {
     /// # Errors
     /// `Stack`.
     pub(crate) fn takes(&self, needs: &[Need<'_>]) -> Result<(), RuleFault>
-        ensures { TakesNeeds self.now.rules.now self.now.before.now (map need_meant needs.now) result }
+        ensures { TakesNeeds (row_scope self.now.rules.now) self.now.before.now (map need_meant needs.now) result }
     {
         let rules = self.rules;
-        if all_fit(rules.tree, needs, self.before.stack.as_slice()) {
+        if all_fit(rules, needs, self.before.stack.as_slice()) {
             Ok(())
         } else {
             Err(RuleFault::Fails(TypeRule::Stack))
@@ -48,7 +49,8 @@ impl Step<'_> {
         )
     }
 
-    /// The frames behind an instruction that leaves this stack and these locals, and has this further condition.
+    /// The frames behind an instruction that leaves this stack and these locals, and has this further condition and this one
+    /// of access.
     ///
     /// # Errors
     /// `Depth`, and then `Kind`.
@@ -57,10 +59,11 @@ impl Step<'_> {
         stack: VTypeList,
         locals: LocalTypeList,
         further: bool,
+        access: bool,
     ) -> Result<Ruled, RuleFault>
-        ensures { Concludes self.now.rules.now self.now.before.now stack locals (IsTrue further) result }
+        ensures { Concludes (row_scope self.now.rules.now) self.now.before.now stack locals (IsTrue further) (IsTrue access) result }
     {
-        self.holds(stack.as_slice(), further)?;
+        self.holds(stack.as_slice(), further, access)?;
         Ok(Ruled {
             next: Some(Frame { locals, stack }),
             thrown: self.thrown()?,
@@ -73,9 +76,13 @@ impl Step<'_> {
     /// # Errors
     /// `Depth`, and then `Kind`.
     pub(crate) fn end(&self, count: usize, further: bool) -> Result<Ruled, RuleFault>
-        ensures { Ends self.now.rules.now self.now.before.now (under count self.now.before.now.stack) (IsTrue further) result }
+        ensures { Ends (row_scope self.now.rules.now) self.now.before.now (under count self.now.before.now.stack) (IsTrue further) result }
     {
-        self.holds(entries_under(self.before.stack.as_slice(), count), further)?;
+        self.holds(
+            entries_under(self.before.stack.as_slice(), count),
+            further,
+            true,
+        )?;
         Ok(Ruled {
             next: None,
             thrown: self.thrown()?,
@@ -84,29 +91,30 @@ impl Step<'_> {
 
     /// The rule of an instruction that takes operands and pushes a value, or none.
     pub(crate) fn plain(&self, needs: &[Need<'_>], gives: Option<VType>) -> Result<Ruled, RuleFault>
-        ensures { RowRules self.now.rules.now self.now.before.now (plain self.now.before.now (map need_meant needs.now) (given gives)) result }
+        ensures { RowRules (row_scope self.now.rules.now) self.now.before.now (plain self.now.before.now (map need_meant needs.now) (given gives)) result }
     {
-        self.conditional(needs, gives, true)
+        self.conditional(needs, gives, true, true)
     }
 
-    /// The same, with a further condition.
+    /// The same, with a further condition and one of access.
     pub(crate) fn conditional(
         &self,
         needs: &[Need<'_>],
         gives: Option<VType>,
         further: bool,
+        access: bool,
     ) -> Result<Ruled, RuleFault>
-        ensures { RowRules self.now.rules.now self.now.before.now (conditional self.now.before.now (map need_meant needs.now) (given gives) (IsTrue further)) result }
+        ensures { RowRules (row_scope self.now.rules.now) self.now.before.now (conditional self.now.before.now (map need_meant needs.now) (given gives) (IsTrue further) (IsTrue access)) result }
     {
         self.takes(needs)?;
         let stack = self.replaced(needs.len(), gives)?;
         let locals = self.before.locals.copy(self.alloc)?;
-        self.conclude(stack, locals, further)
+        self.conclude(stack, locals, further, access)
     }
 
     /// The rule of what is no instruction.
     pub(crate) fn no_row(&self) -> Result<Ruled, RuleFault>
-        ensures { RowRules self.now.rules.now self.now.before.now (no_row self.now.before.now) result }
+        ensures { RowRules (row_scope self.now.rules.now) self.now.before.now (no_row self.now.before.now) result }
     {
         Err(RuleFault::Fails(TypeRule::Stack))
     }
@@ -122,15 +130,15 @@ impl Step<'_> {
         Ok(stack)
     }
 
-    // Asks that a stack is no deeper than the method's may be, and that the further condition holds.
-    fn holds(&self, stack: &[VType], further: bool) -> Result<(), RuleFault>
-        ensures { Holds self.now.rules.now.part.max_stack stack.now further result }
+    // Asks that a stack is no deeper than the method's may be, and that the further condition and that of access hold.
+    fn holds(&self, stack: &[VType], further: bool, access: bool) -> Result<(), RuleFault>
+        ensures { Holds self.now.rules.now.part.max_stack stack.now further access result }
     {
         let rules = self.rules;
         if !is_within(stack, rules.part.max_stack) {
             return Err(RuleFault::Fails(TypeRule::Depth));
         }
-        if !further {
+        if !(further && access) {
             return Err(RuleFault::Fails(TypeRule::Kind));
         }
         Ok(())

@@ -1,5 +1,5 @@
 -- Handlers that catch throwables, asked one after the other.
-use Rattle.std.proofs.Common.{◌≡◌, ◌≢◌, ◌↔◌, ℕ, Bool, IsTrue, List, drop, Some, refl, sym, ap, subst, ◌∙◌, inl}
+use Rattle.std.proofs.Common.{◌≡◌, ◌≢◌, ◌↔◌, ℕ, Bool, IsTrue, List, drop, map, Some, refl, sym, ap, subst, ◌∙◌, inl}
 use Rattle.std.specs.Prelude.{if◌then◌else◌}
 use Rattle.std.specs.List.{AllByRecursion}
 use Rattle.std.proofs.lemmas.Bool.{ne_eqb}
@@ -10,9 +10,9 @@ use Rattle.class_model.specs.declared.class_file.Handler.{Handler}
 use Rattle.class_tree.specs.Headers.{Name, Headers}
 use Rattle.class_tree.specs.Names.{throwable}
 use Rattle.member_link.specs.Access.{IsAtOrBelow}
+use Rattle.type_rules.specs.Handlers.{CatchesThrowables, caught, caught_in}
 use Rattle.type_rules.specs.Scope.{Scope}
-use Rattle.type_rules.specs.Handlers.{CatchesThrowables, caught}
-use Rattle.type_rules.specs.Typed.{FailsInTable}
+use Rattle.type_rules.specs.Typed.{CaughtIsThrowable, FailsInTable}
 
 -- one for all that is thrown
 pub catches_all : (s : Scope) (handler : Handler) → handler.catch_type ≡ 0 → CatchesThrowables s handler
@@ -39,5 +39,5 @@ module _ (s : Scope) (handler : Handler) (headers : Headers) (headers_are : head
 
 -- Those below an index catch throwables.
 pub record CatchBelow (s : Scope) (whole : List Handler) (i : ℕ) : Type 0 where
-  pub hold : AllByRecursion (CatchesThrowables s) (drop i whole) → AllByRecursion (CatchesThrowables s) whole
-  pub fail : (at : ℕ) → FailsInTable s (drop i whole) at → FailsInTable s whole at
+  pub hold : AllByRecursion (CaughtIsThrowable s.headers) (map (caught_in s) (drop i whole)) → AllByRecursion (CaughtIsThrowable s.headers) (map (caught_in s) whole)
+  pub fail : (at : ℕ) → FailsInTable s.headers (map (caught_in s) (drop i whole)) at → FailsInTable s.headers (map (caught_in s) whole) at

@@ -6,3 +6,4 @@ pub mod Walking
 pub mod MethodWalk
 pub mod ClassWalk
 pub mod ReadMethods
+pub mod HandlerWalk

@@ -1,19 +1,20 @@
 -- The instructions are typed one after the other.
-use Rattle.std.proofs.Common.{◌≡◌, ◌+◌, ◌<◌, ◌≤◌, ℕ, List, [], ◌∷◌, ◌++◌, length, drop, get_or, Option, Some, None, Ok, sym, subst, inr}
+use Rattle.std.proofs.Common.{◌≡◌, ◌+◌, ◌<◌, ◌≤◌, ℕ, List, [], ◌∷◌, ◌++◌, length, drop, map, get_or, Option, Some, None, Ok, sym, subst, inr}
 use Rattle.std.proofs.Math.Seq.{append_snoc}
 use Rattle.std.proofs.lemmas.List.{append-nil, drop_more, drop_all}
 use Rattle.class_model.specs.declared.frame.Frame.{Frame}
 use Rattle.class_model.specs.declared.instr.Placed.{Placed}
-use Rattle.type_rules.specs.Scope.{Scope, instructions}
-use Rattle.type_rules.specs.declared.fault.TypeRule.{TypeRule}
+use Rattle.type_rules.specs.MethodBodies.{body_of, point_of}
+use Rattle.type_rules.specs.Scope.{Scope}
 use Rattle.type_rules.specs.Stated.{entry}
-use Rattle.verify_folder.specs.Steps.{StepAnswers}
 use Rattle.type_rules.specs.Typed.{AreTyped, FailsIn}
+use Rattle.type_rules.specs.declared.fault.TypeRule.{TypeRule}
+use Rattle.verify_folder.specs.Steps.{StepAnswers}
 
 -- These frames type the first instructions; this frame flows into those that are left.
 pub record IsOnWalk (s : Scope) (frames : List Frame) (flows : Option Frame) (left : List Placed) : Type 0 where
-  pub types : (rest : List Frame) → AreTyped s flows left rest → AreTyped s (Some (entry s)) (instructions s) (frames ++ rest)
-  pub fails : (at : ℕ) (rule : TypeRule) → FailsIn s flows left at rule → FailsIn s (Some (entry s)) (instructions s) at rule
+  pub types : (rest : List Frame) → AreTyped (body_of s) flows (map (point_of s) left) rest → AreTyped (body_of s) (Some (entry s)) (body_of s).points (frames ++ rest)
+  pub fails : (at : ℕ) (rule : TypeRule) → FailsIn (body_of s) flows (map (point_of s) left) at rule → FailsIn (body_of s) (Some (entry s)) (body_of s).points at rule
 
 module _ (s : Scope) (frames : List Frame) (flows : Option Frame) (instrs : List Placed) (i : ℕ) (on : IsOnWalk s frames flows (drop i instrs)) where
   module _ (placed : Placed) (within : i < length instrs) (is : placed ≡ get_or instrs i placed) where
@@ -23,11 +24,11 @@ module _ (s : Scope) (frames : List Frame) (flows : Option Frame) (instrs : List
     pub one_typed : (before : Frame) (next : Option Frame) → StepAnswers s flows placed (Ok (before, next)) → IsOnWalk s (frames ++ before ∷ []) next (drop (i + 1) instrs)
     one_typed before next told = record {
       types = λ rest h.
-          subst (AreTyped s (Some (entry s)) (instructions s)) (sym (append_snoc frames before rest))
-          (on.types (before ∷ rest) (subst (λ left. AreTyped s flows left (before ∷ rest)) here (told.0, subst (λ frame. AreTyped s frame (drop (i + 1) instrs) rest) told.1 h)));
+          subst (AreTyped (body_of s) (Some (entry s)) (body_of s).points) (sym (append_snoc frames before rest))
+          (on.types (before ∷ rest) (subst (λ left. AreTyped (body_of s) flows (map (point_of s) left) (before ∷ rest)) here (told.0, subst (λ frame. AreTyped (body_of s) frame (map (point_of s) (drop (i + 1) instrs)) rest) told.1 h)));
       fails = λ at rule h.
-          on.fails at rule (subst (λ left. FailsIn s flows left at rule) here (inr (before, told.0, subst (λ frame. FailsIn s frame (drop (i + 1) instrs) at rule) told.1 h)));
+          on.fails at rule (subst (λ left. FailsIn (body_of s) flows (map (point_of s) left) at rule) here (inr (before, told.0, subst (λ frame. FailsIn (body_of s) frame (map (point_of s) (drop (i + 1) instrs)) at rule) told.1 h)));
     }
 
-  pub all_typed : length instrs ≤ i → flows ≡ None → AreTyped s (Some (entry s)) (instructions s) frames
-  all_typed end none = subst (AreTyped s (Some (entry s)) (instructions s)) (append-nil frames) (on.types [] (subst (λ left. AreTyped s flows left []) (sym (drop_all i instrs end)) none))
+  pub all_typed : length instrs ≤ i → flows ≡ None → AreTyped (body_of s) (Some (entry s)) (body_of s).points frames
+  all_typed end none = subst (AreTyped (body_of s) (Some (entry s)) (body_of s).points) (append-nil frames) (on.types [] (subst (λ left. AreTyped (body_of s) flows (map (point_of s) left) []) (sym (drop_all i instrs end)) none))

@@ -1,6 +1,6 @@
 //! How control goes on behind an instruction (JVM Specification SE 8, 4.10.1.6).
 ghost use Rattle.std.specs.Prelude.{◌≡◌};
-ghost use Rattle.type_rules.specs.Flow.{falls_through};
+ghost use Rattle.member_link.specs.Bodies.{falls_through};
 
 use class_model::Instr;
 

@@ -3,7 +3,8 @@ ghost use Rattle.std.specs.Prelude.{◌≡◌, ◌↔◌, IfOk, IsTrue};
 ghost use Rattle.class_tree.specs.Headers.{headers_of};
 ghost use Rattle.class_tree.specs.Names.{throwable};
 ghost use Rattle.member_link.specs.Access.{IsAtOrBelow};
-ghost use Rattle.type_rules.specs.Handlers.{CatchesThrowables, caught, caught_frame, caught_type, covers};
+ghost use Rattle.member_link.specs.Bodies.{caught_type};
+ghost use Rattle.type_rules.specs.Handlers.{CatchesThrowables, caught, caught_frame, covers};
 ghost use Rattle.verify_folder.specs.Steps.{TableAnswers};
 
 use crate::stop::Stop;

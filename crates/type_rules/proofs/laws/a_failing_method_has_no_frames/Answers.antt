@@ -5,6 +5,6 @@ pub returns-clause-none : goal.returns-clause-none
 returns-clause-none c = no_typing
 
 pub returns-clause-one : goal.returns-clause-one
-returns-clause-one c = λ s offset other rule other_rule first second.
-    let same = one_failure s offset other rule other_rule first second in
+returns-clause-one c = λ b offset other rule other_rule first second.
+    let same = one_failure b offset other rule other_rule first second in
     (same.offset, same.rule_is)

@@ -1,8 +1,8 @@
 use Rattle.std.proofs.Common.{◌<◌, length, sym, ◌∙◌, arith, refl}
 use Rattle.std.proofs.lemmas.Bool.{false≢true}
-use Rattle.type_rules.proofs.OlderObjects.{next_older, next_other}
+use Rattle.member_link.specs.Rows.Table.{without_older}
 use Rattle.type_rules.proofs.MappedSoFar.{all_mapped}
-use Rattle.type_rules.specs.Table.{without_older}
+use Rattle.type_rules.proofs.OlderObjects.{next_older, next_other}
 use Rattle.type_rules.proofs.objects.without_older.Goals as goal
 use Rattle.type_rules.proofs.objects.without_older.Goals.{then-is_older+in_ok-set, else-is_older}
 

@@ -1,6 +1,6 @@
 use Rattle.std.proofs.Common.{◌≡◌}
+use Rattle.member_link.specs.Rows.Table.{without_older}
 use Rattle.type_rules.proofs.MappedSoFar.{mapped_to}
-use Rattle.type_rules.specs.Table.{without_older}
 use Rattle.type_rules.proofs.objects.without_older.Given as goal
 
 abbrev pub invariant-loop-index : goal.invariant-loop-index

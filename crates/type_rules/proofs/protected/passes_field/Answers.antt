@@ -1,14 +1,14 @@
 use Rattle.std.proofs.Common.{subst}
 use Rattle.member_link.specs.Fields.{FindsField}
 use Rattle.member_link.specs.Found.{IsField, fields_of}
-use Rattle.type_rules.specs.References.{reference_meant}
-use Rattle.type_rules.specs.Scope.{Scope}
 use Rattle.type_rules.proofs.ProtectedMembers.{bound_passes}
 use Rattle.type_rules.proofs.protected.passes_field.Goals as goal
+use Rattle.type_rules.specs.References.{reference_meant}
+use Rattle.type_rules.specs.Scope.{Scope, row_scope}
 
 pub returns : goal.returns
 returns c =
-    let s = c.args.rules.now in
+    let s = row_scope c.args.rules.now in
     let r = reference_meant c.args.reference.now in
     let found : IsField s.headers r.class r.name r.desc c.find_field-found.result =
     subst (λ (scope : Scope). IsField scope.headers r.class r.name r.desc c.find_field-found.result) c.rules.view_is c.find_field-found.ensures in

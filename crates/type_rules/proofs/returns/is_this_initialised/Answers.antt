@@ -1,6 +1,6 @@
 use Rattle.std.proofs.Common.{sym, subst, ◌∙◌}
 use Rattle.std.proofs.lemmas.Bool.{false≢true, false_from_ne_true}
-use Rattle.type_rules.specs.MemberRows.{NoUninitThis}
+use Rattle.member_link.specs.Rows.MemberRows.{NoUninitThis}
 use Rattle.type_rules.proofs.UninitThis.{none_found, none_there}
 use Rattle.type_rules.proofs.returns.is_this_initialised.Goals as goal
 

@@ -2,7 +2,7 @@ use Rattle.std.proofs.Common.{take, length, get_or, refl, sym, ap, ◌++◌, ◌
 use Rattle.std.proofs.lemmas.Bool.{ltb-true, ltb-false}
 use Rattle.std.proofs.lemmas.Option.{slice_get_read, slice_get_past}
 use Rattle.class_model.specs.declared.frame.VType.{VType}
-use Rattle.type_rules.specs.ShuffleRows.{picked}
+use Rattle.member_link.specs.Rows.ShuffleRows.{picked}
 use Rattle.type_rules.proofs.ShuffleForms.{picked_some, picked_none}
 use Rattle.type_rules.proofs.shuffles.push_picked.Goals as goal
 use Rattle.type_rules.proofs.shuffles.push_picked.Goals.{in-Some+in_ok-copy+in_ok-push, in_default}

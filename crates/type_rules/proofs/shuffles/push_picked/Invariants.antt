@@ -1,5 +1,5 @@
 use Rattle.std.proofs.Common.{◌≡◌, ◌++◌, take}
-use Rattle.type_rules.specs.ShuffleRows.{picked}
+use Rattle.member_link.specs.Rows.ShuffleRows.{picked}
 use Rattle.type_rules.proofs.shuffles.push_picked.Given as goal
 
 abbrev pub invariant-loop-number : goal.invariant-loop-number

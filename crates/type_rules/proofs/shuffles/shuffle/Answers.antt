@@ -2,11 +2,12 @@ use Rattle.std.proofs.Common.{◌≡◌, ◌++◌, Some, List, length, map, ap, 
 use Rattle.std.specs.Option.{option_map, option_copied}
 use Rattle.std.proofs.lemmas.List.{length-map}
 use Rattle.class_model.specs.declared.frame.VType.{VType}
-use Rattle.type_rules.specs.Forms.{form_meant, width_meant}
-use Rattle.type_rules.specs.Operands.{topmost, under}
-use Rattle.type_rules.specs.ShuffleRows.{Form, form_in, forms_of, picked}
+use Rattle.member_link.specs.Rows.Operands.{topmost, under}
+use Rattle.member_link.specs.Rows.ShuffleRows.{Form, form_in, forms_of, picked}
 use Rattle.type_rules.proofs.ShuffleForms.{row_of_form}
 use Rattle.type_rules.proofs.shuffles.shuffle.Goals as goal
+use Rattle.type_rules.specs.Forms.{form_meant, width_meant}
+use Rattle.type_rules.specs.Scope.{row_scope}
 
 pub returns : goal.returns
 returns c =
@@ -22,5 +23,5 @@ returns c =
     let behind : c.push_picked.new.stack ≡ under count entries ++ picked (topmost count entries) form.gives.now =
     c.in_ok-push_picked.ensures ∙ ap (λ (s : List VType). s ++ picked c.topmost-operands.result.now form.gives.now) c.in_ok-behind.ensures
     ∙ ap (λ (s : List VType). under count entries ++ picked s form.gives.now) operands in
-    row_of_form step.rules.now step.before.now (forms_of c.args.opcode) c.conclude.result (form_meant form) count c.push_picked.new.stack c.in_ok-locals.locals found
+    row_of_form (row_scope step.rules.now) step.before.now (forms_of c.args.opcode) c.conclude.result (form_meant form) count c.push_picked.new.stack c.in_ok-locals.locals found
     (sym (length-map form.takes.now width_meant)) behind c.in_ok-locals.ensures c.conclude.ensures

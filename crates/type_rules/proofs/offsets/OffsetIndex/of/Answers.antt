@@ -1,10 +1,10 @@
 use Rattle.std.proofs.Common.{rules, ◌≡◌, ◌+◌, ◌<◌, length, take, slice_index_or, sym, subst, ◌∙◌}
 use Rattle.std.specs.Vec.{vec_len}
 use Rattle.std.proofs.lemmas.List.{get_or_default}
-use Rattle.type_rules.specs.Offsets.{IsIndexOf}
 use Rattle.type_rules.proofs.OffsetTables.{one_written, one_known}
 use Rattle.type_rules.proofs.offsets.OffsetIndex.of.Goals as goal
 use Rattle.type_rules.proofs.offsets.OffsetIndex.of.Goals.{then-index-eq0, else-index-eq0}
+use Rattle.type_rules.specs.Offsets.{IsIndexOf}
 
 pub loop-number-preserved : goal.loop-number-preserved
 loop-number-preserved c =

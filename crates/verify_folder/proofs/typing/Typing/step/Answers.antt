@@ -2,8 +2,8 @@ use Rattle.std.proofs.Common.{None, ap, ◌∙◌}
 use Rattle.std.specs.Prelude.{if◌then◌else◌}
 use Rattle.std.specs.Option.{option_copied}
 use Rattle.std.proofs.lemmas.Result.{err_from_is_err_and}
+use Rattle.member_link.specs.Bodies.{falls_through}
 use Rattle.type_rules.specs.declared.ruled.Ruled.{Ruled}
-use Rattle.type_rules.specs.Flow.{falls_through}
 use Rattle.verify_folder.proofs.Stepping.{handlers_fail, row_fails, targets_fail, is_typed}
 use Rattle.verify_folder.proofs.typing.Typing.step.Goals as goal
 

@@ -5,8 +5,9 @@ use Rattle.std.specs.List.{flat_map}
 use Rattle.class_model.specs.Frames.{is_wide}
 use Rattle.class_model.specs.declared.frame.Frame.{Frame}
 use Rattle.class_model.specs.declared.frame.VType.{VType}
-use Rattle.type_rules.specs.Operands.{Need, single, double, is_single, topmost}
-use Rattle.type_rules.specs.Rows.{Row, plain, no_row}
+use Rattle.class_model.specs.declared.opcodes.TheConstants.{POP, POP2, DUP, DUP_X1, DUP_X2, DUP2, DUP2_X1, DUP2_X2, SWAP}
+use Rattle.member_link.specs.Rows.Operands.{Need, single, double, is_single, topmost}
+use Rattle.member_link.specs.Rows.Row.{Row, plain, no_row}
 
 -- a value of one unit, or of two
 pub data Width : Type 0 where
@@ -23,26 +24,17 @@ form takes gives = record { takes = takes; gives = gives }
 
 abbrev pub forms_of : ℕ → List Form
 forms_of opcode =
-    -- pop
-    if opcode == 87 then form (one ∷ []) [] ∷ []
-    -- pop2
-    else (if opcode == 88 then form (one ∷ one ∷ []) [] ∷ form (two ∷ []) [] ∷ []
-    -- dup
-    else (if opcode == 89 then form (one ∷ []) (0 ∷ 0 ∷ []) ∷ []
-    -- dup_x1
-    else (if opcode == 90 then form (one ∷ one ∷ []) (1 ∷ 0 ∷ 1 ∷ []) ∷ []
-    -- dup_x2
-    else (if opcode == 91 then form (one ∷ one ∷ one ∷ []) (2 ∷ 0 ∷ 1 ∷ 2 ∷ []) ∷ form (two ∷ one ∷ []) (1 ∷ 0 ∷ 1 ∷ []) ∷ []
-    -- dup2
-    else (if opcode == 92 then form (one ∷ one ∷ []) (0 ∷ 1 ∷ 0 ∷ 1 ∷ []) ∷ form (two ∷ []) (0 ∷ 0 ∷ []) ∷ []
-    -- dup2_x1
-    else (if opcode == 93 then form (one ∷ one ∷ one ∷ []) (1 ∷ 2 ∷ 0 ∷ 1 ∷ 2 ∷ []) ∷ form (one ∷ two ∷ []) (1 ∷ 0 ∷ 1 ∷ []) ∷ []
-    -- dup2_x2
-    else (if opcode == 94 then
+    if opcode == POP then form (one ∷ []) [] ∷ []
+    else (if opcode == POP2 then form (one ∷ one ∷ []) [] ∷ form (two ∷ []) [] ∷ []
+    else (if opcode == DUP then form (one ∷ []) (0 ∷ 0 ∷ []) ∷ []
+    else (if opcode == DUP_X1 then form (one ∷ one ∷ []) (1 ∷ 0 ∷ 1 ∷ []) ∷ []
+    else (if opcode == DUP_X2 then form (one ∷ one ∷ one ∷ []) (2 ∷ 0 ∷ 1 ∷ 2 ∷ []) ∷ form (two ∷ one ∷ []) (1 ∷ 0 ∷ 1 ∷ []) ∷ []
+    else (if opcode == DUP2 then form (one ∷ one ∷ []) (0 ∷ 1 ∷ 0 ∷ 1 ∷ []) ∷ form (two ∷ []) (0 ∷ 0 ∷ []) ∷ []
+    else (if opcode == DUP2_X1 then form (one ∷ one ∷ one ∷ []) (1 ∷ 2 ∷ 0 ∷ 1 ∷ 2 ∷ []) ∷ form (one ∷ two ∷ []) (1 ∷ 0 ∷ 1 ∷ []) ∷ []
+    else (if opcode == DUP2_X2 then
     form (one ∷ one ∷ one ∷ one ∷ []) (2 ∷ 3 ∷ 0 ∷ 1 ∷ 2 ∷ 3 ∷ []) ∷ form (one ∷ one ∷ two ∷ []) (2 ∷ 0 ∷ 1 ∷ 2 ∷ [])
     ∷ form (two ∷ one ∷ one ∷ []) (1 ∷ 2 ∷ 0 ∷ 1 ∷ 2 ∷ []) ∷ form (two ∷ two ∷ []) (1 ∷ 0 ∷ 1 ∷ []) ∷ []
-    -- swap
-    else (if opcode == 95 then form (one ∷ one ∷ []) (1 ∷ 0 ∷ []) ∷ []
+    else (if opcode == SWAP then form (one ∷ one ∷ []) (1 ∷ 0 ∷ []) ∷ []
     else []))))))))
 
 abbrev pub need_of : Width → Need

@@ -11,8 +11,8 @@ use Rattle.class_model.specs.declared.instr.Imm.TheVariants as imms
 use Rattle.class_model.specs.declared.pool.Const.{Const}
 use Rattle.class_model.specs.declared.pool.Const.TheVariants as consts
 use Rattle.class_tree.specs.Names.{method_handle, method_type}
-use Rattle.type_rules.specs.Operands.{of_kind, IsOfKind, lowest_of}
-use Rattle.type_rules.specs.Rows.{Row, plain, no_row}
+use Rattle.member_link.specs.Rows.Operands.{of_kind, IsOfKind, lowest_of}
+use Rattle.member_link.specs.Rows.Row.{Row, plain, no_row}
 
 -- ---- constants
 
@@ -89,3 +89,7 @@ store_row f kind at = record (plain f (of_kind kind ∷ []) []) { local = HasRoo
 
 abbrev pub iinc_row : Frame → ℕ → Row
 iinc_row f at = record (plain f [] []) { local = HoldsKind kinds.Int f.locals at }
+
+-- A test of a local for null, which flat code has: it asks for a reference and gives nothing.
+abbrev pub null_test_row : Frame → ℕ → Row
+null_test_row f at = record (plain f [] []) { local = HoldsKind kinds.Ref f.locals at }

@@ -5,9 +5,10 @@ use Rattle.class_model.specs.declared.descriptor.Kind.{Kind}
 use Rattle.class_model.specs.declared.descriptor.Kind.TheVariants as kinds
 use Rattle.class_model.specs.declared.frame.VType.{VType}
 use Rattle.class_model.specs.declared.frame.VType.TheVariants as types
-use Rattle.class_tree.specs.Headers.{Name, Headers}
+use Rattle.class_tree.specs.Headers.{Name}
 use Rattle.class_tree.specs.Subtype.{IsArray, IsReferenceComponent}
-use Rattle.member_link.specs.Assignability.{IsAssignable}
+use Rattle.member_link.specs.RowScope.{RowScope}
+use Rattle.member_link.specs.Rows.Assigning.{IsAssignableIn}
 
 -- ---- sorts of types
 
@@ -78,24 +79,24 @@ abbrev pub IsAmong : List Name → Name → Type 0
 IsAmong [] name = ⊥
 IsAmong (first ∷ names) name = (name ≡ first) ⊎ IsAmong names name
 
-abbrev pub Fits : Headers → Need → VType → Type 0
-Fits headers (of_kind kind) type = IsOfKind kind type
-Fits headers initialised type = IsInitialised type
-Fits headers uninitialised type = IsUninitialised type
-Fits headers (assignable_to wanted) type = IsAssignable headers type wanted
-Fits headers (assignable_or_this wanted) type = IsAssignable headers type wanted ⊎ (type ≡ types.UninitThis)
-Fits headers (array_among names) type = IsNullOr (IsAmong names) type
-Fits headers array_of_references type = IsNullOr (λ name. (component : Name) × IsReferenceComponent name component) type
-Fits headers some_array type = IsNullOr IsArray type
-Fits headers single type = IsTrue (is_single type)
-Fits headers double type = IsTrue (is_wide type)
-Fits headers nothing type = ⊥
+abbrev pub Fits : RowScope → Need → VType → Type 0
+Fits s (of_kind kind) type = IsOfKind kind type
+Fits s initialised type = IsInitialised type
+Fits s uninitialised type = IsUninitialised type
+Fits s (assignable_to wanted) type = IsAssignableIn s.headers s.major type wanted
+Fits s (assignable_or_this wanted) type = IsAssignableIn s.headers s.major type wanted ⊎ (type ≡ types.UninitThis)
+Fits s (array_among names) type = IsNullOr (IsAmong names) type
+Fits s array_of_references type = IsNullOr (λ name. (component : Name) × IsReferenceComponent name component) type
+Fits s some_array type = IsNullOr IsArray type
+Fits s single type = IsTrue (is_single type)
+Fits s double type = IsTrue (is_wide type)
+Fits s nothing type = ⊥
 
 -- each operand fits what is asked of it
-abbrev pub AllFit : Headers → List Need → List VType → Type 0
-AllFit headers [] [] = Unit {0}
-AllFit headers (need ∷ needs) (type ∷ stack) = Fits headers need type × AllFit headers needs stack
-AllFit headers needs stack = ⊥
+abbrev pub AllFit : RowScope → List Need → List VType → Type 0
+AllFit s [] [] = Unit {0}
+AllFit s (need ∷ needs) (type ∷ stack) = Fits s need type × AllFit s needs stack
+AllFit s needs stack = ⊥
 
 -- ---- the stack, the topmost entry last
 

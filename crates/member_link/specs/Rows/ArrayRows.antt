@@ -7,10 +7,11 @@ use Rattle.class_model.specs.declared.descriptor.Kind.TheVariants.{Int, Long, Fl
 use Rattle.class_model.specs.declared.frame.Frame.{Frame}
 use Rattle.class_model.specs.declared.frame.VType.{VType}
 use Rattle.class_model.specs.declared.frame.VType.TheVariants as types
+use Rattle.class_model.specs.declared.opcodes.TheConstants.{AALOAD, IALOAD, AASTORE, IASTORE}
 use Rattle.class_tree.specs.Headers.{Name}
-use Rattle.type_rules.specs.Operands.{Need, of_kind, initialised, array_among, array_of_references, some_array, lowest_of}
-use Rattle.type_rules.specs.Rows.{Row, plain, no_row, either}
-use Rattle.type_rules.specs.Scope.{Scope}
+use Rattle.member_link.specs.RowScope.{RowScope}
+use Rattle.member_link.specs.Rows.Operands.{Need, of_kind, initialised, array_among, array_of_references, some_array, lowest_of}
+use Rattle.member_link.specs.Rows.Row.{Row, plain, no_row, either}
 
 -- ---- elements
 
@@ -49,7 +50,7 @@ elements_load_row f (Some e) = plain f (array_among e.arrays ∷ of_kind Int ∷
 
 abbrev pub array_load_row : Frame → ℕ → Row
 array_load_row f opcode =
-    either (opcode == 50) (plain f (array_of_references ∷ of_kind Int ∷ []) (component_type (lowest_of 2 f.stack) ∷ [])) (elements_load_row f (elements_from 46 opcode))
+    either (opcode == AALOAD) (plain f (array_of_references ∷ of_kind Int ∷ []) (component_type (lowest_of 2 f.stack) ∷ [])) (elements_load_row f (elements_from IALOAD opcode))
 
 -- what is asked of a value of this type
 abbrev pub need_of_value : VType → Need
@@ -65,7 +66,7 @@ elements_store_row f (Some e) = plain f (array_among e.arrays ∷ of_kind Int �
 -- any array of references takes any reference that is initialised
 abbrev pub array_store_row : Frame → ℕ → Row
 array_store_row f opcode =
-    either (opcode == 83) (plain f (array_of_references ∷ of_kind Int ∷ initialised ∷ []) []) (elements_store_row f (elements_from 79 opcode))
+    either (opcode == AASTORE) (plain f (array_of_references ∷ of_kind Int ∷ initialised ∷ []) []) (elements_store_row f (elements_from IASTORE opcode))
 
 -- ---- arrays that are made
 
@@ -95,11 +96,11 @@ abbrev pub array_of : Option Name → Option Name
 array_of None = None
 array_of (Some name) = Some (91 ∷ named_text name)
 
-abbrev pub new_ref_array_row : Scope → Frame → ℕ → Row
-new_ref_array_row s f index = made_row f 1 (array_of (class_at s.class.pool index))
+abbrev pub new_ref_array_row : RowScope → Frame → ℕ → Row
+new_ref_array_row s f index = made_row f 1 (array_of (class_at s.pool index))
 
-abbrev pub new_multi_row : Scope → Frame → ℕ → ℕ → Row
-new_multi_row s f index dimensions = made_row f dimensions (class_at s.class.pool index)
+abbrev pub new_multi_row : RowScope → Frame → ℕ → ℕ → Row
+new_multi_row s f index dimensions = made_row f dimensions (class_at s.pool index)
 
 abbrev pub length_row : Frame → Row
 length_row f = plain f (some_array ∷ []) (types.Int ∷ [])
