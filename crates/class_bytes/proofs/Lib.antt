@@ -29,3 +29,5 @@ pub mod HeaderSame
 pub mod HeaderFiles
 pub mod PoolAlone
 pub mod HeaderToo
+pub mod ReadBack
+pub mod MadeValues

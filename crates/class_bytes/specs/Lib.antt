@@ -1,4 +1,5 @@
 pub mod Counts
+pub mod Numbers
 pub mod Cut
 pub mod Parts
 pub mod Signatures

@@ -14,6 +14,7 @@ pub mod Members
 pub mod Code
 pub mod Methods
 pub mod ClassOf
+pub mod Values
 pub mod Header
 pub mod Answers
 pub mod Stated

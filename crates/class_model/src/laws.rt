@@ -1,5 +1,5 @@
 //! Laws: functions that do nothing, whose contracts say what always holds.
-ghost use Rattle.std.specs.Prelude.{◌≡◌, ◌⊎◌, ◌+◌, ◌++◌, ℕ, List, length, Ok};
+ghost use Rattle.std.specs.Prelude.{◌≡◌, ◌⊎◌, ◌↔◌, ◌+◌, ◌++◌, ℕ, List, length, Ok, IsTrue};
 ghost use Rattle.class_model.specs.Checks.{Fault};
 ghost use Rattle.class_model.specs.ClassOf.{ClassOf, FirstFault, IsOtherVersion};
 ghost use Rattle.class_model.specs.Cutting.{IsBytes, Rest, Version, version_at, class_file_at, pool_at, uncut};
@@ -10,11 +10,13 @@ ghost use Rattle.class_model.specs.ModifiedUtf8.{IsText};
 ghost use Rattle.class_model.specs.Pool.{Constants};
 ghost use Rattle.class_model.specs.PoolChecks.{BytesSpell};
 ghost use Rattle.class_model.specs.Spelling.{class_bytes, pool_bytes};
+ghost use Rattle.class_model.specs.contracts.pool.ConstPartialEq.TheImpl.{ghosts as constants};
 ghost use Rattle.class_model.specs.declared.class_file.ClassFile.{ClassFile};
 ghost use Rattle.class_model.specs.declared.header.Header.{Header};
 ghost use Rattle.class_model.specs.declared.instr.Instr.{Instr};
 ghost use Rattle.class_model.specs.declared.descriptor.FieldType.{FieldType};
 ghost use Rattle.class_model.specs.declared.descriptor.Descriptor.{Descriptor};
+ghost use Rattle.class_model.specs.declared.pool.Const.{Const};
 
 /// A text spells at most one field type.
 pub fn a_text_spells_one_field_type()
@@ -92,4 +94,9 @@ pub fn a_cut_class_is_spelled()
 /// Bytes of a text that are a method descriptor spell it as a text: the names in it are texts.
 pub fn a_descriptor_of_a_text()
     ensures { (text : List ℕ) (descriptor : Descriptor) → IsText text → BytesSpell text descriptor → SpellsDescriptor text descriptor }
+{}
+
+/// The comparison of constants, by which a map finds them, holds of equal values alone.
+pub fn constants_compare_by_value()
+    ensures { (one other : Const) → IsTrue (constants.eq one other) ↔ (one ≡ other) }
 {}

@@ -3,6 +3,7 @@
 #![tactic(auto)]
 
 mod class_file;
+mod copies;
 mod descriptor;
 mod descriptor_bytes;
 mod fault;
@@ -46,8 +47,8 @@ pub use laws::{
     a_class_file_has_no_fault, a_class_file_is_spelled, a_cut_class_is_spelled,
     a_cut_pool_is_spelled, a_descriptor_of_a_text, a_library_file_is_told_once,
     a_spelling_is_one_instruction, a_text_spells_one_descriptor, a_text_spells_one_field_type,
-    another_version_is_no_class_file, bytes_are_one_class_file, each_file_is_told, one_first_fault,
-    parameters_are_spelled,
+    another_version_is_no_class_file, bytes_are_one_class_file, constants_compare_by_value,
+    each_file_is_told, one_first_fault, parameters_are_spelled,
 };
 pub use list::{ByteList, ListOf};
 pub use local_types::LocalTypeList;

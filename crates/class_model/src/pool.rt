@@ -1,8 +1,9 @@
 //! The constant pool.
-ghost use Rattle.std.specs.Prelude.{◌≡◌, ◌+◌, ◌<◌, ◌≤◌, [], ◌∷◌, ◌++◌, length, IfOk, OnOk, OnErr};
+ghost use Rattle.std.specs.Prelude.{◌≡◌, ◌↔◌, ◌+◌, ◌<◌, ◌≤◌, [], ◌∷◌, ◌++◌, length, IfOk, OnOk, OnErr, IsTrue};
 ghost use Rattle.std.specs.Option.{option_copied};
 ghost use Rattle.class_model.specs.Pool.{constant_at, entries_of, IsPool};
 
+use crate::copies::copy_items;
 use crate::memory::NoMemory;
 use crate::text::Text;
 use std::alloc::Global;
@@ -10,7 +11,7 @@ use std::marker::Model;
 
 /// A constant (JVM Specification SE 8, 4.4), a variant for each tag. A `u16` is an index of the pool,
 /// but for the first of `InvokeDynamic`, which is one of the bootstrap methods.
-#[derive(Debug, Drop)]
+#[derive(PartialEq, Eq, Hash, Debug, Drop)]
 pub enum Const {
     Utf8(Text),
     Integer(i32),
@@ -43,6 +44,14 @@ impl Const {
             Const::Long(_) | Const::Double(_) => 2,
             _ => 1,
         }
+    }
+
+    /// Whether another constant has the same value: what `==` answers, said of the values. A float or double is
+    /// compared by its bits.
+    pub fn is_same(&self, other: &Const) -> bool
+        ensures { IsTrue result ↔ (self.now ≡ other.now) }
+    {
+        self == other
     }
 
     /// An equal constant, which shares the bytes of a text.
@@ -124,6 +133,15 @@ impl Pool {
             Some(entry) => entry.as_ref(),
             None => None,
         }
+    }
+
+    /// An equal pool, which shares the bytes of texts.
+    pub fn copy(&self, alloc: Global) -> Result<Pool, NoMemory>
+        ensures { IfOk result (λ copy. copy ≡ self.now) }
+    {
+        Ok(Pool {
+            entries: copy_items(alloc, self.entries.as_slice())?,
+        })
     }
 
     /// The count that a class file states: one more than its last index.

@@ -1,5 +1,6 @@
--- What spells a constant, or a pool, is cut as that constant or pool, wherever it stands.
-use Rattle.std.proofs.Common.{◌≡◌, ℕ, zero, suc, ◌+◌, ◌^◌, ◌<◌, ◌≤◌, Bool, true, false, ℤ, FitsSigned, cond, not, ◌&&◌, ◌||◌, ◌==◌, List, [], ◌∷◌, ◌++◌, length, drop, None, Result, Ok, Err, refl, sym, ap, subst, ◌∙◌, append_assoc, length-append, zero-add, arith}
+-- What spells a constant, or a pool, is cut as that constant or pool, wherever it stands, in a class file of a version that has
+-- its tags.
+use Rattle.std.proofs.Common.{◌≡◌, ℕ, zero, suc, ◌+◌, ◌^◌, ◌<◌, ◌≤◌, Bool, true, false, ℤ, FitsSigned, cond, not, ◌&&◌, ◌||◌, ◌==◌, List, [], ◌∷◌, ◌++◌, length, drop, Option, Some, None, Ok, refl, sym, ap, subst, ◌∙◌, append_assoc, length-append, zero-add, arith}
 use Rattle.std.specs.Int.{Width, w16, w32, w64, byte_len, to_be_bytes, from_be_bytes, cast_unsigned, cast_signed}
 use Rattle.std.specs.List.{flat_map}
 use Rattle.std.proofs.Math.Facts.{Fits-of_z}
@@ -12,79 +13,16 @@ use Rattle.std.proofs.lemmas.List.Concat.{flat_map-append}
 use Rattle.std.proofs.lemmas.Nat.{from_be_bytes-to_be_bytes_2, from_be_bytes-to_be_bytes_4, from_be_bytes-to_be_bytes_8}
 use Rattle.class_model.specs.Checks.{Fault, fault, ◌>>=◌}
 use Rattle.class_model.specs.Cutting.{Rest, Cut, bytes_at, number_at, u1_at, u2_at, u4_at, u2_pair_at, is_tag, fields_at, entries_at, pool_at}
+use Rattle.class_model.specs.Laws.CutBack.{rest_of, CutsAs, next, on_true, on_false, then_cut, made_cut, bytes_cut, u1_cut, u2_cut, u4_cut, u8_cut, u2_pair_cut}
 use Rattle.class_model.specs.Laws.Pools.{entry_spelled}
 use Rattle.class_model.specs.Pool.{Constants, entries_of, IsPool}
 use Rattle.class_model.specs.Spelling.{u2, u4, constant_bytes, entry_bytes, pool_bytes}
-use Rattle.class_model.specs.declared.fault.FileRule.TheVariants as rules
+use Rattle.class_model.specs.Values.{TagStands, TagsStand}
 use Rattle.class_model.specs.declared.pool.Const.{Const}
 use Rattle.class_model.specs.declared.pool.Const.TheVariants.{Utf8, Integer, Float, Long, Double, Class, String, Fieldref, Methodref, InterfaceMethodref, NameAndType, MethodHandle, MethodType, InvokeDynamic}
 use Rattle.pool_bytes.specs.Items.{FitsItems, PoolFits}
 use Rattle.pool_bytes.specs.ReadBack.{IsReadBack}
 use Rattle.pool_bytes.specs.Reading.{rest_at, Stands}
-
-abbrev rest_of : ℕ → List ℕ → Rest
-rest_of at bytes = record { at = at; bytes = bytes }
-
--- Wherever the text stands, the part cuts it off as this value.
-pub record CutsAs {X : Type 0} (part : Rest → Cut X) (text : List ℕ) (x : X) : Type 0 where
-  pub cut : (at : ℕ) (after : List ℕ) → part (rest_of at (text ++ after)) ≡ Ok (x, rest_of (at + length text) after)
-
--- ---- steps
-
--- a step that did not fail, and the next
-pub next : {A B : Type 0} {r : Result A Fault} {x : A} (f : A → Result B Fault) {y : Result B Fault} → r ≡ Ok x → f x ≡ y → (r >>= f) ≡ y
-next f e g = ap (λ r. r >>= f) e ∙ g
-
--- a test that holds, or does not
-pub on_true : {A : Type 0} {b : Bool} {x z : A} (y : A) → b ≡ true → x ≡ z → cond b x y ≡ z
-on_true {x = x} y e g = ap (λ b. cond b x y) e ∙ g
-
-pub on_false : {A : Type 0} {b : Bool} (x : A) {y z : A} → b ≡ false → y ≡ z → cond b x y ≡ z
-on_false x {y = y} e g = ap (λ b. cond b x y) e ∙ g
-
--- one part, and then what it leads to
-pub then_cut : {X Y : Type 0} {part : Rest → Cut X} {text : List ℕ} {x : X} (f : X × Rest → Cut Y) {more : List ℕ} {y : Y} → CutsAs part text x → CutsAs (λ rest. f (x, rest)) more y → CutsAs (λ rest. part rest >>= f) (text ++ more) y
-then_cut {part = part} {text = text} {x = x} f {more = more} {y = y} a b = record {
-  cut = λ at after.
-      let place : (at + length text) + length more ≡ at + length (text ++ more) = omega (arith, length-append text more) in
-      rw append_assoc (next f (a.cut at (more ++ after)) (b.cut (at + length text) after ∙ ap (λ (n : ℕ). Ok (y, rest_of n after)) place));
-}
-
--- one part that is made into a value
-pub made_cut : {X Y : Type 0} {part : Rest → Cut X} {text : List ℕ} {x : X} (make : X → Y) → CutsAs part text x → CutsAs (λ rest. part rest >>= λ n. Ok (make n.0, n.1)) text (make x)
-made_cut make a = record { cut = λ at after. next (λ n. Ok (make n.0, n.1)) (a.cut at after) refl }
-
--- ---- items
-
-pub bytes_cut : (text : List ℕ) → CutsAs (bytes_at (length text)) text text
-bytes_cut text = record {
-  cut = λ at after.
-      on_false (Err (fault at rules.Short)) (le-ltb (length (text ++ after)) (length text) (omega (arith, length-append text after)))
-      (rw (take-append_seam text after, drop-append_seam text after) refl);
-}
-
--- a number that is found again in its bytes
-number_cut : (w : Width) (n : ℕ) → length (to_be_bytes w n) ≡ byte_len w → from_be_bytes w (to_be_bytes w n) ≡ n → CutsAs (number_at w) (to_be_bytes w n) n
-number_cut w n len back =
-    let text : CutsAs (bytes_at (byte_len w)) (to_be_bytes w n) (to_be_bytes w n) = subst (λ (k : ℕ). CutsAs (bytes_at k) (to_be_bytes w n) (to_be_bytes w n)) len (bytes_cut (to_be_bytes w n)) in
-    subst (λ (m : ℕ). CutsAs (number_at w) (to_be_bytes w n) m) back (made_cut (from_be_bytes w) text)
-
-pub u2_cut : (n : ℕ) → n < 2 ^ 16 → CutsAs u2_at (u2 n) n
-u2_cut n lt = number_cut w16 n refl (from_be_bytes-to_be_bytes_2 n lt)
-
-pub u4_cut : (n : ℕ) → n < 2 ^ 32 → CutsAs u4_at (u4 n) n
-u4_cut n lt = number_cut w32 n refl (from_be_bytes-to_be_bytes_4 n lt)
-
-pub u8_cut : (n : ℕ) → n < 2 ^ 64 → CutsAs (number_at w64) (to_be_bytes w64 n) n
-u8_cut n lt = number_cut w64 n refl (from_be_bytes-to_be_bytes_8 n lt)
-
-pub u1_cut : (n : ℕ) → CutsAs u1_at (n ∷ []) n
-u1_cut n =
-    let same : from_be_bytes w16 (0 ∷ n ∷ []) ≡ n = omega arith in
-    subst (λ (m : ℕ). CutsAs u1_at (n ∷ []) m) same (made_cut (λ (bytes : List ℕ). from_be_bytes w16 (0 ∷ bytes)) (bytes_cut (n ∷ [])))
-
-pub u2_pair_cut : (a b : ℕ) → a < 2 ^ 16 → b < 2 ^ 16 → CutsAs u2_pair_at (u2 a ++ u2 b) (a, b)
-u2_pair_cut a b la lb = then_cut (λ first. u2_at first.1 >>= λ second. Ok ((first.0, second.0), second.1)) (u2_cut a la) (made_cut (λ n. (a, n)) (u2_cut b lb))
 
 -- ---- one constant
 
@@ -158,23 +96,26 @@ some_entries (Long number) = omega arith
 some_entries c = omega arith
 
 -- a constant that ends with the count may stand
-stands : (c : Const) (index count : ℕ) → index + length (entries_of c) ≤ count → (is_tag 52 (tag_of c) && not (((tag_of c == 5) || (tag_of c == 6)) && (index + 1 == count))) ≡ true
-stands (Long number) index count le = grind (arith, nat_tests)
-stands (Double bits) index count le = grind (arith, nat_tests)
-stands other index count le = refl
+stands : (major : ℕ) (c : Const) (index count : ℕ) → TagStands major (Some c) → index + length (entries_of c) ≤ count → (is_tag major (tag_of c) && not (((tag_of c == 5) || (tag_of c == 6)) && (index + 1 == count))) ≡ true
+stands major (Long number) index count tag le = grind (arith, nat_tests)
+stands major (Double bits) index count tag le = grind (arith, nat_tests)
+stands major (MethodHandle kind reference) index count tag le = rw (le-leb 51 major tag) refl
+stands major (MethodType descriptor) index count tag le = rw (le-leb 51 major tag) refl
+stands major (InvokeDynamic bootstrap member) index count tag le = rw (le-leb 51 major tag) refl
+stands major other index count tag le = refl
 
 -- one constant, and then the others
-entry_cut : (left index count : ℕ) (c : Const) (more : List ℕ) (others : Constants) → FitsItems c → index + length (entries_of c) ≤ count
-    → CutsAs (entries_at left 52 (index + length (entries_of c)) count) more others → CutsAs (entries_at (suc left) 52 index count) (constant_bytes c ++ more) (entries_of c ++ others)
+entry_cut : (major left index count : ℕ) (c : Const) (more : List ℕ) (others : Constants) → FitsItems c → TagStands major (Some c) → index + length (entries_of c) ≤ count
+    → CutsAs (entries_at left major (index + length (entries_of c)) count) more others → CutsAs (entries_at (suc left) major index count) (constant_bytes c ++ more) (entries_of c ++ others)
 unfolding entries_at
-entry_cut left index count c more others fits le rec = record {
+entry_cut major left index count c more others fits tag le rec = record {
   cut = λ at after.
       let text : (constant_bytes c ++ more) ++ after ≡ tag_of c ∷ (fields c ++ (more ++ after)) = rw tag_and_fields (append_assoc (tag_of c ∷ fields c) more after) in
       let place : ((at + 1) + length (fields c)) + length more ≡ at + length (constant_bytes c ++ more) = omega (arith, length-append (constant_bytes c) more, ap length (tag_and_fields c)) in
       rw text
       (on_false _ (lt-leb count index (omega (arith, some_entries c)))
       (next _ ((u1_cut (tag_of c)).cut at (fields c ++ (more ++ after)))
-      (next _ (on_true _ (stands c index count le) refl)
+      (next _ (on_true _ (stands major c index count tag le) refl)
       (next _ ((constant_cut c fits).cut (at + 1) (more ++ after))
       (next _ (rec.cut ((at + 1) + length (fields c)) after)
       (ap (λ (n : ℕ). Ok (entries_of c ++ others, rest_of n after)) place))))));
@@ -194,26 +135,32 @@ fits_first (Long number) others h = (h.0, h.1.1)
 fits_first (Double bits) others h = (h.0, h.1.1)
 fits_first c others h = (h.0, h.1)
 
+tag_first : (major : ℕ) (c : Const) (others : Constants) → TagsStand major (entries_of c ++ others) → TagStands major (Some c) × TagsStand major others
+tag_first major (Long number) others h = (h.0, h.1.1)
+tag_first major (Double bits) others h = (h.0, h.1.1)
+tag_first major c others h = (h.0, h.1)
+
 -- the constants from an index up to the count, as many as there are
-entries_cut : (left index count : ℕ) (constants : List Const) → PoolFits (entries constants) → index + length (entries constants) ≡ count → count ≤ left + index
-    → CutsAs (entries_at left 52 index count) (bytes_of constants) (entries constants)
+entries_cut : (major left index count : ℕ) (constants : List Const) → PoolFits (entries constants) → TagsStand major (entries constants) → index + length (entries constants) ≡ count → count ≤ left + index
+    → CutsAs (entries_at left major index count) (bytes_of constants) (entries constants)
 unfolding entries_at
-entries_cut zero index count [] fits len le = record { cut = λ at after. ap (λ (n : ℕ). Ok ([], rest_of n after)) (omega arith) }
-entries_cut (suc left) index count [] fits len le = record { cut = λ at after. on_true _ (le-leb count index (omega arith)) (ap (λ (n : ℕ). Ok ([], rest_of n after)) (omega arith)) }
-entries_cut zero index count (c ∷ constants) fits len le = absurd (omega (arith, some_entries c, length-append (entries_of c) (entries constants)))
-entries_cut (suc left) index count (c ∷ constants) fits len le =
+entries_cut major zero index count [] fits tags len le = record { cut = λ at after. ap (λ (n : ℕ). Ok ([], rest_of n after)) (omega arith) }
+entries_cut major (suc left) index count [] fits tags len le = record { cut = λ at after. on_true _ (le-leb count index (omega arith)) (ap (λ (n : ℕ). Ok ([], rest_of n after)) (omega arith)) }
+entries_cut major zero index count (c ∷ constants) fits tags len le = absurd (omega (arith, some_entries c, length-append (entries_of c) (entries constants)))
+entries_cut major (suc left) index count (c ∷ constants) fits tags len le =
     let parts = fits_first c (entries constants) fits in
+    let tag = tag_first major c (entries constants) tags in
     let both = length-append (entries_of c) (entries constants) in
-    let others = entries_cut left (index + length (entries_of c)) count constants parts.1 (omega (arith, both)) (omega (arith, some_entries c)) in
-    rw (bytes_first c constants) (entry_cut left index count c (bytes_of constants) (entries constants) parts.0 (omega (arith, both)) others)
+    let others = entries_cut major left (index + length (entries_of c)) count constants parts.1 tag.1 (omega (arith, both)) (omega (arith, some_entries c)) in
+    rw (bytes_first c constants) (entry_cut major left index count c (bytes_of constants) (entries constants) parts.0 tag.0 (omega (arith, both)) others)
 
 -- ---- the pool
 
-constants_cut : (constants : List Const) → length (entries constants) < 65535 → PoolFits (entries constants) → CutsAs (pool_at 52) (pool_bytes (None ∷ entries constants)) (None ∷ entries constants)
-constants_cut constants le fits = record {
+constants_cut : (major : ℕ) (constants : List Const) → length (entries constants) < 65535 → PoolFits (entries constants) → TagsStand major (entries constants) → CutsAs (pool_at major) (pool_bytes (None ∷ entries constants)) (None ∷ entries constants)
+constants_cut major constants le fits tags = record {
   cut = λ at after.
       let count = suc (length (entries constants)) in
-      let some = entries_cut count 1 count constants fits (omega arith) (omega arith) in
+      let some = entries_cut major count 1 count constants fits tags (omega arith) (omega arith) in
       let place : (at + 2) + length (bytes_of constants) ≡ at + length (u2 count ++ bytes_of constants) = omega (arith, length-append (u2 count) (bytes_of constants)) in
       rw (append_assoc (u2 count) (bytes_of constants) after)
       (next _ ((u2_cut count (omega arith)).cut at (bytes_of constants ++ after))
@@ -222,9 +169,21 @@ constants_cut constants le fits = record {
       (ap (λ (n : ℕ). Ok (None ∷ entries constants, rest_of n after)) place))));
 }
 
-pub pool_cut : (pool : Constants) → IsPool pool → PoolFits pool → CutsAs (pool_at 52) (pool_bytes pool) pool
-pool_cut pool is fits =
-    rw is.all (constants_cut is.constants (omega (arith, ap length is.all, is.count)) (rw is.all at fits).1)
+pub pool_cut : (major : ℕ) (pool : Constants) → IsPool pool → PoolFits pool → TagsStand major pool → CutsAs (pool_at major) (pool_bytes pool) pool
+pool_cut major pool is fits tags =
+    rw is.all (constants_cut major is.constants (omega (arith, ap length is.all, is.count)) (rw is.all at fits).1 (rw is.all at tags).1)
+
+-- all tags stand in version 52
+newest : (c : Option Const) → TagStands 52 c
+newest None = tt
+newest (Some (MethodHandle kind reference)) = omega arith
+newest (Some (MethodType descriptor)) = omega arith
+newest (Some (InvokeDynamic bootstrap member)) = omega arith
+newest (Some other) = tt
+
+pub all_newest : (pool : Constants) → TagsStand 52 pool
+all_newest [] = tt
+all_newest (c ∷ pool) = (newest c, all_newest pool)
 
 -- in front of nothing
 pub stands_alone : (bytes : List ℕ) (pool : Constants) → IsReadBack pool → bytes ≡ pool_bytes pool → Stands 52 bytes 0 pool (length bytes)

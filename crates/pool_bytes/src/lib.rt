@@ -4,6 +4,7 @@
 mod checking;
 mod cutting;
 mod dynamics;
+mod laws;
 mod lookups;
 mod raw;
 mod reading;
@@ -12,6 +13,7 @@ mod texts;
 mod writing;
 
 pub use cutting::cut_pool;
+pub use laws::a_pool_is_read_back;
 pub use raw::RawPool;
 pub use reading::read_pool;
 pub use writing::{push_pool, write_pool};

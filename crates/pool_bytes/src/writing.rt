@@ -1,10 +1,11 @@
 //! Writing the constant pool.
-ghost use Rattle.std.specs.Prelude.{◌≡◌, ◌≤◌, ◌∷◌, ◌++◌, length, IfOk, OnOk, OnErr};
+ghost use Rattle.std.specs.Prelude.{◌≡◌, ◌≤◌, ◌∷◌, ◌++◌, length, ℕ, IfOk, OnOk, OnErr};
 ghost use Rattle.class_model.specs.Pool.{constant_at};
 ghost use Rattle.class_model.specs.Spelling.{u2, constant_bytes, entry_bytes, pool_bytes};
+ghost use Rattle.class_model.specs.Values.{TagsStand};
 ghost use Rattle.pool_bytes.specs.Appended.{Grows};
 ghost use Rattle.pool_bytes.specs.Items.{FitsItems, EntryFits};
-ghost use Rattle.pool_bytes.specs.ReadBack.{IsReadBack};
+ghost use Rattle.pool_bytes.specs.ReadBack.{IsReadBack, IsReadBackIn};
 ghost use Rattle.pool_bytes.specs.Reading.{Stands};
 
 use crate::tags::{
@@ -28,13 +29,15 @@ pub fn write_pool(alloc: Global, pool: &Pool) -> Result<ByteList, NoMemory>
     Ok(ListOf::from_vec(out))
 }
 
-/// Appends the count of a pool and its constants. Index 0 has no constant.
+/// Appends the count of a pool and its constants. Index 0 has no constant. The pool is read from them again, in a class file
+/// of any version that has the tags of its constants.
 ///
 /// # Errors
 /// `NoMemory`, where memory runs out; some bytes may then be appended behind those that stood there.
 pub fn push_pool(out: &mut Vec<u8>, pool: &Pool) -> Result<(), NoMemory>
     ensures same { OnOk result (out.new.items ≡ out.old.items ++ pool_bytes pool.now) }
     ensures read { OnOk result (IsReadBack pool.now) }
+    ensures read_in { OnOk result ((major : ℕ) → TagsStand major pool.now → IsReadBackIn major pool.now) }
     ensures err { OnErr result (Grows out.old.items out.new.items) }
 {
     push_u2(out, pool.count())?;

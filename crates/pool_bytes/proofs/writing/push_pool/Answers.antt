@@ -1,8 +1,11 @@
-use Rattle.std.proofs.Common.{◌≡◌, length, take, arith, rules}
+use Rattle.std.proofs.Common.{◌≡◌, ℕ, length, take, arith, rules}
 use Rattle.std.proofs.Math.Seq.{take-length}
+use Rattle.class_model.specs.Pool.{Constants, IsPool}
 use Rattle.class_model.specs.Spelling.{u2}
+use Rattle.class_model.specs.Values.{TagsStand}
 use Rattle.pool_bytes.specs.Items.{PoolFits}
-use Rattle.pool_bytes.proofs.CutBack.{pool_cut}
+use Rattle.pool_bytes.specs.ReadBack.{IsReadBackIn}
+use Rattle.pool_bytes.proofs.CutBack.{pool_cut, all_newest}
 use Rattle.pool_bytes.proofs.Entries.{entries_more, fits_more}
 use Rattle.pool_bytes.proofs.writing.push_pool.Goals as goal
 
@@ -12,9 +15,12 @@ loop-index-preserved c = record {
   fits = fits_more c.args.pool.now c.loop-index.index (search rules) c.loop-index.invariant.fits c.in_ok-push_entry.ensures.fits;
 }
 
+-- all of it was written
+written : (pool : Constants) (index : ℕ) → index ≡ length pool → IsPool pool → PoolFits (take index pool) → (major : ℕ) → TagsStand major pool → IsReadBackIn major pool
+written pool index all is fits major tags = (pool_cut major pool is (rw take-length at (rw all at fits)) tags).cut
+
 pub returns-clause-read : goal.returns-clause-read
-returns-clause-read c =
-    let pool = c.args.pool.now in
-    let all : c.loop-index.index ≡ length pool = omega arith in
-    let fits : PoolFits (take (length pool) pool) = rw all at c.loop-index.invariant.fits in
-    (pool_cut pool c.count.ensures.pool (rw take-length at fits)).cut
+returns-clause-read c = written c.args.pool.now c.loop-index.index (omega arith) c.count.ensures.pool c.loop-index.invariant.fits 52 (all_newest c.args.pool.now)
+
+pub returns-clause-read_in : goal.returns-clause-read_in
+returns-clause-read_in c = written c.args.pool.now c.loop-index.index (omega arith) c.count.ensures.pool c.loop-index.invariant.fits
