@@ -28,6 +28,7 @@ pub use build::build_tree;
 pub use chains::chain;
 pub use fault::{LinkFault, LinkRule};
 pub use laws::{a_folder_is_told_once, a_tree_is_a_hierarchy};
+pub use members::{MemberKind, members_of};
 pub use names::{METHOD_HANDLE, METHOD_TYPE, OBJECT, THROWABLE, machine_throwables};
 pub use place::Place;
 pub use question::ask;
