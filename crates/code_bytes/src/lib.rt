@@ -12,7 +12,6 @@ mod instruction;
 mod jumps;
 mod laws;
 mod layouts;
-mod opcodes;
 mod source;
 mod starts;
 mod switches;
