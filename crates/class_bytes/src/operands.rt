@@ -7,6 +7,7 @@ ghost use Rattle.class_model.specs.Pool.{constant_at};
 ghost use Rattle.class_model.specs.PoolChecks.{IsClassAt, class_at, descriptor_at};
 ghost use Rattle.class_bytes.specs.Parts.{CountsUnits};
 
+use class_model::opcodes::{INVOKEINTERFACE, INVOKESPECIAL, INVOKESTATIC, INVOKEVIRTUAL};
 use class_model::{
     ClassFault, Const, FileRule, Instr, Kind, Placed, Pool, Text, a_descriptor_of_a_text,
     dimensions, is_array_type, method_shape,
@@ -99,10 +100,10 @@ fn is_called(pool: &Pool, major: u16, opcode: u8, method: u16, count: u8) -> boo
     ensures { IsTrue result ↔ IsCalled pool.now major opcode method count }
 {
     match pool.get(method) {
-        Some(Const::Methodref(..)) => matches!(opcode, 182..=184),
+        Some(Const::Methodref(..)) => matches!(opcode, INVOKEVIRTUAL..=INVOKESTATIC),
         Some(Const::InterfaceMethodref(_, member)) => match opcode {
-            183 | 184 => major == 52,
-            185 => counts_arguments(pool, *member, count),
+            INVOKESPECIAL | INVOKESTATIC => major == 52,
+            INVOKEINTERFACE => counts_arguments(pool, *member, count),
             _ => false,
         },
         _ => false,

@@ -7,8 +7,8 @@ use crate::rules::{assignability, frame_assignability, rule_answer};
 use crate::setting::Setting;
 use crate::typed_folders::{folder_answer, typed_answer};
 use crate::typed_methods::method_answer;
-use case_files::word_and_rest;
 use class_model::Text;
+use class_notation::word_and_rest;
 use class_tree::{Tree, is_sub};
 use std::alloc::Global;
 

@@ -31,7 +31,7 @@ mod typed_folders;
 mod typed_methods;
 
 use answers::answer;
-use case_files::lines_of;
+use class_notation::{lines_of, print_difference, question_of};
 use setting::Setting;
 use std::process::ExitCode;
 use std::{env, fs};
@@ -61,21 +61,14 @@ fn compare_file(rt: &HostRuntime, name: &str) -> Option<()> {
     for line in lines.as_slice() {
         if !setting.take(&line.text) {
             let place = format!(in rt.alloc(); "{name}:{}", line.number).ok()?;
-            compare_case(rt, &setting, &place, &line.text)?;
+            let came = question_of(&line.text).and_then(|question| answer(
+                rt.alloc(),
+                &setting,
+                question,
+            ));
+            print_difference(rt, &place, &line.text, came)?;
             count = count.wrapping_add(1);
         }
     }
     println!(rt; "{name}: {count}").ok()
-}
-
-// Asks a case, and prints it with its place where it is answered otherwise.
-fn compare_case(rt: &HostRuntime, setting: &Setting<'_>, place: &str, case: &str) -> Option<()> {
-    let Some((question, wanted)) = case.split_once(" => ") else {
-        return println!(rt; "{place}: no case: {case}").ok();
-    };
-    match answer(rt.alloc(), setting, question) {
-        Some(told) if told.as_str() == wanted => Some(()),
-        Some(told) => println!(rt; "{place}: {told}, not {wanted}: {question}").ok(),
-        None => println!(rt; "{place}: no answer: {question}").ok(),
-    }
 }

@@ -1,6 +1,5 @@
 //! What the cases of a file are asked over.
-use case_files::word_and_rest;
-use class_notation::Input;
+use class_notation::{Input, word_and_rest};
 use class_tree::Tree;
 use std::alloc::Global;
 

@@ -10,6 +10,7 @@ use Rattle.class_model.specs.declared.descriptor.Kind.{Kind}
 use Rattle.class_model.specs.declared.descriptor.Kind.TheVariants as kinds
 use Rattle.class_model.specs.declared.instr.Instr.{Instr}
 use Rattle.class_model.specs.declared.instr.Instr.TheVariants.{Ldc, Ldc2, Load, Store, Iinc, GetStatic, PutStatic, GetField, PutField, Invoke, Dynamic, New, NewRefArray, NewMulti, Cast, InstanceOf}
+use Rattle.class_model.specs.declared.opcodes.TheConstants.{INVOKEVIRTUAL, INVOKESPECIAL, INVOKESTATIC, INVOKEINTERFACE}
 use Rattle.class_model.specs.declared.pool.Const.{Const}
 use Rattle.class_model.specs.declared.pool.Const.TheVariants as consts
 use Rattle.class_model.proofs.Decisions.{Decision, both, three, either, denied, at_most, if_some}
@@ -49,9 +50,9 @@ counts_arguments descriptor count = if_some (counts count) descriptor
 called : (pool : Constants) (major opcode method count : ℕ) → Decision (IsCalled pool major opcode method count)
 called pool major opcode method count =
     let constant = constant_at pool method in
-    either (both (cases_eq opcode 182) (is_method constant))
-    (either (three (cases_eq opcode 185) (is_interface_method constant) (counts_arguments _ count))
-    (both (either (cases_eq opcode 183) (cases_eq opcode 184)) (either (is_method constant) (both (cases_eq major 52) (is_interface_method constant)))))
+    either (both (cases_eq opcode INVOKEVIRTUAL) (is_method constant))
+    (either (three (cases_eq opcode INVOKEINTERFACE) (is_interface_method constant) (counts_arguments _ count))
+    (both (either (cases_eq opcode INVOKESPECIAL) (cases_eq opcode INVOKESTATIC)) (either (is_method constant) (both (cases_eq major 52) (is_interface_method constant)))))
 
 fits_array : (name : List ℕ) → Decision (FitsArray name)
 fits_array name = either

@@ -27,6 +27,7 @@ use Rattle.class_model.specs.declared.frame.VType.TheVariants as types
 use Rattle.class_model.specs.declared.instr.Instr.{Instr}
 use Rattle.class_model.specs.declared.instr.Instr.TheVariants.{Ldc, Ldc2, Load, Store, Iinc, GetStatic, PutStatic, GetField, PutField, Invoke, Dynamic, New, NewRefArray, NewMulti, Cast, InstanceOf}
 use Rattle.class_model.specs.declared.instr.Placed.{Placed}
+use Rattle.class_model.specs.declared.opcodes.TheConstants.{INVOKEVIRTUAL, INVOKESPECIAL, INVOKESTATIC, INVOKEINTERFACE}
 use Rattle.class_model.specs.declared.pool.Const.{Const}
 use Rattle.class_model.specs.declared.pool.Const.TheVariants as consts
 
@@ -104,9 +105,9 @@ CountsArguments descriptor count = IfSome descriptor (λ text. (d : Descriptor) 
 -- invokevirtual names a method, invokeinterface an interface's, and the other two either in version 52
 abbrev pub IsCalled : Constants → ℕ → ℕ → ℕ → ℕ → Type 0
 IsCalled pool major opcode method count =
-    ((opcode ≡ 182) × IsMethodConstant (constant_at pool method))
-    ⊎ (((opcode ≡ 185) × IsInterfaceConstant (constant_at pool method) × CountsArguments (units_behind pool (member_index (constant_at pool method))) count)
-    ⊎ (((opcode ≡ 183) ⊎ (opcode ≡ 184)) × (IsMethodConstant (constant_at pool method) ⊎ ((major ≡ 52) × IsInterfaceConstant (constant_at pool method)))))
+    ((opcode ≡ INVOKEVIRTUAL) × IsMethodConstant (constant_at pool method))
+    ⊎ (((opcode ≡ INVOKEINTERFACE) × IsInterfaceConstant (constant_at pool method) × CountsArguments (units_behind pool (member_index (constant_at pool method))) count)
+    ⊎ (((opcode ≡ INVOKESPECIAL) ⊎ (opcode ≡ INVOKESTATIC)) × (IsMethodConstant (constant_at pool method) ⊎ ((major ≡ 52) × IsInterfaceConstant (constant_at pool method)))))
 
 -- how many dimensions an array type has
 pub record HasDimensions (text : List ℕ) (least : ℕ) : Type 0 where

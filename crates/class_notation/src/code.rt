@@ -3,6 +3,11 @@ use crate::code_tables::{push_frame, push_full, push_handler};
 use crate::counted::Counted;
 use crate::mnemonics::opcode;
 use crate::pool::{MemberTag, PoolBytes, low_bits};
+use class_model::opcodes::{
+    ANEWARRAY, CHECKCAST, GETFIELD, GETSTATIC, INSTANCEOF, INVOKEDYNAMIC, INVOKEINTERFACE,
+    INVOKESPECIAL, INVOKESTATIC, INVOKEVIRTUAL, LDC_W, LDC2_W, MULTIANEWARRAY, NEW, NOP, PUTFIELD,
+    PUTSTATIC, RETURN,
+};
 use class_model::{NoMemory, push_u2, push_u4};
 use std::alloc::Global;
 
@@ -18,10 +23,6 @@ struct Code {
     // the frames of a StackMapTable, if there are any
     frames: Counted,
 }
-
-const NOP: u8 = 0x00;
-
-const RETURN: u8 = 0xB1;
 
 /// Appends a Code attribute whose instructions are `nop`, those of these uses and `return`. A use is an instruction with the
 /// member, class, descriptor or handle that it names, as `getstatic A x I`, `new A` or `ldc class A`; a `!` behind a call's
@@ -116,7 +117,7 @@ fn push_use(
         ["ldc", constant @ ..] => push_load(&mut code.instructions, pool, constant),
         ["dynamic", desc] => {
             let index = pool.dynamic(b"run", desc.as_bytes())?;
-            push_instruction(&mut code.instructions, 0xBA, index)?;
+            push_instruction(&mut code.instructions, INVOKEDYNAMIC, index)?;
             push_u2(&mut code.instructions, 0)
         }
         [op, operands @ ..] => push_named(&mut code.instructions, pool, op, operands),
@@ -142,43 +143,22 @@ fn push_named(
 
 // Appends the load of a class, a string, a number, a method type or a method handle.
 fn push_load(out: &mut Vec<u8>, pool: &mut PoolBytes, constant: &[&str]) -> Result<(), NoMemory> {
-    match constant {
-        ["int"] => {
-            let index = pool.number(3, &[0; 4])?;
-            push_instruction(out, 0x13, index)
-        }
-        ["float"] => {
-            let index = pool.number(4, &[0; 4])?;
-            push_instruction(out, 0x13, index)
-        }
-        ["long"] => {
-            let index = pool.number(5, &[0; 8])?;
-            push_instruction(out, 0x14, index)
-        }
-        ["double"] => {
-            let index = pool.number(6, &[0; 8])?;
-            push_instruction(out, 0x14, index)
-        }
-        ["string", text] => {
-            let index = pool.string(text.as_bytes())?;
-            push_instruction(out, 0x13, index)
-        }
-        ["class", name] => {
-            let index = pool.class(name.as_bytes())?;
-            push_instruction(out, 0x13, index)
-        }
-        ["type", desc] => {
-            let index = pool.method_type(desc.as_bytes())?;
-            push_instruction(out, 0x13, index)
-        }
+    let (opcode, index) = match constant {
+        ["int"] => (LDC_W, pool.number(3, &[0; 4])?),
+        ["float"] => (LDC_W, pool.number(4, &[0; 4])?),
+        ["long"] => (LDC2_W, pool.number(5, &[0; 8])?),
+        ["double"] => (LDC2_W, pool.number(6, &[0; 8])?),
+        ["string", text] => (LDC_W, pool.string(text.as_bytes())?),
+        ["class", name] => (LDC_W, pool.class(name.as_bytes())?),
+        ["type", desc] => (LDC_W, pool.method_type(desc.as_bytes())?),
         ["handle", kind, class, name, desc] => {
             let (kind, tag) = handle_kind(kind);
             let member = pool.member(tag, class.as_bytes(), name.as_bytes(), desc.as_bytes())?;
-            let index = pool.handle(kind, member)?;
-            push_instruction(out, 0x13, index)
+            (LDC_W, pool.handle(kind, member)?)
         }
-        _ => Ok(()),
-    }
+        _ => return Ok(()),
+    };
+    push_instruction(out, opcode, index)
 }
 
 fn push_instruction(out: &mut Vec<u8>, opcode: u8, index: u16) -> Result<(), NoMemory> {
@@ -199,7 +179,7 @@ fn push_member_use(
     let (opcode, tag) = op;
     let index = pool.member(tag, class.as_bytes(), name.as_bytes(), desc.as_bytes())?;
     push_instruction(out, opcode, index)?;
-    if opcode == 0xB9 {
+    if opcode == INVOKEINTERFACE {
         out.push(byte_or_one(counts))?;
         out.push(0)?;
     }
@@ -216,7 +196,7 @@ fn push_class_use(
 ) -> Result<(), NoMemory> {
     let index = pool.class(name.as_bytes())?;
     push_instruction(out, opcode, index)?;
-    if opcode == 0xC5 {
+    if opcode == MULTIANEWARRAY {
         out.push(byte_or_one(dimensions))?;
     }
     Ok(())
@@ -249,16 +229,16 @@ fn byte_or_one(words: &[&str]) -> u8 {
 // The opcode of an instruction that names a member, and the constant that it names.
 fn member_op(op: &str) -> Option<(u8, MemberTag)> {
     Some(match op {
-        "getstatic" => (0xB2, MemberTag::Field),
-        "putstatic" => (0xB3, MemberTag::Field),
-        "getfield" => (0xB4, MemberTag::Field),
-        "putfield" => (0xB5, MemberTag::Field),
-        "invokevirtual" => (0xB6, MemberTag::Method),
-        "invokespecial" => (0xB7, MemberTag::Method),
-        "invokestatic" => (0xB8, MemberTag::Method),
-        "invokespecial!" => (0xB7, MemberTag::InterfaceMethod),
-        "invokestatic!" => (0xB8, MemberTag::InterfaceMethod),
-        "invokeinterface" => (0xB9, MemberTag::InterfaceMethod),
+        "getstatic" => (GETSTATIC, MemberTag::Field),
+        "putstatic" => (PUTSTATIC, MemberTag::Field),
+        "getfield" => (GETFIELD, MemberTag::Field),
+        "putfield" => (PUTFIELD, MemberTag::Field),
+        "invokevirtual" => (INVOKEVIRTUAL, MemberTag::Method),
+        "invokespecial" => (INVOKESPECIAL, MemberTag::Method),
+        "invokestatic" => (INVOKESTATIC, MemberTag::Method),
+        "invokespecial!" => (INVOKESPECIAL, MemberTag::InterfaceMethod),
+        "invokestatic!" => (INVOKESTATIC, MemberTag::InterfaceMethod),
+        "invokeinterface" => (INVOKEINTERFACE, MemberTag::InterfaceMethod),
         _ => return None,
     })
 }
@@ -266,11 +246,11 @@ fn member_op(op: &str) -> Option<(u8, MemberTag)> {
 // The opcode of an instruction that names a class or array.
 fn class_op(op: &str) -> Option<u8> {
     Some(match op {
-        "new" => 0xBB,
-        "anewarray" => 0xBD,
-        "checkcast" => 0xC0,
-        "instanceof" => 0xC1,
-        "multianewarray" => 0xC5,
+        "new" => NEW,
+        "anewarray" => ANEWARRAY,
+        "checkcast" => CHECKCAST,
+        "instanceof" => INSTANCEOF,
+        "multianewarray" => MULTIANEWARRAY,
         _ => return None,
     })
 }

@@ -1,18 +1,22 @@
-//! Class files in a small notation, and questions about their hierarchy, for tests and programs that need many of them.
+//! Files of cases that programs ask, and class files in a small notation, for tests and programs that need many of them.
 #![tactic(auto)]
 
+mod case;
 mod code;
 mod code_tables;
 mod counted;
 mod head;
 mod input;
 mod library;
+mod lines;
 mod mnemonics;
 mod notation;
 mod pool;
 mod questions;
 
+pub use case::{difference, print_difference, question_of};
 pub use head::Head;
 pub use input::Input;
+pub use lines::{Line, lines_of, word_and_rest};
 pub use notation::OBJECT;
 pub use questions::{last_method, superclasses};

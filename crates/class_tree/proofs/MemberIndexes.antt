@@ -22,8 +22,11 @@ use Rattle.class_tree.specs.Headers.{Name, Headers, all_headers}
 use Rattle.class_tree.specs.Laws.FirstPlaces.{Passes}
 use Rattle.class_tree.specs.MemberIndex.{key_at, IsMemberIndex}
 use Rattle.class_tree.specs.Names.{is_member}
-use Rattle.class_tree.specs.Nodes.{AreMemberIndexes}
-use Rattle.class_tree.specs.Order.{first_place, member_place}
+use Rattle.class_tree.specs.Nodes.{indexes_of, AreMemberIndexes}
+use Rattle.class_tree.specs.Order.{first_place, member_place, members_of}
+use Rattle.class_tree.specs.declared.links.Links.{Links}
+use Rattle.class_tree.specs.declared.members.MemberKind.{MemberKind}
+use Rattle.class_tree.specs.declared.members.MemberKind.TheVariants.{Field, Method}
 use Rattle.class_tree.proofs.FirstPlaces.{is_none}
 
 -- ---- the first place that passes
@@ -201,3 +204,8 @@ all_indexed members headers indexes first past = record {
   ];
   each = first.each;
 }
+
+-- the indexes of fields and those of methods are all that is kept of members
+pub both : (headers : Headers) (links : Links) → AreMemberIndexes (members_of Field) headers links.fields → AreMemberIndexes (members_of Method) headers links.methods → (kind : MemberKind) → AreMemberIndexes (members_of kind) headers (indexes_of kind links)
+both headers links fields methods Field = fields
+both headers links fields methods Method = methods

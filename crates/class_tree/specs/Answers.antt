@@ -7,5 +7,6 @@ use Rattle.class_tree.specs.declared.fault.LinkFault.TheVariants.{Unlinked, NoMe
 
 abbrev pub Answers : {X : Type 0} → List (Check Problem) → Result X LinkFault → Type 0
 Answers checks (Ok x) = AllHold checks
-Answers checks (Err (Unlinked class member rule)) = IsFirstFault checks (record { class = class; member = member; rule = rule })
+Answers checks (Err (Unlinked class member rule)) =
+    IsFirstFault checks (record { class = class; member = member; rule = rule })
 Answers checks (Err NoMemory) = Unit {0}

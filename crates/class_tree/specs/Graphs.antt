@@ -20,7 +20,10 @@ pub record IsEdge (graph : Graph) (from to : ℕ) : Type 0 where
 -- a path of one edge or more
 pub data IsPath (graph : Graph) : ℕ → ℕ → Type 0 where
   edge : (from to : ℕ) → IsEdge graph from to → IsPath graph from to
-  onwards : (from middle to : ℕ) → IsEdge graph from middle → IsPath graph middle to → IsPath graph from to
+  onwards : (from middle to : ℕ)
+      → IsEdge graph from middle
+      → IsPath graph middle to
+      → IsPath graph from to
 
 -- each target is a node
 abbrev pub IsWithin : Graph → Type 0
@@ -30,6 +33,14 @@ IsWithin graph = (from to : ℕ) → IsEdge graph from to → to < length graph
 -- that none can follow.
 pub record IsTopological (graph : Graph) (order : List ℕ) : Type 0 where
   pub nodes : (node : ℕ) → IsOneOf order node → node < length graph
-  pub behind : (before after : List ℕ) (node to : ℕ) → order ≡ before ++ node ∷ after → IsEdge graph node to → IsOneOf before to
-  pub once : (before after : List ℕ) (node : ℕ) → order ≡ before ++ node ∷ after → IsNoneOf before node
-  pub others : (node : ℕ) → node < length graph → IsNoneOf order node → (to : ℕ) × IsEdge graph node to × IsNoneOf order to
+  pub behind : (before after : List ℕ) (node to : ℕ)
+      → order ≡ before ++ node ∷ after
+      → IsEdge graph node to
+      → IsOneOf before to
+  pub once : (before after : List ℕ) (node : ℕ)
+      → order ≡ before ++ node ∷ after
+      → IsNoneOf before node
+  pub others : (node : ℕ)
+      → node < length graph
+      → IsNoneOf order node
+      → (to : ℕ) × IsEdge graph node to × IsNoneOf order to

@@ -30,7 +30,9 @@ all_headers headers = headers.folder ++ headers.library
 -- the class of a name among these
 abbrev pub named : Name → List Header → Option Header
 named name [] = None
-named name (header ∷ headers) = if bytes_eq name header.name then Some header else named name headers
+named name (header ∷ headers) =
+    if bytes_eq name header.name then Some header
+    else named name headers
 
 -- the class of a name, in the folder or in the library
 abbrev pub class_named : Headers → Name → Option Header

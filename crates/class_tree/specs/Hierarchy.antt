@@ -19,7 +19,8 @@ pub record StandsAt (headers : Headers) (name : Name) (place : Place) (header : 
 
 -- the place of the superclass of the class at a place
 abbrev pub superclass_of : Headers → Place → Option Place
-superclass_of headers place = option_and_then (λ header. option_and_then (place_of headers) header.super_name) (header_at headers place)
+superclass_of headers place =
+    option_and_then (λ header. option_and_then (place_of headers) header.super_name) (header_at headers place)
 
 -- How many classes there are from a place upwards, as far as the fuel goes: a measure of loops that go up.
 unfoldable pub climb : Headers → ℕ → Option Place → ℕ
@@ -32,17 +33,37 @@ height headers next = climb headers (length (all_headers headers)) next
 
 pub record IsHierarchy (headers : Headers) : Type 0 where
   -- a class stands at one place, and a place has one class
-  pub of_name : (name : Name) (header : Header) → class_named headers name ≡ Some header → (place : Place) × StandsAt headers name place header
-  pub of_place : (place : Place) (header : Header) → header_at headers place ≡ Some header → StandsAt headers header.name place header
-  pub placed : (name : Name) (place : Place) → place_of headers name ≡ Some place → (header : Header) × StandsAt headers name place header
+  pub of_name : (name : Name) (header : Header)
+      → class_named headers name ≡ Some header
+      → (place : Place) × StandsAt headers name place header
+  pub of_place : (place : Place) (header : Header)
+      → header_at headers place ≡ Some header
+      → StandsAt headers header.name place header
+  pub placed : (name : Name) (place : Place)
+      → place_of headers name ≡ Some place
+      → (header : Header) × StandsAt headers name place header
   pub absent : (name : Name) → place_of headers name ≡ None → class_named headers name ≡ None
   pub no_array : (name : Name) → IsArray name → class_named headers name ≡ None
   -- the classes above a class are there, of the right kinds, and none of them is the class itself
-  pub above : (name : Name) (header : Header) → class_named headers name ≡ Some header → AllByRecursion (IsThere headers) (supers header)
-  pub kinds : (name : Name) (header : Header) → class_named headers name ≡ Some header → FitsKinds headers header
+  pub above : (name : Name) (header : Header)
+      → class_named headers name ≡ Some header
+      → AllByRecursion (IsThere headers) (supers header)
+  pub kinds : (name : Name) (header : Header)
+      → class_named headers name ≡ Some header
+      → FitsKinds headers header
   pub acyclic : (name : Name) → ¬ IsBelow headers name name
-  pub falls : (place : Place) (header : Header) → header_at headers place ≡ Some header → height headers (superclass_of headers place) < height headers (Some place)
+  pub falls : (place : Place) (header : Header)
+      → header_at headers place ≡ Some header
+      → height headers (superclass_of headers place) < height headers (Some place)
   -- each class has superinterfaces, which are the interfaces above it
-  pub walked : (name : Name) (header : Header) → class_named headers name ≡ Some header → (walk : List Name) × IsInterfaceWalk headers name walk
-  pub interfaces : (class : Name) (names : List Name) → AreSuperinterfaces headers class names → AllByRecursion (λ name. (header : Header) × (class_named headers name ≡ Some header) × IsTrue (is_interface header)) names
-  pub superinterfaces : (class name : Name) (header : Header) (names : List Name) → AreSuperinterfaces headers class names → class_named headers name ≡ Some header → IsTrue (is_interface header) → IsTrue (list_any (bytes_eq name) names) ↔ IsBelow headers class name
+  pub walked : (name : Name) (header : Header)
+      → class_named headers name ≡ Some header
+      → (walk : List Name) × IsInterfaceWalk headers name walk
+  pub interfaces : (class : Name) (names : List Name)
+      → AreSuperinterfaces headers class names
+      → AllByRecursion (λ name. (header : Header) × (class_named headers name ≡ Some header) × IsTrue (is_interface header)) names
+  pub superinterfaces : (class name : Name) (header : Header) (names : List Name)
+      → AreSuperinterfaces headers class names
+      → class_named headers name ≡ Some header
+      → IsTrue (is_interface header)
+      → IsTrue (list_any (bytes_eq name) names) ↔ IsBelow headers class name

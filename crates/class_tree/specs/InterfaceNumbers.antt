@@ -18,7 +18,9 @@ with_numbers list (number ∷ numbers) = with_numbers (with_number list number) 
 -- marks tell of each number below so many whether a list has it
 pub record AreMarks (marks : List Bool) (list : List ℕ) : Type 0 where
   pub within : All (λ number. number < length marks) list
-  pub told : (number : ℕ) → number < length marks → slice_index_or marks number false ≡ list_any (λ one. one == number) list
+  pub told : (number : ℕ)
+      → number < length marks
+      → slice_index_or marks number false ≡ list_any (λ one. one == number) list
 
 -- lists of numbers, by number, for so many numbers
 pub record AreLists (count : ℕ) (lists : List (List ℕ)) : Type 0 where
@@ -40,4 +42,6 @@ pub record AreNumbersOf (headers : Headers) (class : Name) (numbers : List ℕ) 
 -- those of each class
 pub record AreNumberLists (headers : Headers) (lists : List (List ℕ)) : Type 0 where
   pub len : length lists ≡ length (all_headers headers)
-  pub each : (number : ℕ) (header : Header) → slice_get (all_headers headers) number ≡ Some header → AreNumbersOf headers header.name (slice_index_or lists number [])
+  pub each : (number : ℕ) (header : Header)
+      → slice_get (all_headers headers) number ≡ Some header
+      → AreNumbersOf headers header.name (slice_index_or lists number [])

@@ -16,13 +16,19 @@ pub record AreMarksOf (nodes : List ℕ) (marks : List Bool) : Type 0 where
 -- the same nodes, and behind them those of a list that were not there
 pub record HasAdded (old new list : List ℕ) : Type 0 where
   pub kept : take (length old) new ≡ old
-  pub added : (node : ℕ) → list_any (λ one. one == node) new ≡ (list_any (λ one. one == node) old || list_any (λ one. one == node) list)
+  pub added : (node : ℕ)
+      → list_any (λ one. one == node) new ≡ (list_any (λ one. one == node) old || list_any (λ one. one == node) list)
 
 -- nodes in an order in which each stands once and behind its targets
 pub record AreBehindTargets (graph : Graph) (order : List ℕ) : Type 0 where
   pub nodes : (node : ℕ) → IsOneOf order node → node < length graph
-  pub behind : (before after : List ℕ) (node to : ℕ) → order ≡ before ++ node ∷ after → IsEdge graph node to → IsOneOf before to
-  pub once : (before after : List ℕ) (node : ℕ) → order ≡ before ++ node ∷ after → IsNoneOf before node
+  pub behind : (before after : List ℕ) (node to : ℕ)
+      → order ≡ before ++ node ∷ after
+      → IsEdge graph node to
+      → IsOneOf before to
+  pub once : (before after : List ℕ) (node : ℕ)
+      → order ≡ before ++ node ∷ after
+      → IsNoneOf before node
 
 -- the next in such an order: a node that is not there, with all its targets there
 pub record CanFollow (graph : Graph) (order : List ℕ) (node : ℕ) : Type 0 where
@@ -31,4 +37,6 @@ pub record CanFollow (graph : Graph) (order : List ℕ) (node : ℕ) : Type 0 wh
 
 -- a node that is not there has a target that is not
 abbrev pub CannotFollow : Graph → List ℕ → ℕ → Type 0
-CannotFollow graph order node = IsNoneOf order node → (to : ℕ) × IsEdge graph node to × IsNoneOf order to
+CannotFollow graph order node =
+    IsNoneOf order node
+    → (to : ℕ) × IsEdge graph node to × IsNoneOf order to

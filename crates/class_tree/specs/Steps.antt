@@ -28,7 +28,8 @@ supers header = with_super header.super_name header.interfaces where
 
 -- the superclass is there and is no final class
 abbrev pub IsExtensible : Headers → Header → Type 0
-IsExtensible headers header = IfSome header.super_name (λ name. IfSome (class_named headers name) (λ above. IsFalse (has above.flags FINAL)))
+IsExtensible headers header =
+    IfSome header.super_name (λ name. IfSome (class_named headers name) (λ above. IsFalse (has above.flags FINAL)))
 
 -- The superclass is no interface and each interface is one; the superclass of an interface is java/lang/Object; and
 -- java/lang/Object alone has none.
@@ -61,13 +62,18 @@ library_checks headers header =
     ∷ []
 
 abbrev pub hierarchy_checks : Headers → List (Check Problem)
-hierarchy_checks headers = asked_each (folder_checks headers) headers.folder ++ asked_each (library_checks headers) headers.library
+hierarchy_checks headers =
+    asked_each (folder_checks headers) headers.folder
+    ++ asked_each (library_checks headers) headers.library
 
 -- ---- what the machine needs of its library
 
 -- the member is a public instance initialiser with no parameters
 abbrev pub is_open_constructor : Member → Bool
-is_open_constructor member = is_member init (codes "()V") member && has member.flags PUBLIC && not (has member.flags STATIC)
+is_open_constructor member =
+    is_member init (codes "()V") member
+    && has member.flags PUBLIC
+    && not (has member.flags STATIC)
 
 -- the class declares such an initialiser, and no other
 pub record HasOneConstructor (header : Header) : Type 0 where

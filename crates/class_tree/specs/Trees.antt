@@ -49,8 +49,14 @@ pub record IsArranged (folder : List ClassFile) (library : List Header) (classes
 -- The first problem of classes in byte order of names: the first name that stands twice, or where no name does the first
 -- check that fails.
 pub data IsProblemOf (classes : Classes) : Problem → Type 0 where
-  duplicate : (name : Name) → 2 ≤ times name (headers_of classes) → ((other : Name) → IsBefore other name → times other (headers_of classes) ≤ 1) → IsProblemOf classes (of_class name Duplicate)
-  step : (problem : Problem) → IsInOrder (headers_of classes) → IsFirstFault (step_checks classes) problem → IsProblemOf classes problem
+  duplicate : (name : Name)
+      → 2 ≤ times name (headers_of classes)
+      → ((other : Name) → IsBefore other name → times other (headers_of classes) ≤ 1)
+      → IsProblemOf classes (of_class name Duplicate)
+  step : (problem : Problem)
+      → IsInOrder (headers_of classes)
+      → IsFirstFault (step_checks classes) problem
+      → IsProblemOf classes problem
 
 -- the first problem of a folder and its library, in any order
 pub record IsProblem (folder : List ClassFile) (library : List Header) (problem : Problem) : Type 0 where
@@ -61,5 +67,6 @@ pub record IsProblem (folder : List ClassFile) (library : List Header) (problem 
 -- what building a hierarchy answers
 abbrev pub IsTreeOf : List ClassFile → List Header → Result Classes LinkFault → Type 0
 IsTreeOf folder library (Ok classes) = IsArranged folder library classes × IsTree classes
-IsTreeOf folder library (Err (Unlinked class member rule)) = IsProblem folder library (record { class = class; member = member; rule = rule })
+IsTreeOf folder library (Err (Unlinked class member rule)) =
+    IsProblem folder library (record { class = class; member = member; rule = rule })
 IsTreeOf folder library (Err NoMemory) = Unit {0}

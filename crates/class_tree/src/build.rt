@@ -15,7 +15,7 @@ use crate::headers::Headers;
 use crate::hierarchy::check_hierarchy;
 use crate::interfaces::interface_lists;
 use crate::links::Links;
-use crate::members::{field_indexes, method_indexes};
+use crate::members::{MemberKind, member_indexes};
 use crate::order::topological;
 use crate::question::ask;
 use crate::super_places::super_places;
@@ -103,8 +103,8 @@ fn link_in_order(
     }
     let superclasses = super_places(alloc, headers, &graph)?;
     let interfaces = interface_lists(alloc, headers, &graph, order)?;
-    let fields = field_indexes(alloc, headers)?;
-    let methods = method_indexes(alloc, headers)?;
+    let fields = member_indexes(alloc, headers, MemberKind::Field)?;
+    let methods = member_indexes(alloc, headers, MemberKind::Method)?;
     Ok(Links {
         superclasses,
         interfaces,

@@ -24,8 +24,15 @@ pub fn a_tree_is_a_hierarchy(tree: &Tree)
 
 /// A folder and its library have at most one first problem, and where no name stands twice they are arranged in one way.
 pub fn a_folder_is_told_once()
-    ensures problem { (folder : List ClassFile) (library : List Header) (one other : Problem) → IsProblem folder library one → IsProblem folder library other → one ≡ other }
-    ensures arranged { (folder : List ClassFile) (library : List Header) (one other : Classes) → IsArranged folder library one → IsInOrder (headers_of one) → IsArranged folder library other → one ≡ other }
+    ensures problem { (folder : List ClassFile) (library : List Header) (one other : Problem)
+        → IsProblem folder library one
+        → IsProblem folder library other
+        → one ≡ other }
+    ensures arranged { (folder : List ClassFile) (library : List Header) (one other : Classes)
+        → IsArranged folder library one
+        → IsInOrder (headers_of one)
+        → IsArranged folder library other
+        → one ≡ other }
 {}
 
 /// In a hierarchy a test tells of any two types whether the one is a subtype of the other.

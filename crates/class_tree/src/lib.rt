@@ -32,6 +32,7 @@ pub use laws::{
     a_folder_is_told_once, a_hierarchy_decides_subtypes, a_tree_is_a_hierarchy,
     alike_classes_have_one_hierarchy, alike_classes_number_members_alike,
 };
+pub use members::{MemberKind, members_of};
 pub use names::{METHOD_HANDLE, METHOD_TYPE, OBJECT, THROWABLE, machine_throwables};
 pub use place::Place;
 pub use question::ask;

@@ -1,5 +1,9 @@
 //! What a hierarchy keeps beside its classes.
+ghost use Rattle.std.specs.Prelude.{◌≡◌};
+ghost use Rattle.class_tree.specs.Nodes.{indexes_of};
+
 use crate::lists::Lists;
+use crate::members::MemberKind;
 use crate::place::Place;
 
 /// By the number of each class: the place of its superclass; its superinterfaces, each once, in depth-first order; and
@@ -10,4 +14,16 @@ pub(crate) struct Links {
     pub interfaces: Lists<Place>,
     pub fields: Lists<usize>,
     pub methods: Lists<usize>,
+}
+
+impl Links {
+    /// The indexes of the fields or of the methods.
+    pub fn members(&self, kind: MemberKind) -> &Lists<usize>
+        ensures { result.now ≡ indexes_of kind self.now }
+    {
+        match kind {
+            MemberKind::Field => &self.fields,
+            MemberKind::Method => &self.methods,
+        }
+    }
 }

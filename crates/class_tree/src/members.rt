@@ -5,32 +5,42 @@ ghost use Rattle.std.specs.Ordering.{is_lt, nat_cmp};
 ghost use Rattle.class_tree.specs.MemberIndex.{IsMemberIndex, key_at};
 ghost use Rattle.class_tree.specs.Names.{is_member};
 ghost use Rattle.class_tree.specs.Nodes.{AreMemberIndexes};
-ghost use Rattle.class_tree.specs.Order.{member_place};
+ghost use Rattle.class_tree.specs.Order.{member_place, members_of};
 
 use crate::headers::Headers;
 use crate::lists::Lists;
-use class_model::{ListOf, Member, NoMemory};
+use class_model::{Header, ListOf, Member, NoMemory};
 use std::alloc::Global;
 use std::cmp::Ordering;
 
-/// The indexes of the fields of each class, by number.
-pub(crate) fn field_indexes(alloc: Global, headers: &Headers<'_>) -> Result<Lists<usize>, NoMemory>
-    ensures { IfOk result (λ indexes. AreMemberIndexes (λ header. header.fields) headers.now indexes) }
-{
-    let mut indexes = Lists::new(alloc, headers.len())?;
-    while let Some(header) = headers.get(indexes.len()) {
-        indexes.push(member_index(alloc, header.fields.as_slice())?.as_slice())?;
-    }
-    Ok(indexes)
+/// Which members of a class are meant.
+#[derive(Clone, Copy)]
+pub enum MemberKind {
+    Field,
+    Method,
 }
 
-/// The indexes of the methods of each class, by number.
-pub(crate) fn method_indexes(alloc: Global, headers: &Headers<'_>) -> Result<Lists<usize>, NoMemory>
-    ensures { IfOk result (λ indexes. AreMemberIndexes (λ header. header.methods) headers.now indexes) }
+/// The fields or the methods that a class declares.
+pub fn members_of(header: &Header, kind: MemberKind) -> &[Member]
+    ensures { result.now ≡ members_of kind header.now }
+{
+    match kind {
+        MemberKind::Field => header.fields.as_slice(),
+        MemberKind::Method => header.methods.as_slice(),
+    }
+}
+
+/// The indexes of the fields or the methods of each class, by number.
+pub(crate) fn member_indexes(
+    alloc: Global,
+    headers: &Headers<'_>,
+    kind: MemberKind,
+) -> Result<Lists<usize>, NoMemory>
+    ensures { IfOk result (λ indexes. AreMemberIndexes (members_of kind) headers.now indexes) }
 {
     let mut indexes = Lists::new(alloc, headers.len())?;
     while let Some(header) = headers.get(indexes.len()) {
-        indexes.push(member_index(alloc, header.methods.as_slice())?.as_slice())?;
+        indexes.push(member_index(alloc, members_of(header, kind))?.as_slice())?;
     }
     Ok(indexes)
 }

@@ -33,7 +33,9 @@ pub fn is_sub(tree: &Tree, low: &Text, high: &Text) -> bool
 /// The components of two arrays, as far as both have one.
 pub fn innermost<'a>(low: &'a [u8], high: &'a [u8]) -> (&'a [u8], &'a [u8])
     ensures taken { AreComponents low.now high.now result.0.now result.1.now }
-    ensures last { (low_component high_component : Name) → IsReferenceComponent result.0.now low_component → ¬ IsReferenceComponent result.1.now high_component }
+    ensures last { (low_component high_component : Name)
+        → IsReferenceComponent result.0.now low_component
+        → ¬ IsReferenceComponent result.1.now high_component }
 {
     let (mut low, mut high) = (low, high);
     while let (Some(low_component), Some(high_component)) = (component(low), component(high)) {
@@ -90,7 +92,11 @@ pub fn is_below(tree: &Tree, low: &[u8], high: &[u8]) -> bool
 fn has_interface(tree: &Tree, class: Place, interface: Place) -> bool
     requires tree { IsTree tree.now }
     requires class { IsSome (header_at (headers_of tree.now) class) }
-    ensures { (low high : Header) → header_at (headers_of tree.now) class ≡ Some low → header_at (headers_of tree.now) interface ≡ Some high → IsTrue (names.is_interface high) → IsTrue result ↔ IsBelow (headers_of tree.now) low.name high.name }
+    ensures { (low high : Header)
+        → header_at (headers_of tree.now) class ≡ Some low
+        → header_at (headers_of tree.now) interface ≡ Some high
+        → IsTrue (names.is_interface high)
+        → IsTrue result ↔ IsBelow (headers_of tree.now) low.name high.name }
 {
     tree.superinterfaces(class).contains(&interface)
 }
@@ -98,7 +104,11 @@ fn has_interface(tree: &Tree, class: Place, interface: Place) -> bool
 // Whether a class is above another that is no interface.
 fn has_superclass(tree: &Tree, class: Place, above: Place) -> bool
     requires { IsTree tree.now }
-    ensures { (low high : Header) → header_at (headers_of tree.now) class ≡ Some low → header_at (headers_of tree.now) above ≡ Some high → IsFalse (names.is_interface high) → IsTrue result ↔ IsBelow (headers_of tree.now) low.name high.name }
+    ensures { (low high : Header)
+        → header_at (headers_of tree.now) class ≡ Some low
+        → header_at (headers_of tree.now) above ≡ Some high
+        → IsFalse (names.is_interface high)
+        → IsTrue result ↔ IsBelow (headers_of tree.now) low.name high.name }
 {
     let mut next = tree.superclass(class);
     while let Some(place) = next {

@@ -5,13 +5,13 @@ ghost use Rattle.class_tree.specs.Headers.{Name, headers_of};
 ghost use Rattle.class_tree.specs.Interfaces.{AreSuperinterfaces};
 ghost use Rattle.class_tree.specs.Names as names;
 ghost use Rattle.class_tree.specs.Nodes.{place_at};
-ghost use Rattle.class_tree.specs.Order.{header_at, place_of, member_place};
+ghost use Rattle.class_tree.specs.Order.{header_at, place_of, member_place, members_of};
 ghost use Rattle.class_tree.specs.Trees.{IsTree};
 
 use crate::guesses::NameGuesses;
 use crate::headers::Headers;
 use crate::links::Links;
-use crate::members::find_member;
+use crate::members::{MemberKind, find_member, members_of};
 use crate::names::is_interface;
 use crate::place::Place;
 use class_model::{ClassFile, Header, ListOf, Text};
@@ -129,23 +129,24 @@ impl Tree {
     pub fn field(&self, place: Place, name: &Text, desc: &Text) -> Option<usize>
         ensures { result ≡ option_and_then (λ header. member_place name.now desc.now header.fields) (header_at (headers_of self.now) place) }
     {
-        let header = self.header(place)?;
-        find_member(
-            header.fields.as_slice(),
-            self.links.fields.get(self.number(place)),
-            name.bytes(),
-            desc.bytes(),
-        )
+        self.member(MemberKind::Field, place, name, desc)
     }
 
     /// The number of the first method of a name and descriptor that the class at a place declares, counted from 0.
     pub fn method(&self, place: Place, name: &Text, desc: &Text) -> Option<usize>
         ensures { result ≡ option_and_then (λ header. member_place name.now desc.now header.methods) (header_at (headers_of self.now) place) }
     {
+        self.member(MemberKind::Method, place, name, desc)
+    }
+
+    /// The number of the first field or method of a name and descriptor that the class at a place declares, counted from 0.
+    pub fn member(&self, kind: MemberKind, place: Place, name: &Text, desc: &Text) -> Option<usize>
+        ensures { result ≡ option_and_then (λ header. member_place name.now desc.now (members_of kind header)) (header_at (headers_of self.now) place) }
+    {
         let header = self.header(place)?;
         find_member(
-            header.methods.as_slice(),
-            self.links.methods.get(self.number(place)),
+            members_of(header, kind),
+            self.links.members(kind).get(self.number(place)),
             name.bytes(),
             desc.bytes(),
         )

@@ -2,6 +2,7 @@
 use Rattle.std.specs.Prelude.{ℕ, ◌-◌, ◌≤◌, ℤ, pos, ◌+ℤ◌, List, [], ◌∷◌, ◌++◌, length, FitsSigned}
 use Rattle.std.specs.Int.{w32}
 use Rattle.class_model.specs.Spelling.{u2, u4}
+use Rattle.class_model.specs.declared.opcodes.TheConstants.{WIDE}
 use Rattle.code_bytes.specs.Forms.{table_bytes, lookup_bytes}
 use Rattle.code_bytes.specs.Numbers.{FitsKeys}
 use Rattle.code_bytes.specs.declared.forms.Form.{Form}
@@ -15,8 +16,8 @@ form_bytes (U2 opcode a) = opcode ∷ u2 a
 form_bytes (U2U1 opcode a b) = opcode ∷ (u2 a ++ b ∷ [])
 form_bytes (U2U1Zero opcode a b) = opcode ∷ (u2 a ++ b ∷ 0 ∷ [])
 form_bytes (U4 opcode a) = opcode ∷ u4 a
-form_bytes (WideU2 opcode a) = 196 ∷ opcode ∷ u2 a
-form_bytes (WideU2U2 opcode a b) = 196 ∷ opcode ∷ (u2 a ++ u2 b)
+form_bytes (WideU2 opcode a) = WIDE ∷ opcode ∷ u2 a
+form_bytes (WideU2U2 opcode a b) = WIDE ∷ opcode ∷ (u2 a ++ u2 b)
 form_bytes (Table at low other to) = table_bytes at low other to.now
 form_bytes (Lookup at other pairs) = lookup_bytes at other pairs.now
 

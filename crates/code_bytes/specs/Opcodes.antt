@@ -5,6 +5,7 @@ use Rattle.class_model.specs.declared.instr.Imm.{Imm}
 use Rattle.class_model.specs.declared.instr.Imm.TheVariants as imms
 use Rattle.class_model.specs.declared.instr.Instr.{Instr}
 use Rattle.class_model.specs.declared.instr.Instr.TheVariants as instrs
+use Rattle.class_model.specs.declared.opcodes.TheConstants.{NOP, ACONST_NULL, ICONST_M1, ICONST_0, ICONST_5, LCONST_0, LCONST_1, FCONST_0, FCONST_1, FCONST_2, DCONST_0, DCONST_1, BIPUSH, SIPUSH, LDC, LDC_W, LDC2_W, ILOAD, ALOAD, ILOAD_0, ALOAD_3, IALOAD, SALOAD, ISTORE, ASTORE, ISTORE_0, ASTORE_3, IASTORE, SASTORE, POP, SWAP, IADD, LADD, ISUB, LSUB, IMUL, LMUL, IDIV, LDIV, IREM, LREM, INEG, LNEG, ISHL, LXOR, IINC, I2L, L2I, I2B, LCMP, DCMPG, IFEQ, IFLE, IF_ICMPEQ, IF_ICMPLE, IF_ACMPEQ, IF_ACMPNE, GOTO, TABLESWITCH, LOOKUPSWITCH, IRETURN, ARETURN, RETURN, GETSTATIC, PUTSTATIC, GETFIELD, PUTFIELD, INVOKEVIRTUAL, INVOKESTATIC, INVOKEINTERFACE, INVOKEDYNAMIC, NEW, NEWARRAY, ANEWARRAY, ARRAYLENGTH, ATHROW, CHECKCAST, INSTANCEOF, MONITORENTER, MONITOREXIT, WIDE, MULTIANEWARRAY, IFNULL, IFNONNULL, GOTO_W}
 use Rattle.code_bytes.specs.declared.layouts.Layout.{Layout}
 use Rattle.code_bytes.specs.declared.layouts.Layout.TheVariants as layouts
 
@@ -15,103 +16,125 @@ between low high opcode = nat_le low opcode && nat_le opcode high
 
 abbrev is_alone : ℕ → Bool
 is_alone o =
-    between 0 15 o || between 26 53 o || between 59 131 o || between 133 152 o || between 172 177 o || (o == 190) || (o == 191) || (o == 194) || (o == 195)
+    between NOP DCONST_1 o
+    || between ILOAD_0 SALOAD o
+    || between ISTORE_0 LXOR o
+    || between I2L DCMPG o
+    || between IRETURN RETURN o
+    || (o == ARRAYLENGTH)
+    || (o == ATHROW)
+    || (o == MONITORENTER)
+    || (o == MONITOREXIT)
 
 abbrev is_u1 : ℕ → Bool
-is_u1 o = (o == 18) || between 21 25 o || between 54 58 o
+is_u1 o = (o == LDC) || between ILOAD ALOAD o || between ISTORE ASTORE o
 
 abbrev is_u2 : ℕ → Bool
-is_u2 o = (o == 19) || (o == 20) || between 178 184 o || (o == 187) || (o == 189) || (o == 192) || (o == 193)
+is_u2 o =
+    (o == LDC_W)
+    || (o == LDC2_W)
+    || between GETSTATIC INVOKESTATIC o
+    || (o == NEW)
+    || (o == ANEWARRAY)
+    || (o == CHECKCAST)
+    || (o == INSTANCEOF)
 
 abbrev is_jump : ℕ → Bool
-is_jump o = between 153 167 o || (o == 198) || (o == 199)
+is_jump o = between IFEQ GOTO o || (o == IFNULL) || (o == IFNONNULL)
 
 unfoldable pub layout_of : ℕ → Option Layout
 layout_of o =
     if is_alone o then Some layouts.Alone
-    else (if o == 16 then Some layouts.S1
-    else (if o == 17 then Some layouts.S2
+    else (if o == BIPUSH then Some layouts.S1
+    else (if o == SIPUSH then Some layouts.S2
     else (if is_u1 o then Some layouts.U1
     else (if is_u2 o then Some layouts.U2
-    else (if o == 132 then Some layouts.U1S1
+    else (if o == IINC then Some layouts.U1S1
     else (if is_jump o then Some layouts.Jump2
-    else (if o == 170 then Some layouts.TableSwitch
-    else (if o == 171 then Some layouts.LookupSwitch
-    else (if o == 185 then Some layouts.U2U1Zero
-    else (if o == 186 then Some layouts.U2ZeroZero
-    else (if o == 188 then Some layouts.ArrayCode
-    else (if o == 196 then Some layouts.Wide
-    else (if o == 197 then Some layouts.Dimensions
-    else (if o == 200 then Some layouts.Jump4
+    else (if o == TABLESWITCH then Some layouts.TableSwitch
+    else (if o == LOOKUPSWITCH then Some layouts.LookupSwitch
+    else (if o == INVOKEINTERFACE then Some layouts.U2U1Zero
+    else (if o == INVOKEDYNAMIC then Some layouts.U2ZeroZero
+    else (if o == NEWARRAY then Some layouts.ArrayCode
+    else (if o == WIDE then Some layouts.Wide
+    else (if o == MULTIANEWARRAY then Some layouts.Dimensions
+    else (if o == GOTO_W then Some layouts.Jump4
     else None))))))))))))))
 
 -- ---- the instruction of an opcode and of what stands behind it
 
 abbrev pub constant_of : ℕ → Imm
 constant_of o =
-    if o == 1 then imms.Null
-    else (if o == 2 then imms.Int (negsuc 0)
-    else (if between 3 8 o then imms.Int (pos (o - 3))
-    else (if between 9 10 o then imms.Long (pos (o - 9))
-    else (if o == 11 then imms.Float 0
-    else (if o == 12 then imms.Float 0x3F800000
-    else (if o == 13 then imms.Float 0x40000000
-    else (if o == 14 then imms.Double 0
+    if o == ACONST_NULL then imms.Null
+    else (if o == ICONST_M1 then imms.Int (negsuc 0)
+    else (if between ICONST_0 ICONST_5 o then imms.Int (pos (o - ICONST_0))
+    else (if between LCONST_0 LCONST_1 o then imms.Long (pos (o - LCONST_0))
+    else (if o == FCONST_0 then imms.Float 0
+    else (if o == FCONST_1 then imms.Float 0x3F800000
+    else (if o == FCONST_2 then imms.Float 0x40000000
+    else (if o == DCONST_0 then imms.Double 0
     else imms.Double 0x3FF0000000000000)))))))
 
 abbrev is_divide : ℕ → Bool
-is_divide o = between 108 109 o || between 112 113 o
+is_divide o = between IDIV LDIV o || between IREM LREM o
 
 abbrev is_pure : ℕ → Bool
 is_pure o =
-    between 96 97 o || between 100 101 o || between 104 105 o || between 116 117 o || between 120 131 o || (o == 133) || (o == 136) || between 145 148 o
+    between IADD LADD o
+    || between ISUB LSUB o
+    || between IMUL LMUL o
+    || between INEG LNEG o
+    || between ISHL LXOR o
+    || (o == I2L)
+    || (o == L2I)
+    || between I2B LCMP o
 
 abbrev pub arithmetic_of : ℕ → Instr
 arithmetic_of o = if is_divide o then instrs.Divide o else (if is_pure o then instrs.Pure o else instrs.FloatAsk o)
 
 abbrev pub alone_of : ℕ → Instr
 alone_of o =
-    if o == 0 then instrs.Nop
-    else (if between 1 15 o then instrs.Const (constant_of o)
-    else (if between 26 45 o then instrs.Load (kind_at ((o - 26) / 4)) ((o - 26) % 4)
-    else (if between 46 53 o then instrs.ArrayLoad o
-    else (if between 59 78 o then instrs.Store (kind_at ((o - 59) / 4)) ((o - 59) % 4)
-    else (if between 79 86 o then instrs.ArrayStore o
-    else (if between 87 95 o then instrs.Shuffle o
-    else (if between 96 152 o then arithmetic_of o
-    else (if between 172 176 o then instrs.Return (Some (kind_at (o - 172)))
-    else (if o == 177 then instrs.Return None
-    else (if o == 190 then instrs.Length
-    else (if o == 191 then instrs.Throw
-    else (if o == 194 then instrs.Enter
+    if o == NOP then instrs.Nop
+    else (if between ACONST_NULL DCONST_1 o then instrs.Const (constant_of o)
+    else (if between ILOAD_0 ALOAD_3 o then instrs.Load (kind_at ((o - ILOAD_0) / 4)) ((o - ILOAD_0) % 4)
+    else (if between IALOAD SALOAD o then instrs.ArrayLoad o
+    else (if between ISTORE_0 ASTORE_3 o then instrs.Store (kind_at ((o - ISTORE_0) / 4)) ((o - ISTORE_0) % 4)
+    else (if between IASTORE SASTORE o then instrs.ArrayStore o
+    else (if between POP SWAP o then instrs.Shuffle o
+    else (if between IADD DCMPG o then arithmetic_of o
+    else (if between IRETURN ARETURN o then instrs.Return (Some (kind_at (o - IRETURN)))
+    else (if o == RETURN then instrs.Return None
+    else (if o == ARRAYLENGTH then instrs.Length
+    else (if o == ATHROW then instrs.Throw
+    else (if o == MONITORENTER then instrs.Enter
     else instrs.Leave))))))))))))
 
 abbrev pub u1_of : ℕ → ℕ → Instr
 u1_of o number =
-    if between 21 25 o then instrs.Load (kind_at (o - 21)) number
-    else (if between 54 58 o then instrs.Store (kind_at (o - 54)) number
+    if between ILOAD ALOAD o then instrs.Load (kind_at (o - ILOAD)) number
+    else (if between ISTORE ASTORE o then instrs.Store (kind_at (o - ISTORE)) number
     else instrs.Ldc number)
 
 abbrev pub u2_of : ℕ → ℕ → Instr
 u2_of o number =
-    if o == 19 then instrs.Ldc number
-    else (if o == 20 then instrs.Ldc2 number
-    else (if o == 178 then instrs.GetStatic number
-    else (if o == 179 then instrs.PutStatic number
-    else (if o == 180 then instrs.GetField number
-    else (if o == 181 then instrs.PutField number
-    else (if between 182 184 o then instrs.Invoke o number 0
-    else (if o == 187 then instrs.New number
-    else (if o == 189 then instrs.NewRefArray number
-    else (if o == 192 then instrs.Cast number
+    if o == LDC_W then instrs.Ldc number
+    else (if o == LDC2_W then instrs.Ldc2 number
+    else (if o == GETSTATIC then instrs.GetStatic number
+    else (if o == PUTSTATIC then instrs.PutStatic number
+    else (if o == GETFIELD then instrs.GetField number
+    else (if o == PUTFIELD then instrs.PutField number
+    else (if between INVOKEVIRTUAL INVOKESTATIC o then instrs.Invoke o number 0
+    else (if o == NEW then instrs.New number
+    else (if o == ANEWARRAY then instrs.NewRefArray number
+    else (if o == CHECKCAST then instrs.Cast number
     else instrs.InstanceOf number)))))))))
 
 abbrev pub jump_of : ℕ → ℕ → Instr
 jump_of o to =
-    if between 153 158 o then instrs.If o to
-    else (if between 159 164 o then instrs.If2 o to
-    else (if between 165 166 o then instrs.IfSame o to
-    else (if o == 167 then instrs.Goto to
+    if between IFEQ IFLE o then instrs.If o to
+    else (if between IF_ICMPEQ IF_ICMPLE o then instrs.If2 o to
+    else (if between IF_ACMPEQ IF_ACMPNE o then instrs.IfSame o to
+    else (if o == GOTO then instrs.Goto to
     else instrs.IfNull o to)))
 
 -- the operands that stand behind an opcode of a layout

@@ -8,7 +8,7 @@ ghost use Rattle.code_bytes.specs.FormBytes.{form_bytes, FitsCount, HasKeys};
 ghost use Rattle.code_bytes.specs.Numbers.{HasNumbers};
 
 use crate::forms::{Form, offset};
-use crate::opcodes::{
+use class_model::opcodes::{
     ACONST_NULL, ANEWARRAY, ARRAYLENGTH, ATHROW, BIPUSH, CHECKCAST, DCONST_0, DCONST_1, FCONST_0,
     FCONST_1, FCONST_2, GETFIELD, GETSTATIC, GOTO, GOTO_W, IINC, ILOAD, ILOAD_0, INSTANCEOF,
     INVOKEDYNAMIC, INVOKEINTERFACE, IRETURN, ISTORE, ISTORE_0, LCONST_0, LDC, LDC_W, LDC2_W,

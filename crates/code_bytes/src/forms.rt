@@ -7,7 +7,7 @@ ghost use Rattle.code_bytes.specs.Forms.{offset_of, target_bytes, pair_bytes, ta
 ghost use Rattle.code_bytes.specs.Numbers.{FitsKeys};
 ghost use Rattle.code_bytes.specs.FormBytes.{FitsTable, FitsCount, HasKeys, form_bytes};
 
-use crate::opcodes::{LOOKUPSWITCH, TABLESWITCH, WIDE};
+use class_model::opcodes::{LOOKUPSWITCH, TABLESWITCH, WIDE};
 use class_model::{NoMemory, Pair};
 
 /// An opcode and its operands, which are big-endian: numbers of one (U1), two (U2) or four bytes (U4).

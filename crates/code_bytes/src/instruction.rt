@@ -8,6 +8,7 @@ ghost use Rattle.class_model.specs.declared.instr.Instr.TheVariants.{NewArray as
 use crate::layouts::{Layout, alone, layout_of, with_target, with_u1, with_u2};
 use crate::source::Source;
 use crate::switches::{lookup_switch, table_switch};
+use class_model::opcodes::{ALOAD, ASTORE, IINC, ILOAD, ISTORE};
 use class_model::{ClassFault, Imm, Instr};
 use std::alloc::Global;
 
@@ -114,8 +115,8 @@ fn wide(source: &Source) -> Result<Form, ClassFault>
 {
     let opcode = source.u1(1)?;
     match opcode {
-        21..=25 | 54..=58 => Ok((with_u1(opcode, source.u2(2)?), 4)),
-        132 => Ok((Instr::Iinc(source.u2(2)?, source.s2(4)?), 6)),
+        ILOAD..=ALOAD | ISTORE..=ASTORE => Ok((with_u1(opcode, source.u2(2)?), 4)),
+        IINC => Ok((Instr::Iinc(source.u2(2)?, source.s2(4)?), 6)),
         _ => Err(source.bad_opcode()),
     }
 }

@@ -3,6 +3,17 @@ ghost use Rattle.std.specs.Prelude.{◌≡◌, ◌<◌, ◌≤◌};
 ghost use Rattle.class_model.specs.Instructions.{kind_at};
 ghost use Rattle.code_bytes.specs.Opcodes.{layout_of, constant_of, arithmetic_of, alone_of, u1_of, u2_of, jump_of};
 
+use class_model::opcodes::{
+    ACONST_NULL, ALOAD, ALOAD_3, ANEWARRAY, ARETURN, ARRAYLENGTH, ASTORE, ASTORE_3, ATHROW, BIPUSH,
+    CHECKCAST, DCMPG, DCONST_0, DCONST_1, FCONST_0, FCONST_1, FCONST_2, GETFIELD, GETSTATIC, GOTO,
+    GOTO_W, I2B, I2L, IADD, IALOAD, IASTORE, ICONST_0, ICONST_5, ICONST_M1, IDIV, IF_ACMPEQ,
+    IF_ACMPNE, IF_ICMPEQ, IF_ICMPLE, IFEQ, IFLE, IFNONNULL, IFNULL, IINC, ILOAD, ILOAD_0, IMUL,
+    INEG, INSTANCEOF, INVOKEDYNAMIC, INVOKEINTERFACE, INVOKESTATIC, INVOKEVIRTUAL, IREM, IRETURN,
+    ISHL, ISTORE, ISTORE_0, ISUB, L2I, LADD, LCMP, LCONST_0, LCONST_1, LDC, LDC_W, LDC2_W, LDIV,
+    LMUL, LNEG, LOOKUPSWITCH, LREM, LSUB, LXOR, MONITORENTER, MONITOREXIT, MULTIANEWARRAY, NEW,
+    NEWARRAY, NOP, POP, PUTFIELD, PUTSTATIC, RETURN, SALOAD, SASTORE, SIPUSH, SWAP, TABLESWITCH,
+    WIDE,
+};
 use class_model::{Imm, Instr, Kind};
 
 /// What stands behind an opcode: numbers of one, two or four bytes, unsigned (U) or signed (S), jump offsets,
@@ -36,23 +47,30 @@ pub(crate) fn layout_of(opcode: u8) -> Option<Layout>
     ensures { result ≡ layout_of opcode }
 {
     let layout = match opcode {
-        0..=15 | 26..=53 | 59..=131 | 133..=152 | 172..=177 | 190 | 191 | 194 | 195 => {
-            Layout::Alone
-        }
-        16 => Layout::S1,
-        17 => Layout::S2,
-        18 | 21..=25 | 54..=58 => Layout::U1,
-        19 | 20 | 178..=184 | 187 | 189 | 192 | 193 => Layout::U2,
-        132 => Layout::U1S1,
-        153..=167 | 198 | 199 => Layout::Jump2,
-        170 => Layout::TableSwitch,
-        171 => Layout::LookupSwitch,
-        185 => Layout::U2U1Zero,
-        186 => Layout::U2ZeroZero,
-        188 => Layout::ArrayCode,
-        196 => Layout::Wide,
-        197 => Layout::Dimensions,
-        200 => Layout::Jump4,
+        NOP..=DCONST_1
+        | ILOAD_0..=SALOAD
+        | ISTORE_0..=LXOR
+        | I2L..=DCMPG
+        | IRETURN..=RETURN
+        | ARRAYLENGTH
+        | ATHROW
+        | MONITORENTER
+        | MONITOREXIT => Layout::Alone,
+        BIPUSH => Layout::S1,
+        SIPUSH => Layout::S2,
+        LDC | ILOAD..=ALOAD | ISTORE..=ASTORE => Layout::U1,
+        LDC_W | LDC2_W | GETSTATIC..=INVOKESTATIC | NEW | ANEWARRAY | CHECKCAST | INSTANCEOF =>
+            Layout::U2,
+        IINC => Layout::U1S1,
+        IFEQ..=GOTO | IFNULL | IFNONNULL => Layout::Jump2,
+        TABLESWITCH => Layout::TableSwitch,
+        LOOKUPSWITCH => Layout::LookupSwitch,
+        INVOKEINTERFACE => Layout::U2U1Zero,
+        INVOKEDYNAMIC => Layout::U2ZeroZero,
+        NEWARRAY => Layout::ArrayCode,
+        WIDE => Layout::Wide,
+        MULTIANEWARRAY => Layout::Dimensions,
+        GOTO_W => Layout::Jump4,
         _ => return None,
     };
     Some(layout)
@@ -63,35 +81,41 @@ pub(crate) fn alone(opcode: u8) -> Instr
     ensures { result ≡ alone_of opcode }
 {
     match opcode {
-        0 => Instr::Nop,
-        1..=15 => Instr::Const(constant(opcode)),
-        26..=45 => Instr::Load(kind((opcode - 26) / 4), u16::from((opcode - 26) % 4)),
-        46..=53 => Instr::ArrayLoad(opcode),
-        59..=78 => Instr::Store(kind((opcode - 59) / 4), u16::from((opcode - 59) % 4)),
-        79..=86 => Instr::ArrayStore(opcode),
-        87..=95 => Instr::Shuffle(opcode),
-        96..=152 => arithmetic(opcode),
-        172..=176 => Instr::Return(Some(kind(opcode - 172))),
-        177 => Instr::Return(None),
-        190 => Instr::Length,
-        191 => Instr::Throw,
-        194 => Instr::Enter,
+        NOP => Instr::Nop,
+        ACONST_NULL..=DCONST_1 => Instr::Const(constant(opcode)),
+        ILOAD_0..=ALOAD_3 => Instr::Load(
+            kind((opcode - ILOAD_0) / 4),
+            u16::from((opcode - ILOAD_0) % 4),
+        ),
+        IALOAD..=SALOAD => Instr::ArrayLoad(opcode),
+        ISTORE_0..=ASTORE_3 => Instr::Store(
+            kind((opcode - ISTORE_0) / 4),
+            u16::from((opcode - ISTORE_0) % 4),
+        ),
+        IASTORE..=SASTORE => Instr::ArrayStore(opcode),
+        POP..=SWAP => Instr::Shuffle(opcode),
+        IADD..=DCMPG => arithmetic(opcode),
+        IRETURN..=ARETURN => Instr::Return(Some(kind(opcode - IRETURN))),
+        RETURN => Instr::Return(None),
+        ARRAYLENGTH => Instr::Length,
+        ATHROW => Instr::Throw,
+        MONITORENTER => Instr::Enter,
         _ => Instr::Leave,
     }
 }
 
-// What the opcodes 1 to 15 push: of floats and doubles the bits of 0, 1 and 2.
+// What the opcodes from aconst_null to dconst_1 push: of floats and doubles the bits of 0, 1 and 2.
 fn constant(opcode: u8) -> Imm
     ensures { result ≡ constant_of opcode }
 {
     match opcode {
-        1 => Imm::Null,
-        2..=8 => Imm::Int(i32::from(opcode) - 3),
-        9 | 10 => Imm::Long(i64::from(opcode) - 9),
-        11 => Imm::Float(0),
-        12 => Imm::Float(0x3F80_0000),
-        13 => Imm::Float(0x4000_0000),
-        14 => Imm::Double(0),
+        ACONST_NULL => Imm::Null,
+        ICONST_M1..=ICONST_5 => Imm::Int(i32::from(opcode) - i32::from(ICONST_0)),
+        LCONST_0 | LCONST_1 => Imm::Long(i64::from(opcode) - i64::from(LCONST_0)),
+        FCONST_0 => Imm::Float(0),
+        FCONST_1 => Imm::Float(0x3F80_0000),
+        FCONST_2 => Imm::Float(0x4000_0000),
+        DCONST_0 => Imm::Double(0),
         _ => Imm::Double(0x3FF0_0000_0000_0000),
     }
 }
@@ -101,10 +125,19 @@ fn arithmetic(opcode: u8) -> Instr
     ensures { result ≡ arithmetic_of opcode }
 {
     match opcode {
-        108 | 109 | 112 | 113 => Instr::Divide(opcode),
-        96 | 97 | 100 | 101 | 104 | 105 | 116 | 117 | 120..=131 | 133 | 136 | 145..=148 => {
-            Instr::Pure(opcode)
-        }
+        IDIV | LDIV | IREM | LREM => Instr::Divide(opcode),
+        IADD
+        | LADD
+        | ISUB
+        | LSUB
+        | IMUL
+        | LMUL
+        | INEG
+        | LNEG
+        | ISHL..=LXOR
+        | I2L
+        | L2I
+        | I2B..=LCMP => Instr::Pure(opcode),
         _ => Instr::FloatAsk(opcode),
     }
 }
@@ -114,8 +147,8 @@ pub(crate) fn with_u1(opcode: u8, number: u16) -> Instr
     ensures { result ≡ u1_of opcode number }
 {
     match opcode {
-        21..=25 => Instr::Load(kind(opcode - 21), number),
-        54..=58 => Instr::Store(kind(opcode - 54), number),
+        ILOAD..=ALOAD => Instr::Load(kind(opcode - ILOAD), number),
+        ISTORE..=ASTORE => Instr::Store(kind(opcode - ISTORE), number),
         _ => Instr::Ldc(number),
     }
 }
@@ -125,16 +158,16 @@ pub(crate) fn with_u2(opcode: u8, number: u16) -> Instr
     ensures { result ≡ u2_of opcode number }
 {
     match opcode {
-        19 => Instr::Ldc(number),
-        20 => Instr::Ldc2(number),
-        178 => Instr::GetStatic(number),
-        179 => Instr::PutStatic(number),
-        180 => Instr::GetField(number),
-        181 => Instr::PutField(number),
-        182..=184 => Instr::Invoke(opcode, number, 0),
-        187 => Instr::New(number),
-        189 => Instr::NewRefArray(number),
-        192 => Instr::Cast(number),
+        LDC_W => Instr::Ldc(number),
+        LDC2_W => Instr::Ldc2(number),
+        GETSTATIC => Instr::GetStatic(number),
+        PUTSTATIC => Instr::PutStatic(number),
+        GETFIELD => Instr::GetField(number),
+        PUTFIELD => Instr::PutField(number),
+        INVOKEVIRTUAL..=INVOKESTATIC => Instr::Invoke(opcode, number, 0),
+        NEW => Instr::New(number),
+        ANEWARRAY => Instr::NewRefArray(number),
+        CHECKCAST => Instr::Cast(number),
         _ => Instr::InstanceOf(number),
     }
 }
@@ -144,10 +177,10 @@ pub(crate) fn with_target(opcode: u8, to: u32) -> Instr
     ensures { result ≡ jump_of opcode to }
 {
     match opcode {
-        153..=158 => Instr::If(opcode, to),
-        159..=164 => Instr::If2(opcode, to),
-        165 | 166 => Instr::IfSame(opcode, to),
-        167 => Instr::Goto(to),
+        IFEQ..=IFLE => Instr::If(opcode, to),
+        IF_ICMPEQ..=IF_ICMPLE => Instr::If2(opcode, to),
+        IF_ACMPEQ | IF_ACMPNE => Instr::IfSame(opcode, to),
+        GOTO => Instr::Goto(to),
         _ => Instr::IfNull(opcode, to),
     }
 }

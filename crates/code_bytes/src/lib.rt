@@ -13,7 +13,6 @@ mod jumps;
 mod laws;
 mod layouts;
 mod offset_index;
-mod opcodes;
 mod source;
 mod spelling_laws;
 mod starts;

@@ -5,7 +5,7 @@ use crate::setting::Setting;
 use crate::statuses::{call_of, status_of, text_of};
 use crate::texts::{root_and_name, shown};
 use crate::vanishing::Vanishing;
-use case_files::word_and_rest;
+use class_notation::word_and_rest;
 use host_tree::MemoryHost;
 use pea_top::pea;
 use std::alloc::Global;

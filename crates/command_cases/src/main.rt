@@ -43,7 +43,7 @@ mod texts;
 mod vanishing;
 
 use answers::answer;
-use case_files::lines_of;
+use class_notation::{lines_of, print_difference, question_of};
 use setting::Setting;
 use std::process::ExitCode;
 use std::{env, fs};
@@ -77,7 +77,12 @@ fn compare_file(rt: &HostRuntime, setting: &mut Setting, name: &str) -> Option<(
         let place = format!(in rt.alloc(); "{name}:{}", line.number).ok()?;
         for statement in line.text.split(" ; ") {
             if is_case(rt, setting, &place, statement)? {
-                compare_case(rt, setting, &place, statement)?;
+                let came = question_of(statement).and_then(|question| answer(
+                    rt.alloc(),
+                    setting,
+                    question,
+                ));
+                print_difference(rt, &place, statement, came)?;
                 count = count.wrapping_add(1);
             }
         }
@@ -93,17 +98,5 @@ fn is_case(rt: &HostRuntime, setting: &mut Setting, place: &str, statement: &str
             println!(rt; "{place}: no setting: {statement}").ok()?;
             Some(false)
         }
-    }
-}
-
-// Asks a case, and prints it with its place where it is answered otherwise.
-fn compare_case(rt: &HostRuntime, setting: &mut Setting, place: &str, case: &str) -> Option<()> {
-    let Some((question, wanted)) = case.split_once(" => ") else {
-        return println!(rt; "{place}: no case: {case}").ok();
-    };
-    match answer(rt.alloc(), setting, question) {
-        Some(told) if told.as_str() == wanted => Some(()),
-        Some(told) => println!(rt; "{place}: {told}, not {wanted}: {question}").ok(),
-        None => println!(rt; "{place}: no answer: {question}").ok(),
     }
 }

@@ -2,8 +2,8 @@
 use crate::base_library::put_first;
 use crate::contents::Contents;
 use crate::texts::root_and_name;
-use case_files::word_and_rest;
 use class_model::ListOf;
+use class_notation::word_and_rest;
 use host_tree::MemoryHost;
 use std::alloc::Global;
 

@@ -21,6 +21,7 @@ use Rattle.class_model.specs.declared.header.Member.{Member}
 use Rattle.class_model.specs.declared.instr.Instr.{Instr}
 use Rattle.class_model.specs.declared.instr.Instr.TheVariants.{Load, Invoke, Return}
 use Rattle.class_model.specs.declared.instr.Placed.{Placed}
+use Rattle.class_model.specs.declared.opcodes.TheConstants.{INVOKESPECIAL}
 use Rattle.class_model.specs.declared.pool.Const.TheVariants.{Methodref}
 use Rattle.class_tree.specs.Headers.{Name}
 use Rattle.class_tree.specs.Names.{object, cloneable, serializable, throwable, method_handle, method_type, machine_throwables}
@@ -95,7 +96,7 @@ returns = placed 0 1 (Return None) ∷ []
 
 -- aload_0, invokespecial, return
 abbrev calls : ℕ → List Placed
-calls constant = placed 0 1 (Load Ref 0) ∷ placed 1 3 (Invoke 183 constant 0) ∷ placed 4 1 (Return None) ∷ []
+calls constant = placed 0 1 (Load Ref 0) ∷ placed 1 3 (Invoke INVOKESPECIAL constant 0) ∷ placed 4 1 (Return None) ∷ []
 
 -- the constant is the constructor without parameters of this class
 pub record NamesConstructor (pool : Constants) (constant : ℕ) (name : Name) : Type 0 where

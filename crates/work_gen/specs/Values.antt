@@ -8,6 +8,7 @@ use Rattle.class_model.specs.declared.class_file.Attr.TheVariants.{Code}
 use Rattle.class_model.specs.declared.class_file.ClassFile.{ClassFile}
 use Rattle.class_model.specs.declared.class_file.CodePart.{CodePart}
 use Rattle.class_model.specs.declared.class_file.Method.{Method}
+use Rattle.class_model.specs.declared.opcodes.TheConstants.{ALOAD_0, RETURN, INVOKESPECIAL}
 use Rattle.class_model.specs.declared.pool.Const.TheVariants.{Utf8, Class, NameAndType, Methodref}
 use Rattle.class_tree.specs.Headers.{Name}
 use Rattle.class_tree.specs.Names.{object, cloneable, serializable, throwable, method_handle, method_type, machine_throwables}
@@ -53,7 +54,7 @@ thrown_pool super_name name =
 
 -- aload_0, invokespecial, return
 abbrev pub thrown_code : CodePart
-thrown_code = code_of 1 (42 ∷ 183 ∷ 0 ∷ 9 ∷ 177 ∷ [])
+thrown_code = code_of 1 (ALOAD_0 ∷ INVOKESPECIAL ∷ 0 ∷ 9 ∷ RETURN ∷ [])
 
 -- a throwable
 abbrev pub thrown : Name → Name → ClassFile
@@ -69,7 +70,7 @@ root_pool =
 
 -- return
 abbrev pub root_code : CodePart
-root_code = code_of 0 (177 ∷ [])
+root_code = code_of 0 (RETURN ∷ [])
 
 abbrev pub root_methods : List Method
 root_methods = method 0x0001 3 4 (Code 5 root_code ∷ []) ∷ method 0x0104 6 7 [] ∷ method 0x0104 8 4 [] ∷ []

@@ -4,6 +4,7 @@ ghost use Rattle.class_model.specs.ModifiedUtf8.{IsText};
 ghost use Rattle.work_gen.specs.Values as values;
 
 use crate::parts::{class_of, code_of, constructor, native, push_class, push_text};
+use class_model::opcodes::{ALOAD_0, INVOKESPECIAL, RETURN};
 use class_model::{
     ACC_NATIVE, ACC_PROTECTED, ACC_PUBLIC, ACC_STATIC, ACC_SUPER, ClassFile, Const, INIT, ListOf,
     NoMemory, Pool,
@@ -14,12 +15,6 @@ use std::alloc::Global;
 const NO_PARAMETERS: &[u8] = b"()V";
 
 const CODE: &[u8] = b"Code";
-
-const ALOAD_0: u8 = 42;
-
-const RETURN: u8 = 177;
-
-const INVOKESPECIAL: u8 = 183;
 
 // The index of the superclass, behind the class itself.
 const SUPER: u16 = 4;

@@ -3,10 +3,13 @@ use Rattle.std.proofs.lemmas.Bool.{true≢false}
 use Rattle.std.proofs.lemmas.Result.{err_from_is_err_and}
 use Rattle.class_tree.specs.Graphs.{IsWithin}
 use Rattle.class_tree.specs.Headers.{all_headers}
-use Rattle.class_tree.specs.Nodes.{super_place, AreInterfaceLists, AreMemberIndexes}
+use Rattle.class_tree.specs.Nodes.{super_place, indexes_of, AreInterfaceLists, AreMemberIndexes}
+use Rattle.class_tree.specs.Order.{members_of}
 use Rattle.class_tree.specs.Trees.{IsInOrder}
+use Rattle.class_tree.specs.declared.links.Links.{Links}
 use Rattle.class_tree.proofs.BuiltSteps.{same_headers, hierarchy_refused, base_refused, steps_hold, classes_are_placed}
 use Rattle.class_tree.proofs.GraphPaths.{graph_is_within}
+use Rattle.class_tree.proofs.MemberIndexes.{both}
 use Rattle.class_tree.proofs.build.link_in_order.Goals as goal
 use Rattle.class_tree.proofs.build.link_in_order.Goals.{then-not-is_empty+in_ok-check_base, else-not-is_empty}
 
@@ -32,6 +35,12 @@ interface_lists-requires-clause-all c =
 pub returns : goal.returns
 returns c =
     let same = same_headers c.args.folder.now c.args.headers.now c.requires.headers in
+    let links : Links = record {
+      superclasses = c.in_ok-superclasses.superclasses;
+      interfaces = c.in_ok-interfaces.interfaces;
+      fields = c.in_ok-fields.fields;
+      methods = c.in_ok-methods.methods;
+    } in
     record {
       tree = record {
         folder = c.requires.folder;
@@ -45,6 +54,5 @@ returns c =
       headers = c.requires.headers;
       superclasses = subst (λ headers. c.in_ok-superclasses.superclasses.items ≡ map (super_place headers) (all_headers headers)) same c.in_ok-superclasses.ensures;
       interfaces = subst (λ headers. AreInterfaceLists headers c.in_ok-interfaces.interfaces) same c.in_ok-interfaces.ensures;
-      fields = subst (λ headers. AreMemberIndexes (λ header. header.fields) headers c.in_ok-fields.fields) same c.in_ok-fields.ensures;
-      methods = subst (λ headers. AreMemberIndexes (λ header. header.methods) headers c.in_ok-methods.methods) same c.in_ok-methods.ensures;
+      members = λ kind. subst (λ headers. AreMemberIndexes (members_of kind) headers (indexes_of kind links)) same (both c.args.headers.now links c.in_ok-fields.ensures c.in_ok-methods.ensures kind);
     }

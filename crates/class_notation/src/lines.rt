@@ -1,6 +1,4 @@
-//! Files of cases, which programs ask: their lines, and the words of these.
-#![tactic(auto)]
-
+//! The lines of files of cases, which programs ask, and the words of these.
 use std::alloc::Global;
 
 /// A line with those that go on with it, and the number of the first, from 1.
