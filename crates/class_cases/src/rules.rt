@@ -2,7 +2,7 @@
 ghost use Rattle.std.specs.Prelude.{◌≡◌, Some};
 ghost use Rattle.member_link.specs.Linked.{IsLinked};
 ghost use Rattle.type_rules.specs.Rule.{FitsPool};
-ghost use Rattle.type_rules.specs.Scope.{scope_at};
+ghost use Rattle.member_link.specs.Scope.{scope_at};
 
 use crate::frame_text::{frame_of, text_of, type_of};
 use crate::setting::Setting;

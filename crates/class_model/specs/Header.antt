@@ -64,10 +64,10 @@ header_checks c =
 -- ---- what is kept
 
 -- a field, and a method, by its name and descriptor
-abbrev field_member : Constants → Field → Member
+abbrev pub field_member : Constants → Field → Member
 field_member pool field = record { flags = field.flags; name = text_or_empty (utf8_at pool field.name); desc = text_or_empty (utf8_at pool field.desc) }
 
-abbrev method_member : Constants → Method → Member
+abbrev pub method_member : Constants → Method → Member
 method_member pool method = record { flags = method.flags; name = text_or_empty (utf8_at pool method.name); desc = text_or_empty (utf8_at pool method.desc) }
 
 -- the header of a class file

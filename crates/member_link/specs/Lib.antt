@@ -35,3 +35,5 @@ pub mod RowScope
 pub mod Rows
 pub mod BodyTyping
 pub mod BodyParts
+pub mod Scope
+pub mod Machine

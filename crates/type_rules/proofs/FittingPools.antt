@@ -11,7 +11,7 @@ use Rattle.class_model.specs.declared.instr.Instr.TheVariants.{Nop, Const, Ldc, 
 use Rattle.class_model.specs.declared.instr.Placed.{Placed}
 use Rattle.code_bytes.specs.Codes.{HaveOperands}
 use Rattle.type_rules.specs.Rule.{FitsPool, NamesMethod}
-use Rattle.type_rules.specs.Scope.{Scope, instructions}
+use Rattle.member_link.specs.Scope.{Scope, instructions}
 
 -- the count of an invokeinterface is asked apart from the kind
 names_method : (pool : Constants) (major opcode method count : ℕ) → IsCalled pool major opcode method count → NamesMethod pool major opcode method

@@ -1,6 +1,6 @@
 -- The method with code that a scope speaks of.
 use Rattle.member_link.specs.CodedMethods.{CodedMethod}
-use Rattle.type_rules.specs.Scope.{Scope}
+use Rattle.member_link.specs.Scope.{Scope}
 
 abbrev pub coded_of : Scope → CodedMethod
 coded_of s = record { class = s.class; method = s.method; part = s.part }

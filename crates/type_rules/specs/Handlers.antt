@@ -7,7 +7,7 @@ use Rattle.class_tree.specs.Headers.{Name}
 use Rattle.class_tree.specs.Names.{throwable}
 use Rattle.member_link.specs.Bodies.{BodyCatch, BodyCaught, catch_frame}
 use Rattle.member_link.specs.BodyTyping.{IsThrowable}
-use Rattle.type_rules.specs.Scope.{Scope}
+use Rattle.member_link.specs.Scope.{Scope}
 
 -- the class that a handler catches: any throwable, or one of the pool
 abbrev pub caught : Scope → Handler → Option Name

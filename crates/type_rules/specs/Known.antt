@@ -9,7 +9,7 @@ use Rattle.class_tree.specs.declared.place.Place.{Place}
 use Rattle.member_link.specs.CodedMethods.{CodedMethod}
 use Rattle.type_rules.specs.CodedScopes.{coded_of}
 use Rattle.type_rules.specs.Rule.{FitsPool}
-use Rattle.type_rules.specs.Scope.{Scope, instructions}
+use Rattle.member_link.specs.Scope.{Scope, instructions}
 
 pub record IsKnown (classes : Classes) (s : Scope) (place : Place) (header : Header) (body : CodedMethod) : Type 0 where
   pub headers : s.headers ≡ headers_of classes

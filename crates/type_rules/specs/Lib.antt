@@ -1,4 +1,3 @@
-pub mod Scope
 pub mod CodedScopes
 pub mod Forms
 pub mod Signatures

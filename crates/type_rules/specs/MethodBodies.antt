@@ -3,7 +3,7 @@ use Rattle.std.specs.Prelude.{◌+◌, ℕ, true, List, length, map}
 use Rattle.class_model.specs.declared.instr.Placed.{Placed}
 use Rattle.member_link.specs.Bodies.{Body, BodyPoint, item_instr}
 use Rattle.type_rules.specs.Handlers.{catches_at, caught_in}
-use Rattle.type_rules.specs.Scope.{Scope, instructions, row_scope}
+use Rattle.member_link.specs.Scope.{Scope, instructions, row_scope}
 use Rattle.type_rules.specs.Stated.{entry, stated_at}
 
 -- an instruction at its offset

@@ -16,7 +16,7 @@ use Rattle.member_link.specs.RowScope.{RowScope}
 use Rattle.member_link.specs.Rows.Operands.{AllFit, topmost}
 use Rattle.member_link.specs.Rows.Row.{Row, row_frame, stack_behind}
 use Rattle.member_link.specs.Rows.Table.{row_of}
-use Rattle.type_rules.specs.Scope.{Scope, row_scope}
+use Rattle.member_link.specs.Scope.{Scope, row_scope}
 use Rattle.type_rules.specs.declared.fault.RuleFault.{RuleFault}
 use Rattle.type_rules.specs.declared.fault.RuleFault.TheVariants as faults
 use Rattle.type_rules.specs.declared.fault.TypeRule.{TypeRule}

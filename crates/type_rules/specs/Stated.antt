@@ -4,7 +4,7 @@ use Rattle.class_model.specs.Methods.{entry_of, home_of}
 use Rattle.class_model.specs.Stated.{frame_for, stated_in}
 use Rattle.class_model.specs.declared.frame.Frame.{Frame}
 use Rattle.class_model.specs.declared.frame.PlacedFrame.{PlacedFrame}
-use Rattle.type_rules.specs.Scope.{Scope}
+use Rattle.member_link.specs.Scope.{Scope}
 
 -- the frame that the code begins with
 abbrev pub entry : Scope → Frame

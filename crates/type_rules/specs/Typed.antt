@@ -7,7 +7,7 @@ use Rattle.member_link.specs.Bodies.{Body, BodyCaught, BodyPoint, flows_on}
 use Rattle.member_link.specs.BodyTyping.{IsThrowable}
 use Rattle.type_rules.specs.Checks.{FailsAt, IsTypedAt}
 use Rattle.type_rules.specs.MethodBodies.{body_of}
-use Rattle.type_rules.specs.Scope.{Scope}
+use Rattle.member_link.specs.Scope.{Scope}
 use Rattle.type_rules.specs.declared.fault.TypeRule.{TypeRule}
 use Rattle.type_rules.specs.declared.fault.TypeRule.TheVariants as rules
 

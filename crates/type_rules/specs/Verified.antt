@@ -6,7 +6,7 @@ use Rattle.class_model.specs.declared.frame.Frame.{Frame}
 use Rattle.class_tree.specs.Headers.{Classes, Headers, headers_of}
 use Rattle.class_tree.specs.Trees.{IsTree}
 use Rattle.member_link.specs.Linked.{IsLinked}
-use Rattle.type_rules.specs.Scope.{Scope, scope_of}
+use Rattle.member_link.specs.Scope.{Scope, scope_of}
 use Rattle.type_rules.specs.Typed.{Typed}
 use Rattle.type_rules.specs.TypedFrames.{FolderFrames}
 

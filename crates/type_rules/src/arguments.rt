@@ -3,7 +3,7 @@ ghost use Rattle.std.specs.Prelude.{◌≡◌, ◌↔◌, IsTrue, length};
 ghost use Rattle.member_link.specs.Rows.Operands.{AllFit};
 ghost use Rattle.type_rules.specs.Calls.{TakesSo, operand_needs, signature_row};
 ghost use Rattle.type_rules.specs.Rule.{RowRules};
-ghost use Rattle.type_rules.specs.Scope.{row_scope};
+ghost use Rattle.member_link.specs.Scope.{row_scope};
 
 use crate::descriptors::result_type;
 use crate::fault::{RuleFault, TypeRule};

@@ -1,7 +1,7 @@
 //! The rules of arithmetic, conversions and comparisons (JVM Specification SE 8, 6.5).
 ghost use Rattle.member_link.specs.Rows.ArithmeticRows.{pure_operations, divide_operations, float_operations, operation_in, operation_row};
 ghost use Rattle.type_rules.specs.Rule.{RowRules};
-ghost use Rattle.type_rules.specs.Scope.{row_scope};
+ghost use Rattle.member_link.specs.Scope.{row_scope};
 
 use crate::fault::RuleFault;
 use crate::need::Need;

@@ -12,7 +12,7 @@ ghost use Rattle.member_link.specs.Rows.Operands.{AllFit, IsNullOr, array_among,
 ghost use Rattle.member_link.specs.Rows.Row.{plain};
 ghost use Rattle.type_rules.specs.Meanings.{need_meant};
 ghost use Rattle.type_rules.specs.Rule.{RowRules};
-ghost use Rattle.type_rules.specs.Scope.{row_scope};
+ghost use Rattle.member_link.specs.Scope.{row_scope};
 
 use crate::fault::RuleFault;
 use crate::need::{Need, topmost};

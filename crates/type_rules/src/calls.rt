@@ -16,7 +16,7 @@ ghost use Rattle.member_link.specs.Rows.Row.{either};
 ghost use Rattle.member_link.specs.Signatures.{reference_of};
 ghost use Rattle.type_rules.specs.References.{reference_meant};
 ghost use Rattle.type_rules.specs.Rule.{RowRules};
-ghost use Rattle.type_rules.specs.Scope.{current, row_scope};
+ghost use Rattle.member_link.specs.Scope.{current, row_scope};
 ghost use Rattle.type_rules.specs.Signatures.{IsCallable};
 
 use crate::arguments::call_with;

@@ -2,7 +2,7 @@
 ghost use Rattle.std.specs.Prelude.{◌≡◌, ◌↔◌, IsSome, IsTrue};
 ghost use Rattle.std.specs.Option.{option_copied};
 ghost use Rattle.class_model.specs.MethodCode.{code_of};
-ghost use Rattle.type_rules.specs.Scope.{scope_at};
+ghost use Rattle.member_link.specs.Scope.{scope_at};
 
 use class_model::{Attr, CodePart, MethodAt};
 use class_tree::Tree;

@@ -3,7 +3,7 @@ ghost use Rattle.std.specs.Prelude.{◌≡◌, IfOk};
 ghost use Rattle.class_model.specs.Pool.{constant_at};
 ghost use Rattle.member_link.specs.Rows.LocalRows.{imm_row, const_row, type_of_imm, type_of_const};
 ghost use Rattle.type_rules.specs.Rule.{RowRules};
-ghost use Rattle.type_rules.specs.Scope.{row_scope};
+ghost use Rattle.member_link.specs.Scope.{row_scope};
 
 use crate::fault::RuleFault;
 use crate::ruled::Ruled;

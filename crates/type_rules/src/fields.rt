@@ -7,7 +7,7 @@ ghost use Rattle.member_link.specs.Rows.MemberRows.{get_static_row, put_static_r
 ghost use Rattle.member_link.specs.Signatures.{reference_of};
 ghost use Rattle.type_rules.specs.References.{reference_meant};
 ghost use Rattle.type_rules.specs.Rule.{RowRules};
-ghost use Rattle.type_rules.specs.Scope.{row_scope};
+ghost use Rattle.member_link.specs.Scope.{row_scope};
 
 use crate::descriptors::field_type;
 use crate::fault::RuleFault;

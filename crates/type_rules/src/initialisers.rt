@@ -9,7 +9,7 @@ ghost use Rattle.member_link.specs.Rows.Operands.{under};
 ghost use Rattle.type_rules.specs.Calls.{Becomes, init_signature};
 ghost use Rattle.type_rules.specs.References.{reference_meant};
 ghost use Rattle.type_rules.specs.Rule.{RowRules};
-ghost use Rattle.type_rules.specs.Scope.{class_of_new, row_scope};
+ghost use Rattle.member_link.specs.Scope.{class_of_new, row_scope};
 ghost use Rattle.type_rules.specs.Steps.{given};
 
 use crate::arguments::take_operands;

@@ -3,7 +3,7 @@ ghost use Rattle.std.specs.Prelude.{map};
 ghost use Rattle.member_link.specs.Rows.Table.{jump_row};
 ghost use Rattle.type_rules.specs.Meanings.{need_meant};
 ghost use Rattle.type_rules.specs.Rule.{RowRules};
-ghost use Rattle.type_rules.specs.Scope.{row_scope};
+ghost use Rattle.member_link.specs.Scope.{row_scope};
 
 use crate::fault::RuleFault;
 use crate::need::Need;

@@ -6,7 +6,7 @@ ghost use Rattle.class_tree.specs.Headers.{Classes};
 ghost use Rattle.member_link.specs.Bodies.{Body, BodyPoint};
 ghost use Rattle.member_link.specs.BodyTyping.{AreInOrder, HasFrames};
 ghost use Rattle.type_rules.specs.Checks.{IsTypedAt};
-ghost use Rattle.type_rules.specs.Scope.{scope_at};
+ghost use Rattle.member_link.specs.Scope.{scope_at};
 ghost use Rattle.type_rules.specs.Typed.{BodyFails, TypesBody, flows_into};
 ghost use Rattle.type_rules.specs.TypedFrames.{FolderFrames, typed_frames_at};
 ghost use Rattle.type_rules.specs.Verified.{TypesFolder, TypesMethod};

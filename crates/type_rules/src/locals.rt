@@ -5,7 +5,7 @@ ghost use Rattle.class_model.specs.Frames.{is_wide, units};
 ghost use Rattle.member_link.specs.Rows.LocalRows.{HasRoom, HoldsKind, cut_before, stored, load_row, store_row, iinc_row};
 ghost use Rattle.member_link.specs.Rows.Operands.{IsOfKind};
 ghost use Rattle.type_rules.specs.Rule.{RowRules};
-ghost use Rattle.type_rules.specs.Scope.{row_scope};
+ghost use Rattle.member_link.specs.Scope.{row_scope};
 
 use crate::fault::{RuleFault, TypeRule};
 use crate::need::{Need, is_of_kind};

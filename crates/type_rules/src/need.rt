@@ -5,7 +5,7 @@ ghost use Rattle.class_tree.specs.Headers.{Name};
 ghost use Rattle.class_tree.specs.Subtype.{IsArray, IsReferenceComponent};
 ghost use Rattle.member_link.specs.Rows.Operands.{Fits, AllFit, IsAmong, IsNullOr, IsOfKind, assignable_to, topmost};
 ghost use Rattle.type_rules.specs.Meanings.{need_meant};
-ghost use Rattle.type_rules.specs.Scope.{row_scope};
+ghost use Rattle.member_link.specs.Scope.{row_scope};
 
 use crate::assignability::{is_object_of, is_value_of};
 use crate::method_rules::MethodRules;

@@ -4,7 +4,7 @@ ghost use Rattle.std.specs.List.{AllByRecursion};
 ghost use Rattle.class_model.specs.PoolChecks.{class_at};
 ghost use Rattle.member_link.specs.Rows.Table.{new_row, cast_row, throw_row, without_older};
 ghost use Rattle.type_rules.specs.Rule.{RowRules};
-ghost use Rattle.type_rules.specs.Scope.{row_scope};
+ghost use Rattle.member_link.specs.Scope.{row_scope};
 
 use crate::fault::RuleFault;
 use crate::need::Need;

@@ -10,7 +10,7 @@ ghost use Rattle.member_link.specs.Found.{AreSame, IsFoundIn};
 ghost use Rattle.member_link.specs.Rows.MemberRows.{PassesField, PassesMethod};
 ghost use Rattle.type_rules.specs.Protected.{IsBound, IsCloneOfArray, IsForeign, IsFree};
 ghost use Rattle.type_rules.specs.References.{reference_meant};
-ghost use Rattle.type_rules.specs.Scope.{row_scope};
+ghost use Rattle.member_link.specs.Scope.{row_scope};
 
 use crate::assignability::is_object_of;
 use crate::method_rules::MethodRules;

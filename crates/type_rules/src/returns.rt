@@ -4,7 +4,7 @@ ghost use Rattle.class_model.specs.Code.{verification_type};
 ghost use Rattle.member_link.specs.Rows.Assigning.{IsAssignableIn};
 ghost use Rattle.member_link.specs.Rows.MemberRows.{MayReturn, MayReturnValue, NoUninitThis, return_row};
 ghost use Rattle.type_rules.specs.Rule.{RowRules};
-ghost use Rattle.type_rules.specs.Scope.{row_scope};
+ghost use Rattle.member_link.specs.Scope.{row_scope};
 
 use crate::assignability::{has_uninit_this, is_value_of};
 use crate::fault::RuleFault;

@@ -5,7 +5,7 @@ ghost use Rattle.member_link.specs.Rows.Operands.{under};
 ghost use Rattle.member_link.specs.Rows.Row.{plain, conditional, no_row};
 ghost use Rattle.type_rules.specs.Meanings.{need_meant};
 ghost use Rattle.type_rules.specs.Rule.{RowRules};
-ghost use Rattle.type_rules.specs.Scope.{row_scope};
+ghost use Rattle.member_link.specs.Scope.{row_scope};
 ghost use Rattle.type_rules.specs.Steps.{Concludes, Ends, Holds, TakesNeeds, given, thrown};
 
 use crate::fault::{RuleFault, TypeRule};

@@ -2,7 +2,7 @@
 ghost use Rattle.std.specs.Prelude.{IfSome, IsSome};
 ghost use Rattle.member_link.specs.Linked.{IsLinked};
 ghost use Rattle.type_rules.specs.Rule.{FitsPool, Rules};
-ghost use Rattle.type_rules.specs.Scope.{scope_at};
+ghost use Rattle.member_link.specs.Scope.{scope_at};
 
 use crate::arithmetic::{divide, float, pure};
 use crate::calls::{call, call_dynamic};

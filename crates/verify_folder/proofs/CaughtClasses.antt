@@ -11,7 +11,7 @@ use Rattle.class_tree.specs.Headers.{Name, Headers}
 use Rattle.class_tree.specs.Names.{throwable}
 use Rattle.member_link.specs.Access.{IsAtOrBelow}
 use Rattle.type_rules.specs.Handlers.{CatchesThrowables, caught, caught_in}
-use Rattle.type_rules.specs.Scope.{Scope}
+use Rattle.member_link.specs.Scope.{Scope}
 use Rattle.type_rules.specs.Typed.{CaughtIsThrowable, FailsInTable}
 
 -- one for all that is thrown

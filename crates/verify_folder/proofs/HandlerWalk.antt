@@ -10,7 +10,7 @@ use Rattle.member_link.specs.Bodies.{BodyCatch}
 use Rattle.type_rules.specs.Checks.{handler_checks}
 use Rattle.type_rules.specs.Handlers.{catch_of, catches_at, covers}
 use Rattle.type_rules.specs.MethodBodies.{body_of}
-use Rattle.type_rules.specs.Scope.{Scope}
+use Rattle.member_link.specs.Scope.{Scope}
 use Rattle.type_rules.specs.declared.fault.TypeRule.{TypeRule}
 use Rattle.verify_folder.proofs.Stepping.{refused}
 use Rattle.verify_folder.specs.Steps.{ChecksAnswer}

@@ -11,7 +11,7 @@ use Rattle.type_rules.specs.Checks.{FailsBehind, IsTypedAt, MayFlowIn, frame_bef
 use Rattle.type_rules.specs.Handlers.{catches_at}
 use Rattle.type_rules.specs.MethodBodies.{body_of, point_of}
 use Rattle.type_rules.specs.Rule.{row_checks}
-use Rattle.type_rules.specs.Scope.{Scope, row_scope}
+use Rattle.member_link.specs.Scope.{Scope, row_scope}
 use Rattle.type_rules.specs.Stated.{stated_at}
 use Rattle.type_rules.specs.declared.fault.TypeRule.{TypeRule}
 use Rattle.verify_folder.specs.Steps.{BeforeAnswers, ChecksAnswer, RowAnswers, StepAnswers}

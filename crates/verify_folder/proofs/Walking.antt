@@ -5,7 +5,7 @@ use Rattle.std.proofs.lemmas.List.{append-nil, drop_more, drop_all}
 use Rattle.class_model.specs.declared.frame.Frame.{Frame}
 use Rattle.class_model.specs.declared.instr.Placed.{Placed}
 use Rattle.type_rules.specs.MethodBodies.{body_of, point_of}
-use Rattle.type_rules.specs.Scope.{Scope}
+use Rattle.member_link.specs.Scope.{Scope}
 use Rattle.type_rules.specs.Stated.{entry}
 use Rattle.type_rules.specs.Typed.{AreTyped, FailsIn}
 use Rattle.type_rules.specs.declared.fault.TypeRule.{TypeRule}

@@ -14,7 +14,7 @@ use Rattle.type_rules.specs.Checks.{FailsAt, IsTypedAt, MayFlowIn, frame_before}
 use Rattle.type_rules.specs.Handlers.{caught_in}
 use Rattle.type_rules.specs.MethodBodies.{body_of, point_of}
 use Rattle.type_rules.specs.Rule.{row_checks, ruled}
-use Rattle.type_rules.specs.Scope.{Scope, instructions, row_scope}
+use Rattle.member_link.specs.Scope.{Scope, instructions, row_scope}
 use Rattle.type_rules.specs.Stated.{entry, stated, stated_at}
 use Rattle.type_rules.specs.Typed.{AreTyped, CaughtIsThrowable, FailsIn, FailsInTable, IsFirstFailure, Typed}
 use Rattle.type_rules.specs.declared.fault.TypeRule.{TypeRule}

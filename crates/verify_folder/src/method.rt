@@ -2,7 +2,7 @@
 ghost use Rattle.std.specs.Prelude.{◌≡◌, IfOk, IsSome};
 ghost use Rattle.class_model.specs.Header.{header_of};
 ghost use Rattle.member_link.specs.Linked.{IsLinked};
-ghost use Rattle.type_rules.specs.Scope.{scope_at};
+ghost use Rattle.member_link.specs.Scope.{scope_at};
 ghost use Rattle.verify_folder.specs.Verifying.{VerifiesAs};
 
 use crate::stop::Stop;

@@ -9,7 +9,7 @@ ghost use Rattle.type_rules.specs.Checks.{handler_checks, target_checks};
 ghost use Rattle.type_rules.specs.Handlers.{catches_at, caught_frame};
 ghost use Rattle.type_rules.specs.MethodBodies.{body_of};
 ghost use Rattle.type_rules.specs.Rule.{FitsPool};
-ghost use Rattle.type_rules.specs.Scope.{row_scope};
+ghost use Rattle.member_link.specs.Scope.{row_scope};
 ghost use Rattle.type_rules.specs.Stated.{stated_at};
 ghost use Rattle.verify_folder.specs.Steps.{BeforeAnswers, ChecksAnswer, RowAnswers, StepAnswers, TypingAnswers, WalkAnswers};
 
@@ -54,7 +54,7 @@ struct Typing<'a> {
 impl<'a> Model for Typing<'a> {
     ghost use Rattle.std.specs.Prelude.{◌≡◌};
     ghost use Rattle.class_tree.specs.Names.{throwable};
-    ghost use Rattle.type_rules.specs.Scope.{Scope};
+    ghost use Rattle.member_link.specs.Scope.{Scope};
 
     ghost Value = { Scope };
 

@@ -5,7 +5,7 @@ use Rattle.member_link.specs.Rows.ArrayRows.{component_type}
 use Rattle.member_link.specs.Rows.Operands.{array_of_references, of_kind, lowest_of}
 use Rattle.type_rules.proofs.PushedElements.{gives_where_fit}
 use Rattle.type_rules.proofs.arrays.load_reference.Goals as goal
-use Rattle.type_rules.specs.Scope.{row_scope}
+use Rattle.member_link.specs.Scope.{row_scope}
 
 pub returns : goal.returns
 returns c =

@@ -6,7 +6,7 @@ use Rattle.class_model.specs.ModifiedUtf8.{IsText}
 use Rattle.class_model.specs.PoolChecks.{class_at}
 use Rattle.type_rules.proofs.ArrayTexts.{array_text}
 use Rattle.type_rules.proofs.arrays.new_ref_array.Goals as goal
-use Rattle.type_rules.specs.Scope.{Scope}
+use Rattle.member_link.specs.Scope.{Scope}
 
 pub made-requires : goal.made-requires
 made-requires c =

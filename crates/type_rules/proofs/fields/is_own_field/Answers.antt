@@ -4,7 +4,7 @@ use Rattle.member_link.specs.Rows.MemberRows.{IsOwnField}
 use Rattle.type_rules.proofs.OwnFields.{own_field}
 use Rattle.type_rules.proofs.fields.is_own_field.Goals as goal
 use Rattle.type_rules.specs.References.{reference_meant}
-use Rattle.type_rules.specs.Scope.{Scope, current, row_scope}
+use Rattle.member_link.specs.Scope.{Scope, current, row_scope}
 
 pub returns-then-is_current : goal.returns-then-is_current
 returns-then-is_current c =

@@ -4,7 +4,7 @@ use Rattle.member_link.specs.Rows.LocalRows.{store_row}
 use Rattle.type_rules.proofs.RowSteps.{concluded_row}
 use Rattle.type_rules.proofs.StoredLocals.{popped_stored}
 use Rattle.type_rules.proofs.locals.store.Goals as goal
-use Rattle.type_rules.specs.Scope.{row_scope}
+use Rattle.member_link.specs.Scope.{row_scope}
 
 pub returns : goal.returns
 returns c =

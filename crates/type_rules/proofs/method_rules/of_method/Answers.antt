@@ -9,7 +9,7 @@ use Rattle.code_bytes.specs.Codes.{HasInstrs, HasOperands, HaveOperands}
 use Rattle.code_bytes.specs.Decoding.{decoding_checks}
 use Rattle.type_rules.proofs.FittingPools.{instructions_fit}
 use Rattle.type_rules.proofs.method_rules.of_method.Goals as goal
-use Rattle.type_rules.specs.Scope.{Scope}
+use Rattle.member_link.specs.Scope.{Scope}
 
 pub new-requires-clause-code : goal.new-requires-clause-code
 new-requires-clause-code c =

@@ -8,7 +8,7 @@ use Rattle.member_link.specs.Rows.Assigning.{IsAssignableIn}
 use Rattle.member_link.specs.Rows.Operands.{assignable_to}
 use Rattle.type_rules.proofs.Pairwise.{all_fit_pairs, fit_as_long, pairs_decide}
 use Rattle.type_rules.proofs.need.are_values_of.Goals as goal
-use Rattle.type_rules.specs.Scope.{row_scope}
+use Rattle.member_link.specs.Scope.{row_scope}
 
 pub returns-then-types-entries : goal.returns-then-types-entries
 returns-then-types-entries c =

@@ -2,7 +2,7 @@ use Rattle.std.proofs.Common.{IsTrue, refl, true}
 use Rattle.member_link.specs.Rows.Table.{new_row}
 use Rattle.type_rules.proofs.RowSteps.{no_needs, concluded_row}
 use Rattle.type_rules.proofs.objects.new_object.Goals as goal
-use Rattle.type_rules.specs.Scope.{row_scope}
+use Rattle.member_link.specs.Scope.{row_scope}
 
 pub returns : goal.returns
 returns c =

@@ -1,6 +1,6 @@
 use Rattle.std.proofs.Common.{◌∙◌, length, ap}
 use Rattle.member_link.specs.CodedMethods.{CodedMethod}
-use Rattle.type_rules.specs.Scope.{Scope}
+use Rattle.member_link.specs.Scope.{Scope}
 use Rattle.type_rules.proofs.method_rules.MethodRules.code_len.Goals as goal
 
 pub returns : goal.returns

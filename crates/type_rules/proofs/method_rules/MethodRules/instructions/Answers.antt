@@ -3,7 +3,7 @@ use Rattle.std.specs.List.{AllByRecursion}
 use Rattle.class_model.specs.Instructions.{decoded}
 use Rattle.member_link.specs.CodedMethods.{CodedMethod}
 use Rattle.type_rules.specs.Rule.{FitsPool}
-use Rattle.type_rules.specs.Scope.{Scope, instructions}
+use Rattle.member_link.specs.Scope.{Scope, instructions}
 use Rattle.type_rules.proofs.NewClassLaws.{are_own}
 use Rattle.type_rules.proofs.method_rules.MethodRules.instructions.Goals as goal
 

@@ -1,7 +1,7 @@
 use Rattle.std.proofs.Common.{◌∙◌, sym, ap}
 use Rattle.member_link.specs.CodedMethods.{descriptor_text}
 use Rattle.member_link.specs.Signatures.{result_of}
-use Rattle.type_rules.specs.Scope.{own_descriptor}
+use Rattle.member_link.specs.Scope.{own_descriptor}
 use Rattle.type_rules.proofs.method_rules.MethodRules.result.Goals as goal
 
 pub returns : goal.returns

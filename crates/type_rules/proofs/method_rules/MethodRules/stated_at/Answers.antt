@@ -1,7 +1,7 @@
 use Rattle.std.proofs.Common.{◌∙◌, ap}
 use Rattle.member_link.specs.CodedMethods.{CodedMethod}
 use Rattle.member_link.specs.CodedMethods as methods
-use Rattle.type_rules.specs.Scope.{Scope}
+use Rattle.member_link.specs.Scope.{Scope}
 use Rattle.type_rules.specs.Stated.{stated_at}
 use Rattle.type_rules.proofs.method_rules.MethodRules.stated_at.Goals as goal
 

@@ -1,0 +1,15 @@
+mod Grows
+mod WorkGrows
+mod ShownGrows
+mod TurnGrows
+mod StepGrows
+mod ActGrows
+mod RunLaws
+mod OneLinks
+mod WorkedProgramsRuns
+mod ArraysRuns
+mod InitialisationRuns
+mod SynchronizationRuns
+mod FinalFieldsRuns
+mod OutsideRuns
+mod FaultsRuns

@@ -1,0 +1,9 @@
+pub mod Growth
+pub mod TestPrograms
+pub mod WorkedProgramsCases
+pub mod ArraysCases
+pub mod InitialisationCases
+pub mod SynchronizationCases
+pub mod FinalFieldsCases
+pub mod OutsideCases
+pub mod FaultsCases

@@ -1,0 +1,43 @@
+//! What small programs show, computed from the definitions alone.
+ghost use Rattle.machine_laws.specs.ArraysCases.{RunArrays};
+ghost use Rattle.machine_laws.specs.FaultsCases.{RunFaults};
+ghost use Rattle.machine_laws.specs.FinalFieldsCases.{RunFinalFields};
+ghost use Rattle.machine_laws.specs.InitialisationCases.{RunInitialisation};
+ghost use Rattle.machine_laws.specs.OutsideCases.{RunOutside};
+ghost use Rattle.machine_laws.specs.SynchronizationCases.{RunSynchronization};
+ghost use Rattle.machine_laws.specs.WorkedProgramsCases.{RunWorkedPrograms};
+
+/// Objects, static fields, joins, loops, monitors and handlers.
+pub fn worked_programs_run_as_written()
+    ensures { RunWorkedPrograms }
+{}
+
+/// Throwables of arrays, casts, monitors and arithmetic, and their order.
+pub fn programs_show_which_throwables_are_raised()
+    ensures { RunArrays }
+{}
+
+/// Initialisation of classes.
+pub fn programs_show_who_begins_a_class()
+    ensures { RunInitialisation }
+{}
+
+/// Synchronized methods.
+pub fn programs_show_who_holds_a_monitor()
+    ensures { RunSynchronization }
+{}
+
+/// Stores into final fields.
+pub fn programs_show_which_stores_are_final()
+    ensures { RunFinalFields }
+{}
+
+/// What the library is asked.
+pub fn programs_show_what_the_library_is_asked()
+    ensures { RunOutside }
+{}
+
+/// Actions that are faults, and the ends of runs.
+pub fn programs_show_which_actions_are_faults()
+    ensures { RunFaults }
+{}

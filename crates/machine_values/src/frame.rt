@@ -1,0 +1,59 @@
+//! The frames of a run (JVM Specification SE 8, 2.6).
+use crate::value::{Ref, Value, ValueList};
+use class_model::{ListOf, MethodAt};
+use std::marker::Model;
+
+/// The locals of a frame by unit: `None` in a unit without a value and in the second unit of a long or double.
+pub type LocalList = ListOf<Option<Value>>;
+
+/// The frame of a method: the number of the instruction at which it stands, its locals and operand stack, and the reference
+/// whose monitor the method entered as a synchronized one. A frame that waits for a call stands at the call, whose operands are
+/// taken. Contracts see the top of the stack first.
+#[derive(Debug, Drop)]
+pub struct MethodFrame {
+    pub at: MethodAt,
+    pub place: u32,
+    pub locals: LocalList,
+    pub stack: ValueList,
+    pub held: Option<Ref>,
+}
+
+impl Model for MethodFrame {
+    ghost use Rattle.std.specs.Prelude.{reverse};
+    ghost use Rattle.machine_values.specs.Frames.{MethodState};
+
+    ghost Value = { MethodState };
+
+    ghost view = { λ frame. record {
+      at = frame.at;
+      place = frame.place;
+      locals = frame.locals;
+      stack = reverse frame.stack;
+      held = frame.held;
+    } };
+}
+
+/// A frame of a run.
+#[derive(Debug, Drop)]
+pub enum RunFrame {
+    /// The library's, with the object that it is constructing.
+    Library { made: Option<Ref> },
+    /// The beginning of a class of the folder, by its number.
+    Beginning(usize),
+    Method(MethodFrame),
+}
+
+/// The frames of a run. Contracts see the top one first.
+#[derive(Debug, Drop)]
+pub struct RunFrameList {
+    frames: Vec<RunFrame>,
+}
+
+impl Model for RunFrameList {
+    ghost use Rattle.std.specs.Prelude.{List, reverse};
+    ghost use Rattle.machine_values.specs.declared.frame.RunFrame.{RunFrame};
+
+    ghost Value = { List RunFrame };
+
+    ghost view = { λ list. reverse list.frames.items };
+}

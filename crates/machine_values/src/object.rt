@@ -1,0 +1,33 @@
+//! Objects and constants of a heap (JVM Specification SE 8, 2.4 and 5.1).
+use crate::value::ValueList;
+use class_model::{Text, TextList};
+
+/// What an object is.
+#[derive(Debug, Drop)]
+pub enum Shape {
+    /// An object of a class of the folder, by the number of the class.
+    Folder(usize),
+    /// An array by its descriptor, with so many elements.
+    Array { desc: Text, len: u32 },
+    /// An object of a class of the library, and interfaces that its class implements besides those that are known of it.
+    External { class: Text, also: TextList },
+}
+
+/// An object: the values of its fields, those of the highest class first, or of its elements; and how often its monitor is
+/// entered.
+#[derive(Debug, Drop)]
+pub struct Object {
+    pub shape: Shape,
+    pub values: ValueList,
+    pub monitor: u64,
+}
+
+/// A constant that is an object: a string, a class, a method type by its descriptor, or a method handle by its kind and the
+/// class, name and descriptor of the member that it refers to.
+#[derive(Debug, Drop)]
+pub enum Constant {
+    Str(Text),
+    Class(Text),
+    MethodType(Text),
+    Handle(u8, Text, Text, Text),
+}

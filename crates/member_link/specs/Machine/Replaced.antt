@@ -1,0 +1,43 @@
+-- A program in which some methods run other code, private and final flags of some fields are cleared, and methods are added at the end of
+-- some classes.
+use Rattle.std.specs.Prelude.{◌-◌, ℕ, zero, suc, List, [], ◌∷◌, ◌++◌, map, bit_and, Option, Some, None}
+use Rattle.class_model.specs.declared.class_file.MethodAt.{MethodAt}
+use Rattle.class_model.specs.declared.header.Member.{Member}
+use Rattle.member_link.specs.Machine.Programs.{Program, RunClass, RunMethod, Code}
+
+-- What takes the place: the code of a method, if it is another one; the flags that are cleared of a field, by the numbers of its class
+-- and its own; and the methods that are added to a class.
+pub record Replacement : Type 0 where
+  pub body : MethodAt → Option Code
+  pub cleared : ℕ → ℕ → ℕ
+  pub added : ℕ → List RunMethod
+
+-- flags less those that are cleared
+abbrev pub without_flags : ℕ → ℕ → ℕ
+without_flags flags cleared = flags - bit_and flags cleared
+
+-- each item of a list by its number, from the number of the first on
+abbrev pub map_numbered : {A B : Type 0} → (ℕ → A → B) → ℕ → List A → List B
+map_numbered change number [] = []
+map_numbered change number (item ∷ items) = change number item ∷ map_numbered change (suc number) items
+
+abbrev pub replaced_class : Replacement → ℕ → RunClass → RunClass
+replaced_class r number class = record class {
+  header = record class.header {
+    fields = map_numbered flagged zero class.header.fields;
+    methods = class.header.methods ++ map (λ method. method.member) (r.added number);
+  };
+  methods = map_numbered run zero class.methods ++ r.added number;
+} where
+  flagged : ℕ → Member → Member
+  flagged field member = record member { flags = without_flags member.flags (r.cleared number field) }
+
+  with_body : RunMethod → Option Code → RunMethod
+  with_body method None = method
+  with_body method (Some code) = record method { code = Some code }
+
+  run : ℕ → RunMethod → RunMethod
+  run at method = with_body method (r.body (record { class = number; method = at }))
+
+abbrev pub replaced : Program → Replacement → Program
+replaced P r = record P { classes = map_numbered (replaced_class r) zero P.classes }
