@@ -37,8 +37,8 @@ module _ (headers : Headers) (class : Name) (name desc : List ℕ) (result : Opt
   pub found_initialiser : name ≡ init → (place : Place) (header : Header) → StandsAt headers class place header → AreSame (IsMethodFound headers) result (option_map (declared_by header.name) (declared name desc header.methods)) → IsMethodOf headers class name desc result
   found_initialiser is = class_answers headers class name desc result (declared name desc) (initialiser is)
 
-  pub no_polymorphic : IsPolymorphic class name → class_named headers class ≡ None → result ≡ None → IsMethodOf headers class name desc result
+  pub no_polymorphic : IsPolymorphic headers class name → class_named headers class ≡ None → result ≡ None → IsMethodOf headers class name desc result
   no_polymorphic is = absent_answers headers class name desc result (first_named name) (polymorphic is)
 
-  pub found_polymorphic : IsPolymorphic class name → (place : Place) (header : Header) → StandsAt headers class place header → AreSame (IsMethodFound headers) result (option_map (declared_by header.name) (first_named name header.methods)) → IsMethodOf headers class name desc result
+  pub found_polymorphic : IsPolymorphic headers class name → (place : Place) (header : Header) → StandsAt headers class place header → AreSame (IsMethodFound headers) result (option_map (declared_by header.name) (first_named name header.methods)) → IsMethodOf headers class name desc result
   found_polymorphic is = class_answers headers class name desc result (first_named name) (polymorphic is)

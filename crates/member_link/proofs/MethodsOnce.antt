@@ -112,27 +112,27 @@ apart : (one other : ℕ) → one ≡ other → eqb one other ≡ false → ⊥
 apart one other same differ = both_ways (eqb one other) differ (eq-eqb one other same)
 
 -- an instance initialiser is not found under every descriptor, and an array is not java/lang/invoke/MethodHandle
-pub init_is_not_polymorphic : (class : Name) (name : List ℕ) → name ≡ init → ¬ IsPolymorphic class name
-init_is_not_polymorphic class name is (same, inl invoke) = apart 60 105 (ap first_byte (sym is ∙ invoke)) refl
-init_is_not_polymorphic class name is (same, inr exact) = apart 60 105 (ap first_byte (sym is ∙ exact)) refl
+pub init_is_not_polymorphic : (headers : Headers) (class : Name) (name : List ℕ) → name ≡ init → ¬ IsPolymorphic headers class name
+init_is_not_polymorphic headers class name is (same, inl invoke, there) = apart 60 105 (ap first_byte (sym is ∙ invoke)) refl
+init_is_not_polymorphic headers class name is (same, inr exact, there) = apart 60 105 (ap first_byte (sym is ∙ exact)) refl
 
-pub array_is_not_polymorphic : (class : Name) (name : List ℕ) → IsArray class → ¬ IsPolymorphic class name
-array_is_not_polymorphic class name array (same, names) = apart 91 106 (ap first_byte (sym array.1 ∙ same)) refl
+pub array_is_not_polymorphic : (headers : Headers) (class : Name) (name : List ℕ) → IsArray class → ¬ IsPolymorphic headers class name
+array_is_not_polymorphic headers class name array (same, names, there) = apart 91 106 (ap first_byte (sym array.1 ∙ same)) refl
 
 pub method_once : (headers : Headers) (class : Name) (name desc : List ℕ) (one other : Option Declared) → FindsMethod headers class name desc one → FindsMethod headers class name desc other → one ≡ other
 method_once headers class name desc one other finds also = by finds also
   where
     by : {one other : Option Declared} → FindsMethod headers class name desc one → FindsMethod headers class name desc other → one ≡ other
     by (initialiser is) (initialiser also) = refl
-    by (initialiser is) (polymorphic every) = absurd (init_is_not_polymorphic class name is every)
+    by (initialiser is) (polymorphic every) = absurd (init_is_not_polymorphic headers class name is every)
     by (initialiser is) (of_array found differ array over) = absurd (differ is)
     by (initialiser is) (of_class found differ single plain over) = absurd (differ is)
-    by (polymorphic every) (initialiser is) = absurd (init_is_not_polymorphic class name is every)
+    by (polymorphic every) (initialiser is) = absurd (init_is_not_polymorphic headers class name is every)
     by (polymorphic every) (polymorphic also) = refl
-    by (polymorphic every) (of_array found differ array over) = absurd (array_is_not_polymorphic class name array every)
+    by (polymorphic every) (of_array found differ array over) = absurd (array_is_not_polymorphic headers class name array every)
     by (polymorphic every) (of_class found differ single plain over) = absurd (plain every)
     by (of_array found differ array over) (initialiser is) = absurd (differ is)
-    by (of_array found differ array over) (polymorphic every) = absurd (array_is_not_polymorphic class name array every)
+    by (of_array found differ array over) (polymorphic every) = absurd (array_is_not_polymorphic headers class name array every)
     by (of_array found differ array over) (of_array found_other differ_other array_other over_other) = in_class_once headers object name desc over over_other
     by (of_array found differ array over) (of_class found_other differ_other single plain over_other) = absurd (single array)
     by (of_class found differ single plain over) (initialiser is) = absurd (differ is)

@@ -7,7 +7,9 @@ use Rattle.class_model.specs.declared.header.Member.{Member}
 use Rattle.class_tree.specs.Headers.{Name, Headers, class_named}
 use Rattle.class_tree.specs.Interfaces.{AreSuperinterfaces}
 use Rattle.class_tree.specs.Names.{object, method_handle, is_interface}
+use Rattle.class_tree.specs.Order.{place_of}
 use Rattle.class_tree.specs.Subtype.{IsArray}
+use Rattle.class_tree.specs.declared.place.Place.TheVariants.{Library}
 use Rattle.member_link.specs.DeclaredMembers.{Declared, declared_by, own_method}
 use Rattle.member_link.specs.Defaults.{IsOneDefault, first_inherited}
 use Rattle.member_link.specs.Upwards.{FirstUpwards}
@@ -34,14 +36,18 @@ abbrev pub first_named : List ℕ → List Member → Option Member
 first_named name [] = None
 first_named name (member ∷ members) = if bytes_eq name member.name then Some member else first_named name members
 
--- the methods of java/lang/invoke/MethodHandle that are found under every descriptor (2.9)
-abbrev pub IsPolymorphic : Name → List ℕ → Type 0
-IsPolymorphic class name = (class ≡ method_handle) × ((name ≡ codes "invoke") ⊎ (name ≡ codes "invokeExact"))
+-- the class of a name is one of the library
+abbrev pub IsInLibrary : Headers → Name → Type 0
+IsInLibrary headers name = (place : ℕ) × (place_of headers name ≡ Some (Library place))
+
+-- the methods of the library's java/lang/invoke/MethodHandle that are found under every descriptor (2.9)
+abbrev pub IsPolymorphic : Headers → Name → List ℕ → Type 0
+IsPolymorphic headers class name = (class ≡ method_handle) × ((name ≡ codes "invoke") ⊎ (name ≡ codes "invokeExact")) × IsInLibrary headers class
 
 -- what the look-up of a method finds: an instance initialiser in the named class alone, a method of an array in
 -- java/lang/Object
 pub data FindsMethod (headers : Headers) (class : Name) (name desc : List ℕ) : Option Declared → Type 0 where
   initialiser : name ≡ init → FindsMethod headers class name desc (own_method headers class name desc)
-  polymorphic : IsPolymorphic class name → FindsMethod headers class name desc (option_and_then (λ header. option_map (declared_by class) (first_named name header.methods)) (class_named headers class))
+  polymorphic : IsPolymorphic headers class name → FindsMethod headers class name desc (option_and_then (λ header. option_map (declared_by class) (first_named name header.methods)) (class_named headers class))
   of_array : (found : Option Declared) → name ≢ init → IsArray class → FindsInClass headers object name desc found → FindsMethod headers class name desc found
-  of_class : (found : Option Declared) → name ≢ init → ¬ IsArray class → ¬ IsPolymorphic class name → FindsInClass headers class name desc found → FindsMethod headers class name desc found
+  of_class : (found : Option Declared) → name ≢ init → ¬ IsArray class → ¬ IsPolymorphic headers class name → FindsInClass headers class name desc found → FindsMethod headers class name desc found

@@ -7,7 +7,7 @@ ghost use Rattle.member_link.specs.Counting.{IsValid, Counts};
 ghost use Rattle.member_link.specs.DeclaredMembers.{Declared, declared_by};
 ghost use Rattle.member_link.specs.Found.{AreSame, IsMethodFound, IsMethodOf};
 ghost use Rattle.member_link.specs.Methods as methods;
-ghost use Rattle.member_link.specs.Methods.{CountsFor, FindsInClass, FindsInInterfaces, IsPolymorphic};
+ghost use Rattle.member_link.specs.Methods.{CountsFor, FindsInClass, FindsInInterfaces, IsInLibrary, IsPolymorphic};
 
 use crate::defaults::{DefaultMethods, defaults, first_inherited};
 use crate::found::Found;
@@ -24,16 +24,16 @@ const INVOKE_EXACT: &[u8] = b"invokeExact";
 /// The method of a name and descriptor that a reference through a class finds: in the class and its superclasses, of an
 /// interface in itself and among the public methods of java/lang/Object that are not static; else the one default among the
 /// superinterfaces; else the first of their methods that is neither private nor static. An instance initialiser is found in
-/// the named class alone, a method of an array in java/lang/Object, and `invoke` and `invokeExact` of
-/// java/lang/invoke/MethodHandle under every descriptor (JVM Specification SE 8, 5.4.3.3, 5.4.3.4 and 2.9). None where there is
-/// none. It takes no memory.
+/// the named class alone, a method of an array in java/lang/Object, and `invoke` and `invokeExact` of the library's
+/// java/lang/invoke/MethodHandle under every descriptor (JVM Specification SE 8, 5.4.3.3, 5.4.3.4 and 2.9): of a class of this
+/// name in the folder they are found as other methods are. None where there is none. It takes no memory.
 pub fn find_method(tree: &Tree, class: &Text, name: &Text, desc: &Text) -> Option<Found>
     ensures { IsMethodOf (headers_of tree.now) class.now name.now desc.now result }
 {
     class_tree::a_tree_is_a_hierarchy(tree);
     if name.bytes() == INIT {
         own_method(tree, tree.place(class)?, name, desc)
-    } else if is_polymorphic(class, name) {
+    } else if is_polymorphic(tree, class, name) {
         first_named(tree, tree.place(class)?, name)
     } else if is_array(class.bytes()) {
         find_in_class(tree, OBJECT, name, desc)
@@ -43,10 +43,19 @@ pub fn find_method(tree: &Tree, class: &Text, name: &Text, desc: &Text) -> Optio
 }
 
 // Whether a method is found under every descriptor.
-fn is_polymorphic(class: &Text, name: &Text) -> bool
-    ensures { IsTrue result ↔ IsPolymorphic class.now name.now }
+fn is_polymorphic(tree: &Tree, class: &Text, name: &Text) -> bool
+    ensures { IsTrue result ↔ IsPolymorphic (headers_of tree.now) class.now name.now }
 {
-    class.bytes() == METHOD_HANDLE && (name.bytes() == INVOKE || name.bytes() == INVOKE_EXACT)
+    class.bytes() == METHOD_HANDLE
+        && (name.bytes() == INVOKE || name.bytes() == INVOKE_EXACT)
+        && is_in_library(tree, class)
+}
+
+// Whether the class of a name is one of the library.
+fn is_in_library(tree: &Tree, class: &Text) -> bool
+    ensures { IsTrue result ↔ IsInLibrary (headers_of tree.now) class.now }
+{
+    matches!(tree.place(class), Some(Place::Library(_)))
 }
 
 // The first method of a name that the class at a place declares.

@@ -49,5 +49,5 @@ returns-else-is_array c =
     let finds = subst (λ (class : Name). FindsInClass headers class c.args.name.now c.args.desc.now found.0) c.bytes-else-is_array.ensures.same found.1 in
     let differ : c.args.name.now ≢ init = λ same. both_ways c.eq.result c.if-eq.false (search rules) in
     let single : ¬ IsArray c.args.class.now = λ array. both_ways c.is_array.result c.if-is_array.false (search rules) in
-    let plain = λ (every : IsPolymorphic c.args.class.now c.args.name.now). both_ways c.is_polymorphic.result c.if-is_polymorphic.false (c.is_polymorphic.ensures.1 every) in
+    let plain = λ (every : IsPolymorphic (headers_of c.args.tree.now) c.args.class.now c.args.name.now). both_ways c.is_polymorphic.result c.if-is_polymorphic.false (c.is_polymorphic.ensures.1 every) in
     record { method = found.0; finds = of_class found.0 differ single plain finds; same = found.2 }
