@@ -231,9 +231,9 @@ module _ (one other : Headers) (are : AreTwins one other) (back : AreTwins other
 
     pub method_found_alike : (class : Name) {found : Option Declared} → FindsMethod one class name desc found → FindsMethod other class name desc found
     method_found_alike class (initialiser is) = absurd (differ is)
-    method_found_alike class (polymorphic every) = subst (FindsMethod other class name desc) (sym (every_alike class)) (polymorphic every)
+    method_found_alike class (polymorphic every) = subst (FindsMethod other class name desc) (sym (every_alike class)) (polymorphic (every.0, every.1, (every.2.0, sym (are.places class) ∙ every.2.1)))
     method_found_alike class (of_array found apart array over) = of_array found apart array (in_class_alike over)
-    method_found_alike class (of_class found apart single plain over) = of_class found apart single plain (in_class_alike over)
+    method_found_alike class (of_class found apart single plain over) = of_class found apart single (λ every. plain (every.0, every.1, (every.2.0, are.places class ∙ every.2.1))) (in_class_alike over)
 
   -- ---- selection
 

@@ -9,11 +9,14 @@ use Rattle.class_model.specs.declared.header.Member.{Member}
 use Rattle.class_tree.specs.Headers.{Name, Headers, class_named}
 use Rattle.class_tree.specs.Hierarchy.{IsHierarchy}
 use Rattle.class_tree.specs.Interfaces.{IsInterfaceWalk, of_root, below, each_once}
-use Rattle.class_tree.specs.Laws.Decided.{Decision, both, either, same_bytes, is_false, array_decided}
+use Rattle.class_tree.specs.Laws.Decided.{Decision, mapped, both, either, same_bytes, is_false, array_decided}
 use Rattle.class_tree.specs.Names.{object, method_handle}
+use Rattle.class_tree.specs.Order.{place_of}
+use Rattle.class_tree.specs.declared.place.Place.{Place}
+use Rattle.class_tree.specs.declared.place.Place.TheVariants.{Folder, Library}
 use Rattle.member_link.specs.DeclaredMembers.{Declared, declared_by, declared, own_method}
 use Rattle.member_link.specs.Defaults.{first_inherited}
-use Rattle.member_link.specs.Methods.{CountsFor, FindsInInterfaces, one_default, first_of_all, FindsInClass, nowhere, upwards, in_interfaces, IsPolymorphic, FindsMethod, initialiser, polymorphic, of_array, of_class}
+use Rattle.member_link.specs.Methods.{CountsFor, FindsInInterfaces, one_default, first_of_all, FindsInClass, nowhere, upwards, in_interfaces, IsInLibrary, IsPolymorphic, FindsMethod, initialiser, polymorphic, of_array, of_class}
 use Rattle.member_link.specs.Selection.{Choice, choice_of, public_choice_of, ChoosesDefault, the_one, no_default, two_defaults, Chooses, first_upwards, by_default, start_of, IsOrOverrides, CountsForSpecial, Selects, of_private, of_virtual, of_interface, of_initialiser, of_special}
 use Rattle.member_link.specs.Upwards.{IsPassedOver, FirstUpwards, in_itself, in_superclass, in_no_superclass, in_absent_class}
 use Rattle.member_link.specs.declared.selection.CallForm.{CallForm}
@@ -93,8 +96,17 @@ module _ (headers : Headers) (hierarchy : IsHierarchy headers) where
             let up = found_upwards (CountsFor header) (counts_for_look_up headers hierarchy header) name desc class in
             up_or_over header is up.0 up.1
 
-  polymorphic_decided : (class : Name) (name : List ℕ) → Decision (IsPolymorphic class name)
-  polymorphic_decided class name = both (same_bytes class method_handle) (either (same_bytes name (codes "invoke")) (same_bytes name (codes "invokeExact")))
+  in_library : (class : Name) → Decision (IsInLibrary headers class)
+  in_library class = by (place_of headers class) refl
+    where
+      by : (found : Option Place) → place_of headers class ≡ found → Decision (IsInLibrary headers class)
+      by None none = inr (λ is. none-some (Library is.0) (sym none ∙ is.1))
+      by (Some (Library place)) is = inl (place, is)
+      by (Some (Folder place)) is = inr (λ library. let same : Folder place ≡ Library library.0 = same_Some (Folder place) (Library library.0) (sym is ∙ library.1) in absurd cc)
+
+  polymorphic_decided : (class : Name) (name : List ℕ) → Decision (IsPolymorphic headers class name)
+  polymorphic_decided class name = mapped (λ (h : (class ≡ method_handle) × (((name ≡ codes "invoke") ⊎ (name ≡ codes "invokeExact")) × IsInLibrary headers class)). (h.0, h.1.0, h.1.1)) (λ every. (every.0, (every.1, every.2)))
+      (both (same_bytes class method_handle) (both (either (same_bytes name (codes "invoke")) (same_bytes name (codes "invokeExact"))) (in_library class)))
 
   pub method_found : (class : Name) (name desc : List ℕ) → (found : Option Declared) × FindsMethod headers class name desc found
   method_found class name desc = elim (same_bytes name init) [

@@ -19,4 +19,4 @@ pub record IsMethodAbove (headers : Headers) (class : Name) (name desc : List �
   pub declares : IsMethod headers method
   pub above : IsSubtype headers class method.class
   pub same_name : method.member.name ≡ name
-  pub same_desc : (method.member.desc ≡ desc) ⊎ IsPolymorphic class name
+  pub same_desc : (method.member.desc ≡ desc) ⊎ IsPolymorphic headers class name

@@ -2,6 +2,7 @@
 -- shifts use the low five or six bits.
 use Rattle.std.specs.Prelude.{◌%◌, ◌/◌, ◌^◌, ◌==◌, ◌&&◌, not, ℕ, ℤ, pos, negsuc, int_lt, int_le, int_rem, Bool, List, [], ◌∷◌, Option, Some, None, if◌then◌else◌}
 use Rattle.std.specs.Int.{Width, w8, w16, w32, w64, cast_signed, cast_unsigned, int_wrapping_add, int_wrapping_sub, int_wrapping_mul, int_wrapping_div, int_wrapping_neg, int_shl, int_shr, int_bit_and, int_bit_or, int_bit_xor}
+use Rattle.class_model.specs.declared.opcodes.TheConstants.{IADD, LADD, ISUB, LSUB, IMUL, LMUL, IDIV, LDIV, IREM, LREM, INEG, LNEG, ISHL, LSHL, ISHR, LSHR, IUSHR, LUSHR, IAND, LAND, IOR, LOR, IXOR, LXOR, I2L, L2I, I2B, I2C, I2S, LCMP}
 use Rattle.machine_values.specs.declared.value.Value.{Value}
 use Rattle.machine_values.specs.declared.value.Value.TheVariants.{Int, Long}
 
@@ -48,50 +49,42 @@ comparison one other = if int_lt one other then negsuc 0 else (if int_lt other o
 
 abbrev pub pure_meanings : List MeaningRow
 pure_meanings =
-    -- iadd, ladd, isub, lsub, imul, lmul
-    row 96 (of_ints (int_wrapping_add w32))
-    ∷ row 97 (of_longs (int_wrapping_add w64))
-    ∷ row 100 (of_ints (int_wrapping_sub w32))
-    ∷ row 101 (of_longs (int_wrapping_sub w64))
-    ∷ row 104 (of_ints (int_wrapping_mul w32))
-    ∷ row 105 (of_longs (int_wrapping_mul w64))
-    -- ineg, lneg
-    ∷ row 116 (of_int (int_wrapping_neg w32))
-    ∷ row 117 (of_long (int_wrapping_neg w64))
-    -- ishl, lshl, ishr, lshr, iushr, lushr
-    ∷ row 120 (of_ints (λ number by. int_shl w32 number (int_distance by)))
-    ∷ row 121 (of_long_and_int (λ number by. int_shl w64 number (long_distance by)))
-    ∷ row 122 (of_ints (λ number by. int_shr number (int_distance by)))
-    ∷ row 123 (of_long_and_int (λ number by. int_shr number (long_distance by)))
-    ∷ row 124 (of_ints (λ number by. unsigned_shr w32 number (int_distance by)))
-    ∷ row 125 (of_long_and_int (λ number by. unsigned_shr w64 number (long_distance by)))
-    -- iand, land, ior, lor, ixor, lxor
-    ∷ row 126 (of_ints (int_bit_and w32))
-    ∷ row 127 (of_longs (int_bit_and w64))
-    ∷ row 128 (of_ints (int_bit_or w32))
-    ∷ row 129 (of_longs (int_bit_or w64))
-    ∷ row 130 (of_ints (int_bit_xor w32))
-    ∷ row 131 (of_longs (int_bit_xor w64))
-    -- i2l, l2i
-    ∷ row 133 (int_to_long (λ number. number))
-    ∷ row 136 (long_to_int (λ number. low_bits w32 number 32))
-    -- i2b, i2c, i2s
-    ∷ row 145 (of_int (λ number. cast_signed w8 (cast_unsigned w32 number % 2 ^ 8)))
-    ∷ row 146 (of_int (λ number. pos (cast_unsigned w32 number % 2 ^ 16)))
-    ∷ row 147 (of_int (λ number. cast_signed w16 (cast_unsigned w32 number % 2 ^ 16)))
-    -- lcmp
-    ∷ row 148 (longs_to_int comparison)
+    row IADD (of_ints (int_wrapping_add w32))
+    ∷ row LADD (of_longs (int_wrapping_add w64))
+    ∷ row ISUB (of_ints (int_wrapping_sub w32))
+    ∷ row LSUB (of_longs (int_wrapping_sub w64))
+    ∷ row IMUL (of_ints (int_wrapping_mul w32))
+    ∷ row LMUL (of_longs (int_wrapping_mul w64))
+    ∷ row INEG (of_int (int_wrapping_neg w32))
+    ∷ row LNEG (of_long (int_wrapping_neg w64))
+    ∷ row ISHL (of_ints (λ number by. int_shl w32 number (int_distance by)))
+    ∷ row LSHL (of_long_and_int (λ number by. int_shl w64 number (long_distance by)))
+    ∷ row ISHR (of_ints (λ number by. int_shr number (int_distance by)))
+    ∷ row LSHR (of_long_and_int (λ number by. int_shr number (long_distance by)))
+    ∷ row IUSHR (of_ints (λ number by. unsigned_shr w32 number (int_distance by)))
+    ∷ row LUSHR (of_long_and_int (λ number by. unsigned_shr w64 number (long_distance by)))
+    ∷ row IAND (of_ints (int_bit_and w32))
+    ∷ row LAND (of_longs (int_bit_and w64))
+    ∷ row IOR (of_ints (int_bit_or w32))
+    ∷ row LOR (of_longs (int_bit_or w64))
+    ∷ row IXOR (of_ints (int_bit_xor w32))
+    ∷ row LXOR (of_longs (int_bit_xor w64))
+    ∷ row I2L (int_to_long (λ number. number))
+    ∷ row L2I (long_to_int (λ number. low_bits w32 number 32))
+    ∷ row I2B (of_int (λ number. cast_signed w8 (cast_unsigned w32 number % 2 ^ 8)))
+    ∷ row I2C (of_int (λ number. pos (cast_unsigned w32 number % 2 ^ 16)))
+    ∷ row I2S (of_int (λ number. cast_signed w16 (cast_unsigned w32 number % 2 ^ 16)))
+    ∷ row LCMP (longs_to_int comparison)
     ∷ []
 
 -- ---- divisions, whose divisor is not zero: the least number divided by -1 is itself, with the remainder 0
 
 abbrev pub divide_meanings : List MeaningRow
 divide_meanings =
-    -- idiv, ldiv, irem, lrem
-    row 108 (of_ints (int_wrapping_div w32))
-    ∷ row 109 (of_longs (int_wrapping_div w64))
-    ∷ row 112 (of_ints int_rem)
-    ∷ row 113 (of_longs int_rem)
+    row IDIV (of_ints (int_wrapping_div w32))
+    ∷ row LDIV (of_longs (int_wrapping_div w64))
+    ∷ row IREM (of_ints int_rem)
+    ∷ row LREM (of_longs int_rem)
     ∷ []
 
 abbrev pub meaning_in : List MeaningRow → ℕ → Option Meaning

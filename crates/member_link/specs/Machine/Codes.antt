@@ -19,6 +19,7 @@ use Rattle.class_model.specs.declared.pool.Const.{Const as PoolConst}
 use Rattle.class_model.specs.declared.pool.Const.TheVariants as consts
 use Rattle.class_tree.specs.Headers.{Name, class_named}
 use Rattle.class_tree.specs.Names.{is_interface}
+use Rattle.class_model.specs.declared.opcodes.TheConstants.{IALOAD, SALOAD, IASTORE, SASTORE, IFEQ, IFLE, IF_ICMPEQ, IF_ICMPLE, IF_ACMPEQ, IF_ACMPNE, INVOKEVIRTUAL, INVOKESPECIAL, INVOKESTATIC, INVOKEINTERFACE, IFNULL, IFNONNULL}
 use Rattle.machine_values.specs.declared.object.Constant.{Constant}
 use Rattle.machine_values.specs.declared.object.Constant.TheVariants as objects
 use Rattle.machine_values.specs.declared.value.Value.{Value}
@@ -106,13 +107,13 @@ special_start links s named = of_header (class_named s.headers named) where
   of_header None = named
   of_header (Some header) = of_class (not (is_interface header) && (links.below s.own.name named && not (bytes_eq s.own.name named)))
 
--- invokestatic (184), invokespecial (183), invokevirtual (182) and invokeinterface (185)
+-- invokevirtual, invokespecial, invokestatic and invokeinterface
 abbrev pub call_op : Links → RowScope → ℕ → Reference → Op
 call_op links s opcode r =
-    if opcode == 182 then call_virtual r
-    else (if opcode == 183 then call_special r (special_start links s r.class)
-    else (if opcode == 184 then call_static r
-    else (if opcode == 185 then call_interface r
+    if opcode == INVOKEVIRTUAL then call_virtual r
+    else (if opcode == INVOKESPECIAL then call_special r (special_start links s r.class)
+    else (if opcode == INVOKESTATIC then call_static r
+    else (if opcode == INVOKEINTERFACE then call_interface r
     else meaningless)))
 
 abbrev pub dynamic_op : RowScope → Option PoolConst → Op
@@ -131,16 +132,16 @@ instr_op links number s (Ldc2 index) = constant_op s.pool (constant_at s.pool in
 instr_op links number s (Load kind local) = load_local kind local
 instr_op links number s (Store kind local) = store_local kind local
 instr_op links number s (Iinc local by) = increment_local local by
-instr_op links number s (ArrayLoad opcode) = if_between 46 53 opcode (load_element opcode)
-instr_op links number s (ArrayStore opcode) = if_between 79 86 opcode (store_element opcode)
+instr_op links number s (ArrayLoad opcode) = if_between IALOAD SALOAD opcode (load_element opcode)
+instr_op links number s (ArrayStore opcode) = if_between IASTORE SASTORE opcode (store_element opcode)
 instr_op links number s (Shuffle opcode) = shuffle_stack opcode
 instr_op links number s (Pure opcode) = pure_arithmetic opcode
 instr_op links number s (Divide opcode) = division opcode
 instr_op links number s (FloatAsk opcode) = float_arithmetic opcode
-instr_op links number s (If opcode target) = if_between 153 158 opcode (jump_by_int opcode (number target))
-instr_op links number s (If2 opcode target) = if_between 159 164 opcode (jump_by_ints opcode (number target))
-instr_op links number s (IfSame opcode target) = if_between 165 166 opcode (jump_by_references opcode (number target))
-instr_op links number s (IfNull opcode target) = if_between 198 199 opcode (jump_by_null opcode (number target))
+instr_op links number s (If opcode target) = if_between IFEQ IFLE opcode (jump_by_int opcode (number target))
+instr_op links number s (If2 opcode target) = if_between IF_ICMPEQ IF_ICMPLE opcode (jump_by_ints opcode (number target))
+instr_op links number s (IfSame opcode target) = if_between IF_ACMPEQ IF_ACMPNE opcode (jump_by_references opcode (number target))
+instr_op links number s (IfNull opcode target) = if_between IFNULL IFNONNULL opcode (jump_by_null opcode (number target))
 instr_op links number s (Goto target) = jump_to (number target)
 instr_op links number s (Table low other targets) = table_switch low (number other) (map number targets)
 instr_op links number s (Lookup other pairs) = lookup_switch (number other) (map (λ pair. record { key = pair.key; to = number pair.to }) pairs)

@@ -5,6 +5,7 @@ use Rattle.std.specs.List.{flat_map}
 use Rattle.std.specs.Int.{w32, int_gap, int_wrapping_add}
 use Rattle.class_model.specs.declared.descriptor.Kind.{Kind}
 use Rattle.class_model.specs.declared.instr.Pair.{Pair}
+use Rattle.class_model.specs.declared.opcodes.TheConstants.{IFEQ, IF_ICMPEQ, IF_ACMPEQ, IFNULL}
 use Rattle.machine_values.specs.declared.value.Value.{Value}
 use Rattle.machine_values.specs.declared.value.Value.TheVariants.{Int, Null, Ref}
 use Rattle.member_link.specs.Machine.Arithmetic.{holds_for}
@@ -94,12 +95,12 @@ with_rest rest (Some taken) = Some (taken, rest)
 
 -- ifeq, ifne, iflt, ifge, ifgt, ifle
 abbrev pub jump_of_int : ℕ → List Value → Jump
-jump_of_int opcode (Int number ∷ rest) = with_rest rest (holds_for (opcode - 153) number (pos 0))
+jump_of_int opcode (Int number ∷ rest) = with_rest rest (holds_for (opcode - IFEQ) number (pos 0))
 jump_of_int opcode stack = None
 
 -- if_icmpeq, ne, lt, ge, gt, le
 abbrev pub jump_of_ints : ℕ → List Value → Jump
-jump_of_ints opcode (Int other ∷ Int one ∷ rest) = with_rest rest (holds_for (opcode - 159) one other)
+jump_of_ints opcode (Int other ∷ Int one ∷ rest) = with_rest rest (holds_for (opcode - IF_ICMPEQ) one other)
 jump_of_ints opcode stack = None
 
 abbrev pub same_references : Value → Value → Option Bool
@@ -109,15 +110,15 @@ same_references (Ref one) Null = Some false
 same_references (Ref one) (Ref other) = Some (one == other)
 same_references one other = None
 
--- if_acmpeq (165), if_acmpne (166)
+-- if_acmpeq, if_acmpne
 abbrev pub jump_of_references : ℕ → List Value → Jump
-jump_of_references opcode (other ∷ one ∷ rest) = with_rest rest (option_map (λ same. if opcode == 165 then same else not same) (same_references one other))
+jump_of_references opcode (other ∷ one ∷ rest) = with_rest rest (option_map (λ same. if opcode == IF_ACMPEQ then same else not same) (same_references one other))
 jump_of_references opcode stack = None
 
--- ifnull (198), ifnonnull (199)
+-- ifnull, ifnonnull
 abbrev pub jump_of_null : ℕ → List Value → Jump
-jump_of_null opcode (Null ∷ rest) = Some (opcode == 198, rest)
-jump_of_null opcode (Ref reference ∷ rest) = Some (not (opcode == 198), rest)
+jump_of_null opcode (Null ∷ rest) = Some (opcode == IFNULL, rest)
+jump_of_null opcode (Ref reference ∷ rest) = Some (not (opcode == IFNULL), rest)
 jump_of_null opcode stack = None
 
 -- the target of a tableswitch for a key: those from low on, else the default

@@ -3,6 +3,7 @@
 use Rattle.std.specs.Prelude.{◌==◌, ◌+◌, ◌-◌, ◌&&◌, ℕ, pos, Bool, true, false, List, [], ◌∷◌, length, Option, Some, None, if◌then◌else◌}
 use Rattle.class_model.specs.Descriptors.{parameters_of}
 use Rattle.class_model.specs.declared.descriptor.Kind.{Kind}
+use Rattle.class_model.specs.declared.opcodes.TheConstants.{IALOAD, IASTORE}
 use Rattle.machine_values.specs.declared.object.Constant.{Constant}
 use Rattle.machine_values.specs.declared.value.Value.{Value}
 use Rattle.machine_values.specs.declared.value.Value.TheVariants.{Int, Long, Ref}
@@ -114,8 +115,8 @@ work P memory (call_dynamic class bootstrap name desc) operands = call_dynamic_w
 work P memory (new_object class) operands = new_object_work P memory class
 work P memory (new_array desc) operands = new_array_work memory desc operands
 work P memory (new_arrays desc dimensions) operands = new_arrays_work memory desc operands
-work P memory (load_element opcode) operands = load_element_work memory (opcode - 46) operands
-work P memory (store_element opcode) operands = store_element_work P memory (opcode - 79) operands
+work P memory (load_element opcode) operands = load_element_work memory (opcode - IALOAD) operands
+work P memory (store_element opcode) operands = store_element_work P memory (opcode - IASTORE) operands
 work P memory array_length operands = array_length_work memory operands
 work P memory (check_cast name) operands = check_cast_work P memory name operands
 work P memory (instance_of name) operands = instance_of_work P memory name operands
