@@ -13,8 +13,8 @@ use Rattle.class_model.specs.Pool.{Constants}
 use Rattle.class_model.specs.Spelling.{attr_bytes}
 use Rattle.class_model.specs.declared.class_file.Attr.{Attr}
 use Rattle.class_model.specs.declared.fault.ClassFault.{ClassFault}
-use Rattle.class_bytes.specs.Cut.{attr_of, attrs_of}
-use Rattle.class_bytes.specs.Parts.{attrs_len}
+use Rattle.class_bytes.specs.Inner.Cut.{attr_of, attrs_of}
+use Rattle.class_bytes.specs.Inner.Parts.{attrs_len}
 use Rattle.class_bytes.specs.declared.cut.CutAttr.{CutAttr}
 
 -- The attributes before this place hold, and whether one of them has the name; these are left.

@@ -15,8 +15,8 @@ use Rattle.class_model.specs.declared.fault.ClassFault.{ClassFault}
 use Rattle.class_model.specs.declared.fault.ClassFault.TheVariants.{Malformed, Version, NoMemory}
 use Rattle.class_model.specs.PoolChecks.{utf8_at}
 use Rattle.class_model.specs.declared.fault.FileRule.TheVariants as rules
-use Rattle.class_bytes.specs.Bootstraps.{own_count, CountsMethods}
-use Rattle.class_bytes.specs.Cut.{attr_of, attrs_of}
+use Rattle.class_bytes.specs.Inner.Bootstraps.{own_count, CountsMethods}
+use Rattle.class_bytes.specs.Inner.Cut.{attr_of, attrs_of}
 use Rattle.class_bytes.specs.declared.cut.CutAttr.{CutAttr}
 use Rattle.class_bytes.proofs.Attributes.{Checked, refuses, one_more}
 use Rattle.class_bytes.proofs.Kept.{eq_sym}

@@ -14,7 +14,7 @@ use Rattle.class_model.specs.declared.class_file.ClassFile.{ClassFile}
 use Rattle.class_model.specs.declared.fault.ClassFault.{ClassFault}
 use Rattle.class_model.specs.declared.fault.ClassFault.TheVariants.{Malformed, Version, NoMemory}
 use Rattle.class_model.specs.declared.fault.FileRule.TheVariants as rules
-use Rattle.class_bytes.specs.Parts.{head_checks, fields_len, methods_len, behind_checks}
+use Rattle.class_bytes.specs.Inner.Parts.{head_checks, fields_len, methods_len, behind_checks}
 
 -- ---- behind the pool
 

@@ -11,7 +11,7 @@ use Rattle.class_model.specs.declared.fault.FileRule.{FileRule}
 use Rattle.class_model.specs.declared.fault.FileRule.TheVariants as rules
 use Rattle.class_model.specs.declared.instr.Instr.{Instr}
 use Rattle.class_model.specs.declared.instr.Placed.{Placed}
-use Rattle.class_bytes.specs.CodeParts.{at_place, decoded_checks}
+use Rattle.class_bytes.specs.Inner.CodeParts.{at_place, decoded_checks}
 use Rattle.code_bytes.specs.Decoding.{decoding_checks}
 
 -- ---- an instruction that is refused is so at its offset

@@ -5,7 +5,7 @@ use Rattle.class_model.specs.Descriptors.{SpellsDescriptor, parameter_units}
 use Rattle.class_model.specs.Laws.Descriptors.{bytes_spell}
 use Rattle.class_model.specs.PoolChecks.{BytesSpell, IsMethodDescriptor}
 use Rattle.class_model.specs.declared.descriptor.Descriptor.{Descriptor}
-use Rattle.class_bytes.specs.Parts.{CountsUnits}
+use Rattle.class_bytes.specs.Inner.Parts.{CountsUnits}
 
 -- what holds exactly up to a number
 pub at_most : (P : Type 0) (least most : ℕ) → (P ↔ (least ≤ most)) → IsTrue (nat_le least most) ↔ P

@@ -9,7 +9,7 @@ use Rattle.class_model.specs.Pool.{Constants}
 use Rattle.class_model.specs.declared.class_file.Handler.{Handler}
 use Rattle.class_model.specs.declared.fault.ClassFault.{ClassFault}
 use Rattle.class_model.specs.declared.instr.Placed.{Placed}
-use Rattle.class_bytes.specs.CodeParts.{handler_checks}
+use Rattle.class_bytes.specs.Inner.CodeParts.{handler_checks}
 
 -- the next of them
 module _ (pool : Constants) (code : List Placed) (len : ℕ) (whole : List (Check Fault)) (place : ℕ) (handlers : List Handler) (index : ℕ) (none : Handler) (within : index < length handlers) (left : Remain whole (handlers_checks pool code len place (drop index handlers))) where

@@ -13,7 +13,7 @@ use Rattle.class_model.specs.declared.class_file.Field.{Field}
 use Rattle.class_model.specs.declared.fault.ClassFault.{ClassFault}
 use Rattle.class_model.specs.declared.fault.ClassFault.TheVariants.{Malformed, Version, NoMemory}
 use Rattle.class_model.specs.declared.fault.FileRule.TheVariants as rules
-use Rattle.class_bytes.specs.Parts.{attrs_len}
+use Rattle.class_bytes.specs.Inner.Parts.{attrs_len}
 
 -- the same answer, of which something else is said
 pub tells_too : {X : Type 0} (checks : List (Check Fault)) (Is Other : X → Type 0) → ((x : X) → Is x → Other x) → (result : Result X ClassFault) → Tells checks Is result → Tells checks Other result

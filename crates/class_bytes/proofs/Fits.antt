@@ -19,7 +19,7 @@ use Rattle.class_model.specs.declared.class_file.Field.{Field}
 use Rattle.class_model.specs.declared.class_file.Method.{Method}
 use Rattle.class_model.specs.declared.fault.FileRule.TheVariants as rules
 use Rattle.class_bytes.specs.Counts.{FitsContent, FitsInner, FitsInners, FitsPart, FitsAttr, FitsAttrs, FitsField, FitsMethod, FitsCounts}
-use Rattle.class_bytes.specs.Parts.{body_at}
+use Rattle.class_bytes.specs.Inner.Parts.{body_at}
 use Rattle.class_bytes.proofs.CutBytes.{AreBytes, Keeps, step, made, bytes_kept, u2_kept, u4_kept, IsCounted, counted_kept}
 use Rattle.class_bytes.proofs.PartLengths.{part_len, part_fills}
 

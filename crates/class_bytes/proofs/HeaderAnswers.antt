@@ -10,7 +10,7 @@ use Rattle.class_model.specs.PoolChecks.{class_at}
 use Rattle.class_model.specs.declared.fault.ClassFault.{ClassFault}
 use Rattle.class_model.specs.declared.header.Header.{Header}
 use Rattle.class_model.specs.declared.header.Member.{Member}
-use Rattle.class_bytes.specs.HeaderParts.{members_checks, members_len, cut_header_checks, class_name_in, member_in, header_in}
+use Rattle.class_bytes.specs.Inner.HeaderParts.{members_checks, members_len, cut_header_checks, class_name_in, member_in, header_in}
 use Rattle.class_bytes.specs.declared.header_checks.MemberKind.{MemberKind}
 use Rattle.class_bytes.specs.declared.header_checks.MemberKind.TheVariants as kinds
 use Rattle.class_bytes.specs.declared.header_cutting.CutHeader.{CutHeader}

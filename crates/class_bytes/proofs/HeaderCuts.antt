@@ -6,9 +6,9 @@ use Rattle.class_model.specs.Laws.Cuts.{bind_ok, guard_true}
 use Rattle.class_model.specs.Pool.{Constants}
 use Rattle.class_model.specs.declared.class_file.ClassFile.{ClassFile}
 use Rattle.class_model.specs.declared.fault.FileRule.TheVariants as rules
-use Rattle.class_bytes.specs.Cut.{result_seen}
-use Rattle.class_bytes.specs.HeaderParts.{cut_seen, member_head_at, cut_header_at, field_head, method_head, cut_header}
-use Rattle.class_bytes.specs.Parts.{body_at}
+use Rattle.class_bytes.specs.Inner.Cut.{result_seen}
+use Rattle.class_bytes.specs.Inner.HeaderParts.{cut_seen, member_head_at, cut_header_at, field_head, method_head, cut_header}
+use Rattle.class_bytes.specs.Inner.Parts.{body_at}
 use Rattle.class_bytes.specs.declared.header_cutting.CutHeader.{CutHeader}
 
 -- ---- one step after the other

@@ -14,7 +14,7 @@ use Rattle.class_model.specs.declared.class_file.ClassFile.{ClassFile}
 use Rattle.class_model.specs.declared.fault.ClassFault.{ClassFault}
 use Rattle.class_model.specs.declared.fault.ClassFault.TheVariants as faults
 use Rattle.class_model.specs.declared.header.Header.{Header}
-use Rattle.class_bytes.specs.HeaderParts.{cut_header_at, cut_header, header_len, cut_header_checks, header_in}
+use Rattle.class_bytes.specs.Inner.HeaderParts.{cut_header_at, cut_header, header_len, cut_header_checks, header_in}
 use Rattle.class_bytes.specs.Reading.{IsHeaderReadOf}
 use Rattle.class_bytes.specs.declared.header_cutting.CutHeader.{CutHeader}
 use Rattle.class_bytes.proofs.Bodies.{behind_pool, no_pool}

@@ -7,7 +7,7 @@ use Rattle.class_model.specs.Laws.Checks.{Remain}
 use Rattle.class_model.specs.Pool.{Constants}
 use Rattle.class_model.specs.declared.fault.ClassFault.{ClassFault}
 use Rattle.class_model.specs.declared.header.Member.{Member}
-use Rattle.class_bytes.specs.HeaderParts.{member_in, member_checks, members_checks, members_len}
+use Rattle.class_bytes.specs.Inner.HeaderParts.{member_in, member_checks, members_checks, members_len}
 use Rattle.class_bytes.specs.declared.header_checks.MemberKind.{MemberKind}
 use Rattle.class_bytes.specs.declared.header_cutting.MemberHead.{MemberHead}
 

@@ -15,8 +15,8 @@ use Rattle.class_model.specs.declared.class_file.ClassFile.{ClassFile}
 use Rattle.class_model.specs.declared.class_file.Field.{Field}
 use Rattle.class_model.specs.declared.class_file.Method.{Method}
 use Rattle.class_model.specs.declared.fault.FileRule.TheVariants as rules
-use Rattle.class_bytes.specs.HeaderParts.{field_head, method_head, cut_header, field_head_checks, method_head_checks, members_checks, members_len, header_len, cut_header_checks, member_in, header_in}
-use Rattle.class_bytes.specs.Parts.{attrs_len, fields_len, methods_len, behind_len}
+use Rattle.class_bytes.specs.Inner.HeaderParts.{field_head, method_head, cut_header, field_head_checks, method_head_checks, members_checks, members_len, header_len, cut_header_checks, member_in, header_in}
+use Rattle.class_bytes.specs.Inner.Parts.{attrs_len, fields_len, methods_len, behind_len}
 use Rattle.class_bytes.specs.declared.header_checks.MemberKind.TheVariants as kinds
 use Rattle.class_bytes.specs.declared.header_cutting.CutHeader.{CutHeader}
 

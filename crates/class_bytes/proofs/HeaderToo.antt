@@ -18,7 +18,7 @@ use Rattle.class_model.specs.declared.class_file.Method.{Method}
 use Rattle.class_model.specs.declared.fault.FileRule.TheVariants as rules
 use Rattle.class_model.specs.declared.header.Member.{Member}
 use Rattle.class_model.specs.declared.pool.Const.TheVariants.{Utf8}
-use Rattle.class_bytes.specs.HeaderParts.{method_head, member_in}
+use Rattle.class_bytes.specs.Inner.HeaderParts.{method_head, member_in}
 use Rattle.class_bytes.proofs.HeaderSame.{all_fields, all_methods}
 use Rattle.class_bytes.proofs.PoolAlone.{IsAlone, pool_alone}
 

@@ -11,8 +11,8 @@ use Rattle.class_model.specs.Laws.Checks.{Remain, remain}
 use Rattle.class_model.specs.Spelling.{inner_bytes}
 use Rattle.class_model.specs.declared.fault.ClassFault.{ClassFault}
 use Rattle.class_model.specs.declared.frame.Frame.{Frame}
-use Rattle.class_bytes.specs.CodeParts.{inners_len, inner_checks}
-use Rattle.class_bytes.specs.Cut.{inner_of, inners_of}
+use Rattle.class_bytes.specs.Inner.CodeParts.{inners_len, inner_checks}
+use Rattle.class_bytes.specs.Inner.Cut.{inner_of, inners_of}
 use Rattle.class_bytes.specs.declared.cut.CutAttr.{CutAttr}
 
 -- The attributes before this place hold, and whether one of them is a StackMapTable; these are left.

@@ -10,7 +10,7 @@ use Rattle.std.proofs.lemmas.Bool.Decides.{same_from_decides}
 use Rattle.class_model.specs.Members.{Signature, same_text, same_signature, stands_before}
 use Rattle.class_model.specs.Pool.{Constants}
 use Rattle.class_model.specs.PoolChecks.{utf8_at}
-use Rattle.class_bytes.specs.Signatures.{has_texts, Knows}
+use Rattle.class_bytes.specs.Inner.Signatures.{has_texts, Knows}
 use Rattle.class_bytes.specs.declared.signatures.Signatures.{Signatures}
 
 -- ---- tests

@@ -11,9 +11,9 @@ use Rattle.class_model.specs.Methods.{Home, method_checks}
 use Rattle.class_model.specs.Pool.{Constants}
 use Rattle.class_model.specs.Spelling.{field_bytes, method_bytes}
 use Rattle.class_model.specs.declared.fault.ClassFault.{ClassFault}
-use Rattle.class_bytes.specs.Cut.{field_of, fields_of, method_of, methods_of}
-use Rattle.class_bytes.specs.Parts.{fields_len, methods_len}
-use Rattle.class_bytes.specs.Signatures.{Knows}
+use Rattle.class_bytes.specs.Inner.Cut.{field_of, fields_of, method_of, methods_of}
+use Rattle.class_bytes.specs.Inner.Parts.{fields_len, methods_len}
+use Rattle.class_bytes.specs.Inner.Signatures.{Knows}
 use Rattle.class_bytes.specs.declared.cut.CutMember.{CutMember}
 use Rattle.class_bytes.specs.declared.signatures.Signatures.{Signatures}
 

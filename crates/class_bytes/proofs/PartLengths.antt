@@ -13,7 +13,7 @@ use Rattle.class_model.specs.declared.class_file.CodePart.{CodePart}
 use Rattle.class_model.specs.declared.class_file.Handler.{Handler}
 use Rattle.class_model.specs.declared.class_file.InnerAttr.{InnerAttr}
 use Rattle.class_model.specs.declared.fault.FileRule.TheVariants as rules
-use Rattle.class_bytes.specs.CodeParts.{parts_len}
+use Rattle.class_bytes.specs.Inner.CodeParts.{parts_len}
 
 -- What a part cuts off has a size.
 record Spends {X : Type 0} (part : Rest → Cut X) (size : X → ℕ) : Type 0 where

@@ -15,8 +15,8 @@ use Rattle.class_model.specs.declared.fault.ClassFault.{ClassFault}
 use Rattle.class_model.specs.declared.fault.ClassFault.TheVariants.{Malformed, Version, NoMemory}
 use Rattle.class_model.specs.declared.fault.FileRule.TheVariants as rules
 use Rattle.class_model.specs.declared.instr.Placed.{Placed}
-use Rattle.class_bytes.specs.CodeParts.{at_place, decoded_checks, setting_of_code, entry_frame_of, parts_checks}
-use Rattle.class_bytes.specs.Cut.{home_seen, method_of, part_of}
+use Rattle.class_bytes.specs.Inner.CodeParts.{at_place, decoded_checks, setting_of_code, entry_frame_of, parts_checks}
+use Rattle.class_bytes.specs.Inner.Cut.{home_seen, method_of, part_of}
 use Rattle.class_bytes.specs.declared.cut.CutMember.{CutMember}
 use Rattle.class_bytes.specs.declared.cut.CutPart.{CutPart}
 use Rattle.class_bytes.specs.declared.home.Home.{Home}

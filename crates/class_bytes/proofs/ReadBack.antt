@@ -20,7 +20,7 @@ use Rattle.pool_bytes.specs.Items.{IsU2}
 use Rattle.pool_bytes.specs.ReadBack.{IsReadBackIn}
 use Rattle.class_bytes.specs.Counts.{FitsContent, FitsInner, FitsInners, FitsPart, FitsAttr, FitsAttrs, FitsField, FitsFields, FitsMethod, FitsMethods, FitsCounts}
 use Rattle.class_bytes.specs.Numbers.{InnerNumber, HandlerNumbers, PartNumbers, AttrNumbers, FieldNumbers, MethodNumbers, BodyNumbers}
-use Rattle.class_bytes.specs.Parts.{body_at}
+use Rattle.class_bytes.specs.Inner.Parts.{body_at}
 
 -- each item is both
 both_each : {X : Type 0} (P Q : X → Type 0) (xs : List X) → AllByRecursion P xs → AllByRecursion Q xs → AllByRecursion (λ x. P x × Q x) xs

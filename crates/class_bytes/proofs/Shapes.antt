@@ -12,7 +12,7 @@ use Rattle.class_model.specs.Names.{init, IsMethodName}
 use Rattle.class_model.specs.PoolChecks.{IsMethodDescriptor, BytesSpell, ReturnsVoid, InitIsVoid}
 use Rattle.class_model.specs.declared.descriptor.Descriptor.{Descriptor}
 use Rattle.class_model.specs.declared.descriptor_bytes.MethodShape.{MethodShape}
-use Rattle.class_bytes.specs.Shapes.{HasShape, IsShape}
+use Rattle.class_bytes.specs.Inner.Shapes.{HasShape, IsShape}
 
 -- ---- the bytes of a descriptor
 

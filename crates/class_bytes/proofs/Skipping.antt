@@ -14,8 +14,8 @@ use Rattle.class_model.specs.declared.class_file.Attr.TheVariants.{Raw}
 use Rattle.class_model.specs.declared.fault.ClassFault.{ClassFault}
 use Rattle.class_model.specs.declared.fault.ClassFault.TheVariants as faults
 use Rattle.class_model.specs.declared.fault.FileRule.TheVariants as rules
-use Rattle.class_bytes.specs.HeaderParts.{skipped_at}
-use Rattle.class_bytes.specs.Parts.{attrs_len}
+use Rattle.class_bytes.specs.Inner.HeaderParts.{skipped_at}
+use Rattle.class_bytes.specs.Inner.Parts.{attrs_len}
 use Rattle.class_bytes.proofs.Many.{SoFar, goes_on_plain, stops, is_done}
 
 -- ---- an attribute takes its bytes

@@ -14,7 +14,7 @@ use Rattle.class_model.specs.declared.frame.Frame.{Frame}
 use Rattle.class_model.specs.declared.frame.PlacedFrame.{PlacedFrame}
 use Rattle.class_model.specs.declared.frame.VType.{VType}
 use Rattle.class_model.specs.declared.frame.VType.TheVariants.{Object, Uninit}
-use Rattle.class_bytes.specs.CodeParts.{table_checks}
+use Rattle.class_bytes.specs.Inner.CodeParts.{table_checks}
 
 -- what is left, or the place of a fault, is not behind an end
 abbrev Inside : ℕ → Rest → Type 0

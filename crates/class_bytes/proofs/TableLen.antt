@@ -7,7 +7,7 @@ use Rattle.class_model.specs.Cutting.{Rest, Cut, behind, bytes_at, u2_at, many_a
 use Rattle.class_model.specs.Laws.Cuts.{bind_ok, done, same_done, guard_false, guard_some}
 use Rattle.class_model.specs.Methods.{Bootstrap, bootstrap_at, bootstraps}
 use Rattle.class_model.specs.declared.fault.FileRule.TheVariants as rules
-use Rattle.class_bytes.specs.Bootstraps.{bootstraps_len}
+use Rattle.class_bytes.specs.Inner.Bootstraps.{bootstraps_len}
 
 -- So many bytes were taken from the front.
 record Took (rest : Rest) (len : ℕ) (after : Rest) : Type 0 where

@@ -7,7 +7,7 @@ use Rattle.class_model.specs.Laws.Checks.{Remain, remain}
 use Rattle.class_model.specs.Methods.{bootstraps_checks}
 use Rattle.class_model.specs.Pool.{Constants}
 use Rattle.class_model.specs.declared.fault.ClassFault.{ClassFault}
-use Rattle.class_bytes.specs.Bootstraps.{bootstrap_of, bootstraps_of, bootstraps_len, bootstrap_checks}
+use Rattle.class_bytes.specs.Inner.Bootstraps.{bootstrap_of, bootstraps_of, bootstraps_len, bootstrap_checks}
 use Rattle.class_bytes.specs.declared.bootstraps.CutBootstrap.{CutBootstrap}
 
 -- ---- one method after the other

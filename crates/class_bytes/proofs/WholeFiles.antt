@@ -10,7 +10,7 @@ use Rattle.class_model.specs.Spelling.{u2, u4, u2s, magic, entry_bytes, pool_byt
 use Rattle.class_model.specs.declared.class_file.ClassFile.{ClassFile}
 use Rattle.class_model.specs.declared.fault.ClassFault.{ClassFault}
 use Rattle.class_model.specs.declared.fault.ClassFault.TheVariants as faults
-use Rattle.class_bytes.specs.Parts.{body_at, behind_len}
+use Rattle.class_bytes.specs.Inner.Parts.{body_at, behind_len}
 use Rattle.class_bytes.specs.Reading.{IsReadOf}
 use Rattle.class_bytes.proofs.Bodies.{behind_pool, no_pool}
 

@@ -1,11 +1,4 @@
 pub mod Counts
 pub mod Numbers
-pub mod Cut
-pub mod Parts
-pub mod Signatures
-pub mod Shapes
-pub mod MethodParts
-pub mod Bootstraps
-pub mod CodeParts
 pub mod Reading
-pub mod HeaderParts
+pub mod Inner

@@ -7,9 +7,9 @@ ghost use Rattle.class_model.specs.Members.{has_named, attrs_checks};
 ghost use Rattle.class_model.specs.Methods.{IsHandle, IsArgument, bootstrap_at, bootstraps, bootstrap_methods, arguments_checks, bootstraps_checks, bootstrap_table_checks, class_attr_checks, bootstrap_count};
 ghost use Rattle.class_model.specs.Pool.{constant_at};
 ghost use Rattle.class_model.specs.declared.class_file.Attr.{Attr};
-ghost use Rattle.class_bytes.specs.Bootstraps.{bootstrap_of, bootstraps_of, bootstraps_len, bootstrap_checks, own_count, CountsMethods};
-ghost use Rattle.class_bytes.specs.Cut.{result_seen, attr_of, attrs_of};
-ghost use Rattle.class_bytes.specs.Parts.{attrs_len};
+ghost use Rattle.class_bytes.specs.Inner.Bootstraps.{bootstrap_of, bootstraps_of, bootstraps_len, bootstrap_checks, own_count, CountsMethods};
+ghost use Rattle.class_bytes.specs.Inner.Cut.{result_seen, attr_of, attrs_of};
+ghost use Rattle.class_bytes.specs.Inner.Parts.{attrs_len};
 
 use crate::checks::{ask, ask_text};
 use crate::cut::CutAttr;

@@ -6,8 +6,8 @@ ghost use Rattle.class_model.specs.Answers.{Tells};
 ghost use Rattle.class_model.specs.ClassOf.{class_file_checks};
 ghost use Rattle.class_model.specs.Methods.{bootstrap_count};
 ghost use Rattle.class_model.specs.Spelling.{entry_bytes};
-ghost use Rattle.class_bytes.specs.Cut.{attrs_of, class_of};
-ghost use Rattle.class_bytes.specs.Parts.{behind_checks, behind_len};
+ghost use Rattle.class_bytes.specs.Inner.Cut.{attrs_of, class_of};
+ghost use Rattle.class_bytes.specs.Inner.Parts.{behind_checks, behind_len};
 
 use crate::bootstraps::check_class_attrs;
 use crate::cut::CutBody;

@@ -5,8 +5,8 @@ ghost use Rattle.class_model.specs.Code.{code_part};
 ghost use Rattle.class_model.specs.Instructions.{decoded};
 ghost use Rattle.class_model.specs.Methods.{part_checks, content_checks, units_at_call, IsDescriptorOf};
 ghost use Rattle.class_model.specs.PoolChecks.{utf8_at};
-ghost use Rattle.class_bytes.specs.CodeParts.{parts_len, decoded_checks, parts_checks};
-ghost use Rattle.class_bytes.specs.Cut.{home_seen, method_of, part_of};
+ghost use Rattle.class_bytes.specs.Inner.CodeParts.{parts_len, decoded_checks, parts_checks};
+ghost use Rattle.class_bytes.specs.Inner.Cut.{home_seen, method_of, part_of};
 
 use crate::checks::ask;
 use crate::code_cutting::code_part;

@@ -4,7 +4,7 @@ ghost use Rattle.std.specs.Option.{option_map};
 ghost use Rattle.class_model.specs.Answers.{Takes};
 ghost use Rattle.class_model.specs.Code.{handler_at, part_at, code_part};
 ghost use Rattle.class_model.specs.Cutting.{counted_at};
-ghost use Rattle.class_bytes.specs.Cut.{result_seen, part_of};
+ghost use Rattle.class_bytes.specs.Inner.Cut.{result_seen, part_of};
 
 use crate::cut::CutPart;
 use crate::cutting::cut_attrs;

@@ -3,8 +3,8 @@ ghost use Rattle.class_model.specs.Answers.{Gives, Takes};
 ghost use Rattle.class_model.specs.Cutting.{u2_at, version_at, counted_at, attr_at, field_at, method_at};
 ghost use Rattle.class_model.specs.Code.{inner_at};
 ghost use Rattle.class_model.specs.Pool.{Constants};
-ghost use Rattle.class_bytes.specs.Parts.{body_at};
-ghost use Rattle.class_bytes.specs.Cut.{result_seen, version_of, attr_of, inner_of, attrs_of, inners_of, field_of, method_of, fields_of, methods_of, class_of};
+ghost use Rattle.class_bytes.specs.Inner.Parts.{body_at};
+ghost use Rattle.class_bytes.specs.Inner.Cut.{result_seen, version_of, attr_of, inner_of, attrs_of, inners_of, field_of, method_of, fields_of, methods_of, class_of};
 
 use crate::cut::{CutAttr, CutBody, CutMember, MAGIC, Version};
 use class_model::{ClassFault, Cursor, FileRule, IndexList, ListOf};

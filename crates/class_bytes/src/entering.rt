@@ -1,7 +1,7 @@
 //! A checked class file as a value of its own, with the Code of its methods cut into parts.
 ghost use Rattle.std.specs.Prelude.{◌≡◌, map, IfOk};
 ghost use Rattle.class_model.specs.ClassOf.{entered, entered_method, entered_attr};
-ghost use Rattle.class_bytes.specs.Cut.{attr_of, attrs_of, inners_of, part_of, method_of, methods_of, fields_of, class_of};
+ghost use Rattle.class_bytes.specs.Inner.Cut.{attr_of, attrs_of, inners_of, part_of, method_of, methods_of, fields_of, class_of};
 
 use crate::code_cutting::code_part;
 use crate::cut::{CutAttr, CutBody, CutMember, CutPart};

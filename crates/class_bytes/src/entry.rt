@@ -5,7 +5,7 @@ ghost use Rattle.class_model.specs.Methods as methods;
 ghost use Rattle.class_model.specs.Methods.{IsDescriptorOf};
 ghost use Rattle.class_model.specs.PoolChecks.{utf8_at};
 ghost use Rattle.class_model.specs.declared.class_file.CodePart.{CodePart};
-ghost use Rattle.class_bytes.specs.Cut.{home_seen, method_of};
+ghost use Rattle.class_bytes.specs.Inner.Cut.{home_seen, method_of};
 
 use crate::cut::CutMember;
 use crate::home::Home;

@@ -7,8 +7,8 @@ ghost use Rattle.class_model.specs.Members as members;
 ghost use Rattle.class_model.specs.PoolChecks.{utf8_at};
 ghost use Rattle.class_model.specs.Spelling.{field_bytes};
 ghost use Rattle.class_model.specs.declared.class_file.Attr.{Attr};
-ghost use Rattle.class_bytes.specs.Cut.{attr_of, attrs_of, field_of, fields_of};
-ghost use Rattle.class_bytes.specs.Parts.{attrs_len, fields_len};
+ghost use Rattle.class_bytes.specs.Inner.Cut.{attr_of, attrs_of, field_of, fields_of};
+ghost use Rattle.class_bytes.specs.Inner.Parts.{attrs_len, fields_len};
 
 use crate::checks::{ask, ask_text};
 use crate::cut::{CutAttr, CutMember};

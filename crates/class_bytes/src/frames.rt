@@ -4,8 +4,8 @@ ghost use Rattle.class_model.specs.Answers.{Tells};
 ghost use Rattle.class_model.specs.Code.{inners_checks, inner_is_named, stack_map_table};
 ghost use Rattle.class_model.specs.Methods.{IsDescriptorOf};
 ghost use Rattle.class_model.specs.PoolChecks.{utf8_at};
-ghost use Rattle.class_bytes.specs.CodeParts.{inners_len, inner_checks, table_checks, setting_of_code, entry_frame_of};
-ghost use Rattle.class_bytes.specs.Cut.{inner_of, inners_of};
+ghost use Rattle.class_bytes.specs.Inner.CodeParts.{inners_len, inner_checks, table_checks, setting_of_code, entry_frame_of};
+ghost use Rattle.class_bytes.specs.Inner.Cut.{inner_of, inners_of};
 
 use crate::checks::{ask, ask_text};
 use crate::cut::CutAttr;

@@ -4,7 +4,7 @@ ghost use Rattle.class_model.specs.Answers.{Tells};
 ghost use Rattle.class_model.specs.Code.{IsRange, handlers_checks};
 ghost use Rattle.class_model.specs.PoolChecks.{IsClassAt};
 ghost use Rattle.class_model.specs.declared.instr.Placed.{Placed};
-ghost use Rattle.class_bytes.specs.CodeParts.{handler_checks};
+ghost use Rattle.class_bytes.specs.Inner.CodeParts.{handler_checks};
 ghost use Rattle.code_bytes.specs.Starts.{IsStartsOf};
 
 use crate::checks::ask;

@@ -3,8 +3,8 @@
 ghost use Rattle.std.specs.Prelude.{◌≡◌, ◌+◌, ◌*◌, ◌<◌, ◌^◌, length, IsTrue};
 ghost use Rattle.class_model.specs.Answers.{Tells};
 ghost use Rattle.class_model.specs.Members.{fits_class, class_name_checks, super_checks, interfaces_checks};
-ghost use Rattle.class_bytes.specs.Cut.{class_of};
-ghost use Rattle.class_bytes.specs.Parts.{head_checks, head_len};
+ghost use Rattle.class_bytes.specs.Inner.Cut.{class_of};
+ghost use Rattle.class_bytes.specs.Inner.Parts.{head_checks, head_len};
 
 use crate::cut::CutBody;
 use class_model::{

@@ -1,7 +1,7 @@
 //! Reading the header of a library's class file.
 ghost use Rattle.std.specs.Prelude.{◌↔◌, IsTrue};
 ghost use Rattle.class_model.specs.Header.{IsLibraryVersion};
-ghost use Rattle.class_bytes.specs.Cut.{version_of};
+ghost use Rattle.class_bytes.specs.Inner.Cut.{version_of};
 ghost use Rattle.class_bytes.specs.Reading.{IsHeaderReadOf};
 
 use crate::class_checks::CONSTANTS_AT;

@@ -8,8 +8,8 @@ ghost use Rattle.class_model.specs.ModifiedUtf8.{IsText};
 ghost use Rattle.class_model.specs.PoolChecks.{utf8_at, class_at};
 ghost use Rattle.class_model.specs.declared.fault.FileRule.TheVariants as rules;
 ghost use Rattle.pool_bytes.specs.Texts.{HasTexts};
-ghost use Rattle.class_bytes.specs.HeaderParts.{field_head_checks, method_head_checks, member_checks, members_checks, members_len, header_len, cut_header_checks, class_name_in, member_in, header_in};
-ghost use Rattle.class_bytes.specs.Shapes.{IsShape};
+ghost use Rattle.class_bytes.specs.Inner.HeaderParts.{field_head_checks, method_head_checks, member_checks, members_checks, members_len, header_len, cut_header_checks, class_name_in, member_in, header_in};
+ghost use Rattle.class_bytes.specs.Inner.Shapes.{IsShape};
 
 use crate::checks::ask;
 use crate::header_cutting::{CutHeader, MemberHead};

@@ -2,7 +2,7 @@
 //! skipped by their length.
 ghost use Rattle.class_model.specs.Answers.{Gives, Takes};
 ghost use Rattle.class_model.specs.Cutting.{counted_at};
-ghost use Rattle.class_bytes.specs.HeaderParts.{skipped_at, member_head_at, cut_header_at};
+ghost use Rattle.class_bytes.specs.Inner.HeaderParts.{skipped_at, member_head_at, cut_header_at};
 
 use crate::cutting::{cut_attr, cut_indices};
 use class_model::{ClassFault, Cursor, FileRule, IndexList, ListOf};

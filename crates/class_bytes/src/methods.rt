@@ -10,10 +10,10 @@ ghost use Rattle.class_model.specs.Names.{IsMethodName};
 ghost use Rattle.class_model.specs.PoolChecks.{utf8_at, InitIsVoid};
 ghost use Rattle.class_model.specs.Spelling.{method_bytes};
 ghost use Rattle.class_model.specs.declared.class_file.Attr.{Attr};
-ghost use Rattle.class_bytes.specs.Cut.{attr_of, attrs_of, home_seen, method_of, methods_of};
-ghost use Rattle.class_bytes.specs.MethodParts.{signature_checks};
-ghost use Rattle.class_bytes.specs.Parts.{attrs_len, methods_len};
-ghost use Rattle.class_bytes.specs.Shapes.{IsShape};
+ghost use Rattle.class_bytes.specs.Inner.Cut.{attr_of, attrs_of, home_seen, method_of, methods_of};
+ghost use Rattle.class_bytes.specs.Inner.MethodParts.{signature_checks};
+ghost use Rattle.class_bytes.specs.Inner.Parts.{attrs_len, methods_len};
+ghost use Rattle.class_bytes.specs.Inner.Shapes.{IsShape};
 
 use crate::checks::{ask, ask_text};
 use crate::code::check_code;

@@ -1,7 +1,7 @@
 //! The names of attributes (JVM Specification SE 8, 4.7).
 ghost use Rattle.std.specs.Prelude.{◌≡◌};
 ghost use Rattle.class_model.specs.Members.{is_named};
-ghost use Rattle.class_bytes.specs.Cut.{attr_of};
+ghost use Rattle.class_bytes.specs.Inner.Cut.{attr_of};
 
 use crate::cut::CutAttr;
 use class_model::Pool;

@@ -5,7 +5,7 @@ ghost use Rattle.class_model.specs.Answers.{Tells};
 ghost use Rattle.class_model.specs.Code.{operand_checks, IsLoadable, OperandFits, FitsLocal, IsCalled, CountsArguments, FitsArray, HasDimensions};
 ghost use Rattle.class_model.specs.Pool.{constant_at};
 ghost use Rattle.class_model.specs.PoolChecks.{IsClassAt, class_at, descriptor_at};
-ghost use Rattle.class_bytes.specs.Parts.{CountsUnits};
+ghost use Rattle.class_bytes.specs.Inner.Parts.{CountsUnits};
 
 use class_model::opcodes::{INVOKEINTERFACE, INVOKESPECIAL, INVOKESTATIC, INVOKEVIRTUAL};
 use class_model::{

@@ -3,7 +3,7 @@ ghost use Rattle.std.specs.Prelude.{◌≡◌, ◌↔◌, IfOk, IsTrue};
 ghost use Rattle.class_model.specs.ClassOf.{IsReadVersion};
 ghost use Rattle.class_model.specs.Spelling.{class_bytes};
 ghost use Rattle.class_bytes.specs.Counts.{FitsCounts};
-ghost use Rattle.class_bytes.specs.Cut.{version_of};
+ghost use Rattle.class_bytes.specs.Inner.Cut.{version_of};
 ghost use Rattle.class_bytes.specs.Reading.{IsReadOf};
 
 use crate::class_checks::check_class;

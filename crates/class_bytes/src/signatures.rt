@@ -3,7 +3,7 @@
 ghost use Rattle.std.specs.Prelude.{◌≡◌, [], ◌∷◌, ◌++◌, List, IfOk};
 ghost use Rattle.class_model.specs.Members.{Signature, stands_before};
 ghost use Rattle.class_model.specs.Pool.{Constants};
-ghost use Rattle.class_bytes.specs.Signatures.{Knows};
+ghost use Rattle.class_bytes.specs.Inner.Signatures.{Knows};
 
 use class_model::{NoMemory, Pool};
 use std::alloc::Global;

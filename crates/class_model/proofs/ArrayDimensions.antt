@@ -3,7 +3,7 @@ use Rattle.std.proofs.Common.{◌≡◌, ◌==◌, ◌↔◌, ℕ, ◌-◌, ◌�
 use Rattle.std.proofs.lemmas.Bool.{eqb-true, eq-eqb}
 use Rattle.std.proofs.lemmas.List.{append-nil, length-append, length-replicate, nil_from_length}
 use Rattle.class_model.specs.Code.{HasDimensions}
-use Rattle.class_model.specs.DescriptorParts.{BracketsAt, ElementAt}
+use Rattle.class_model.specs.Inner.DescriptorParts.{BracketsAt, ElementAt}
 use Rattle.class_model.specs.Descriptors.{field_type_text}
 use Rattle.class_model.proofs.DescriptorGrammar.{LacksBracket, one_count, element_lacks, one_element}
 

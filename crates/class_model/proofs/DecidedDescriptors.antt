@@ -4,7 +4,7 @@ use Rattle.std.specs.List.{flat_map}
 use Rattle.std.proofs.lemmas.Bool.{cases_eq}
 use Rattle.std.proofs.lemmas.List.{append-nil}
 use Rattle.class_model.specs.Descriptors.{field_type_text, parameter_units, result_text, IsDescriptor, SpellsDescriptor}
-use Rattle.class_model.specs.DescriptorParts.{TypeAt, TypesAt}
+use Rattle.class_model.specs.Inner.DescriptorParts.{TypeAt, TypesAt}
 use Rattle.class_model.specs.Laws.Descriptors.{bytes_spell}
 use Rattle.class_model.specs.Methods.{this_units, IsDescriptorOf}
 use Rattle.class_model.specs.Names.{init}

@@ -6,7 +6,7 @@ use Rattle.class_model.specs.Code.{HasDimensions}
 use Rattle.class_model.specs.Laws.Descriptors.{array_text}
 use Rattle.class_model.specs.Names.{IsClassName}
 use Rattle.class_model.specs.Descriptors.{field_type_text, IsElementType, IsArrayType, IsReferenceName, IsFieldType}
-use Rattle.class_model.specs.DescriptorParts.{base_type_of, ClassNameAt, ElementAt, BracketsAt, ArrayAt, TypeAt}
+use Rattle.class_model.specs.Inner.DescriptorParts.{base_type_of, ClassNameAt, ElementAt, BracketsAt, ArrayAt, TypeAt}
 use Rattle.class_model.specs.PoolChecks.{IsTypeName, IsFieldDescriptor}
 use Rattle.class_model.specs.declared.descriptor.FieldType.{FieldType}
 use Rattle.class_model.specs.declared.descriptor.FieldType.TheVariants.{Named}

@@ -8,7 +8,7 @@ use Rattle.class_model.specs.ModifiedUtf8.{IsText}
 use Rattle.class_model.specs.Laws.Descriptors.{class_text, array_head, array_text}
 use Rattle.class_model.specs.Names.{IsNameByte, IsUnqualifiedName, IsClassName}
 use Rattle.class_model.specs.Descriptors.{named_text, field_type_text, IsElementType, IsArrayType, IsReferenceName, IsFieldType, SpellsFieldType}
-use Rattle.class_model.specs.DescriptorParts.{base_type_of, ClassNameAt, ElementAt, BracketsAt, ArrayAt, FieldTypeAt}
+use Rattle.class_model.specs.Inner.DescriptorParts.{base_type_of, ClassNameAt, ElementAt, BracketsAt, ArrayAt, FieldTypeAt}
 use Rattle.class_model.specs.declared.descriptor.FieldType.{FieldType}
 use Rattle.class_model.specs.declared.descriptor.FieldType.TheVariants.{Byte, Char, Short, Bool as Boolean, Int, Long, Float, Double, Named}
 use Rattle.class_model.proofs.TextParts.{name_is_text}

@@ -4,7 +4,7 @@ use Rattle.std.proofs.lemmas.Bool.{eqb-true}
 use Rattle.std.proofs.lemmas.List.{append-nil, nil_from_length}
 use Rattle.std.proofs.lemmas.List.Sums.{sum_by-cons, sum_by_push, sum_by-append}
 use Rattle.class_model.specs.Descriptors.{field_type_text, kind_of, units_of, parameter_units, result_text}
-use Rattle.class_model.specs.DescriptorParts.{ElementAt, ArrayAt, TypeAt, TypeUnitsAt, TypesAt, UnitsAt}
+use Rattle.class_model.specs.Inner.DescriptorParts.{ElementAt, ArrayAt, TypeAt, TypeUnitsAt, TypesAt, UnitsAt}
 use Rattle.class_model.specs.Laws.Descriptors.{array_head, array_text}
 use Rattle.class_model.specs.PoolChecks.{IsFieldDescriptor, BytesSpell, IsMethodDescriptor, ReturnsVoid}
 use Rattle.class_model.specs.declared.descriptor.FieldType.{FieldType}

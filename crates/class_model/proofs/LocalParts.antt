@@ -5,7 +5,8 @@ use Rattle.std.proofs.lemmas.List.{get_or_append_left, get_or_past, get_or_push,
 use Rattle.std.proofs.lemmas.Option.{unwrap_or-slice_get, slice_get_within, get_or_from_slice_get}
 use Rattle.std.specs.List.{slice_get}
 use Rattle.std.specs.Option.{unwrap_or}
-use Rattle.class_model.specs.LocalTypes.{IsPut, IsKept, IsTopFrom, type_in, unit_in}
+use Rattle.class_model.specs.LocalTypes.{type_in, unit_in}
+use Rattle.class_model.specs.Inner.LocalTypes.{IsPut, IsKept, IsTopFrom}
 use Rattle.class_model.specs.declared.frame.VType.{VType}
 use Rattle.class_model.specs.declared.frame.VType.TheVariants.{Top}
 

@@ -5,7 +5,8 @@ use Rattle.std.proofs.lemmas.List.{ext_get_or, get_or-append_right, get_or_appen
 use Rattle.std.proofs.lemmas.List.FromFn.{length-map-range_with_len, get_or-map-range_with_len, map-range_with_len_more, fill_by_all}
 use Rattle.std.proofs.lemmas.Option.{slice_get-get_or, slice_get_past}
 use Rattle.std.specs.List.{slice_get}
-use Rattle.class_model.specs.LocalTypes.{IsPut, IsTopFrom, units_below}
+use Rattle.class_model.specs.LocalTypes.{units_below}
+use Rattle.class_model.specs.Inner.LocalTypes.{IsPut, IsTopFrom}
 use Rattle.class_model.specs.declared.frame.VType.{VType}
 use Rattle.class_model.specs.declared.frame.VType.TheVariants.{Top}
 

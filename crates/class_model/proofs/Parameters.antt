@@ -5,7 +5,7 @@ use Rattle.std.proofs.lemmas.List.Sums.{sum_by-cons, sum_by_push}
 use Rattle.std.proofs.lemmas.Grind.{flat_map-append}
 use Rattle.std.specs.List.{flat_map, AllByRecursion}
 use Rattle.class_model.specs.Descriptors.{field_type_text, IsFieldType, kind_of, units_of, parameter_units, result_text, SpellsFieldType, SpellsDescriptor}
-use Rattle.class_model.specs.DescriptorParts.{FieldTypeAt, ParametersAt, SpellsResult}
+use Rattle.class_model.specs.Inner.DescriptorParts.{FieldTypeAt, ParametersAt, SpellsResult}
 use Rattle.class_model.specs.declared.descriptor.FieldType.{FieldType}
 use Rattle.class_model.specs.declared.descriptor.Descriptor.{Descriptor}
 use Rattle.class_model.proofs.DescriptorGrammar.{one_at, no_type_at, type_at_whole}

@@ -1,7 +1,6 @@
 pub mod ModifiedUtf8
 pub mod Names
 pub mod Descriptors
-pub mod DescriptorParts
 pub mod Checks
 pub mod Pool
 pub mod Spelling
@@ -22,3 +21,4 @@ pub mod MethodCode
 pub mod ArrayTypes
 pub mod Laws
 pub mod RuleNames
+pub mod Inner

@@ -2,7 +2,7 @@
 ghost use Rattle.std.specs.Prelude.{◌≡◌, ◌≢◌, ◌<◌, ◌↔◌, ◌∷◌, ℕ, List, length, slice_index, EachIndex, Option, IfOk, OnOk, IsErrOf, IfSome, IfNone, IsTrue};
 ghost use Rattle.class_model.specs.ModifiedUtf8.{IsText};
 ghost use Rattle.class_model.specs.Descriptors.{IsArrayType, SpellsFieldType, SpellsDescriptor, kind_of, units_of};
-ghost use Rattle.class_model.specs.DescriptorParts.{base_type_of, ClassNameAt, ElementAt, BracketsAt, ArrayAt, FieldTypeAt, ParametersAt, SpellsResult};
+ghost use Rattle.class_model.specs.Inner.DescriptorParts.{base_type_of, ClassNameAt, ElementAt, BracketsAt, ArrayAt, FieldTypeAt, ParametersAt, SpellsResult};
 ghost use Rattle.class_model.specs.declared.descriptor.FieldType.{FieldType};
 ghost use Rattle.class_model.specs.declared.descriptor.Descriptor.{Descriptor};
 ghost use Rattle.class_model.specs.declared.descriptor.NameFault.TheVariants.{NoMemory as no_memory};

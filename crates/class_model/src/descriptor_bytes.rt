@@ -3,7 +3,7 @@
 ghost use Rattle.std.specs.Prelude.{◌≡◌, ◌≤◌, ◌↔◌, ℕ, List, [], ◌∷◌, IsTrue, IsSome, IfSome, IfNone};
 ghost use Rattle.class_model.specs.Code.{HasDimensions};
 ghost use Rattle.class_model.specs.Descriptors.{IsReferenceName, parameter_units};
-ghost use Rattle.class_model.specs.DescriptorParts.{TypeAt, TypeUnitsAt, UnitsAt};
+ghost use Rattle.class_model.specs.Inner.DescriptorParts.{TypeAt, TypeUnitsAt, UnitsAt};
 ghost use Rattle.class_model.specs.PoolChecks.{IsFieldDescriptor, IsMethodDescriptor, BytesSpell, ReturnsVoid};
 ghost use Rattle.class_model.specs.declared.descriptor.FieldType.{FieldType};
 ghost use Rattle.class_model.specs.declared.descriptor.Descriptor.{Descriptor};

@@ -1,7 +1,8 @@
 //! A part of the verification types of local units.
 ghost use Rattle.std.specs.Prelude.{◌≡◌, ◌<◌, [], length, slice_get, OnOk, OnErr, IfOk};
 ghost use Rattle.std.specs.Option.{option_copied};
-ghost use Rattle.class_model.specs.LocalTypes.{type_in, IsPut, IsKept};
+ghost use Rattle.class_model.specs.LocalTypes.{type_in};
+ghost use Rattle.class_model.specs.Inner.LocalTypes.{IsPut, IsKept};
 
 use crate::frame::{VType, copy_types};
 use crate::memory::NoMemory;

@@ -5,7 +5,8 @@ ghost use Rattle.std.specs.Option.{option_copied};
 ghost use Rattle.class_model.specs.contracts.frame.VTypePartialEq.TheImpl.{ghosts as comparison};
 ghost use Rattle.class_model.specs.contracts.frame.VTypePartialEq.TheImpl.Laws.{laws-law as type_laws};
 ghost use Rattle.class_model.specs.contracts.frame.VTypeEq.TheImpl.Laws.{laws-law as type_equality_laws};
-ghost use Rattle.class_model.specs.LocalTypes.{unit_in, IsPut, IsKept, IsTopFrom};
+ghost use Rattle.class_model.specs.LocalTypes.{unit_in};
+ghost use Rattle.class_model.specs.Inner.LocalTypes.{IsPut, IsKept, IsTopFrom};
 
 use crate::frame::VType;
 use crate::local_part::LocalPart;
@@ -30,7 +31,8 @@ const PART: usize = 256;
 impl Model for LocalTypeList {
     ghost use Rattle.std.specs.Prelude.{List};
     ghost use Rattle.class_model.specs.declared.frame.VType.{VType};
-    ghost use Rattle.class_model.specs.LocalTypes.{unit_in, units_below, IsInParts};
+    ghost use Rattle.class_model.specs.LocalTypes.{unit_in, units_below};
+    ghost use Rattle.class_model.specs.Inner.LocalTypes.{IsInParts};
 
     ghost Value = { List VType };
 

@@ -5,7 +5,7 @@ use Rattle.std.proofs.lemmas.Bool.{false≢true, or_cases, eqb-true, ne_eqb}
 use Rattle.std.proofs.lemmas.Map.Keys.{IsDistinct-cons}
 use Rattle.std.proofs.lemmas.Map.Steps.{length-le_from_distinct_below}
 use Rattle.class_model.specs.Laws.Lists.{AllByRecursion-weaker}
-use Rattle.class_tree.specs.Graphs.{Graph, IsOneOf, IsNoneOf, IsEdge, IsPath, edge, onwards, IsWithin, IsTopological}
+use Rattle.class_tree.specs.Inner.Graphs.{Graph, IsOneOf, IsNoneOf, IsEdge, IsPath, edge, onwards, IsWithin, IsTopological}
 use Rattle.class_tree.proofs.OneOf.{one_or_none, not_both, one_of_front, split_at}
 
 -- ---- paths

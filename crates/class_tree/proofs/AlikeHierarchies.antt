@@ -10,7 +10,7 @@ use Rattle.class_tree.specs.Hierarchy.{StandsAt, IsHierarchy, superclass_of, cli
 use Rattle.class_tree.specs.Laws.Alike.{shape_of, shapes, option_twin, class_same, twin, no_twin, there_alike, below_alike, interface_walk_alike, superinterfaces_alike}
 use Rattle.class_tree.specs.Laws.Headers.{same_class, own_name}
 use Rattle.class_tree.specs.Names.{is_interface}
-use Rattle.class_tree.specs.Nodes.{number_of, place_at}
+use Rattle.class_tree.specs.Inner.Nodes.{number_of, place_at}
 use Rattle.class_tree.specs.Order.{first_place, header_at, place_of}
 use Rattle.class_tree.specs.Steps.{supers, FitsKinds}
 use Rattle.class_tree.specs.declared.place.Place.{Place}

@@ -7,10 +7,10 @@ use Rattle.class_model.specs.Laws.Checks.{Remain, all_remain, remain}
 use Rattle.class_model.specs.declared.class_file.ClassFile.{ClassFile}
 use Rattle.class_model.specs.declared.header.Header.{Header}
 use Rattle.class_tree.specs.Answers.{Answers}
-use Rattle.class_tree.specs.Graphs.{Graph, IsOneOf, IsPath, IsWithin, IsTopological}
+use Rattle.class_tree.specs.Inner.Graphs.{Graph, IsOneOf, IsPath, IsWithin, IsTopological}
 use Rattle.class_tree.specs.Headers.{Name, Classes, Headers, headers_of, all_headers}
 use Rattle.class_tree.specs.Laws.Links.{refused, answered}
-use Rattle.class_tree.specs.Nodes.{graph_of, IsLinksOf}
+use Rattle.class_tree.specs.Inner.Nodes.{graph_of, IsLinksOf}
 use Rattle.class_tree.specs.Problems.{check}
 use Rattle.class_tree.specs.Steps.{hierarchy_checks, base_checks, step_checks}
 use Rattle.class_tree.specs.Trees.{IsBefore, IsInOrder, IsProblemOf, duplicate, step, times}

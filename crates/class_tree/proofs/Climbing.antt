@@ -7,12 +7,12 @@ use Rattle.std.proofs.lemmas.Map.Keys.{IsDistinct-cons}
 use Rattle.std.proofs.lemmas.Map.Steps.{length-le_from_distinct_below}
 use Rattle.class_model.specs.Laws.Lists.{AllByRecursion-weaker}
 use Rattle.class_model.specs.declared.header.Header.{Header}
-use Rattle.class_tree.specs.Graphs.{IsEdge, IsPath, edge}
+use Rattle.class_tree.specs.Inner.Graphs.{IsEdge, IsPath, edge}
 use Rattle.class_tree.specs.Headers.{Name, Headers, all_headers, class_named, IsThere}
 use Rattle.class_tree.specs.Hierarchy.{climb, height, superclass_of}
 use Rattle.class_tree.specs.Laws.Headers.{super_is_there, no_superclass, superclass_is, superclass_there}
 use Rattle.class_tree.specs.Names.{object}
-use Rattle.class_tree.specs.Nodes.{number_of, graph_of}
+use Rattle.class_tree.specs.Inner.Nodes.{number_of, graph_of}
 use Rattle.class_tree.specs.Order.{header_at, place_of}
 use Rattle.class_tree.specs.Subtype.{IsDirectlyBelow, superclass, IsBelow, directly, onwards, IsChain, root, below}
 use Rattle.class_tree.specs.declared.place.Place.{Place}

@@ -8,9 +8,9 @@ use Rattle.std.proofs.lemmas.Option.{same_Some}
 use Rattle.std.proofs.lemmas.Slice.Eq.{bytes_eq-Decides}
 use Rattle.class_model.specs.declared.header.Header.{Header}
 use Rattle.class_tree.specs.Headers.{Name, Headers, all_headers}
-use Rattle.class_tree.specs.InterfaceNumbers.{with_numbers}
+use Rattle.class_tree.specs.Inner.InterfaceNumbers.{with_numbers}
 use Rattle.class_tree.specs.Interfaces.{each_once}
-use Rattle.class_tree.specs.Nodes.{number_of, place_at}
+use Rattle.class_tree.specs.Inner.Nodes.{number_of, place_at}
 use Rattle.class_tree.specs.Order.{place_of}
 use Rattle.class_tree.specs.declared.place.Place.{Place}
 use Rattle.class_tree.proofs.NewNumbers.{has, known, new}

@@ -6,9 +6,9 @@ use Rattle.std.proofs.lemmas.List.{length-map}
 use Rattle.std.proofs.lemmas.Option.{slice_get-map, slice_get_within, same_Some}
 use Rattle.std.proofs.lemmas.Slice.Eq.{bytes_eq-Decides}
 use Rattle.class_model.specs.declared.header.Header.{Header}
-use Rattle.class_tree.specs.Graphs.{IsOneOf, IsEdge, IsPath, edge, onwards, IsWithin}
+use Rattle.class_tree.specs.Inner.Graphs.{IsOneOf, IsEdge, IsPath, edge, onwards, IsWithin}
 use Rattle.class_tree.specs.Headers.{Name, Headers, all_headers, class_named}
-use Rattle.class_tree.specs.Nodes.{number_of, graph_of}
+use Rattle.class_tree.specs.Inner.Nodes.{number_of, graph_of}
 use Rattle.class_tree.specs.Steps.{supers}
 use Rattle.class_tree.specs.Subtype.{IsDirectlyBelow, superclass, interface, IsBelow, directly, onwards as further}
 use Rattle.class_tree.specs.Trees.{IsInOrder}

@@ -8,10 +8,10 @@ use Rattle.class_model.specs.Laws.Checks.{Remain, all_remain, remain}
 use Rattle.class_model.specs.Laws.Lists.{drop_item}
 use Rattle.class_model.specs.declared.header.Header.{Header}
 use Rattle.class_tree.specs.Answers.{Answers}
-use Rattle.class_tree.specs.Graphs.{Graph, IsPath}
+use Rattle.class_tree.specs.Inner.Graphs.{Graph, IsPath}
 use Rattle.class_tree.specs.Headers.{Name, Headers, all_headers}
 use Rattle.class_tree.specs.Laws.Links.{refused}
-use Rattle.class_tree.specs.Nodes.{graph_of, number_of, place_at}
+use Rattle.class_tree.specs.Inner.Nodes.{graph_of, number_of, place_at}
 use Rattle.class_tree.specs.Order.{header_at}
 use Rattle.class_tree.specs.Problems.{Problem}
 use Rattle.class_tree.specs.Steps.{supers, folder_checks, library_checks, hierarchy_checks}

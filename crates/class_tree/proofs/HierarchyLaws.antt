@@ -11,7 +11,7 @@ use Rattle.class_tree.specs.Laws.Above.{interface_kind}
 use Rattle.class_tree.specs.Laws.Headers.{own_name, same_class}
 use Rattle.class_tree.specs.Laws.Names.{IsOneName, one_name_first, one_of_first, one_of_either}
 use Rattle.class_tree.specs.Names.{is_interface}
-use Rattle.class_tree.specs.Nodes.{AreInterfaceLists}
+use Rattle.class_tree.specs.Inner.Nodes.{AreInterfaceLists}
 use Rattle.class_tree.specs.Order.{header_at, place_of}
 use Rattle.class_tree.specs.Subtype.{IsBelow}
 use Rattle.class_tree.specs.Trees.{IsTree}

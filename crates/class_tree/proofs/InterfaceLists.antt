@@ -7,13 +7,13 @@ use Rattle.std.proofs.lemmas.List.Elements.{All-nil, All-cons, All-head, All-tai
 use Rattle.std.proofs.lemmas.Option.{slice_get-map, slice_get_within, get_or_from_slice_get, same_Some}
 use Rattle.class_model.specs.Checks.{AllHold}
 use Rattle.class_model.specs.declared.header.Header.{Header}
-use Rattle.class_tree.specs.Graphs.{Graph, IsOneOf, IsTopological}
+use Rattle.class_tree.specs.Inner.Graphs.{Graph, IsOneOf, IsTopological}
 use Rattle.class_tree.specs.Headers.{Name, Headers, all_headers, class_named}
-use Rattle.class_tree.specs.InterfaceNumbers.{with_number, with_numbers, with_lists, AreMarks, AreLists, AreNumbersOf, AreNumberLists}
+use Rattle.class_tree.specs.Inner.InterfaceNumbers.{with_number, with_numbers, with_lists, AreMarks, AreLists, AreNumbersOf, AreNumberLists}
 use Rattle.class_tree.specs.Interfaces.{each_once, IsWalk, done, next, of_root, below}
 use Rattle.class_tree.specs.Laws.Above.{walk_of_interface}
 use Rattle.class_tree.specs.Names.{is_interface}
-use Rattle.class_tree.specs.Nodes.{number_of, graph_of, place_at, AreInterfaceLists}
+use Rattle.class_tree.specs.Inner.Nodes.{number_of, graph_of, place_at, AreInterfaceLists}
 use Rattle.class_tree.specs.Steps.{supers, hierarchy_checks}
 use Rattle.class_tree.specs.Trees.{IsInOrder}
 use Rattle.class_tree.specs.declared.place.Place.{Place}

@@ -6,10 +6,10 @@ use Rattle.std.proofs.lemmas.Bool.{false≢true, leb-true, le-leb}
 use Rattle.std.proofs.lemmas.Option.{none-some, slice_get_within}
 use Rattle.class_model.specs.declared.header.Header.{Header}
 use Rattle.class_model.specs.declared.memory.NoMemory.{NoMemory}
-use Rattle.class_tree.specs.Graphs.{Graph, IsPath}
+use Rattle.class_tree.specs.Inner.Graphs.{Graph, IsPath}
 use Rattle.class_tree.specs.Headers.{Name, Headers, all_headers, named, IsThere}
 use Rattle.class_tree.specs.Laws.FirstPlaces.{first_passes}
-use Rattle.class_tree.specs.Nodes.{number_of, graph_of}
+use Rattle.class_tree.specs.Inner.Nodes.{number_of, graph_of}
 use Rattle.class_tree.specs.Order.{first_place}
 use Rattle.class_tree.specs.Subtype.{IsBelow}
 use Rattle.class_tree.specs.Trees.{IsInOrder}

@@ -6,8 +6,8 @@ use Rattle.class_model.specs.declared.header.Header.{Header}
 use Rattle.class_model.specs.declared.header.Member.{Member}
 use Rattle.class_tree.specs.Headers.{Name, Classes, Headers, headers_of, all_headers}
 use Rattle.class_tree.specs.Interfaces.{AreSuperinterfaces}
-use Rattle.class_tree.specs.MemberIndex.{IsMemberIndex}
-use Rattle.class_tree.specs.Nodes.{place_at, super_place, AreInterfaceLists, AreMemberIndexes, AreLinks}
+use Rattle.class_tree.specs.Inner.MemberIndex.{IsMemberIndex}
+use Rattle.class_tree.specs.Inner.Nodes.{place_at, super_place, AreInterfaceLists, AreMemberIndexes, AreLinks}
 use Rattle.class_tree.specs.Order.{header_at, place_of}
 use Rattle.class_tree.specs.declared.links.Links.{Links}
 use Rattle.class_tree.specs.declared.place.Place.{Place}

@@ -20,9 +20,9 @@ use Rattle.class_model.specs.declared.header.Header.{Header}
 use Rattle.class_model.specs.declared.header.Member.{Member}
 use Rattle.class_tree.specs.Headers.{Name, Headers, all_headers}
 use Rattle.class_tree.specs.Laws.FirstPlaces.{Passes}
-use Rattle.class_tree.specs.MemberIndex.{key_at, IsMemberIndex}
+use Rattle.class_tree.specs.Inner.MemberIndex.{key_at, IsMemberIndex}
 use Rattle.class_tree.specs.Names.{is_member}
-use Rattle.class_tree.specs.Nodes.{indexes_of, AreMemberIndexes}
+use Rattle.class_tree.specs.Inner.Nodes.{indexes_of, AreMemberIndexes}
 use Rattle.class_tree.specs.Order.{first_place, member_place, members_of}
 use Rattle.class_tree.specs.declared.links.Links.{Links}
 use Rattle.class_tree.specs.declared.members.MemberKind.{MemberKind}

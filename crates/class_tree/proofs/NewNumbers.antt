@@ -5,7 +5,7 @@ use Rattle.std.proofs.lemmas.Bool.{cases_Bool, or_left, or_right, or_cases, eqb-
 use Rattle.std.proofs.lemmas.List.{append-nil, flat_map_more, take_more, drop_more, drop_all, length-set, get_or-set_same, get_or-set_other}
 use Rattle.std.proofs.lemmas.List.Elements.{All-append, All-cons, All-head, All-tail, All-nil}
 use Rattle.std.proofs.lemmas.List.Folds.{list_any-append}
-use Rattle.class_tree.specs.InterfaceNumbers.{with_number, with_numbers, with_lists, AreMarks}
+use Rattle.class_tree.specs.Inner.InterfaceNumbers.{with_number, with_numbers, with_lists, AreMarks}
 
 -- the list has the number
 abbrev pub has : List ℕ → ℕ → Bool

@@ -3,7 +3,7 @@ use Rattle.std.proofs.Common.{◌≡◌, ◌⊎◌, ◌==◌, ℕ, ◌<◌, Bool
 use Rattle.std.specs.List.{list_any}
 use Rattle.std.proofs.lemmas.Bool.{false≢true, both_ways, cases_Bool, or_cases, or_left, eqb-true, eq-eqb}
 use Rattle.std.proofs.lemmas.List.Folds.{list_any-append, list_any_at}
-use Rattle.class_tree.specs.Graphs.{IsOneOf, IsNoneOf}
+use Rattle.class_tree.specs.Inner.Graphs.{IsOneOf, IsNoneOf}
 
 abbrev pub is_number : ℕ → ℕ → Bool
 is_number number = λ one. one == number

@@ -5,7 +5,7 @@ use Rattle.std.proofs.lemmas.List.{map-append, map-set, length-append, length-dr
 use Rattle.std.proofs.lemmas.List.Elements.{All-push, All-set, All-head, All-tail}
 use Rattle.std.proofs.lemmas.Option.{slice_get-map, slice_get-get_or}
 use Rattle.std.proofs.Math.Seq.{drop-append_seam}
-use Rattle.class_tree.specs.Parts.{part_of, IsPartOf}
+use Rattle.class_tree.specs.Inner.Parts.{part_of, IsPartOf}
 use Rattle.class_tree.specs.declared.lists.Part.{Part}
 
 -- the part of a list from a place on

@@ -3,8 +3,8 @@ use Rattle.std.proofs.Common.{◌≡◌, ◌⊎◌, ℕ, ◌<◌, Bool, true, fa
 use Rattle.std.specs.List.{list_any, list_all}
 use Rattle.std.proofs.lemmas.Bool.{false≢true, true≢false, and_parts, and_cases, or_cases, or_left, or_right, eqb-true, eq-eqb}
 use Rattle.std.proofs.lemmas.List.{same_from_push}
-use Rattle.class_tree.specs.Graphs.{Graph, IsOneOf, IsNoneOf, IsEdge}
-use Rattle.class_tree.specs.Placing.{Collected, AreBehindTargets, CanFollow, CannotFollow}
+use Rattle.class_tree.specs.Inner.Graphs.{Graph, IsOneOf, IsNoneOf, IsEdge}
+use Rattle.class_tree.specs.Inner.Placing.{Collected, AreBehindTargets, CanFollow, CannotFollow}
 use Rattle.class_tree.proofs.OneOf.{is_number, one_of_parts, one_of_single}
 use Rattle.class_tree.proofs.Searched.{one_target}
 

@@ -7,7 +7,7 @@ use Rattle.std.proofs.lemmas.Slice.Eq.{bytes_eq-Decides}
 use Rattle.class_model.specs.declared.header.Header.{Header}
 use Rattle.class_tree.specs.Headers.{Name, Headers, all_headers, named, class_named}
 use Rattle.class_tree.specs.Laws.FirstPlaces.{first_passes, first_at}
-use Rattle.class_tree.specs.Nodes.{number_of, place_at}
+use Rattle.class_tree.specs.Inner.Nodes.{number_of, place_at}
 use Rattle.class_tree.specs.Order.{first_place, header_at, place_of}
 use Rattle.class_tree.specs.Trees.{IsInOrder, times}
 use Rattle.class_tree.specs.declared.place.Place.{Place}

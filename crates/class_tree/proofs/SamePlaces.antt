@@ -6,7 +6,7 @@ use Rattle.std.proofs.lemmas.Slice.Eq.{bytes_eq-Decides}
 use Rattle.class_model.specs.declared.header.Header.{Header}
 use Rattle.class_tree.specs.Headers.{Name, Headers, IsThere}
 use Rattle.class_tree.specs.Laws.Places.{same_place}
-use Rattle.class_tree.specs.Nodes.{place_at}
+use Rattle.class_tree.specs.Inner.Nodes.{place_at}
 use Rattle.class_tree.specs.Order.{header_at, place_of}
 use Rattle.class_tree.specs.contracts.place.PlacePartialEq.TheImpl.{ghosts}
 use Rattle.class_tree.specs.declared.place.Place.{Place}

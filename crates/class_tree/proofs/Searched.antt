@@ -3,8 +3,8 @@ use Rattle.std.proofs.Common.{◌≡◌, ◌⊎◌, ◌↔◌, ℕ, ◌+◌, ◌
 use Rattle.std.proofs.lemmas.Bool.{or_cases, or_left, or_right}
 use Rattle.std.proofs.lemmas.List.{take_all, take-take, take_more}
 use Rattle.std.proofs.lemmas.Option.{same_Some}
-use Rattle.class_tree.specs.Graphs.{Graph, IsOneOf, IsEdge, IsPath, edge, onwards, IsWithin}
-use Rattle.class_tree.specs.Placing.{HasAdded}
+use Rattle.class_tree.specs.Inner.Graphs.{Graph, IsOneOf, IsEdge, IsPath, edge, onwards, IsWithin}
+use Rattle.class_tree.specs.Inner.Placing.{HasAdded}
 use Rattle.class_tree.proofs.Acyclic.{path_and_edge, ends_within}
 use Rattle.class_tree.proofs.OneOf.{one_at, one_of_parts, one_of_single}
 

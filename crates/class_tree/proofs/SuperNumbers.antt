@@ -9,7 +9,7 @@ use Rattle.class_model.specs.declared.header.Header.{Header}
 use Rattle.class_tree.specs.Headers.{Name, Headers, all_headers, named, class_named, IsThere}
 use Rattle.class_tree.specs.Laws.FirstPlaces.{first_passes}
 use Rattle.class_tree.specs.Names.{is_interface}
-use Rattle.class_tree.specs.Nodes.{number_of}
+use Rattle.class_tree.specs.Inner.Nodes.{number_of}
 use Rattle.class_tree.specs.Order.{first_place}
 use Rattle.class_tree.specs.Steps.{supers, IsOutside}
 use Rattle.class_tree.proofs.FirstPlaces.{in_either, first_place-append}

@@ -5,7 +5,7 @@ use Rattle.std.proofs.lemmas.Option.{slice_get_within}
 use Rattle.class_model.specs.declared.header.Header.{Header}
 use Rattle.class_tree.specs.Headers.{Name, Headers, class_named, IsThere}
 use Rattle.class_tree.specs.Laws.Headers.{class_there}
-use Rattle.class_tree.specs.Nodes.{number_of, place_at}
+use Rattle.class_tree.specs.Inner.Nodes.{number_of, place_at}
 use Rattle.class_tree.specs.Order.{header_at, place_of}
 use Rattle.class_tree.specs.Steps.{supers}
 use Rattle.class_tree.specs.declared.place.Place.{Place}

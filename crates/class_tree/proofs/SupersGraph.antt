@@ -6,7 +6,7 @@ use Rattle.std.proofs.lemmas.List.Elements.{filter_map-append}
 use Rattle.std.proofs.lemmas.Option.{slice_get-map, slice_get_within, get_or_from_slice_get}
 use Rattle.class_model.specs.declared.header.Header.{Header}
 use Rattle.class_tree.specs.Headers.{Name, Headers, all_headers}
-use Rattle.class_tree.specs.Nodes.{number_of, graph_of}
+use Rattle.class_tree.specs.Inner.Nodes.{number_of, graph_of}
 use Rattle.class_tree.specs.Steps.{supers}
 
 of_one : {X : Type 0} (found : Option X) → cons_option found [] ≡ option_to_list found

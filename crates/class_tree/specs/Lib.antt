@@ -9,11 +9,6 @@ pub mod Interfaces
 pub mod Order
 pub mod Alike
 pub mod Hierarchy
-pub mod Graphs
-pub mod MemberIndex
-pub mod Nodes
-pub mod InterfaceNumbers
-pub mod Placing
 pub mod Laws
-pub mod Parts
 pub mod RuleNames
+pub mod Inner

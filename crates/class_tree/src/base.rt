@@ -10,7 +10,7 @@ ghost use Rattle.class_model.specs.Pool.{constant_at};
 ghost use Rattle.class_tree.specs.Answers.{Answers};
 ghost use Rattle.class_tree.specs.Headers.{Name, class_named, named, IsThere};
 ghost use Rattle.class_tree.specs.Names as names;
-ghost use Rattle.class_tree.specs.Nodes.{graph_of, number_of};
+ghost use Rattle.class_tree.specs.Inner.Nodes.{graph_of, number_of};
 ghost use Rattle.class_tree.specs.Problems.{check};
 ghost use Rattle.class_tree.specs.Steps.{base_checks, has_constant, is_method_handle, is_method_type, is_open_constructor, HasOneConstructor};
 ghost use Rattle.class_tree.specs.Subtype.{IsBelow};

@@ -3,7 +3,7 @@ ghost use Rattle.std.specs.Prelude.{◌≡◌, map};
 ghost use Rattle.std.specs.List.{AllByRecursion};
 ghost use Rattle.class_model.specs.Header.{header_of};
 ghost use Rattle.class_tree.specs.Headers.{IsClassFile, IsLibraryClass};
-ghost use Rattle.class_tree.specs.Nodes.{IsLinksOf};
+ghost use Rattle.class_tree.specs.Inner.Nodes.{IsLinksOf};
 ghost use Rattle.class_tree.specs.Trees.{AreHeadersInOrder, IsInOrder, IsTreeOf};
 
 use crate::arrange::{add_library, first_duplicate, headers_of, sort_folder, sort_library};

@@ -1,9 +1,9 @@
 //! Which classes each class names above it, by numbers.
 ghost use Rattle.std.specs.Prelude.{◌≡◌, ◌<◌, ◌≤◌, ◌==◌, ◌↔◌, ℕ, [], ◌∷◌, ◌++◌, length, filter_map, slice_index, option_to_list, IfOk, OnOk, IsTrue};
 ghost use Rattle.std.specs.List.{list_any};
-ghost use Rattle.class_tree.specs.Graphs.{IsOneOf, IsNoneOf, IsPath, IsWithin};
-ghost use Rattle.class_tree.specs.Nodes.{graph_of, number_of};
-ghost use Rattle.class_tree.specs.Placing.{HasAdded};
+ghost use Rattle.class_tree.specs.Inner.Graphs.{IsOneOf, IsNoneOf, IsPath, IsWithin};
+ghost use Rattle.class_tree.specs.Inner.Nodes.{graph_of, number_of};
+ghost use Rattle.class_tree.specs.Inner.Placing.{HasAdded};
 ghost use Rattle.class_tree.specs.Steps.{supers};
 ghost use Rattle.class_tree.specs.Trees.{IsInOrder};
 
@@ -93,7 +93,7 @@ pub(crate) struct NodeSet {
 
 impl Model for NodeSet {
     ghost use Rattle.std.specs.Prelude.{length};
-    ghost use Rattle.class_tree.specs.Placing.{Collected, AreMarksOf};
+    ghost use Rattle.class_tree.specs.Inner.Placing.{Collected, AreMarksOf};
 
     ghost Value = { Collected };
 

@@ -2,7 +2,7 @@
 ghost use Rattle.std.specs.Prelude.{◌≡◌, ◌+◌, ◌<◌, ◌≤◌, ℕ, List, length, count_by, bytes_eq, slice_get, Some, IfSome, IfNone, if◌then◌else◌};
 ghost use Rattle.std.specs.Option.{option_copied};
 ghost use Rattle.class_tree.specs.Headers.{all_headers};
-ghost use Rattle.class_tree.specs.Nodes.{number_of, place_at};
+ghost use Rattle.class_tree.specs.Inner.Nodes.{number_of, place_at};
 ghost use Rattle.class_tree.specs.Order.{first_place, place_of};
 ghost use Rattle.class_tree.specs.Trees.{AreHeadersInOrder, IsBefore, IsInOrder, times};
 

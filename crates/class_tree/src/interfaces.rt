@@ -2,9 +2,9 @@
 ghost use Rattle.std.specs.Prelude.{◌≡◌, ◌<◌, ◌++◌, ℕ, [], length, map, unwrap_or, option_map, option_to_list, is_some, replicate, slice_index_or, IfOk, IfSome, IsSome, OnOk};
 ghost use Rattle.std.specs.List.{All};
 ghost use Rattle.class_model.specs.Checks.{AllHold};
-ghost use Rattle.class_tree.specs.Graphs.{IsTopological, IsOneOf};
-ghost use Rattle.class_tree.specs.InterfaceNumbers.{with_number, with_numbers, with_lists, AreMarks, AreLists, AreNumberLists};
-ghost use Rattle.class_tree.specs.Nodes.{graph_of, place_at, AreInterfaceLists};
+ghost use Rattle.class_tree.specs.Inner.Graphs.{IsTopological, IsOneOf};
+ghost use Rattle.class_tree.specs.Inner.InterfaceNumbers.{with_number, with_numbers, with_lists, AreMarks, AreLists, AreNumberLists};
+ghost use Rattle.class_tree.specs.Inner.Nodes.{graph_of, place_at, AreInterfaceLists};
 ghost use Rattle.class_tree.specs.Steps.{hierarchy_checks};
 ghost use Rattle.class_tree.specs.Trees.{IsInOrder};
 

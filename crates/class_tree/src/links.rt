@@ -1,6 +1,6 @@
 //! What a hierarchy keeps beside its classes.
 ghost use Rattle.std.specs.Prelude.{◌≡◌};
-ghost use Rattle.class_tree.specs.Nodes.{indexes_of};
+ghost use Rattle.class_tree.specs.Inner.Nodes.{indexes_of};
 
 use crate::lists::Lists;
 use crate::members::MemberKind;

@@ -22,7 +22,7 @@ pub(crate) struct Part {
 impl<T> Model for Lists<T> {
     ghost use Rattle.std.specs.Prelude.{List, map};
     ghost use Rattle.std.specs.List.{All};
-    ghost use Rattle.class_tree.specs.Parts.{part_of, IsPartOf};
+    ghost use Rattle.class_tree.specs.Inner.Parts.{part_of, IsPartOf};
 
     ghost Value = { List (List T) };
 

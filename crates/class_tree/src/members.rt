@@ -2,9 +2,9 @@
 ghost use Rattle.std.specs.Prelude.{◌≡◌, [], ◌∷◌, IfOk};
 ghost use Rattle.std.specs.Cmp.Lexicographic.{slice_cmp};
 ghost use Rattle.std.specs.Ordering.{is_lt, nat_cmp};
-ghost use Rattle.class_tree.specs.MemberIndex.{IsMemberIndex, key_at};
+ghost use Rattle.class_tree.specs.Inner.MemberIndex.{IsMemberIndex, key_at};
 ghost use Rattle.class_tree.specs.Names.{is_member};
-ghost use Rattle.class_tree.specs.Nodes.{AreMemberIndexes};
+ghost use Rattle.class_tree.specs.Inner.Nodes.{AreMemberIndexes};
 ghost use Rattle.class_tree.specs.Order.{member_place, members_of};
 
 use crate::headers::Headers;

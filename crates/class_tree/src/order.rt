@@ -1,7 +1,7 @@
 //! Classes in an order in which each stands behind those that it names.
 ghost use Rattle.std.specs.Prelude.{◌≡◌, ◌<◌, ℕ, length, IfOk, OnOk, MatchBool, MatchOption};
-ghost use Rattle.class_tree.specs.Graphs.{IsWithin, IsTopological, IsOneOf};
-ghost use Rattle.class_tree.specs.Placing.{AreBehindTargets, CanFollow, CannotFollow};
+ghost use Rattle.class_tree.specs.Inner.Graphs.{IsWithin, IsTopological, IsOneOf};
+ghost use Rattle.class_tree.specs.Inner.Placing.{AreBehindTargets, CanFollow, CannotFollow};
 
 use crate::graph::NodeSet;
 use crate::lists::Lists;

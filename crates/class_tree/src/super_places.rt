@@ -3,7 +3,7 @@ ghost use Rattle.std.specs.Prelude.{◌≡◌, filter_map, map, slice_get, optio
 ghost use Rattle.std.specs.List.{AllByRecursion};
 ghost use Rattle.class_model.specs.Checks.{AllHold};
 ghost use Rattle.class_tree.specs.Headers.{all_headers, IsThere};
-ghost use Rattle.class_tree.specs.Nodes.{graph_of, number_of, place_at, super_place};
+ghost use Rattle.class_tree.specs.Inner.Nodes.{graph_of, number_of, place_at, super_place};
 ghost use Rattle.class_tree.specs.Steps.{supers, hierarchy_checks};
 
 use crate::headers::Headers;

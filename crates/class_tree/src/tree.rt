@@ -4,7 +4,7 @@ ghost use Rattle.std.specs.Option.{option_copied, option_map_or};
 ghost use Rattle.class_tree.specs.Headers.{Name, headers_of};
 ghost use Rattle.class_tree.specs.Interfaces.{AreSuperinterfaces};
 ghost use Rattle.class_tree.specs.Names as names;
-ghost use Rattle.class_tree.specs.Nodes.{place_at};
+ghost use Rattle.class_tree.specs.Inner.Nodes.{place_at};
 ghost use Rattle.class_tree.specs.Order.{header_at, place_of, member_place, members_of};
 ghost use Rattle.class_tree.specs.Trees.{IsTree};
 
@@ -36,7 +36,7 @@ pub struct Tree {
 
 impl Model for Tree {
     ghost use Rattle.class_tree.specs.Headers.{Classes};
-    ghost use Rattle.class_tree.specs.Nodes.{AreLinks};
+    ghost use Rattle.class_tree.specs.Inner.Nodes.{AreLinks};
 
     ghost Value = { Classes };
 

@@ -3,7 +3,7 @@ use Rattle.std.proofs.Common.{◌≡◌, ℕ, ◌<◌, map, List, [], ◌∷◌,
 use Rattle.std.specs.List.{range_with_len}
 use Rattle.std.proofs.lemmas.List.FromFn.{get_or-map-range_with_len}
 use Rattle.class_model.specs.Instructions.{Operands, rows, operands_in, with_operands, instr_at, u1_in}
-use Rattle.code_bytes.specs.Opcodes.{layout_of, operands_of}
+use Rattle.code_bytes.specs.Inner.Opcodes.{layout_of, operands_of}
 use Rattle.code_bytes.specs.declared.layouts.Layout.{Layout}
 
 -- they agree at each byte

@@ -11,7 +11,7 @@ use Rattle.class_model.specs.declared.instr.Pair.{Pair}
 use Rattle.class_model.specs.declared.instr.Instr.TheVariants.{Table, Lookup}
 use Rattle.code_bytes.specs.Encoding.{IsPlace}
 use Rattle.code_bytes.specs.Forms.{offset_of, target_bytes, pair_bytes, table_bytes, lookup_bytes}
-use Rattle.code_bytes.specs.FormBytes.{FitsTable}
+use Rattle.code_bytes.specs.Inner.FormBytes.{FitsTable}
 use Rattle.code_bytes.specs.Numbers.{FitsKeys}
 use Rattle.code_bytes.specs.Spellings.{IsU4, s4, to_of, entry_bytes, FitsEntry, pair_of}
 use Rattle.code_bytes.proofs.Offsets.{offset_fits, target_back}

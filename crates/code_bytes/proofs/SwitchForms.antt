@@ -12,7 +12,7 @@ use Rattle.class_model.specs.Laws.Cuts.{guard_false}
 use Rattle.class_model.specs.declared.fault.FileRule.TheVariants as rules
 use Rattle.class_model.specs.declared.instr.Pair.{Pair}
 use Rattle.class_model.specs.declared.instr.Instr.TheVariants.{Table, Lookup}
-use Rattle.code_bytes.specs.Operands.{before, target_in, pair_in}
+use Rattle.code_bytes.specs.Inner.Operands.{before, target_in, pair_in}
 
 -- ---- what was read
 

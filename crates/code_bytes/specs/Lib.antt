@@ -1,10 +1,7 @@
 pub mod Decoding
 pub mod Encoding
-pub mod FormBytes
 pub mod Forms
 pub mod Numbers
-pub mod Opcodes
-pub mod Operands
 pub mod Spellings
 pub mod Lengths
 pub mod Starts
@@ -12,3 +9,4 @@ pub mod OffsetIndexes
 pub mod Codes
 pub mod Entry
 pub mod Laws
+pub mod Inner

@@ -4,7 +4,7 @@ ghost use Rattle.std.specs.Int.{w16};
 ghost use Rattle.class_model.specs.Cutting.{IsBytes};
 ghost use Rattle.code_bytes.specs.Encoding.{HasSpelling, IsChosen, IsPushed};
 ghost use Rattle.code_bytes.specs.Forms.{kind_index, pushed_bytes, int_bytes, ldc_bytes, local_bytes, iinc_bytes, jump_bytes, goto_bytes, return_bytes, invoke_bytes, instr_bytes};
-ghost use Rattle.code_bytes.specs.FormBytes.{form_bytes, FitsCount, HasKeys};
+ghost use Rattle.code_bytes.specs.Inner.FormBytes.{form_bytes, FitsCount, HasKeys};
 ghost use Rattle.code_bytes.specs.Numbers.{HasNumbers};
 
 use crate::forms::{Form, offset};

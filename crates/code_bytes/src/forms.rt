@@ -5,7 +5,7 @@ ghost use Rattle.class_model.specs.Instructions.{pad_of};
 ghost use Rattle.class_model.specs.Spelling.{u2, u4};
 ghost use Rattle.code_bytes.specs.Forms.{offset_of, target_bytes, pair_bytes, table_bytes, lookup_bytes};
 ghost use Rattle.code_bytes.specs.Numbers.{FitsKeys};
-ghost use Rattle.code_bytes.specs.FormBytes.{FitsTable, FitsCount, HasKeys, form_bytes};
+ghost use Rattle.code_bytes.specs.Inner.FormBytes.{FitsTable, FitsCount, HasKeys, form_bytes};
 
 use class_model::opcodes::{LOOKUPSWITCH, TABLESWITCH, WIDE};
 use class_model::{NoMemory, Pair};

@@ -2,7 +2,7 @@
 ghost use Rattle.std.specs.Prelude.{◌≡◌, ◌<◌, ◌≤◌, length, Some, Err, IfOk};
 ghost use Rattle.class_model.specs.Answers.{Gives};
 ghost use Rattle.class_model.specs.Instructions.{instr_at, with_operands, wide_at, U1, U1S1, U2U1, U2U1Zero, U2ZeroZero};
-ghost use Rattle.code_bytes.specs.Opcodes.{operands_of};
+ghost use Rattle.code_bytes.specs.Inner.Opcodes.{operands_of};
 ghost use Rattle.class_model.specs.declared.instr.Instr.TheVariants.{NewArray as new_array_form, NewMulti as new_multi_form, Dynamic as dynamic_form, Invoke as invoke_form, Iinc as iinc_form};
 
 use crate::layouts::{Layout, alone, layout_of, with_target, with_u1, with_u2};

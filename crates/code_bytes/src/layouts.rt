@@ -1,7 +1,7 @@
 //! The opcodes (JVM Specification SE 8, 6.5 and 7): what stands behind each, and the instruction of both.
 ghost use Rattle.std.specs.Prelude.{◌≡◌, ◌<◌, ◌≤◌};
 ghost use Rattle.class_model.specs.Instructions.{kind_at};
-ghost use Rattle.code_bytes.specs.Opcodes.{layout_of, constant_of, arithmetic_of, alone_of, u1_of, u2_of, jump_of};
+ghost use Rattle.code_bytes.specs.Inner.Opcodes.{layout_of, constant_of, arithmetic_of, alone_of, u1_of, u2_of, jump_of};
 
 use class_model::opcodes::{
     ACONST_NULL, ALOAD, ALOAD_3, ANEWARRAY, ARETURN, ARRAYLENGTH, ASTORE, ASTORE_3, ATHROW, BIPUSH,
@@ -42,7 +42,7 @@ pub(crate) enum Layout {
 }
 
 /// What stands behind an opcode, if it has an instruction.
-#[tactic(auto, unfolding(crate::specs::Opcodes::layout_of))]
+#[tactic(auto, unfolding(crate::specs::Inner::Opcodes::layout_of))]
 pub(crate) fn layout_of(opcode: u8) -> Option<Layout>
     ensures { result ≡ layout_of opcode }
 {

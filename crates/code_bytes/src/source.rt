@@ -5,7 +5,7 @@ ghost use Rattle.class_model.specs.Answers.{Gives};
 ghost use Rattle.class_model.specs.Instructions.{u1_in, u2_in, u4_in, s1_in, s2_in, s4_in, target_of};
 ghost use Rattle.class_model.specs.declared.fault.FileRule.TheVariants.{Opcode as opcode, Operand as operand};
 ghost use Rattle.class_model.specs.declared.fault.ClassFault.TheVariants.{Malformed as malformed};
-ghost use Rattle.code_bytes.specs.Operands.{before};
+ghost use Rattle.code_bytes.specs.Inner.Operands.{before};
 
 use class_model::{ClassFault, FileRule};
 

@@ -2,7 +2,7 @@
 ghost use Rattle.std.specs.Prelude.{◌≡◌, ◌+◌, ◌^◌, ◌≤◌, length, map, IfOk};
 ghost use Rattle.class_model.specs.Answers.{Gives};
 ghost use Rattle.class_model.specs.Instructions.{table_switch_at, lookup_switch_at, pad_of, span, keys_increase};
-ghost use Rattle.code_bytes.specs.Operands.{target_in, pair_in};
+ghost use Rattle.code_bytes.specs.Inner.Operands.{target_in, pair_in};
 
 use crate::instruction::Form;
 use crate::source::Source;

@@ -5,8 +5,8 @@ use Rattle.std.proofs.lemmas.Bool.Decides.{nat_tests, Decides-eqb, Decides-and, 
 use Rattle.std.proofs.lemmas.List.{append-nil, append_cancel_left, nil_from_length}
 use Rattle.std.specs.Bool.{Decides}
 use Rattle.class_model.specs.declared.frame.VType.{VType}
-use Rattle.map_frames.specs.Change.{AreApart, IsChange}
-use Rattle.map_frames.specs.Choosing.{is_few, keeps_locals, passes, first_passing}
+use Rattle.map_frames.specs.Inner.Change.{AreApart, IsChange}
+use Rattle.map_frames.specs.Inner.Choosing.{is_few, keeps_locals, passes, first_passing}
 use Rattle.map_frames.specs.Writing.{Listed, FrameKind, Same, SameItem, SameItemExtended, Chop, SameExtended, Append, Full, frame_kinds, FitsFrameKind, IsFew, IsFirst}
 use Rattle.map_frames.specs.declared.kinds.Change.{Change}
 

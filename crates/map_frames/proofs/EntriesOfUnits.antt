@@ -3,7 +3,7 @@ use Rattle.std.proofs.Common.{◌≡◌, ℕ, ◌-◌, ◌≤◌, cond, List, []
 use Rattle.std.proofs.Math.Seq.{take-length}
 use Rattle.class_model.specs.Frames.{is_wide, entries_of_units}
 use Rattle.class_model.specs.declared.frame.VType.{VType}
-use Rattle.map_frames.specs.Change.{AreApart}
+use Rattle.map_frames.specs.Inner.Change.{AreApart}
 use Rattle.map_frames.proofs.EntryUnits.{entries-cons}
 
 pub first_of : (units : List VType) (first : VType) (behind : List VType) → 1 ≤ length units → first ≡ get_or units 0 first

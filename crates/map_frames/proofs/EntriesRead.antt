@@ -7,7 +7,7 @@ use Rattle.class_model.specs.Frames.{Setting, verification_type_at, verification
 use Rattle.class_model.specs.Laws.Cuts.{in_front, in_front-none, in_front-append}
 use Rattle.class_model.specs.declared.fault.ClassFault.{ClassFault}
 use Rattle.class_model.specs.declared.frame.VType.{VType}
-use Rattle.map_frames.specs.Steps.{Refuses, Appends}
+use Rattle.map_frames.specs.Inner.Steps.{Refuses, Appends}
 use Rattle.map_frames.proofs.Counts.{left_more}
 use Rattle.map_frames.proofs.Faults.{refuses_bind, refuses_same, refuses_takes}
 

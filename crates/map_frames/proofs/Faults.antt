@@ -6,7 +6,7 @@ use Rattle.class_model.specs.Cutting.{Rest, Cut}
 use Rattle.class_model.specs.declared.fault.ClassFault.{ClassFault}
 use Rattle.class_model.specs.declared.fault.ClassFault.TheVariants.{Malformed, Version, NoMemory}
 use Rattle.map_frames.specs.Reading.{Accepts}
-use Rattle.map_frames.specs.Steps.{Refuses}
+use Rattle.map_frames.specs.Inner.Steps.{Refuses}
 
 pub refuses_bind : {X Y : Type 0} (part : Result X Fault) (next : X → Result Y Fault) (f : ClassFault) → Refuses part f → Refuses (part >>= next) f
 refuses_bind part next (Malformed at rule) h = rw h refl

@@ -11,7 +11,7 @@ use Rattle.class_model.specs.Laws.Cuts.{bind_assoc, bind_same, same_done}
 use Rattle.class_model.specs.declared.fault.ClassFault.{ClassFault}
 use Rattle.class_model.specs.declared.fault.FileRule.TheVariants as rules
 use Rattle.class_model.specs.declared.frame.VType.{VType}
-use Rattle.map_frames.specs.Steps.{byte_at, item_at, chop_at, append_at, full_frame_at, Refuses, States}
+use Rattle.map_frames.specs.Inner.Steps.{byte_at, item_at, chop_at, append_at, full_frame_at, Refuses, States}
 use Rattle.map_frames.proofs.Faults.{refuses_same, refuses_bind, refuses_takes}
 
 -- the frame of a kind at a place, behind its first byte

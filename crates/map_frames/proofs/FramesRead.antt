@@ -11,7 +11,7 @@ use Rattle.class_model.specs.declared.frame.Frame.{Frame}
 use Rattle.class_model.specs.declared.frame.PlacedFrame.{PlacedFrame}
 use Rattle.class_model.specs.declared.frame.VType.{VType}
 use Rattle.map_frames.specs.Reading.{Accepts}
-use Rattle.map_frames.specs.Steps.{Refuses, Standing, IsStep, Steps, placed, end_at}
+use Rattle.map_frames.specs.Inner.Steps.{Refuses, Standing, IsStep, Steps, placed, end_at}
 use Rattle.map_frames.proofs.Faults.{refuses_bind, refuses_same, refuses_gives, accepts_refused}
 use Rattle.map_frames.proofs.Counts.{left_more}
 

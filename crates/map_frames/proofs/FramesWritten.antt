@@ -4,8 +4,8 @@ use Rattle.std.proofs.Math.Seq.{drop-append_seam}
 use Rattle.std.proofs.lemmas.List.{append-nil, length-append}
 use Rattle.class_model.specs.Spelling.{u2}
 use Rattle.class_model.specs.declared.frame.VType.{VType}
-use Rattle.map_frames.specs.Change.{IsChange}
-use Rattle.map_frames.specs.Choosing.{passes, first_passing}
+use Rattle.map_frames.specs.Inner.Change.{IsChange}
+use Rattle.map_frames.specs.Inner.Choosing.{passes, first_passing}
 use Rattle.map_frames.specs.Writing.{Listed, FrameKind, Chop, Append, frame_kinds, FitsFrameKind, IsFirst, IsFrame, types_bytes, kind_bytes}
 use Rattle.map_frames.specs.declared.kinds.Change.{Change}
 use Rattle.map_frames.specs.declared.writing.NamedIndex.{NamedIndex}

@@ -12,7 +12,7 @@ use Rattle.class_model.specs.Laws.Cuts.{u1_front}
 use Rattle.class_model.specs.Spelling.{u2}
 use Rattle.class_model.specs.declared.fault.FileRule.TheVariants as rules
 use Rattle.class_model.specs.declared.frame.VType.{VType}
-use Rattle.map_frames.specs.Indices.{AreShort}
+use Rattle.map_frames.specs.Inner.Indices.{AreShort}
 use Rattle.map_frames.specs.Writing.{FitsType, HasType, Listed, FrameKind, Same, SameItem, SameItemExtended, Chop, SameExtended, Append, Full, FitsFrameKind, type_bytes, types_bytes, kind_bytes}
 use Rattle.map_frames.specs.declared.writing.NamedIndex.{NamedIndex}
 use Rattle.map_frames.proofs.TypesRead.{Reads, then_read, made_read, number_read, type_read, types_read}

@@ -10,7 +10,7 @@ use Rattle.class_model.specs.Frames.{is_top, is_wide, depth, entries_of_units}
 use Rattle.class_model.specs.Laws.Lists.{take_item}
 use Rattle.class_model.specs.declared.frame.VType.{VType}
 use Rattle.class_model.specs.declared.frame.VType.TheVariants.{Top}
-use Rattle.map_frames.specs.Units.{is_top_there}
+use Rattle.map_frames.specs.Inner.Units.{is_top_there}
 use Rattle.map_frames.proofs.EntryUnits.{listed_more, listed_all}
 use Rattle.map_frames.proofs.FrameUnits.{kept, wide_units, single_unit}
 

@@ -10,7 +10,7 @@ use Rattle.std.proofs.lemmas.Cmp.{ranked}
 use Rattle.class_model.specs.Frames.{is_new_at, is_new}
 use Rattle.class_model.specs.Instructions.{is_start}
 use Rattle.class_model.specs.declared.instr.Placed.{Placed}
-use Rattle.map_frames.specs.Offsets.{IncreasesFrom, Increases, instr_at_offset}
+use Rattle.map_frames.specs.Inner.Offsets.{IncreasesFrom, Increases, instr_at_offset}
 
 -- ---- by the first instruction
 

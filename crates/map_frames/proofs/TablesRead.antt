@@ -11,7 +11,7 @@ use Rattle.class_model.specs.declared.fault.FileRule.TheVariants as rules
 use Rattle.class_model.specs.declared.frame.Frame.{Frame}
 use Rattle.class_model.specs.declared.frame.PlacedFrame.{PlacedFrame}
 use Rattle.class_model.specs.declared.frame.VType.{VType}
-use Rattle.map_frames.specs.Indices.{AreShort}
+use Rattle.map_frames.specs.Inner.Indices.{AreShort}
 use Rattle.map_frames.specs.Writing.{FitsType, HasType, frame_kinds, FitsFrameKind, AreFrames, IsTable, listed_at, FitsFrame, PlacesIncrease, FitsTable, HasFrame, HasFrames}
 use Rattle.map_frames.specs.declared.writing.NamedIndex.{NamedIndex}
 use Rattle.map_frames.proofs.Chosen.{first_fits}

@@ -6,7 +6,7 @@ use Rattle.std.specs.List.{AllByRecursion}
 use Rattle.class_model.specs.Frames.{listed}
 use Rattle.class_model.specs.declared.frame.PlacedFrame.{PlacedFrame}
 use Rattle.class_model.specs.declared.frame.VType.{VType}
-use Rattle.map_frames.specs.Listing.{FitsListed}
+use Rattle.map_frames.specs.Inner.Listing.{FitsListed}
 use Rattle.map_frames.specs.Writing.{Listed, FitsType, FitsFrame, IsFrame, AreFrames, listed_at, PlacesIncrease}
 use Rattle.map_frames.specs.declared.writing.NamedIndex.{NamedIndex}
 use Rattle.map_frames.proofs.FrameUnits.{all_listed, few_listed}

@@ -12,7 +12,7 @@ use Rattle.class_model.specs.PoolChecks.{class_at}
 use Rattle.class_model.specs.Spelling.{u2}
 use Rattle.class_model.specs.declared.frame.VType.{VType}
 use Rattle.class_model.specs.declared.frame.VType.TheVariants.{Top, Int, Float, Long, Double, Null, UninitThis, Object, Uninit}
-use Rattle.map_frames.specs.Indices.{AreShort}
+use Rattle.map_frames.specs.Inner.Indices.{AreShort}
 use Rattle.map_frames.specs.Writing.{FitsType, HasType, type_bytes, types_bytes, index_of, or_zero}
 use Rattle.map_frames.specs.declared.writing.NamedIndex.{NamedIndex}
 

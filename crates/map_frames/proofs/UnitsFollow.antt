@@ -6,7 +6,7 @@ use Rattle.class_model.specs.Frames.{depth, filled, units_of_entries}
 use Rattle.class_model.specs.Laws.Frames.{units-append}
 use Rattle.class_model.specs.declared.frame.VType.{VType}
 use Rattle.class_model.specs.declared.frame.VType.TheVariants.{Top}
-use Rattle.map_frames.specs.Units.{Follows}
+use Rattle.map_frames.specs.Inner.Units.{Follows}
 
 -- what is Top behind some units, from behind them on
 behind_gone : (gone : List VType) (n width : ℕ) → length gone ≤ width → drop width (gone ++ replicate n Top) ≡ replicate (n - (width - length gone)) Top

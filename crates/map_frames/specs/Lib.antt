@@ -1,11 +1,3 @@
 pub mod Reading
 pub mod Writing
-pub mod Offsets
-pub mod Steps
-pub mod Settings
-pub mod Indices
-pub mod Change
-pub mod Tags
-pub mod Choosing
-pub mod Listing
-pub mod Units
+pub mod Inner

@@ -1,6 +1,6 @@
 //! The indices of classes by their names.
 ghost use Rattle.std.specs.Prelude.{◌≡◌, IfOk, OnOk};
-ghost use Rattle.map_frames.specs.Indices.{AreShort, IsByName};
+ghost use Rattle.map_frames.specs.Inner.Indices.{AreShort, IsByName};
 ghost use Rattle.map_frames.specs.Writing.{index_of, or_zero};
 
 use crate::writing::NamedIndex;
@@ -21,7 +21,7 @@ pub(crate) struct ClassIndices<'a> {
 impl<'a> Model for ClassIndices<'a> {
     ghost use Rattle.std.specs.Prelude.{List};
     ghost use Rattle.map_frames.specs.declared.writing.NamedIndex.{NamedIndex};
-    ghost use Rattle.map_frames.specs.Indices.{IsByName};
+    ghost use Rattle.map_frames.specs.Inner.Indices.{IsByName};
 
     ghost Value = { List NamedIndex };
 

@@ -3,7 +3,7 @@ ghost use Rattle.std.specs.Prelude.{◌≡◌, Some, None, IsTrue, if◌then◌e
 ghost use Rattle.std.specs.Option.{option_copied};
 ghost use Rattle.class_model.specs.Instructions.{is_start};
 ghost use Rattle.class_model.specs.Frames.{is_new_at, is_new};
-ghost use Rattle.map_frames.specs.Offsets.{Increases, instr_at_offset, has_new};
+ghost use Rattle.map_frames.specs.Inner.Offsets.{Increases, instr_at_offset, has_new};
 
 use class_model::{Instr, Placed};
 use std::marker::Model;
@@ -19,7 +19,7 @@ pub(crate) struct CodeIndex<'a> {
 impl<'a> Model for CodeIndex<'a> {
     ghost use Rattle.std.specs.Prelude.{List, IsTrue};
     ghost use Rattle.class_model.specs.declared.instr.Placed.{Placed};
-    ghost use Rattle.map_frames.specs.Offsets.{Increases};
+    ghost use Rattle.map_frames.specs.Inner.Offsets.{Increases};
 
     ghost Value = { List Placed };
 

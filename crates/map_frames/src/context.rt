@@ -4,8 +4,8 @@ ghost use Rattle.std.specs.Option.{option_copied};
 ghost use Rattle.class_model.specs.Answers.{Takes};
 ghost use Rattle.class_model.specs.Frames.{verification_type_at, verification_types_at, stated_frame};
 ghost use Rattle.class_model.specs.PoolChecks.{class_at};
-ghost use Rattle.map_frames.specs.Settings.{setting_of};
-ghost use Rattle.map_frames.specs.Steps.{Appends, IsPlaced, item_at, counted_types_at, object_at, uninit_at};
+ghost use Rattle.map_frames.specs.Inner.Settings.{setting_of};
+ghost use Rattle.map_frames.specs.Inner.Steps.{Appends, IsPlaced, item_at, counted_types_at, object_at, uninit_at};
 
 use crate::code_index::CodeIndex;
 use crate::cursor::Cursor;

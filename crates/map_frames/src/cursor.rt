@@ -3,7 +3,7 @@ ghost use Rattle.std.specs.Prelude.{◌≡◌, ◌==◌, length};
 ghost use Rattle.class_model.specs.Answers.{Takes};
 ghost use Rattle.class_model.specs.Cutting.{uncut};
 ghost use Rattle.class_model.specs.Frames.{table_u2_at};
-ghost use Rattle.map_frames.specs.Steps.{byte_at};
+ghost use Rattle.map_frames.specs.Inner.Steps.{byte_at};
 
 use class_model::{ClassFault, FileRule};
 use std::marker::Model;

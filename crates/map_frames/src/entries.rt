@@ -1,8 +1,8 @@
 //! The entries of a frame (JVM Specification SE 8, 4.7.4).
 ghost use Rattle.std.specs.Prelude.{◌≡◌, ◌+◌, ◌-◌, ◌≤◌, ◌++◌, ◌∷◌, [], length, take, drop, IfOk, OnOk};
 ghost use Rattle.class_model.specs.Frames.{depth, filled, is_wide, listed, units_of_entries};
-ghost use Rattle.map_frames.specs.Steps.{of_locals};
-ghost use Rattle.map_frames.specs.Units.{Follows};
+ghost use Rattle.map_frames.specs.Inner.Steps.{of_locals};
+ghost use Rattle.map_frames.specs.Inner.Units.{Follows};
 
 use crate::local_units::count_listed;
 use class_model::{ListOf, LocalTypeList, NoMemory, VType, VTypeList};

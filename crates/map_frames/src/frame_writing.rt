@@ -3,9 +3,9 @@ ghost use Rattle.std.specs.Prelude.{◌≡◌, ◌∷◌, ◌++◌, List, [], �
 ghost use Rattle.std.specs.List.{AllByRecursion};
 ghost use Rattle.class_model.specs.Frames.{entries_of_units};
 ghost use Rattle.class_model.specs.Spelling.{u2};
-ghost use Rattle.map_frames.specs.Change.{IsChange};
-ghost use Rattle.map_frames.specs.Choosing.{kind_meant, passes};
-ghost use Rattle.map_frames.specs.Listing.{listed_of, FitsListed};
+ghost use Rattle.map_frames.specs.Inner.Change.{IsChange};
+ghost use Rattle.map_frames.specs.Inner.Choosing.{kind_meant, passes};
+ghost use Rattle.map_frames.specs.Inner.Listing.{listed_of, FitsListed};
 ghost use Rattle.map_frames.specs.Writing.{FitsType, IsFrame, types_bytes, kind_bytes, Full};
 
 use crate::class_indices::ClassIndices;

@@ -1,6 +1,6 @@
 //! The kinds of stack map frames (JVM Specification SE 8, 4.7.4).
 ghost use Rattle.std.specs.Prelude.{◌≡◌, IsTrue};
-ghost use Rattle.map_frames.specs.Choosing.{kind_meant, first_passing, passes};
+ghost use Rattle.map_frames.specs.Inner.Choosing.{kind_meant, first_passing, passes};
 ghost use Rattle.map_frames.specs.Writing.{frame_kinds};
 
 /// A kind of frame, in the order in which they are tried.

@@ -2,8 +2,8 @@
 //! (JVM Specification SE 8, 4.7.4).
 ghost use Rattle.std.specs.Prelude.{◌≡◌, ◌<◌, ◌≤◌, [], ◌∷◌, drop, take, length, reverse, if◌then◌else◌, IfOk, IfSome, IfNone};
 ghost use Rattle.class_model.specs.Frames.{is_wide, entries_of_units, without_tops};
-ghost use Rattle.map_frames.specs.Change.{AreApart, BeginSame, IsChange};
-ghost use Rattle.map_frames.specs.Units.{is_top_there};
+ghost use Rattle.map_frames.specs.Inner.Change.{AreApart, BeginSame, IsChange};
+ghost use Rattle.map_frames.specs.Inner.Units.{is_top_there};
 ghost use Rattle.std.specs.Option.{option_copied};
 
 use class_model::{LocalTypeList, NoMemory, VType};

@@ -2,7 +2,7 @@
 ghost use Rattle.std.specs.Prelude.{◌≡◌, ◌∷◌, ◌++◌, OnOk};
 ghost use Rattle.std.specs.List.{AllByRecursion};
 ghost use Rattle.class_model.specs.Frames.{entries_of_units};
-ghost use Rattle.map_frames.specs.Tags.{tag_of};
+ghost use Rattle.map_frames.specs.Inner.Tags.{tag_of};
 ghost use Rattle.map_frames.specs.Writing.{FitsType, type_bytes, types_bytes};
 
 use crate::class_indices::ClassIndices;

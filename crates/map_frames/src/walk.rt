@@ -24,9 +24,9 @@ impl<'a> Walk<'a> {
     ghost use Rattle.class_model.specs.Answers.{Gives, Takes};
     ghost use Rattle.class_model.specs.Cutting.{uncut};
     ghost use Rattle.class_model.specs.Frames.{frame_at, filled, listed, table_u2_at};
-    ghost use Rattle.map_frames.specs.Settings.{setting_of, standing_of};
-    ghost use Rattle.map_frames.specs.Units.{Keeps};
-    ghost use Rattle.map_frames.specs.Steps.{States, Steps, end_at, chop_at, append_at, full_frame_at};
+    ghost use Rattle.map_frames.specs.Inner.Settings.{setting_of, standing_of};
+    ghost use Rattle.map_frames.specs.Inner.Units.{Keeps};
+    ghost use Rattle.map_frames.specs.Inner.Steps.{States, Steps, end_at, chop_at, append_at, full_frame_at};
 
     /// At the first byte of a table, behind an entry frame.
     pub(crate) fn new(alloc: Global, entry: &Frame, bytes: &'a [u8]) -> Result<Self, NoMemory>

@@ -1,7 +1,7 @@
 //! Writing a StackMapTable.
 ghost use Rattle.std.specs.Prelude.{◌≡◌, ◌≤◌, ◌++◌, List, ℕ, Ok, IfOk, OnOk, reverse};
 ghost use Rattle.class_model.specs.Frames.{Setting, stack_map_table_at, entries_of_units, without_tops};
-ghost use Rattle.map_frames.specs.Listing.{listed_of};
+ghost use Rattle.map_frames.specs.Inner.Listing.{listed_of};
 ghost use Rattle.map_frames.specs.Writing.{FitsTable, IsTable, HasFrames, AreFrames, listed_at};
 
 use crate::class_indices::ClassIndices;

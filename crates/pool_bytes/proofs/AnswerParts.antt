@@ -14,7 +14,7 @@ use Rattle.class_model.specs.Spelling.{constant_bytes, entry_bytes}
 use Rattle.class_model.specs.declared.fault.ClassFault.{ClassFault}
 use Rattle.class_model.specs.declared.pool.Const.{Const}
 use Rattle.class_model.specs.declared.pool.Const.TheVariants.{Utf8, Integer, Float, Long, Double, Class, String, Fieldref, Methodref, InterfaceMethodref, NameAndType, MethodHandle, MethodType, InvokeDynamic}
-use Rattle.pool_bytes.specs.Dynamics.{constant_bootstrap_checks}
+use Rattle.pool_bytes.specs.Inner.Dynamics.{constant_bootstrap_checks}
 use Rattle.pool_bytes.specs.Texts.{HasText, HasTexts}
 
 abbrev Answer : Type 0

@@ -11,7 +11,7 @@ use Rattle.class_model.specs.declared.fault.ClassFault.{ClassFault}
 use Rattle.class_model.specs.declared.fault.ClassFault.TheVariants.{Malformed, Version, NoMemory}
 use Rattle.class_model.specs.declared.fault.FileRule.TheVariants as rules
 use Rattle.class_model.specs.declared.pool.Const.{Const}
-use Rattle.pool_bytes.specs.Entries.{may_stand, entry_at}
+use Rattle.pool_bytes.specs.Inner.Entries.{may_stand, entry_at}
 use Rattle.class_model.specs.Laws.CutBack.{next, on_true}
 use Rattle.pool_bytes.proofs.CutBack.{some_entries}
 

@@ -6,7 +6,7 @@ use Rattle.class_model.specs.Spelling.{constant_bytes}
 use Rattle.class_model.specs.declared.pool.Const.{Const}
 use Rattle.class_model.specs.declared.pool.Const.TheVariants.{Utf8, Integer, Float, Long, Double, Class, String, Fieldref, Methodref, InterfaceMethodref, NameAndType, MethodHandle, MethodType, InvokeDynamic}
 use Rattle.class_model.specs.Header.{texts_checks}
-use Rattle.pool_bytes.specs.TextChecks.{text_checks}
+use Rattle.pool_bytes.specs.Inner.TextChecks.{text_checks}
 use Rattle.pool_bytes.specs.Texts.{HasTexts}
 use Rattle.pool_bytes.proofs.AnswerParts.{ByConstant}
 

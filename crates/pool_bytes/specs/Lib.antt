@@ -1,10 +1,7 @@
 pub mod Appended
 pub mod Behind
-pub mod Entries
 pub mod Items
-pub mod Raw
 pub mod ReadBack
 pub mod Reading
 pub mod Texts
-pub mod TextChecks
-pub mod Dynamics
+pub mod Inner

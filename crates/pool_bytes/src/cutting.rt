@@ -5,8 +5,8 @@ ghost use Rattle.class_model.specs.Cutting.{pool_at, fields_at, u2_pair_at};
 ghost use Rattle.class_model.specs.Cutting as cutting;
 ghost use Rattle.class_model.specs.Pool.{entries_of};
 ghost use Rattle.pool_bytes.specs.Behind.{IsBehind};
-ghost use Rattle.pool_bytes.specs.Entries.{indices_of, is_number_tag, entry_at};
-ghost use Rattle.pool_bytes.specs.Entries as entries;
+ghost use Rattle.pool_bytes.specs.Inner.Entries.{indices_of, is_number_tag, entry_at};
+ghost use Rattle.pool_bytes.specs.Inner.Entries as entries;
 
 use crate::raw::{RawConst, RawForm, RawPool};
 use crate::tags::{
@@ -50,7 +50,7 @@ pub fn cut_pool<'a>(
 
 // The constant at an index of a pool of this count: its tag, which is tested before what follows, and its
 // fields.
-#[tactic(auto, unfolding(crate::specs::Entries::entry_at), using(crate::proofs::Moves::stays, crate::proofs::Moves::u1_then))]
+#[tactic(auto, unfolding(crate::specs::Inner::Entries::entry_at), using(crate::proofs::Moves::stays, crate::proofs::Moves::u1_then))]
 fn entry<'a>(
     major: u16,
     index: u16,

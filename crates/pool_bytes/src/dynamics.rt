@@ -4,7 +4,7 @@ ghost use Rattle.std.specs.List.{flat_map};
 ghost use Rattle.class_model.specs.Answers.{Answers};
 ghost use Rattle.class_model.specs.ClassOf.{bootstrap_index_checks};
 ghost use Rattle.class_model.specs.Spelling.{entry_bytes};
-ghost use Rattle.pool_bytes.specs.Dynamics.{constant_bootstrap_checks};
+ghost use Rattle.pool_bytes.specs.Inner.Dynamics.{constant_bootstrap_checks};
 
 use crate::raw::{RawConst, RawForm, RawPool};
 use class_model::{ClassFault, Const, FileRule};

@@ -2,7 +2,7 @@
 ghost use Rattle.std.specs.Prelude.{◌≡◌, ◌+◌, ◌≤◌, [], ◌∷◌, ◌++◌, length, Some, IfOk, OnOk, OnErr};
 ghost use Rattle.std.specs.Option.{option_copied};
 ghost use Rattle.class_model.specs.Pool.{constant_at, entries_of, IsPool};
-ghost use Rattle.pool_bytes.specs.Raw.{constant_of, IsCounted};
+ghost use Rattle.pool_bytes.specs.Inner.Raw.{constant_of, IsCounted};
 ghost use Rattle.pool_bytes.specs.Texts.{HasText, HasTexts};
 
 use class_model::{Const, NoMemory, Pool, Text};
@@ -25,7 +25,7 @@ pub(crate) enum RawForm<'a> {
 
 impl<'a> Model for RawConst<'a> {
     ghost use Rattle.class_model.specs.declared.pool.Const.{Const};
-    ghost use Rattle.pool_bytes.specs.Raw.{constant_of, IsCounted};
+    ghost use Rattle.pool_bytes.specs.Inner.Raw.{constant_of, IsCounted};
 
     ghost Value = { Const };
 

@@ -6,7 +6,7 @@ ghost use Rattle.class_model.specs.Answers.{Answers};
 ghost use Rattle.class_model.specs.PoolChecks.{utf8_at, class_at};
 ghost use Rattle.class_model.specs.Spelling.{entry_bytes};
 ghost use Rattle.class_model.specs.Header.{texts_checks};
-ghost use Rattle.pool_bytes.specs.TextChecks.{text_checks};
+ghost use Rattle.pool_bytes.specs.Inner.TextChecks.{text_checks};
 ghost use Rattle.pool_bytes.specs.Texts.{HasTexts};
 
 use crate::raw::{RawConst, RawPool};

@@ -1,6 +1,6 @@
 use Rattle.std.proofs.Common.{◌+◌, drop}
 use Rattle.class_model.specs.Methods.{bootstraps_checks}
-use Rattle.class_bytes.specs.Bootstraps.{bootstraps_of, bootstraps_len}
+use Rattle.class_bytes.specs.Inner.Bootstraps.{bootstraps_of, bootstraps_len}
 use Rattle.class_bytes.proofs.Tables.{MethodsChecked}
 use Rattle.class_bytes.proofs.bootstraps.check_bootstraps.Given as goal
 

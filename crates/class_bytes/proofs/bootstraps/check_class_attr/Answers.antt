@@ -2,7 +2,7 @@ use Rattle.std.proofs.Common.{◌≡◌, true}
 use Rattle.std.proofs.lemmas.Result.{err_from_is_err_and}
 use Rattle.class_model.specs.Members.{is_named}
 use Rattle.class_model.specs.Methods.{bootstrap_methods}
-use Rattle.class_bytes.specs.Cut.{attr_of}
+use Rattle.class_bytes.specs.Inner.Cut.{attr_of}
 use Rattle.class_bytes.proofs.ClassAttrs.{is_table, twice_refused, table_refused, table_counted}
 use Rattle.class_bytes.proofs.bootstraps.check_class_attr.Goals as goal
 

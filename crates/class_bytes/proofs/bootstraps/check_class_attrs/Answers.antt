@@ -1,6 +1,6 @@
 use Rattle.std.proofs.Common.{◌≡◌}
 use Rattle.class_model.specs.Methods.{bootstrap_count}
-use Rattle.class_bytes.specs.Cut.{attrs_of}
+use Rattle.class_bytes.specs.Inner.Cut.{attrs_of}
 use Rattle.std.proofs.lemmas.Result.{err_from_is_err_and}
 use Rattle.class_bytes.proofs.ClassAttrs.{attr_refused, one_behind}
 use Rattle.class_bytes.proofs.bootstraps.check_class_attrs.Goals as goal

@@ -1,8 +1,8 @@
 use Rattle.std.proofs.Common.{◌+◌, [], drop}
 use Rattle.class_model.specs.Members.{attrs_checks}
 use Rattle.class_model.specs.Methods.{class_attr_checks}
-use Rattle.class_bytes.specs.Cut.{attrs_of}
-use Rattle.class_bytes.specs.Parts.{attrs_len}
+use Rattle.class_bytes.specs.Inner.Cut.{attrs_of}
+use Rattle.class_bytes.specs.Inner.Parts.{attrs_len}
 use Rattle.class_bytes.proofs.ClassAttrs.{AttrsChecked}
 use Rattle.class_bytes.proofs.bootstraps.check_class_attrs.Given as goal
 

@@ -1,6 +1,6 @@
 use Rattle.std.proofs.Common.{◌≡◌, ◌+◌, Some, length, arith, rules}
 use Rattle.class_model.specs.Methods.{bootstraps}
-use Rattle.class_bytes.specs.Bootstraps.{bootstraps_of, bootstraps_len}
+use Rattle.class_bytes.specs.Inner.Bootstraps.{bootstraps_of, bootstraps_len}
 use Rattle.class_bytes.proofs.TableLen.{table_long}
 use Rattle.class_bytes.proofs.bootstraps.check_table.Goals as goal
 

@@ -1,6 +1,6 @@
 use Rattle.std.proofs.Common.{◌+◌, ◌-◌, arith}
 use Rattle.std.proofs.lemmas.Result.{err_from_is_err_and}
-use Rattle.class_bytes.specs.Bootstraps.{bootstrap_of}
+use Rattle.class_bytes.specs.Inner.Bootstraps.{bootstrap_of}
 use Rattle.class_bytes.proofs.Many.{goes_on, stops, is_done}
 use Rattle.class_bytes.proofs.bootstraps.cut_bootstraps.Goals as goal
 

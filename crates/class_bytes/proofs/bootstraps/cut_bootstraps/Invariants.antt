@@ -1,7 +1,7 @@
 use Rattle.std.proofs.Common.{◌-◌}
 use Rattle.class_model.specs.Cutting.{counted_at}
 use Rattle.class_model.specs.Methods.{bootstrap_at}
-use Rattle.class_bytes.specs.Bootstraps.{bootstraps_of}
+use Rattle.class_bytes.specs.Inner.Bootstraps.{bootstraps_of}
 use Rattle.class_bytes.proofs.Many.{SoFar}
 use Rattle.class_bytes.proofs.bootstraps.cut_bootstraps.Given as goal
 

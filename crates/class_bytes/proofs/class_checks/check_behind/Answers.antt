@@ -2,8 +2,8 @@ use Rattle.std.proofs.Common.{◌≡◌, ◌+◌, ◌∙◌, ℕ, List, [], Opti
 use Rattle.std.proofs.lemmas.Result.{err_from_is_err_and}
 use Rattle.class_model.specs.ClassOf.{fields_checks, methods_checks}
 use Rattle.class_model.specs.Methods.{Home, bootstrap_count, home_of}
-use Rattle.class_bytes.specs.Cut.{class_of, fields_of, methods_of}
-use Rattle.class_bytes.specs.Parts.{head_len, fields_len, methods_len}
+use Rattle.class_bytes.specs.Inner.Cut.{class_of, fields_of, methods_of}
+use Rattle.class_bytes.specs.Inner.Parts.{head_len, fields_len, methods_len}
 use Rattle.class_bytes.proofs.ClassParts.{fields_at, methods_at, fields_part, methods_part, head_stops, fields_stop, methods_stop, attrs_told, same_fault}
 use Rattle.class_bytes.proofs.class_checks.check_behind.Goals as goal
 

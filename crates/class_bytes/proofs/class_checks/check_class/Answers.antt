@@ -3,8 +3,8 @@ use Rattle.std.proofs.lemmas.Result.{err_from_is_err_and}
 use Rattle.class_model.specs.ClassOf.{bootstrap_index_checks}
 use Rattle.class_model.specs.Methods.{bootstrap_count}
 use Rattle.class_model.specs.Pool.{Constants}
-use Rattle.class_bytes.specs.Cut.{class_of}
-use Rattle.class_bytes.specs.Parts.{behind_checks}
+use Rattle.class_bytes.specs.Inner.Cut.{class_of}
+use Rattle.class_bytes.specs.Inner.Parts.{behind_checks}
 use Rattle.class_bytes.proofs.ClassParts.{flags_at, entries_stop, behind_stops, dynamics_stop, all_told, same_fault}
 use Rattle.class_bytes.proofs.class_checks.check_class.Goals as goal
 

@@ -1,6 +1,6 @@
 use Rattle.std.proofs.Common.{arith, sym, ap, ◌∙◌}
 use Rattle.std.specs.Option.{option_map}
-use Rattle.class_bytes.specs.Cut.{part_of}
+use Rattle.class_bytes.specs.Inner.Cut.{part_of}
 use Rattle.class_bytes.proofs.PartLengths.{part_fills}
 use Rattle.class_bytes.proofs.code.check_code.Goals as goal
 

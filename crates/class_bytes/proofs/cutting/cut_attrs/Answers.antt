@@ -1,6 +1,6 @@
 use Rattle.std.proofs.Common.{◌+◌, ◌-◌, arith}
 use Rattle.std.proofs.lemmas.Result.{err_from_is_err_and}
-use Rattle.class_bytes.specs.Cut.{attr_of, inner_of}
+use Rattle.class_bytes.specs.Inner.Cut.{attr_of, inner_of}
 use Rattle.class_bytes.proofs.Many.{goes_on, stops, is_done}
 use Rattle.class_bytes.proofs.cutting.cut_attrs.Goals as goal
 

@@ -1,7 +1,7 @@
 use Rattle.std.proofs.Common.{◌-◌}
 use Rattle.class_model.specs.Code.{inner_at}
 use Rattle.class_model.specs.Cutting.{attr_at, counted_at}
-use Rattle.class_bytes.specs.Cut.{attrs_of, inners_of}
+use Rattle.class_bytes.specs.Inner.Cut.{attrs_of, inners_of}
 use Rattle.class_bytes.proofs.Many.{SoFar}
 use Rattle.class_bytes.proofs.cutting.cut_attrs.Given as goal
 

@@ -1,6 +1,6 @@
 use Rattle.std.proofs.Common.{◌-◌}
 use Rattle.class_model.specs.Cutting.{field_at, method_at, counted_at}
-use Rattle.class_bytes.specs.Cut.{fields_of, methods_of}
+use Rattle.class_bytes.specs.Inner.Cut.{fields_of, methods_of}
 use Rattle.class_bytes.proofs.Many.{SoFar}
 use Rattle.class_bytes.proofs.cutting.cut_members.Given as goal
 

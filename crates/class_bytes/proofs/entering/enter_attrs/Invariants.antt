@@ -1,6 +1,6 @@
 use Rattle.std.proofs.Common.{◌≡◌, map, take}
 use Rattle.class_model.specs.ClassOf.{entered_attr}
-use Rattle.class_bytes.specs.Cut.{attrs_of}
+use Rattle.class_bytes.specs.Inner.Cut.{attrs_of}
 use Rattle.class_bytes.proofs.entering.enter_attrs.Given as goal
 
 abbrev pub invariant-loop-attr : goal.invariant-loop-attr

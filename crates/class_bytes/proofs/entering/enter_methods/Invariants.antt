@@ -1,6 +1,6 @@
 use Rattle.std.proofs.Common.{◌≡◌, map, take}
 use Rattle.class_model.specs.ClassOf.{entered_method}
-use Rattle.class_bytes.specs.Cut.{methods_of}
+use Rattle.class_bytes.specs.Inner.Cut.{methods_of}
 use Rattle.class_bytes.proofs.entering.enter_methods.Given as goal
 
 abbrev pub invariant-loop-method : goal.invariant-loop-method

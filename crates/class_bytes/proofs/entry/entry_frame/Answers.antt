@@ -3,7 +3,7 @@ use Rattle.class_model.specs.Frames.{listed}
 use Rattle.class_model.specs.declared.class_file.CodePart.{CodePart}
 use Rattle.class_model.specs.declared.frame.Frame.{Frame}
 use Rattle.class_model.specs.declared.frame.VType.{VType}
-use Rattle.class_bytes.specs.Cut.{home_seen, method_of}
+use Rattle.class_bytes.specs.Inner.Cut.{home_seen, method_of}
 use Rattle.class_bytes.proofs.EntryFrames.{entry_lists}
 use Rattle.class_bytes.proofs.entry.entry_frame.Goals as goal
 

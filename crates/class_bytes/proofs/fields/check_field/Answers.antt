@@ -1,5 +1,5 @@
 use Rattle.std.proofs.Common.{rules}
-use Rattle.class_bytes.specs.Cut.{field_of}
+use Rattle.class_bytes.specs.Inner.Cut.{field_of}
 use Rattle.class_bytes.proofs.FieldParts.{field_behind}
 use Rattle.class_bytes.proofs.fields.check_field.Goals as goal
 

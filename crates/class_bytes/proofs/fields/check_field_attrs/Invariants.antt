@@ -1,7 +1,7 @@
 use Rattle.std.proofs.Common.{◌+◌, [], drop}
 use Rattle.class_model.specs.Members.{constant_value, attrs_checks, field_attr_checks}
-use Rattle.class_bytes.specs.Cut.{attrs_of, field_of}
-use Rattle.class_bytes.specs.Parts.{attrs_len}
+use Rattle.class_bytes.specs.Inner.Cut.{attrs_of, field_of}
+use Rattle.class_bytes.specs.Inner.Parts.{attrs_len}
 use Rattle.class_bytes.proofs.Attributes.{Checked}
 use Rattle.class_bytes.proofs.fields.check_field_attrs.Given as goal
 

@@ -1,7 +1,7 @@
 use Rattle.std.proofs.Common.{◌+◌, [], drop}
 use Rattle.class_model.specs.ClassOf.{fields_checks}
-use Rattle.class_bytes.specs.Cut.{fields_of}
-use Rattle.class_bytes.specs.Parts.{fields_len}
+use Rattle.class_bytes.specs.Inner.Cut.{fields_of}
+use Rattle.class_bytes.specs.Inner.Parts.{fields_len}
 use Rattle.class_bytes.proofs.Members.{MembersChecked, field_kind}
 use Rattle.class_bytes.proofs.fields.check_fields.Given as goal
 

@@ -1,7 +1,7 @@
 use Rattle.std.proofs.Common.{◌+◌, false, drop}
 use Rattle.class_model.specs.Code.{inners_checks}
-use Rattle.class_bytes.specs.CodeParts.{inners_len, setting_of_code, entry_frame_of}
-use Rattle.class_bytes.specs.Cut.{inners_of}
+use Rattle.class_bytes.specs.Inner.CodeParts.{inners_len, setting_of_code, entry_frame_of}
+use Rattle.class_bytes.specs.Inner.Cut.{inners_of}
 use Rattle.class_bytes.proofs.Inners.{InnersChecked}
 use Rattle.class_bytes.proofs.frames.check_inners.Given as goal
 

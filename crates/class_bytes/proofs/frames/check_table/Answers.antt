@@ -1,7 +1,7 @@
 use Rattle.std.proofs.Common.{arith}
 use Rattle.class_model.specs.Checks.{fault}
-use Rattle.class_bytes.specs.CodeParts.{setting_of_code, entry_frame_of}
-use Rattle.class_bytes.specs.Cut.{part_of}
+use Rattle.class_bytes.specs.Inner.CodeParts.{setting_of_code, entry_frame_of}
+use Rattle.class_bytes.specs.Inner.Cut.{part_of}
 use Rattle.class_bytes.proofs.TableFaults.{table_fault_inside, table_fault_placed, table_holds}
 use Rattle.class_bytes.proofs.frames.check_table.Goals as goal
 

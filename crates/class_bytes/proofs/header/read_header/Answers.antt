@@ -4,8 +4,8 @@ use Rattle.class_model.specs.Answers.{Takes, Tells}
 use Rattle.class_model.specs.Cutting.{Rest, Version, version_at, uncut}
 use Rattle.class_model.specs.Laws.Cuts.{are_bytes}
 use Rattle.class_model.specs.declared.header.Header.{Header}
-use Rattle.class_bytes.specs.Cut.{version_of}
-use Rattle.class_bytes.specs.HeaderParts.{header_len, cut_header_checks, header_in}
+use Rattle.class_bytes.specs.Inner.Cut.{version_of}
+use Rattle.class_bytes.specs.Inner.HeaderParts.{header_len, cut_header_checks, header_in}
 use Rattle.class_bytes.proofs.CutBytes.{version_left}
 use Rattle.class_bytes.proofs.HeaderFiles.{flags_place, head_refused, pool_refused, body_refused, of, is_cut, within, text_refused, told}
 use Rattle.class_bytes.proofs.HeaderSame.{flags_at}

@@ -1,7 +1,7 @@
 use Rattle.std.proofs.Common.{◌≡◌, ◌+◌, ◌*◌, map, take, drop}
 use Rattle.class_model.specs.Laws.Checks.{Remain}
 use Rattle.class_model.specs.Members.{interfaces_checks}
-use Rattle.class_bytes.specs.HeaderParts.{class_name_in}
+use Rattle.class_bytes.specs.Inner.HeaderParts.{class_name_in}
 use Rattle.class_bytes.proofs.header_checks.own_interfaces.Given as goal
 
 abbrev pub invariant-loop-index : goal.invariant-loop-index

@@ -1,7 +1,7 @@
 use Rattle.std.proofs.Common.{◌+◌}
 use Rattle.std.proofs.lemmas.Result.{err_from_is_err_and}
 use Rattle.class_bytes.proofs.HeaderMembers.{next_within, next_refused}
-use Rattle.class_bytes.specs.HeaderParts.{members_len}
+use Rattle.class_bytes.specs.Inner.HeaderParts.{members_len}
 use Rattle.class_bytes.specs.declared.header_cutting.MemberHead.{MemberHead}
 use Rattle.class_bytes.proofs.header_checks.own_members.Goals as goal
 

@@ -1,6 +1,6 @@
 use Rattle.std.proofs.Common.{◌≡◌, ◌+◌, map, take, drop}
 use Rattle.class_model.specs.Laws.Checks.{Remain}
-use Rattle.class_bytes.specs.HeaderParts.{member_in, members_checks, members_len}
+use Rattle.class_bytes.specs.Inner.HeaderParts.{member_in, members_checks, members_len}
 use Rattle.class_bytes.proofs.header_checks.own_members.Given as goal
 
 abbrev pub invariant-loop-member : goal.invariant-loop-member

@@ -1,6 +1,6 @@
 use Rattle.std.proofs.Common.{◌-◌}
 use Rattle.class_model.specs.Cutting.{counted_at}
-use Rattle.class_bytes.specs.HeaderParts.{member_head_at}
+use Rattle.class_bytes.specs.Inner.HeaderParts.{member_head_at}
 use Rattle.class_bytes.proofs.Many.{SoFar}
 use Rattle.class_bytes.proofs.header_cutting.cut_heads.Given as goal
 

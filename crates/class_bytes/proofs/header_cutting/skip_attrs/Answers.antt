@@ -1,6 +1,6 @@
 use Rattle.std.proofs.Common.{◌+◌, ◌-◌, length, ap, arith}
 use Rattle.std.proofs.lemmas.Result.{err_from_is_err_and}
-use Rattle.class_bytes.specs.Cut.{attr_of}
+use Rattle.class_bytes.specs.Inner.Cut.{attr_of}
 use Rattle.class_bytes.proofs.Skipping.{skips, attr_refused, all_skipped}
 use Rattle.class_bytes.proofs.header_cutting.skip_attrs.Goals as goal
 

@@ -1,7 +1,7 @@
 use Rattle.std.proofs.Common.{◌+◌, [], drop}
 use Rattle.class_model.specs.ClassOf.{methods_checks}
-use Rattle.class_bytes.specs.Cut.{home_seen, methods_of}
-use Rattle.class_bytes.specs.Parts.{methods_len}
+use Rattle.class_bytes.specs.Inner.Cut.{home_seen, methods_of}
+use Rattle.class_bytes.specs.Inner.Parts.{methods_len}
 use Rattle.class_bytes.proofs.Members.{MembersChecked, method_kind}
 use Rattle.class_bytes.proofs.methods.check_methods.Given as goal
 

@@ -1,4 +1,4 @@
-use Rattle.class_bytes.specs.Shapes.{HasShape}
+use Rattle.class_bytes.specs.Inner.Shapes.{HasShape}
 use Rattle.class_bytes.proofs.Shapes.{units_fit, no_units, most_static, most_with_this}
 use Rattle.class_bytes.proofs.methods.fits_units.Goals as goal
 use Rattle.class_bytes.proofs.methods.fits_units.Goals.{then-has, else-has}

@@ -3,7 +3,7 @@ use Rattle.std.proofs.lemmas.Iterator.{YieldsList-from_slice}
 use Rattle.std.proofs.lemmas.Iterator.Search.{any_from_yields_List}
 use Rattle.class_model.specs.Members.{is_named}
 use Rattle.class_model.specs.Methods.{code}
-use Rattle.class_bytes.specs.Cut.{attr_of}
+use Rattle.class_bytes.specs.Inner.Cut.{attr_of}
 use Rattle.class_bytes.proofs.Attributes.{any_seen}
 use Rattle.class_bytes.proofs.methods.has_code.Goals as goal
 

@@ -7,7 +7,7 @@ use Rattle.class_model.specs.Laws.Cuts.{are_bytes, IsBytes-parts}
 use Rattle.class_model.specs.Pool.{Constants}
 use Rattle.class_model.specs.Spelling.{pool_bytes}
 use Rattle.class_bytes.specs.Counts.{FitsCounts}
-use Rattle.class_bytes.specs.Cut.{version_of, class_of}
+use Rattle.class_bytes.specs.Inner.Cut.{version_of, class_of}
 use Rattle.class_bytes.proofs.CutBytes.{version_left}
 use Rattle.class_bytes.proofs.Fits.{class_fits}
 use Rattle.class_bytes.proofs.WholeFiles.{head_refused, pool_refused, body_refused, check_refused, is_cut, is_class, class_len}

@@ -1,5 +1,6 @@
 use Rattle.std.proofs.Common.{◌≡◌, ◌-◌, ◌≤◌}
-use Rattle.class_model.specs.LocalTypes.{type_in, IsKept}
+use Rattle.class_model.specs.LocalTypes.{type_in}
+use Rattle.class_model.specs.Inner.LocalTypes.{IsKept}
 use Rattle.class_model.proofs.local_part.put_type.Given as goal
 
 abbrev pub invariant-loop-types : goal.invariant-loop-types

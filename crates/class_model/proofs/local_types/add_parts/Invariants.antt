@@ -1,5 +1,6 @@
 use Rattle.std.proofs.Common.{◌-◌, ◌+◌}
-use Rattle.class_model.specs.LocalTypes.{unit_in, IsKept}
+use Rattle.class_model.specs.LocalTypes.{unit_in}
+use Rattle.class_model.specs.Inner.LocalTypes.{IsKept}
 use Rattle.class_model.proofs.local_types.add_parts.Given as goal
 
 abbrev pub invariant-loop-parts : goal.invariant-loop-parts

@@ -1,5 +1,5 @@
 use Rattle.std.proofs.Common.{sym, subst}
-use Rattle.class_tree.specs.Graphs.{IsWithin}
+use Rattle.class_tree.specs.Inner.Graphs.{IsWithin}
 use Rattle.class_tree.proofs.GraphPaths.{graph_is_within}
 use Rattle.class_tree.proofs.LibraryNames.{below_decides, nothing_below, node_of_number}
 use Rattle.class_tree.proofs.base.is_below.Goals as goal

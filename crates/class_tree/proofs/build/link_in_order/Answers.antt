@@ -1,9 +1,9 @@
 use Rattle.std.proofs.Common.{◌≡◌, ◌∙◌, map, sym, subst, rules}
 use Rattle.std.proofs.lemmas.Bool.{true≢false}
 use Rattle.std.proofs.lemmas.Result.{err_from_is_err_and}
-use Rattle.class_tree.specs.Graphs.{IsWithin}
+use Rattle.class_tree.specs.Inner.Graphs.{IsWithin}
 use Rattle.class_tree.specs.Headers.{all_headers}
-use Rattle.class_tree.specs.Nodes.{super_place, indexes_of, AreInterfaceLists, AreMemberIndexes}
+use Rattle.class_tree.specs.Inner.Nodes.{super_place, indexes_of, AreInterfaceLists, AreMemberIndexes}
 use Rattle.class_tree.specs.Order.{members_of}
 use Rattle.class_tree.specs.Trees.{IsInOrder}
 use Rattle.class_tree.specs.declared.links.Links.{Links}

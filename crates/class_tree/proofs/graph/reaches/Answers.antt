@@ -1,5 +1,5 @@
 use Rattle.std.proofs.Common.{◌<◌, ◌≤◌, ℕ, List, length, ap, subst, ◌∙◌, arith}
-use Rattle.class_tree.specs.Placing.{Collected, HasAdded}
+use Rattle.class_tree.specs.Inner.Placing.{Collected, HasAdded}
 use Rattle.class_tree.proofs.Searched.{targets_within, search_begins, search_goes_on, met_is_within, search_ends}
 use Rattle.class_tree.proofs.graph.reaches.Goals as goal
 

@@ -1,5 +1,5 @@
 use Rattle.std.proofs.Common.{◌≡◌, take}
-use Rattle.class_tree.specs.Nodes.{graph_of}
+use Rattle.class_tree.specs.Inner.Nodes.{graph_of}
 use Rattle.class_tree.proofs.graph.supers_graph.Given as goal
 
 abbrev pub invariant-loop-number : goal.invariant-loop-number

@@ -1,6 +1,6 @@
 use Rattle.std.proofs.Common.{◌≡◌, ◌<◌, List, length, ap, get_or, arith}
 use Rattle.class_tree.specs.Headers.{Name}
-use Rattle.class_tree.specs.Nodes.{number_of}
+use Rattle.class_tree.specs.Inner.Nodes.{number_of}
 use Rattle.class_tree.proofs.SupersGraph.{one_name_more}
 use Rattle.class_tree.proofs.graph.supers_of.Goals as goal
 

@@ -1,5 +1,5 @@
 use Rattle.std.proofs.Common.{◌≡◌, ◌++◌, take, filter_map}
-use Rattle.class_tree.specs.Nodes.{number_of}
+use Rattle.class_tree.specs.Inner.Nodes.{number_of}
 use Rattle.class_tree.proofs.graph.supers_of.Given as goal
 
 abbrev pub invariant-loop-name : goal.invariant-loop-name

@@ -2,7 +2,7 @@ use Rattle.std.proofs.Common.{◌≡◌, ◌<◌, false, length, sym, ap, subst,
 use Rattle.std.proofs.lemmas.Bool.{false≢true}
 use Rattle.std.proofs.lemmas.List.{get_or_read}
 use Rattle.std.proofs.lemmas.Result.{err_from_is_err_and}
-use Rattle.class_tree.specs.Graphs.{IsWithin}
+use Rattle.class_tree.specs.Inner.Graphs.{IsWithin}
 use Rattle.class_tree.specs.Headers.{all_headers}
 use Rattle.class_tree.proofs.Acyclic.{placed_is_on_no_circle}
 use Rattle.class_tree.proofs.GraphPaths.{graph_is_within}

@@ -4,7 +4,7 @@ use Rattle.std.proofs.lemmas.Result.{err_from_is_err_and}
 use Rattle.class_model.specs.Laws.Checks.{all_remain, passes, not_so}
 use Rattle.class_tree.specs.Headers.{IsThere}
 use Rattle.class_tree.specs.Laws.Links.{fails, ends}
-use Rattle.class_tree.specs.Nodes.{number_of}
+use Rattle.class_tree.specs.Inner.Nodes.{number_of}
 use Rattle.class_tree.specs.Steps.{supers, library_checks, IsOutside}
 use Rattle.class_tree.proofs.SuperNumbers.{there_decides, numbers_of_all, are_outside}
 use Rattle.class_tree.proofs.hierarchy.check_library_class.Goals as goal

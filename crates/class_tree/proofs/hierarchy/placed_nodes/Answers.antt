@@ -1,7 +1,7 @@
 use Rattle.std.proofs.Common.{◌≡◌, ℕ, zero, suc, Bool, true, false, List, length, get_or, replicate, ap, subst, sym, ◌∙◌, inl, inr, arith, length-set, get_or-set_other}
 use Rattle.std.proofs.Math.ListN.{length-replicate}
 use Rattle.std.proofs.lemmas.Bool.{cases_eq, false≢true}
-use Rattle.class_tree.specs.Graphs.{IsOneOf}
+use Rattle.class_tree.specs.Inner.Graphs.{IsOneOf}
 use Rattle.class_tree.proofs.OneOf.{one_at}
 use Rattle.class_tree.proofs.hierarchy.placed_nodes.Goals as goal
 

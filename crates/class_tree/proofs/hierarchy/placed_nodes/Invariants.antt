@@ -1,5 +1,5 @@
 use Rattle.std.proofs.Common.{◌≡◌, ℕ, true, false, length, get_or}
-use Rattle.class_tree.specs.Graphs.{IsOneOf}
+use Rattle.class_tree.specs.Inner.Graphs.{IsOneOf}
 use Rattle.class_tree.proofs.hierarchy.placed_nodes.Given as goal
 
 abbrev pub invariant-loop-node : goal.invariant-loop-node

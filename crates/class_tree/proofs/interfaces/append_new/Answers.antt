@@ -1,5 +1,5 @@
 use Rattle.std.proofs.Common.{◌∙◌, get_or, ap}
-use Rattle.class_tree.specs.InterfaceNumbers.{with_number}
+use Rattle.class_tree.specs.Inner.InterfaceNumbers.{with_number}
 use Rattle.class_tree.proofs.NewNumbers.{one_more}
 use Rattle.class_tree.proofs.interfaces.append_new.Goals as goal
 

@@ -1,5 +1,5 @@
 use Rattle.std.proofs.Common.{◌≡◌, take}
-use Rattle.class_tree.specs.InterfaceNumbers.{with_numbers, AreMarks}
+use Rattle.class_tree.specs.Inner.InterfaceNumbers.{with_numbers, AreMarks}
 use Rattle.class_tree.proofs.interfaces.append_new.Given as goal
 
 abbrev pub invariant-loop-number : goal.invariant-loop-number

@@ -1,6 +1,6 @@
 use Rattle.std.proofs.Common.{◌∙◌, map, ap, arith}
 use Rattle.std.proofs.lemmas.List.{take_all}
-use Rattle.class_tree.specs.Nodes.{place_at}
+use Rattle.class_tree.specs.Inner.Nodes.{place_at}
 use Rattle.class_tree.proofs.InterfaceLists.{lists_placed}
 use Rattle.class_tree.proofs.SupersGraph.{one_more}
 use Rattle.class_tree.proofs.interfaces.interface_lists.Goals as goal

@@ -1,5 +1,5 @@
 use Rattle.std.proofs.Common.{◌≡◌, map, take}
-use Rattle.class_tree.specs.Nodes.{place_at}
+use Rattle.class_tree.specs.Inner.Nodes.{place_at}
 use Rattle.class_tree.proofs.interfaces.interface_lists.Given as goal
 
 abbrev pub invariant-loop-number : goal.invariant-loop-number

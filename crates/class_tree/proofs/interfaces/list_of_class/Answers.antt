@@ -1,7 +1,7 @@
 use Rattle.std.proofs.Common.{◌≡◌, ◌<◌, ◌∙◌, [], length, get_or, sym, ap, arith}
 use Rattle.std.proofs.lemmas.List.{take_all}
 use Rattle.std.proofs.lemmas.Option.{get_or_from_slice_get}
-use Rattle.class_tree.specs.InterfaceNumbers.{with_number, with_numbers, with_lists}
+use Rattle.class_tree.specs.Inner.InterfaceNumbers.{with_number, with_numbers, with_lists}
 use Rattle.class_tree.proofs.NewNumbers.{one_more_list, list_above, none_above}
 use Rattle.class_tree.proofs.interfaces.list_of_class.Goals as goal
 use Rattle.class_tree.proofs.interfaces.list_of_class.Goals.{in-Some+in_ok-append_new-2, in_default}

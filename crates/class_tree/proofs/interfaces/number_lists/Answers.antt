@@ -4,8 +4,8 @@ use Rattle.std.specs.Option.{option_copied}
 use Rattle.std.proofs.lemmas.Option.{slice_get_cases, none-some}
 use Rattle.class_model.specs.declared.header.Header.{Header}
 use Rattle.class_tree.specs.Headers.{Headers, all_headers}
-use Rattle.class_tree.specs.InterfaceNumbers.{AreNumbersOf}
-use Rattle.class_tree.specs.Nodes.{number_of}
+use Rattle.class_tree.specs.Inner.InterfaceNumbers.{AreNumbersOf}
+use Rattle.class_tree.specs.Inner.Nodes.{number_of}
 use Rattle.class_tree.specs.Steps.{supers}
 use Rattle.class_tree.proofs.InterfaceLists.{Made, class_numbers, one_made, all_made, targets_are, some_target, targets_below, next_below, targets_listed, superclass_within, interfaces_within}
 use Rattle.class_tree.proofs.interfaces.number_lists.Goals as goal

@@ -8,7 +8,7 @@ use Rattle.std.specs.Cmp.Lexicographic.{slice_cmp}
 use Rattle.std.specs.List.{range_with_len}
 use Rattle.std.specs.List.Sorted.{IsPermutation}
 use Rattle.std.specs.Ordering.{nat_cmp, is_lt}
-use Rattle.class_tree.specs.MemberIndex.{IsMemberIndex, key_at}
+use Rattle.class_tree.specs.Inner.MemberIndex.{IsMemberIndex, key_at}
 use Rattle.class_tree.proofs.members.member_index.Goals as goal
 
 pub returns : goal.returns

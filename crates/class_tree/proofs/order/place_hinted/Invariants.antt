@@ -1,5 +1,5 @@
 use Rattle.std.proofs.Common.{◌≡◌, length}
-use Rattle.class_tree.specs.Placing.{AreBehindTargets}
+use Rattle.class_tree.specs.Inner.Placing.{AreBehindTargets}
 use Rattle.class_tree.proofs.order.place_hinted.Given as goal
 
 abbrev pub invariant-loop-node : goal.invariant-loop-node

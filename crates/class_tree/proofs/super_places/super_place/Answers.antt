@@ -1,5 +1,5 @@
 use Rattle.std.proofs.Common.{IsSome, slice_get, option_map, ap, ◌∙◌, rules}
-use Rattle.class_tree.specs.Nodes.{place_at}
+use Rattle.class_tree.specs.Inner.Nodes.{place_at}
 use Rattle.class_tree.proofs.Superclasses.{first_super}
 use Rattle.class_tree.proofs.super_places.super_place.Goals as goal
 

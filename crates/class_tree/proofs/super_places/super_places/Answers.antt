@@ -1,6 +1,6 @@
 use Rattle.std.proofs.Common.{◌<◌, length, sym, arith}
 use Rattle.class_tree.specs.Headers.{all_headers}
-use Rattle.class_tree.specs.Nodes.{super_place}
+use Rattle.class_tree.specs.Inner.Nodes.{super_place}
 use Rattle.class_tree.proofs.ClassHolds.{class_holds}
 use Rattle.class_tree.proofs.GraphPaths.{some_at}
 use Rattle.class_tree.proofs.HierarchyChecks.{targets_at}

@@ -1,6 +1,6 @@
 use Rattle.std.proofs.Common.{◌++◌, sym, ap, ◌∙◌, subst}
 use Rattle.code_bytes.specs.Encoding.{IsChosen}
-use Rattle.code_bytes.specs.FormBytes.{form_bytes}
+use Rattle.code_bytes.specs.Inner.FormBytes.{form_bytes}
 use Rattle.code_bytes.proofs.ChosenBytes.{written_chosen}
 use Rattle.code_bytes.proofs.encoding.encode_one.Goals as goal
 

@@ -4,7 +4,7 @@ use Rattle.std.specs.Prelude.{FitsSigned}
 use Rattle.std.specs.Int.{w32}
 use Rattle.std.proofs.lemmas.Int.{to_z-of_z}
 use Rattle.class_model.specs.Instructions.{keys_increase}
-use Rattle.code_bytes.specs.Operands.{pair_in}
+use Rattle.code_bytes.specs.Inner.Operands.{pair_in}
 use Rattle.code_bytes.proofs.SwitchForms.{LookupHead, lookup_is}
 use Rattle.code_bytes.proofs.switches.lookup_switch.Goals as goal
 use Rattle.code_bytes.proofs.switches.lookup_switch.Goals.{After-keys_increase}

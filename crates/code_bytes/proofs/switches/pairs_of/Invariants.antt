@@ -1,5 +1,5 @@
 use Rattle.std.proofs.Common.{◌≡◌, map, take}
-use Rattle.code_bytes.specs.Operands.{pair_in}
+use Rattle.code_bytes.specs.Inner.Operands.{pair_in}
 use Rattle.code_bytes.proofs.switches.pairs_of.Given as goal
 
 abbrev pub invariant-loop-part : goal.invariant-loop-part

@@ -1,5 +1,5 @@
 use Rattle.std.proofs.Common.{◌≡◌, map, take}
-use Rattle.code_bytes.specs.Operands.{target_in}
+use Rattle.code_bytes.specs.Inner.Operands.{target_in}
 use Rattle.code_bytes.proofs.switches.targets_of.Given as goal
 
 abbrev pub invariant-loop-word : goal.invariant-loop-word

@@ -2,7 +2,7 @@ use Rattle.std.proofs.Common.{◌≡◌, ◌==◌, ◌≤◌, ℕ, ◌+◌, ◌-
 use Rattle.std.proofs.lemmas.List.{take_more}
 use Rattle.std.proofs.Math.Seq.{take-length}
 use Rattle.std.specs.Cmp.Lexicographic.{pointwise}
-use Rattle.map_frames.specs.Indices.{AreShort}
+use Rattle.map_frames.specs.Inner.Indices.{AreShort}
 use Rattle.map_frames.specs.Writing.{index_of, or_zero}
 use Rattle.map_frames.specs.declared.writing.NamedIndex.{NamedIndex}
 use Rattle.map_frames.proofs.class_indices.index_by_name.Goals as goal

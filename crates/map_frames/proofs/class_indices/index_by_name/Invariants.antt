@@ -1,5 +1,5 @@
 use Rattle.std.proofs.Common.{◌≡◌, List, ◌++◌, length}
-use Rattle.map_frames.specs.Indices.{IsByName}
+use Rattle.map_frames.specs.Inner.Indices.{IsByName}
 use Rattle.map_frames.specs.declared.writing.NamedIndex.{NamedIndex}
 use Rattle.map_frames.proofs.class_indices.index_by_name.Given as goal
 

@@ -3,7 +3,7 @@ use Rattle.std.specs.List.{slice_get}
 use Rattle.class_model.specs.Frames.{listed}
 use Rattle.class_model.specs.Laws.Lists.{none_behind}
 use Rattle.class_model.specs.declared.frame.VType.{VType}
-use Rattle.map_frames.specs.Steps.{of_locals}
+use Rattle.map_frames.specs.Inner.Steps.{of_locals}
 use Rattle.map_frames.proofs.ListedUnits.{entry_listed, entries_listed}
 use Rattle.map_frames.proofs.entries.listed_entries.Goals as goal
 use Rattle.map_frames.proofs.entries.listed_entries.Goals.{else-loop-at-test, then-loop-at-test+in_default}

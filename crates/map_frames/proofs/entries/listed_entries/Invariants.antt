@@ -1,6 +1,6 @@
 use Rattle.std.proofs.Common.{◌≡◌, ◌-◌, ◌++◌, take, drop}
 use Rattle.class_model.specs.Frames.{entries_of_units, listed}
-use Rattle.map_frames.specs.Steps.{of_locals}
+use Rattle.map_frames.specs.Inner.Steps.{of_locals}
 use Rattle.map_frames.proofs.entries.listed_entries.Given as goal
 
 abbrev pub invariant-loop-at : goal.invariant-loop-at

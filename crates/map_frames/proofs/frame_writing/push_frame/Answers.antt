@@ -1,5 +1,5 @@
 use Rattle.class_model.specs.Frames.{entries_of_units}
-use Rattle.map_frames.specs.Listing.{listed_of}
+use Rattle.map_frames.specs.Inner.Listing.{listed_of}
 use Rattle.map_frames.specs.Writing.{FitsType, Same, SameItem, SameItemExtended, Chop, SameExtended, Append, Full}
 use Rattle.map_frames.proofs.FramesWritten.{is_written, then_appended}
 use Rattle.map_frames.proofs.KindsRead.{all_behind}

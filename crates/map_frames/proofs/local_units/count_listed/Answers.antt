@@ -1,6 +1,6 @@
 use Rattle.std.proofs.Common.{◌≡◌, ℕ, ◌+◌, ◌-◌, true, false, take, ap, sym, ◌∙◌, arith}
 use Rattle.std.specs.List.{slice_get}
-use Rattle.map_frames.specs.Units.{is_top_there}
+use Rattle.map_frames.specs.Inner.Units.{is_top_there}
 use Rattle.map_frames.proofs.FrameUnits.{kept}
 use Rattle.map_frames.proofs.ListedUnits.{before_tops, without_top, up_to_other}
 use Rattle.map_frames.proofs.local_units.count_listed.Goals as goal

@@ -6,7 +6,7 @@ use Rattle.class_model.specs.Frames.{Setting, stack_map_table_at}
 use Rattle.class_model.specs.declared.frame.PlacedFrame.{PlacedFrame}
 use Rattle.class_model.specs.declared.instr.Placed.{Placed}
 use Rattle.map_frames.specs.Reading.{Accepts}
-use Rattle.map_frames.specs.Settings.{standing_of}
+use Rattle.map_frames.specs.Inner.Settings.{standing_of}
 use Rattle.map_frames.proofs.Faults.{accepts_refused, refuses_same}
 use Rattle.map_frames.proofs.FramesRead.{TableStart, table_start, table_fails, table_told, frames_next}
 use Rattle.map_frames.proofs.reading.check_frames.Goals as goal

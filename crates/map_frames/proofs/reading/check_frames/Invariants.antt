@@ -1,6 +1,6 @@
 use Rattle.std.proofs.Common.{List}
 use Rattle.class_model.specs.declared.frame.PlacedFrame.{PlacedFrame}
-use Rattle.map_frames.specs.Settings.{setting_of, standing_of}
+use Rattle.map_frames.specs.Inner.Settings.{setting_of, standing_of}
 use Rattle.map_frames.proofs.FramesRead.{FramesRead}
 use Rattle.map_frames.proofs.reading.check_frames.Given as goal
 

@@ -1,6 +1,6 @@
 use Rattle.std.proofs.Common.{◌≡◌}
 use Rattle.class_model.specs.Frames.{filled}
-use Rattle.map_frames.specs.Settings.{setting_of, standing_of}
+use Rattle.map_frames.specs.Inner.Settings.{setting_of, standing_of}
 use Rattle.map_frames.proofs.FramesRead.{FramesRead}
 use Rattle.map_frames.proofs.reading.read_frames.Given as goal
 

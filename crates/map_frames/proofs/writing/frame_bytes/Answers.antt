@@ -1,5 +1,5 @@
 use Rattle.std.proofs.Common.{subst, rules}
-use Rattle.map_frames.specs.Indices.{AreShort}
+use Rattle.map_frames.specs.Inner.Indices.{AreShort}
 use Rattle.map_frames.specs.Writing.{IsTable}
 use Rattle.map_frames.proofs.TablesRead.{table_read}
 use Rattle.map_frames.proofs.writing.frame_bytes.Goals as goal

@@ -1,7 +1,7 @@
 use Rattle.std.proofs.Common.{◌++◌, ap, ◌∙◌, append_assoc, arith}
 use Rattle.std.proofs.Math.ListN.{drop_of_length-le}
 use Rattle.class_model.specs.Frames.{entries_of_units}
-use Rattle.map_frames.specs.Listing.{listed_of}
+use Rattle.map_frames.specs.Inner.Listing.{listed_of}
 use Rattle.map_frames.proofs.TablesWritten.{next_fits, next_done, all_done}
 use Rattle.map_frames.proofs.writing.push_frames.Goals as goal
 

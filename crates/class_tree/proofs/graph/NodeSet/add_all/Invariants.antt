@@ -1,5 +1,5 @@
 use Rattle.std.proofs.Common.{◌≡◌, take}
-use Rattle.class_tree.specs.Placing.{HasAdded}
+use Rattle.class_tree.specs.Inner.Placing.{HasAdded}
 use Rattle.class_tree.proofs.graph.NodeSet.add_all.Given as goal
 
 abbrev pub invariant-loop-node : goal.invariant-loop-node

@@ -2,7 +2,7 @@ use Rattle.std.proofs.Common.{◌≡◌, ◌==◌, ◌+◌, ◌<◌, ◌≤◌, 
 use Rattle.std.specs.List.{list_any}
 use Rattle.std.proofs.lemmas.List.{length_push}
 use Rattle.std.proofs.lemmas.List.Sums.{sum_by-set, count_by-le-length}
-use Rattle.class_tree.specs.Placing.{Collected}
+use Rattle.class_tree.specs.Inner.Placing.{Collected}
 use Rattle.class_tree.proofs.graph.NodeSet.push.Goals as goal
 
 -- where a number below the length is not marked, there is room for one more

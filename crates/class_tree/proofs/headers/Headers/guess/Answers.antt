@@ -1,6 +1,6 @@
 use Rattle.std.proofs.Common.{◌≡◌, Some, slice_get, option_map, sym, ap, subst, ◌∙◌, rules}
 use Rattle.class_tree.specs.Headers.{all_headers}
-use Rattle.class_tree.specs.Nodes.{number_of, place_at}
+use Rattle.class_tree.specs.Inner.Nodes.{number_of, place_at}
 use Rattle.class_tree.proofs.Places.{number_of_itself, place_of_number}
 use Rattle.class_tree.proofs.headers.Headers.guess.Goals as goal
 

@@ -1,5 +1,5 @@
 use Rattle.std.proofs.Common.{◌≡◌, ◌∙◌, [], ◌∷◌, ◌++◌, length, map, ap, arith}
-use Rattle.class_tree.specs.Parts.{part_of}
+use Rattle.class_tree.specs.Inner.Parts.{part_of}
 use Rattle.class_tree.proofs.Parts.{with_start, one_list_more}
 use Rattle.class_tree.proofs.lists.Lists.push.Goals as goal
 

@@ -1,5 +1,5 @@
 use Rattle.std.proofs.Common.{◌≡◌, ◌∙◌, ◌++◌, length, set, map, ap, arith}
-use Rattle.class_tree.specs.Parts.{part_of}
+use Rattle.class_tree.specs.Inner.Parts.{part_of}
 use Rattle.class_tree.proofs.Parts.{with_start, one_list_set}
 use Rattle.class_tree.proofs.lists.Lists.replace.Goals as goal
 

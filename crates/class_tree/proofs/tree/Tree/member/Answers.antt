@@ -1,8 +1,8 @@
 use Rattle.std.proofs.Common.{ap, sym, subst, ◌∙◌, ◌≡◌, is_some, length, slice_get, arith}
 use Rattle.std.proofs.lemmas.Option.{same_Some}
 use Rattle.class_tree.specs.Headers.{headers_of}
-use Rattle.class_tree.specs.MemberIndex.{IsMemberIndex}
-use Rattle.class_tree.specs.Nodes.{AreLinks, indexes_of}
+use Rattle.class_tree.specs.Inner.MemberIndex.{IsMemberIndex}
+use Rattle.class_tree.specs.Inner.Nodes.{AreLinks, indexes_of}
 use Rattle.class_tree.specs.Order.{members_of}
 use Rattle.class_tree.proofs.LinkedClasses.{IsAt, class_at, index_is}
 use Rattle.class_tree.proofs.tree.Tree.member.Goals as goal

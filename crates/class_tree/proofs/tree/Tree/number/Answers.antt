@@ -1,6 +1,6 @@
 use Rattle.std.proofs.Common.{◌≡◌, IsSome, sym, subst}
 use Rattle.class_tree.specs.Headers.{headers_of}
-use Rattle.class_tree.specs.Nodes.{place_at}
+use Rattle.class_tree.specs.Inner.Nodes.{place_at}
 use Rattle.class_tree.specs.Order.{header_at}
 use Rattle.class_tree.specs.declared.place.Place.TheVariants.{Folder}
 use Rattle.class_tree.proofs.Superclasses.{place_of_itself}

@@ -1,7 +1,7 @@
 use Rattle.std.proofs.Common.{ap, sym, subst, ◌∙◌, length, get_or, is_some, arith}
 use Rattle.std.proofs.lemmas.Bool.{ltb-false}
 use Rattle.class_tree.specs.Headers.{headers_of}
-use Rattle.class_tree.specs.Nodes.{AreLinks}
+use Rattle.class_tree.specs.Inner.Nodes.{AreLinks}
 use Rattle.class_tree.proofs.LinkedClasses.{IsAt, class_at, superclasses_have, superclass_is}
 use Rattle.class_tree.proofs.tree.Tree.superclass.Goals as goal
 use Rattle.class_tree.proofs.tree.Tree.superclass.Goals.{After-number}

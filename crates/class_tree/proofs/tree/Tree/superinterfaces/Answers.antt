@@ -1,6 +1,6 @@
 use Rattle.std.proofs.Common.{subst, arith}
 use Rattle.class_tree.specs.Headers.{headers_of}
-use Rattle.class_tree.specs.Nodes.{AreLinks}
+use Rattle.class_tree.specs.Inner.Nodes.{AreLinks}
 use Rattle.class_tree.proofs.LinkedClasses.{IsAt, class_at, superinterfaces_are}
 use Rattle.class_tree.proofs.tree.Tree.superinterfaces.Goals as goal
 use Rattle.class_tree.proofs.tree.Tree.superinterfaces.Goals.{After-number}

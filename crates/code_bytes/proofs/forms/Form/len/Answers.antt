@@ -1,6 +1,6 @@
 use Rattle.std.proofs.Common.{length, ap, arith}
 use Rattle.code_bytes.proofs.FormLengths.{table_length, lookup_length}
-use Rattle.code_bytes.specs.FormBytes.{form_bytes}
+use Rattle.code_bytes.specs.Inner.FormBytes.{form_bytes}
 use Rattle.code_bytes.proofs.forms.Form.len.Goals as goal
 
 pub returns-in-Table-clause-len : goal.returns-in-Table-clause-len

@@ -1,5 +1,5 @@
 use Rattle.std.proofs.lemmas.Result.{err_from_is_err_and}
-use Rattle.map_frames.specs.Settings.{setting_of}
+use Rattle.map_frames.specs.Inner.Settings.{setting_of}
 use Rattle.map_frames.proofs.EntriesRead.{read_more, read_fails, read_all}
 use Rattle.map_frames.proofs.context.Context.push_entries.Goals as goal
 

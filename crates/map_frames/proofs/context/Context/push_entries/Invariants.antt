@@ -1,4 +1,4 @@
-use Rattle.map_frames.specs.Settings.{setting_of}
+use Rattle.map_frames.specs.Inner.Settings.{setting_of}
 use Rattle.map_frames.proofs.EntriesRead.{Read}
 use Rattle.map_frames.proofs.context.Context.push_entries.Given as goal
 

@@ -1,7 +1,7 @@
 -- A frame is read as its first byte says.
 use Rattle.std.proofs.Common.{arith}
 use Rattle.std.proofs.lemmas.Result.{err_from_is_err_and}
-use Rattle.map_frames.specs.Settings.{setting_of}
+use Rattle.map_frames.specs.Inner.Settings.{setting_of}
 use Rattle.map_frames.proofs.FrameForms.{Begins, item_reads, item_fails, extended_reads, extended_fails, chop_kind, append_kind, full_kind, states_same}
 use Rattle.map_frames.proofs.walk.Walk.stated.Goals as goal
 use Rattle.map_frames.proofs.walk.Walk.stated.Goals.{In_ok-kind}

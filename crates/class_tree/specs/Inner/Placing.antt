@@ -1,7 +1,7 @@
 -- How nodes of a graph are collected and put in order.
 use Rattle.std.specs.Prelude.{◌≡◌, ◌<◌, ◌==◌, ◌||◌, ℕ, Bool, false, List, ◌∷◌, ◌++◌, length, take, slice_index_or, count_by}
 use Rattle.std.specs.List.{list_any}
-use Rattle.class_tree.specs.Graphs.{Graph, IsOneOf, IsNoneOf, IsEdge}
+use Rattle.class_tree.specs.Inner.Graphs.{Graph, IsOneOf, IsNoneOf, IsEdge}
 
 -- nodes in the order in which they were added, out of the first numbers, as many as the size
 pub record Collected : Type 0 where

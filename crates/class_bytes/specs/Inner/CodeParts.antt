@@ -15,7 +15,7 @@ use Rattle.class_model.specs.declared.class_file.InnerAttr.{InnerAttr}
 use Rattle.class_model.specs.declared.fault.FileRule.TheVariants as rules
 use Rattle.class_model.specs.declared.frame.Frame.{Frame}
 use Rattle.class_model.specs.declared.instr.Placed.{Placed}
-use Rattle.class_bytes.specs.Cut.{home_seen, method_of, part_of}
+use Rattle.class_bytes.specs.Inner.Cut.{home_seen, method_of, part_of}
 use Rattle.class_bytes.specs.declared.method_code.MethodCode.{MethodCode}
 
 -- how many bytes the attributes of a code take without their count

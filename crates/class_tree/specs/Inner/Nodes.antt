@@ -4,10 +4,10 @@ use Rattle.std.specs.Prelude.{◌≡◌, ◌-◌, ℕ, List, map, length, nat_lt
 use Rattle.class_model.specs.Header.{header_of}
 use Rattle.class_model.specs.declared.header.Header.{Header}
 use Rattle.class_model.specs.declared.header.Member.{Member}
-use Rattle.class_tree.specs.Graphs.{Graph}
+use Rattle.class_tree.specs.Inner.Graphs.{Graph}
 use Rattle.class_tree.specs.Headers.{Name, Classes, Headers, headers_of, all_headers}
 use Rattle.class_tree.specs.Interfaces.{AreSuperinterfaces}
-use Rattle.class_tree.specs.MemberIndex.{IsMemberIndex}
+use Rattle.class_tree.specs.Inner.MemberIndex.{IsMemberIndex}
 use Rattle.class_tree.specs.Order.{first_place, members_of, place_of}
 use Rattle.class_tree.specs.Steps.{supers}
 use Rattle.class_tree.specs.Trees.{IsTree, IsProblemOf}

@@ -4,7 +4,7 @@ use Rattle.std.specs.List.{All, flat_map, list_any}
 use Rattle.class_model.specs.declared.header.Header.{Header}
 use Rattle.class_tree.specs.Headers.{Name, Headers, all_headers}
 use Rattle.class_tree.specs.Interfaces.{IsInterfaceWalk}
-use Rattle.class_tree.specs.Nodes.{number_of}
+use Rattle.class_tree.specs.Inner.Nodes.{number_of}
 
 -- the list, and behind it the number where the list does not have it
 abbrev pub with_number : List ℕ → ℕ → List ℕ

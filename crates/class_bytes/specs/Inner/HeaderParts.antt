@@ -14,8 +14,8 @@ use Rattle.class_model.specs.declared.class_file.Method.{Method}
 use Rattle.class_model.specs.declared.fault.FileRule.TheVariants as rules
 use Rattle.class_model.specs.declared.header.Header.{Header}
 use Rattle.class_model.specs.declared.header.Member.{Member}
-use Rattle.class_bytes.specs.Cut.{result_seen}
-use Rattle.class_bytes.specs.Parts.{attrs_len}
+use Rattle.class_bytes.specs.Inner.Cut.{result_seen}
+use Rattle.class_bytes.specs.Inner.Parts.{attrs_len}
 use Rattle.class_bytes.specs.declared.header_checks.MemberKind.{MemberKind}
 use Rattle.class_bytes.specs.declared.header_checks.MemberKind.TheVariants as kinds
 use Rattle.class_bytes.specs.declared.header_cutting.CutHeader.{CutHeader}

@@ -2,7 +2,7 @@
 use Rattle.class_model.specs.Frames.{Setting}
 use Rattle.map_frames.specs.declared.context.Context.{Context}
 use Rattle.map_frames.specs.declared.walk.Walk.{Walk}
-use Rattle.map_frames.specs.Steps.{Standing}
+use Rattle.map_frames.specs.Inner.Steps.{Standing}
 
 -- the setting that a context is
 abbrev pub setting_of : Context → Setting

@@ -1,0 +1,11 @@
+-- Words for private functions, measures, and the steps of the code: no public contract cites them. What the code is proved to do is
+-- said without them, so a reader of the definitions may pass them over.
+pub mod Change
+pub mod Choosing
+pub mod Indices
+pub mod Listing
+pub mod Offsets
+pub mod Settings
+pub mod Steps
+pub mod Tags
+pub mod Units
