@@ -3,11 +3,10 @@ use Rattle.std.proofs.Common.{◌≡◌, ◌↔◌, ℕ, zero, suc, Bool, true, 
 use Rattle.std.proofs.lemmas.Option.{same_Some}
 use Rattle.class_model.specs.Checks.{Check, Fault, AllHold, asked_each, asked_if}
 use Rattle.class_model.specs.Laws.Checks.{both_hold, first_holds, others_hold}
-use Rattle.class_model.specs.Code.{inner_is_named, stack_map_table}
 use Rattle.class_model.specs.Header.{header_of}
 use Rattle.class_model.specs.Instructions.{decoded}
 use Rattle.class_model.specs.Methods.{Home, home_of}
-use Rattle.class_model.specs.Stated.{stated_frames}
+use Rattle.class_model.specs.Stated.{stated_in}
 use Rattle.class_model.specs.declared.class_file.Attr.{Attr}
 use Rattle.class_model.specs.declared.class_file.Attr.TheVariants.{Raw, Code}
 use Rattle.class_model.specs.declared.class_file.ClassFile.{ClassFile}
@@ -23,11 +22,11 @@ use Rattle.member_link.specs.Access.{IsAccessible}
 use Rattle.member_link.specs.Declarations.{declaration_checks, site_of}
 use Rattle.member_link.specs.DeclaredMembers.{Declared}
 use Rattle.member_link.specs.Linked.{IsLinked}
-use Rattle.member_link.specs.LinkedPlaces.{CodeAt, use_scope, IsLinkedByPlace, ClassPasses, MemberPasses, FieldPasses, MethodPasses}
+use Rattle.member_link.specs.LinkedPlaces.{CodeAt, use_scope, frames_stated, IsLinkedByPlace, ClassPasses, MemberPasses, FieldPasses, MethodPasses}
 use Rattle.member_link.specs.Fields.{FindsField}
 use Rattle.member_link.specs.Methods.{FindsMethod}
 use Rattle.member_link.specs.References.{Reference, FieldTypeNames, DescriptorNames}
-use Rattle.member_link.specs.Uses.{UseScope, named_class_checks, member_checks, field_use_checks, method_use_checks, instr_use_checks, instrs_checks, handler_use_checks, frame_checks, frames_checks, inner_checks, code_use_checks, attr_checks, methods_use_checks, use_checks}
+use Rattle.member_link.specs.Uses.{UseScope, named_class_checks, member_checks, field_use_checks, method_use_checks, instr_use_checks, instrs_checks, handler_use_checks, frame_checks, code_use_checks, attr_checks, methods_use_checks, use_checks}
 use Rattle.member_link.proofs.FieldsOnce.{field_once}
 use Rattle.member_link.proofs.MethodsOnce.{method_once}
 
@@ -74,7 +73,7 @@ module _ (s : UseScope) (home : Home) (method : Method) (part : CodePart) where
   handlers = asked_each (handler_use_checks s) part.handlers
 
   abbrev inners : List (Check Problem)
-  inners = asked_each (inner_checks s home method part) part.attrs
+  inners = asked_each (frame_checks s) (stated_in home method part part.attrs)
 
   -- what the parts of a code are asked
   record CodePasses : Type 0 where
@@ -99,15 +98,6 @@ instr_passes s read hold number instrs placed ok is =
 instrs_hold : (s : UseScope) (read : Result (List Placed) Fault) → ((number : ℕ) (instrs : List Placed) (placed : Placed) → read ≡ Ok instrs → slice_get instrs number ≡ Some placed → AllHold (instr_use_checks s placed.instr)) → AllHold (instrs_checks s read)
 instrs_hold s (Ok instrs) each = all_pass (λ placed. instr_use_checks s placed.instr) instrs (λ number placed is. each number instrs placed refl is)
 instrs_hold s (Err fault) each = tt
-
-frame_passes : (s : UseScope) (named : Bool) (read : Result (List PlacedFrame) Fault) → AllHold (asked_if named (frames_checks s read)) → named ≡ true → (frames : List PlacedFrame) → read ≡ Ok frames → (number : ℕ) (frame : PlacedFrame) → slice_get frames number ≡ Some frame → AllHold (frame_checks s frame)
-frame_passes s named read hold is frames ok number frame at =
-    each_passes (frame_checks s) frames (subst (λ r. AllHold (frames_checks s r)) ok (subst (λ b. AllHold (asked_if b (frames_checks s read))) is hold)) number frame at
-
-frames_hold : (s : UseScope) (named : Bool) (read : Result (List PlacedFrame) Fault) → (named ≡ true → (frames : List PlacedFrame) → read ≡ Ok frames → (number : ℕ) (frame : PlacedFrame) → slice_get frames number ≡ Some frame → AllHold (frame_checks s frame)) → AllHold (asked_if named (frames_checks s read))
-frames_hold s false read each = tt
-frames_hold s true (Err fault) each = tt
-frames_hold s true (Ok frames) each = all_pass (frame_checks s) frames (λ number frame is. each refl frames refl number frame is)
 
 -- ---- the folder
 
@@ -134,10 +124,8 @@ module _ (classes : Classes) where
             instr_passes (use_scope classes class method at) (decoded at.part.code) (at_code uses class method at).instrs_pass number instrs placed read is;
         handlers = λ class method number at handler is.
             each_passes (handler_use_checks (use_scope classes class method at)) at.part.handlers (at_code uses class method at).handlers_pass number handler is;
-        frames = λ class method attr number at frame is.
-            let s = use_scope classes class method at in
-            let asked = each_passes (inner_checks s (home_of at.class) at.method at.part) at.part.attrs (at_code uses class method at).inners_pass attr is.attr is.attr_is in
-            frame_passes s (inner_is_named at.class.pool stack_map_table is.attr) (stated_frames (home_of at.class) at.method at.part (decoded at.part.code) is.attr) asked is.is_table is.frames is.read number frame is.frame_is;
+        frames = λ class method number at frame is.
+            each_passes (frame_checks (use_scope classes class method at)) (frames_stated classes class method at) (at_code uses class method at).inners_pass number frame is;
       }
 
   module _ (passes : IsLinkedByPlace classes) where
@@ -147,9 +135,7 @@ module _ (classes : Classes) where
         code_holds s (home_of at.class) at.method at.part (record {
           instrs_pass = instrs_hold s (decoded at.part.code) (λ number instrs placed read is. passes.instructions class method number at instrs placed read is);
           handlers_pass = all_pass (handler_use_checks s) at.part.handlers (λ number handler is. passes.handlers class method number at handler is);
-          inners_pass = all_pass (inner_checks s (home_of at.class) at.method at.part) at.part.attrs (λ attr_number attr attr_is.
-              frames_hold s (inner_is_named at.class.pool stack_map_table attr) (stated_frames (home_of at.class) at.method at.part (decoded at.part.code) attr) (λ is_table frames read number frame is.
-              passes.frames class method attr_number number at frame (record { attr = attr; frames = frames; attr_is = attr_is; is_table = is_table; read = read; frame_is = is })));
+          inners_pass = all_pass (frame_checks s) (frames_stated classes class method at) (λ number frame is. passes.frames class method number at frame is);
         })
 
     attr_at : (class_number method_number attr_number : ℕ) (class : ClassFile) (method : Method) (member : Member) (attr : Attr) → slice_get classes.folder class_number ≡ Some class → slice_get class.methods method_number ≡ Some method → slice_get (header_of class).methods method_number ≡ Some member → slice_get method.attrs attr_number ≡ Some attr → AllHold (attr_checks (record { headers = headers; pool = class.pool; site = site_of (header_of class) member }) (home_of class) method attr)

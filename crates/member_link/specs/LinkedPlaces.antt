@@ -1,17 +1,15 @@
 -- What it means that a folder is linked, place by place (JVM Specification SE 8, 5.4): by the number of a class in the
 -- folder, of a method in the class, and of an instruction, an entry of the exception table or a stated frame in its code.
-use Rattle.std.specs.Prelude.{◌≡◌, ℕ, List, Option, Some, slice_get, IsTrue, Ok}
+use Rattle.std.specs.Prelude.{◌≡◌, ℕ, List, Option, Some, slice_get, Ok}
 use Rattle.class_model.specs.Checks.{AllHold}
-use Rattle.class_model.specs.Code.{inner_is_named, stack_map_table}
 use Rattle.class_model.specs.Header.{header_of}
 use Rattle.class_model.specs.Instructions.{decoded}
 use Rattle.class_model.specs.Methods.{home_of}
-use Rattle.class_model.specs.Stated.{stated_frames}
+use Rattle.class_model.specs.Stated.{stated_in}
 use Rattle.class_model.specs.declared.class_file.Attr.TheVariants.{Code}
 use Rattle.class_model.specs.declared.class_file.ClassFile.{ClassFile}
 use Rattle.class_model.specs.declared.class_file.CodePart.{CodePart}
 use Rattle.class_model.specs.declared.class_file.Handler.{Handler}
-use Rattle.class_model.specs.declared.class_file.InnerAttr.{InnerAttr}
 use Rattle.class_model.specs.declared.class_file.Method.{Method}
 use Rattle.class_model.specs.declared.frame.PlacedFrame.{PlacedFrame}
 use Rattle.class_model.specs.declared.header.Header.{Header}
@@ -43,14 +41,9 @@ pub record CodeAt (classes : Classes) (class_number method_number : ℕ) : Type 
 abbrev pub use_scope : (classes : Classes) (class_number method_number : ℕ) → CodeAt classes class_number method_number → UseScope
 use_scope classes class_number method_number at = record { headers = headers_of classes; pool = at.class.pool; site = site_of (header_of at.class) at.member }
 
--- A frame that a StackMapTable of the code states, by the number of that attribute and of the frame.
-pub record FrameAt (classes : Classes) (class_number method_number : ℕ) (at : CodeAt classes class_number method_number) (attr_number frame_number : ℕ) (frame : PlacedFrame) : Type 0 where
-  pub attr : InnerAttr
-  pub frames : List PlacedFrame
-  pub attr_is : slice_get at.part.attrs attr_number ≡ Some attr
-  pub is_table : IsTrue (inner_is_named at.class.pool stack_map_table attr)
-  pub read : stated_frames (home_of at.class) at.method at.part (decoded at.part.code) attr ≡ Ok frames
-  pub frame_is : slice_get frames frame_number ≡ Some frame
+-- the frames that the code states
+abbrev pub frames_stated : (classes : Classes) (class_number method_number : ℕ) → CodeAt classes class_number method_number → List PlacedFrame
+frames_stated classes class_number method_number at = stated_in (home_of at.class) at.method at.part at.part.attrs
 
 -- Each class declares what passes, and in each method with code each instruction, entry of the exception table and stated
 -- frame names what passes.
@@ -58,7 +51,7 @@ pub record IsLinkedByPlace (classes : Classes) : Type 0 where
   pub declarations : (number : ℕ) (header : Header) → slice_get (headers_of classes).folder number ≡ Some header → AllHold (declaration_checks (headers_of classes) header)
   pub instructions : (class method number : ℕ) (at : CodeAt classes class method) (instrs : List Placed) (placed : Placed) → decoded at.part.code ≡ Ok instrs → slice_get instrs number ≡ Some placed → AllHold (instr_use_checks (use_scope classes class method at) placed.instr)
   pub handlers : (class method number : ℕ) (at : CodeAt classes class method) (handler : Handler) → slice_get at.part.handlers number ≡ Some handler → AllHold (handler_use_checks (use_scope classes class method at) handler)
-  pub frames : (class method attr number : ℕ) (at : CodeAt classes class method) (frame : PlacedFrame) → FrameAt classes class method at attr number frame → AllHold (frame_checks (use_scope classes class method at) frame)
+  pub frames : (class method number : ℕ) (at : CodeAt classes class method) (frame : PlacedFrame) → slice_get (frames_stated classes class method at) number ≡ Some frame → AllHold (frame_checks (use_scope classes class method at) frame)
 
 -- ---- what passes, fact by fact
 
