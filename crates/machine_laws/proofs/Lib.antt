@@ -13,3 +13,4 @@ mod SynchronizationRuns
 mod FinalFieldsRuns
 mod OutsideRuns
 mod FaultsRuns
+mod NothingReplaced

@@ -1,4 +1,5 @@
 pub mod Growth
+pub mod Replacing
 pub mod TestPrograms
 pub mod WorkedProgramsCases
 pub mod ArraysCases

@@ -7,7 +7,9 @@ ghost use Rattle.member_link.specs.Machine.Links.{AreLinksOf};
 ghost use Rattle.member_link.specs.Machine.Programs.{Program, Links};
 ghost use Rattle.member_link.specs.Machine.Runs.{Run, turn, turns, shown_after};
 ghost use Rattle.member_link.specs.Machine.SameRuns.{SameRuns};
+ghost use Rattle.member_link.specs.Machine.Replaced.{Replacement, replaced};
 ghost use Rattle.machine_laws.specs.Growth.{WorldGrows, IsOver};
+ghost use Rattle.machine_laws.specs.Replacing.{ReplacesNothing};
 
 use member_link::{a_look_up_finds_one_field, a_look_up_finds_one_method, a_selection_chooses_one};
 
@@ -58,3 +60,8 @@ pub fn programs_with_one_list_of_links_run_the_same()
 {
     links_of_a_hierarchy_are_one();
 }
+
+/// A program in which nothing is replaced is itself.
+pub fn a_program_in_which_nothing_is_replaced_is_itself()
+    ensures { (P : Program) (r : Replacement) → ReplacesNothing r → replaced P r ≡ P }
+{}

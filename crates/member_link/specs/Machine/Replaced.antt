@@ -21,23 +21,26 @@ abbrev pub map_numbered : {A B : Type 0} → (ℕ → A → B) → ℕ → List 
 map_numbered change number [] = []
 map_numbered change number (item ∷ items) = change number item ∷ map_numbered change (suc number) items
 
+-- a field less the flags that are cleared
+abbrev pub field_cleared : Replacement → ℕ → ℕ → Member → Member
+field_cleared r class field member = record member { flags = without_flags member.flags (r.cleared class field) }
+
+abbrev pub with_body : RunMethod → Option Code → RunMethod
+with_body method None = method
+with_body method (Some code) = record method { code = Some code }
+
+-- a method with the code that takes the place of its own, if one does
+abbrev pub method_replaced : Replacement → ℕ → ℕ → RunMethod → RunMethod
+method_replaced r class number method = with_body method (r.body (record { class = class; method = number }))
+
 abbrev pub replaced_class : Replacement → ℕ → RunClass → RunClass
 replaced_class r number class = record class {
   header = record class.header {
-    fields = map_numbered flagged zero class.header.fields;
+    fields = map_numbered (field_cleared r number) zero class.header.fields;
     methods = class.header.methods ++ map (λ method. method.member) (r.added number);
   };
-  methods = map_numbered run zero class.methods ++ r.added number;
-} where
-  flagged : ℕ → Member → Member
-  flagged field member = record member { flags = without_flags member.flags (r.cleared number field) }
-
-  with_body : RunMethod → Option Code → RunMethod
-  with_body method None = method
-  with_body method (Some code) = record method { code = Some code }
-
-  run : ℕ → RunMethod → RunMethod
-  run at method = with_body method (r.body (record { class = number; method = at }))
+  methods = map_numbered (method_replaced r number) zero class.methods ++ r.added number;
+}
 
 abbrev pub replaced : Program → Replacement → Program
 replaced P r = record P { classes = map_numbered (replaced_class r) zero P.classes }
