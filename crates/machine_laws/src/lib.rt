@@ -11,7 +11,8 @@ pub use cases::{
     worked_programs_run_as_written,
 };
 pub use laws::{
-    a_program_in_which_nothing_is_replaced_is_itself, a_run_goes_on_where_it_stopped, a_run_that_is_over_stays, a_turn_keeps_what_was_shown,
-    links_of_a_hierarchy_are_one, programs_with_one_list_of_links_run_the_same,
-    running_the_same_composes, running_the_same_is_reflexive, turns_keep_what_was_shown,
+    a_program_in_which_nothing_is_replaced_is_itself, a_run_goes_on_where_it_stopped,
+    a_run_that_is_over_stays, a_turn_keeps_what_was_shown, links_of_a_hierarchy_are_one,
+    programs_with_one_list_of_links_run_the_same, running_the_same_composes,
+    running_the_same_is_reflexive, turns_keep_what_was_shown,
 };

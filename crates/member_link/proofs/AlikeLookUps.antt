@@ -10,7 +10,7 @@ use Rattle.class_tree.specs.Names.{is_interface}
 use Rattle.class_tree.specs.Order.{place_of}
 use Rattle.member_link.specs.DeclaredMembers.{Declared, declared_by, declared, IsMethod}
 use Rattle.member_link.specs.Defaults.{IsSuperinterfaceMethod, IsDefault, IsOneDefault, first_inherited}
-use Rattle.member_link.specs.DefaultsAt.{inherited_by}
+use Rattle.member_link.specs.Inner.DefaultsAt.{inherited_by}
 use Rattle.member_link.specs.Fields.{interfaces_and_super, FindsFirst, in_no_class, in_class, above_class, in_other_class, absent_class}
 use Rattle.member_link.specs.FoundNames.{named_by, FindsFieldNamed}
 use Rattle.member_link.specs.Methods.{CountsFor, FindsInInterfaces, one_default, first_of_all, FindsInClass, nowhere, upwards, in_interfaces, first_named, FindsMethod, initialiser, polymorphic, of_array, of_class}

@@ -12,7 +12,7 @@ use Rattle.class_model.specs.declared.frame.PlacedFrame.{PlacedFrame}
 use Rattle.class_model.specs.declared.instr.Placed.{Placed}
 use Rattle.class_tree.specs.Answers.{Answers}
 use Rattle.class_tree.specs.declared.fault.LinkFault.{LinkFault}
-use Rattle.member_link.specs.Resolving.{Resolved, resolved_scope}
+use Rattle.member_link.specs.Inner.Resolving.{Resolved, resolved_scope}
 use Rattle.member_link.specs.Uses.{UseScope, code_use_checks, instr_use_checks, instrs_checks, handler_use_checks, frame_checks}
 use Rattle.member_link.proofs.EachUse.{first_refused, second_refused, third_answers}
 

@@ -8,7 +8,7 @@ use Rattle.class_tree.specs.Laws.Headers.{header_there}
 use Rattle.class_tree.specs.Names.{object}
 use Rattle.class_tree.specs.Order.{header_at}
 use Rattle.class_tree.specs.declared.place.Place.{Place}
-use Rattle.member_link.specs.Counting.{Counts}
+use Rattle.member_link.specs.Inner.Counting.{Counts}
 use Rattle.member_link.specs.DeclaredMembers.{Declared}
 use Rattle.member_link.specs.Found.{IsMethodFound}
 use Rattle.member_link.specs.Overriding.{Overrides}

@@ -16,7 +16,7 @@ use Rattle.class_tree.specs.Subtype.{IsBelow}
 use Rattle.member_link.specs.DeclaredMembers.{Declared, declared_by, declared, is_inherited, is_open}
 use Rattle.member_link.specs.Defaults.{IsSuperinterfaceMethod, IsDefault}
 use Rattle.member_link.specs.Methods.{CountsFor}
-use Rattle.member_link.specs.OpenMethods.{OpensPackage}
+use Rattle.member_link.specs.Inner.OpenMethods.{OpensPackage}
 use Rattle.member_link.specs.Overriding.{MayOverride, Overrides, package_of}
 use Rattle.member_link.specs.Selection.{Choice, chosen_method, abstract_choice, several_defaults, ChoosesDefault, the_one, no_default, two_defaults, IsOrOverrides, CountsForSpecial}
 use Rattle.member_link.proofs.ChosenAbove.{declared_again}

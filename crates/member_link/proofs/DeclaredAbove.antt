@@ -13,8 +13,8 @@ use Rattle.class_tree.specs.Subtype.{IsDirectlyBelow, superclass, interface, dir
 use Rattle.member_link.specs.Access.{IsAtOrBelow}
 use Rattle.member_link.specs.DeclaredMembers.{Declared, declared_by, declared, IsMethod, is_inherited}
 use Rattle.member_link.specs.Defaults.{first_inherited}
-use Rattle.member_link.specs.DefaultsAt.{inherited_by}
-use Rattle.member_link.specs.FieldSearch.{super_list}
+use Rattle.member_link.specs.Inner.DefaultsAt.{inherited_by}
+use Rattle.member_link.specs.Inner.FieldSearch.{super_list}
 use Rattle.member_link.specs.Fields.{interfaces_and_super, FindsFirst, in_no_class, in_class, above_class, in_other_class, absent_class, FindsField}
 use Rattle.member_link.specs.FoundAbove.{IsFieldAbove, IsMethodAbove}
 use Rattle.member_link.specs.Methods.{CountsFor, FindsInInterfaces, one_default, first_of_all, FindsInClass, nowhere, upwards, in_interfaces, first_named, FindsMethod, initialiser, polymorphic, of_array, of_class}

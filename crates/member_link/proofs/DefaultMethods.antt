@@ -11,7 +11,7 @@ use Rattle.class_tree.specs.Subtype.{IsBelow}
 use Rattle.class_tree.specs.declared.place.Place.{Place}
 use Rattle.member_link.specs.DeclaredMembers.{Declared, declared}
 use Rattle.member_link.specs.Defaults.{IsSuperinterfaceMethod}
-use Rattle.member_link.specs.DefaultsAt.{inherited_of, IsSuperinterfaceAt, IsHidden, IsDefaultOf}
+use Rattle.member_link.specs.Inner.DefaultsAt.{inherited_of, IsSuperinterfaceAt, IsHidden, IsDefaultOf}
 use Rattle.member_link.specs.Found.{IsMethodFound}
 use Rattle.member_link.specs.declared.found.Found.{Found}
 use Rattle.member_link.proofs.InheritedMethods.{inherited_is, is_inherited_of, superinterface_method}

@@ -10,8 +10,8 @@ use Rattle.class_tree.specs.Order.{header_at, place_of}
 use Rattle.class_tree.specs.declared.place.Place.{Place}
 use Rattle.member_link.specs.DeclaredMembers.{Declared}
 use Rattle.member_link.specs.Defaults.{IsDefault}
-use Rattle.member_link.specs.DefaultsAt.{IsDefaultOf}
-use Rattle.member_link.specs.DefaultsOf.{HasTwoDefaults, AreDefaults}
+use Rattle.member_link.specs.Inner.DefaultsAt.{IsDefaultOf}
+use Rattle.member_link.specs.Inner.DefaultsOf.{HasTwoDefaults, AreDefaults}
 use Rattle.member_link.specs.Found.{IsMethodFound}
 use Rattle.member_link.specs.declared.defaults.DefaultMethods.TheVariants.{One}
 use Rattle.member_link.specs.declared.found.Found.{Found}

@@ -9,7 +9,7 @@ use Rattle.class_tree.specs.Answers.{Answers}
 use Rattle.class_tree.specs.Laws.Links.{refused, answered}
 use Rattle.class_tree.specs.Problems.{Problem}
 use Rattle.class_tree.specs.declared.fault.LinkFault.{LinkFault}
-use Rattle.member_link.specs.Resolving.{Resolved}
+use Rattle.member_link.specs.Inner.Resolving.{Resolved}
 
 -- Items below an index have been asked.
 pub record AskedBelow {X : Type 0} (asks : X → List (Check Problem)) (items : List X) (i : ℕ) : Type 0 where

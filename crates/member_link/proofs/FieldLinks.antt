@@ -11,7 +11,7 @@ use Rattle.class_tree.specs.Interfaces.{IsWalk, done, next, IsInterfaceWalk, of_
 use Rattle.class_tree.specs.Laws.Above.{object_no_superclass, no_interfaces_of_object, hierarchy_is_sound, hierarchy_is_rooted}
 use Rattle.class_tree.specs.Names.{object, is_interface}
 use Rattle.member_link.specs.DeclaredMembers.{Declared, declared_by, declared}
-use Rattle.member_link.specs.FieldSearch.{super_list}
+use Rattle.member_link.specs.Inner.FieldSearch.{super_list}
 use Rattle.member_link.specs.Fields.{interfaces_and_super, FindsFirst, in_no_class, in_class, absent_class, FindsField}
 use Rattle.member_link.proofs.FieldWalks.{interfaces_then_super, goes_on}
 

@@ -18,7 +18,7 @@ use Rattle.class_tree.specs.Order.{header_at, place_of}
 use Rattle.class_tree.specs.declared.place.Place.{Place}
 use Rattle.member_link.specs.DeclaredMembers.{Declared, declared_by, declared}
 use Rattle.member_link.specs.Fields.{interfaces_and_super, FindsFirst, in_no_class, in_class, above_class, in_other_class, absent_class, FindsField}
-use Rattle.member_link.specs.FieldSearch.{IsInterfaceIfThere, of_last, met, first_met, super_list, FindsOrLeaves}
+use Rattle.member_link.specs.Inner.FieldSearch.{IsInterfaceIfThere, of_last, met, first_met, super_list, FindsOrLeaves}
 
 -- ---- the one or the other
 

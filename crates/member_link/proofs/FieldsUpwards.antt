@@ -9,7 +9,7 @@ use Rattle.class_tree.specs.Order.{header_at, place_of}
 use Rattle.class_tree.specs.declared.place.Place.{Place}
 use Rattle.member_link.specs.DeclaredMembers.{Declared}
 use Rattle.member_link.specs.Fields.{FindsFirst, FindsField, in_no_class, absent_class}
-use Rattle.member_link.specs.FieldSearch.{super_list, FindsOrLeaves}
+use Rattle.member_link.specs.Inner.FieldSearch.{super_list, FindsOrLeaves}
 use Rattle.member_link.proofs.Climbed.{superclass_at}
 
 -- what is found in the class at a place, or where there is none, nothing

@@ -9,7 +9,7 @@ use Rattle.class_tree.specs.Order.{header_at, place_of}
 use Rattle.class_tree.specs.declared.place.Place.{Place}
 use Rattle.member_link.specs.DeclaredMembers.{Declared, declared}
 use Rattle.member_link.specs.Defaults.{first_inherited}
-use Rattle.member_link.specs.DefaultsAt.{inherited_by, inherited_of}
+use Rattle.member_link.specs.Inner.DefaultsAt.{inherited_by, inherited_of}
 
 -- the first, or else the other
 abbrev pub first_of : Option Declared → Option Declared → Option Declared

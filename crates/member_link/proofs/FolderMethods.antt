@@ -10,9 +10,9 @@ use Rattle.class_tree.specs.declared.place.Place.{Place}
 use Rattle.class_tree.specs.declared.place.Place.TheVariants.{Folder, Library}
 use Rattle.member_link.specs.Declarations.{IsFolderMethod, OverridesNoFinal}
 use Rattle.member_link.specs.DeclaredMembers.{Declared, IsMethod}
-use Rattle.member_link.specs.FinalMethods.{IsFolderPlace, IsOverriddenFinal}
+use Rattle.member_link.specs.Inner.FinalMethods.{IsFolderPlace, IsOverriddenFinal}
 use Rattle.member_link.specs.Found.{IsMethodFound}
-use Rattle.member_link.specs.OpenMethods.{IsAbove, IsAnyOf, one_passes, none_passes}
+use Rattle.member_link.specs.Inner.OpenMethods.{IsAbove, IsAnyOf, one_passes, none_passes}
 use Rattle.member_link.specs.declared.found.Found.{Found}
 use Rattle.member_link.proofs.OpenOverriding.{may_of}
 use Rattle.member_link.proofs.OwnMembers.{own_at}

@@ -7,7 +7,7 @@ use Rattle.class_tree.specs.declared.place.Place.{Place}
 use Rattle.member_link.proofs.FoundOr.{some_same, none_same}
 use Rattle.member_link.specs.DeclaredMembers.{Declared}
 use Rattle.member_link.specs.Defaults.{IsOneDefault}
-use Rattle.member_link.specs.DefaultsOf.{AreDefaults}
+use Rattle.member_link.specs.Inner.DefaultsOf.{AreDefaults}
 use Rattle.member_link.specs.Found.{AreSame}
 use Rattle.member_link.specs.Methods.{CountsFor, FindsInInterfaces, FindsInClass, upwards, in_interfaces}
 use Rattle.member_link.specs.Upwards.{FirstUpwards}

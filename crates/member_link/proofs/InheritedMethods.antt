@@ -11,7 +11,7 @@ use Rattle.class_tree.specs.Subtype.{IsBelow}
 use Rattle.class_tree.specs.declared.place.Place.{Place}
 use Rattle.member_link.specs.DeclaredMembers.{Declared, declared_by, declared, is_inherited}
 use Rattle.member_link.specs.Defaults.{IsSuperinterfaceMethod}
-use Rattle.member_link.specs.DefaultsAt.{inherited_by, inherited_of, IsSuperinterfaceAt, IsHidden}
+use Rattle.member_link.specs.Inner.DefaultsAt.{inherited_by, inherited_of, IsSuperinterfaceAt, IsHidden}
 use Rattle.member_link.specs.Found.{AreSame}
 use Rattle.member_link.specs.declared.found.Found.{Found}
 use Rattle.member_link.proofs.OneHas.{OneHas}

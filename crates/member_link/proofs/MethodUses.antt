@@ -13,7 +13,7 @@ use Rattle.class_tree.specs.Headers.{Headers}
 use Rattle.class_tree.specs.Laws.Links.{refused}
 use Rattle.class_tree.specs.Problems.{Problem}
 use Rattle.class_tree.specs.declared.fault.LinkFault.{LinkFault}
-use Rattle.member_link.specs.Resolving.{Resolved, resolved_scope}
+use Rattle.member_link.specs.Inner.Resolving.{Resolved, resolved_scope}
 use Rattle.member_link.specs.Uses.{attr_checks, methods_use_checks}
 
 abbrev pub resolved : Headers → ClassFile → Header → Resolved

@@ -9,7 +9,7 @@ use Rattle.class_tree.specs.Order.{header_at}
 use Rattle.class_tree.specs.declared.place.Place.{Place}
 use Rattle.member_link.specs.DeclaredMembers.{Declared, declared_by, declared}
 use Rattle.member_link.specs.Found.{AreSame, IsMethodFound}
-use Rattle.member_link.specs.OpenMethods.{IsSameOf, IsAnyOf, one_passes, none_passes}
+use Rattle.member_link.specs.Inner.OpenMethods.{IsSameOf, IsAnyOf, one_passes, none_passes}
 use Rattle.member_link.specs.declared.found.Found.{Found}
 use Rattle.member_link.proofs.Climbed.{own_some, own_none}
 use Rattle.member_link.proofs.OwnMembers.{own_of_declared}

@@ -6,7 +6,7 @@ use Rattle.class_tree.specs.Headers.{Headers}
 use Rattle.class_tree.specs.Laws.Above.{below_more}
 use Rattle.member_link.specs.DeclaredMembers.{Declared, is_open}
 use Rattle.member_link.specs.Found.{IsMethodFound}
-use Rattle.member_link.specs.OpenMethods.{IsAbove, IsAnyOf, one_passes, none_passes, OpensPackage}
+use Rattle.member_link.specs.Inner.OpenMethods.{IsAbove, IsAnyOf, one_passes, none_passes, OpensPackage}
 use Rattle.member_link.specs.declared.found.Found.{Found}
 use Rattle.member_link.specs.Overriding.{MayOverride, Overrides, overrides_open, overrides_in_package, overrides_through, package_of}
 

@@ -9,7 +9,7 @@ use Rattle.member_link.specs.DeclaredMembers.{Declared}
 use Rattle.member_link.specs.Fields.{FindsFirst, in_class, above_class, in_other_class, absent_class, FindsField}
 use Rattle.member_link.specs.Found.{AreSame, IsField, IsFieldFound, IsMethodOf, IsMethodFound}
 use Rattle.member_link.specs.Methods.{FindsMethod}
-use Rattle.member_link.specs.Resolutions.{IsReferent}
+use Rattle.member_link.specs.Inner.Resolutions.{IsReferent}
 use Rattle.member_link.specs.declared.found.Found.{Found}
 use Rattle.member_link.proofs.FieldsOnce.{field_once}
 use Rattle.member_link.proofs.MethodsOnce.{method_once}

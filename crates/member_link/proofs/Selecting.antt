@@ -9,7 +9,7 @@ use Rattle.class_tree.specs.Names.{object, is_interface}
 use Rattle.class_tree.specs.Subtype.{IsArray, IsDirectlyBelow, superclass, interface, IsBelow, directly, onwards}
 use Rattle.member_link.specs.DeclaredMembers.{Declared}
 use Rattle.member_link.specs.Selection.{Choice, abstract_choice, choice_of, Chooses, by_default, no_default, start_of, CountsForSpecial, Selects, of_private, of_virtual, of_interface, of_initialiser, of_special}
-use Rattle.member_link.specs.SelectionSteps.{IsFixed, CountsFrom, choice_by}
+use Rattle.member_link.specs.Inner.SelectionSteps.{IsFixed, CountsFrom, choice_by}
 use Rattle.member_link.specs.Upwards.{in_absent_class}
 use Rattle.member_link.specs.declared.selection.CallForm.{CallForm}
 use Rattle.member_link.specs.declared.selection.CallForm.TheVariants.{Virtual, Interface, Special}

@@ -16,7 +16,7 @@ use Rattle.class_tree.specs.Order.{header_at, place_of}
 use Rattle.class_tree.specs.Subtype.{IsBelow}
 use Rattle.class_tree.specs.contracts.place.PlacePartialEq.TheImpl.{ghosts}
 use Rattle.class_tree.specs.declared.place.Place.{Place}
-use Rattle.member_link.specs.DefaultsAt.{IsSuperinterfaceAt}
+use Rattle.member_link.specs.Inner.DefaultsAt.{IsSuperinterfaceAt}
 use Rattle.member_link.proofs.OneHas.{each_at}
 
 -- ---- names

@@ -20,8 +20,8 @@ use Rattle.member_link.specs.DeclaredMembers.{Declared}
 use Rattle.member_link.specs.Fields.{FindsField}
 use Rattle.member_link.specs.Methods.{FindsMethod}
 use Rattle.member_link.specs.References.{Reference, reference_at, FieldTypeNames, DescriptorNames, IsNamedThere, IsNamedAccessible}
-use Rattle.member_link.specs.Resolutions.{FirstBroken, IfHad, IsReferent, IsCallee, FieldResolves, MethodResolves, IsCalleeConstant, ConstantResolves}
-use Rattle.member_link.specs.Resolving.{Resolved, resolved_scope}
+use Rattle.member_link.specs.Inner.Resolutions.{FirstBroken, IfHad, IsReferent, IsCallee, FieldResolves, MethodResolves, IsCalleeConstant, ConstantResolves}
+use Rattle.member_link.specs.Inner.Resolving.{Resolved, resolved_scope}
 use Rattle.member_link.specs.Uses.{UseScope, member_checks, field_use_checks, method_use_checks, asked_of_reference, fieldref_use_checks, methodref_use_checks}
 use Rattle.class_model.specs.PoolChecks.{IsFieldConstant}
 use Rattle.member_link.specs.declared.resolution.Callee.{Callee}

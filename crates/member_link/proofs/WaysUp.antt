@@ -15,7 +15,7 @@ use Rattle.class_tree.specs.declared.place.Place.{Place}
 use Rattle.member_link.specs.Access.{IsAtOrBelow}
 use Rattle.member_link.specs.DeclaredMembers.{Declared}
 use Rattle.member_link.specs.Found.{IsMethodFound}
-use Rattle.member_link.specs.OpenMethods.{IsAbove, IsAboveOfKind, IsSameOf, IsAnyOf, one_passes, none_passes}
+use Rattle.member_link.specs.Inner.OpenMethods.{IsAbove, IsAboveOfKind, IsSameOf, IsAnyOf, one_passes, none_passes}
 use Rattle.member_link.specs.declared.found.Found.{Found}
 use Rattle.member_link.proofs.Climbed.{superclass_at}
 use Rattle.member_link.proofs.Superinterfaces.{IsPlacedIn, AreSuperinterfacesAt}

@@ -1,5 +1,5 @@
 -- The method in which an instruction stands.
-use Rattle.std.specs.Prelude.{◌==◌, ℕ, Bool, List, [], ◌∷◌, slice_get, Option, Some, None, Result, Ok, Err, option_map, option_and_then, if◌then◌else◌}
+use Rattle.std.specs.Prelude.{◌==◌, ℕ, Bool, List, [], ◌∷◌, slice_get, Option, None, Result, Ok, Err, option_map, option_and_then, if◌then◌else◌}
 use Rattle.class_model.specs.Checks.{Fault}
 use Rattle.class_model.specs.Header.{header_of}
 use Rattle.class_model.specs.Instructions.{decoded}
@@ -36,10 +36,6 @@ scope_at classes at =
     option_and_then (λ class. option_and_then (scope_of (headers_of classes) class) (slice_get class.methods at.method)) (slice_get classes.folder at.class)
 
 -- ---- what is said of it
-
--- the name of the current class
-abbrev pub current : Scope → Name
-current s = (header_of s.class).name
 
 -- the method is an instance initialiser
 abbrev pub is_init : Scope → Bool

@@ -33,7 +33,7 @@ pub struct MethodBody<'a> {
 }
 
 impl<'a> Model for MethodBody<'a> {
-    ghost use Rattle.member_link.specs.BodyParts.{IsBody};
+    ghost use Rattle.member_link.specs.Inner.BodyParts.{IsBody};
     ghost use Rattle.member_link.specs.CodedMethods.{CodedMethod};
 
     ghost Value = { CodedMethod };

@@ -6,7 +6,7 @@ ghost use Rattle.class_model.specs.Instructions.{decoded};
 ghost use Rattle.class_model.specs.Methods.{home_of};
 ghost use Rattle.class_tree.specs.Answers.{Answers};
 ghost use Rattle.code_bytes.specs.Decoding.{decoding_checks};
-ghost use Rattle.member_link.specs.Resolving.{resolved_scope};
+ghost use Rattle.member_link.specs.Inner.Resolving.{resolved_scope};
 ghost use Rattle.member_link.specs.Uses.{code_use_checks, handler_use_checks, instr_use_checks};
 ghost use Rattle.code_bytes.specs.Codes.{IsReadMethod};
 

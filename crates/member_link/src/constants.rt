@@ -3,7 +3,7 @@ ghost use Rattle.std.specs.Prelude.{◌≡◌, ◌↔◌, IsTrue};
 ghost use Rattle.std.specs.Option.{option_copied};
 ghost use Rattle.class_model.specs.PoolChecks.{descriptor_at, IsFieldConstant};
 ghost use Rattle.member_link.specs.References.{reference_at};
-ghost use Rattle.member_link.specs.Resolutions.{IsCalleeConstant};
+ghost use Rattle.member_link.specs.Inner.Resolutions.{IsCalleeConstant};
 
 use class_model::{Const, Pool, Text};
 use std::marker::Model;

@@ -11,7 +11,7 @@ ghost use Rattle.class_tree.specs.Steps.{supers};
 ghost use Rattle.member_link.specs.Access.{IsClassAccessible};
 ghost use Rattle.member_link.specs.Declarations.{declaration_checks, declared_field_checks, declared_method_checks, OverridesNoFinal};
 ghost use Rattle.member_link.specs.DeclaredMembers.{Declared, declared_by};
-ghost use Rattle.member_link.specs.FinalMethods.{IsFolderPlace, IsOverriddenFinal};
+ghost use Rattle.member_link.specs.Inner.FinalMethods.{IsFolderPlace, IsOverriddenFinal};
 ghost use Rattle.member_link.specs.Found.{IsMethodFound};
 
 use crate::access::is_class_accessible;

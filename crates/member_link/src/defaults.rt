@@ -7,8 +7,8 @@ ghost use Rattle.class_tree.specs.Names.{is_interface};
 ghost use Rattle.class_tree.specs.Order.{header_at};
 ghost use Rattle.class_tree.specs.Subtype.{IsBelow};
 ghost use Rattle.member_link.specs.Defaults.{first_inherited};
-ghost use Rattle.member_link.specs.DefaultsAt.{IsDefaultOf, IsHidden, IsInterfaceAt, IsSuperinterfaceAt, inherited_of};
-ghost use Rattle.member_link.specs.DefaultsOf.{AreDefaults};
+ghost use Rattle.member_link.specs.Inner.DefaultsAt.{IsDefaultOf, IsHidden, IsInterfaceAt, IsSuperinterfaceAt, inherited_of};
+ghost use Rattle.member_link.specs.Inner.DefaultsOf.{AreDefaults};
 ghost use Rattle.member_link.specs.Found.{AreSame, IsMethodFound};
 
 use crate::flags::is_inherited;

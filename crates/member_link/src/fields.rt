@@ -11,7 +11,7 @@ ghost use Rattle.class_tree.specs.Names.{object, is_interface};
 ghost use Rattle.class_tree.specs.Order.{header_at};
 ghost use Rattle.member_link.specs.DeclaredMembers.{Declared};
 ghost use Rattle.member_link.specs.Fields.{FindsFirst};
-ghost use Rattle.member_link.specs.FieldSearch.{FindsOrLeaves, IsInterfaceIfThere, first_met, met};
+ghost use Rattle.member_link.specs.Inner.FieldSearch.{FindsOrLeaves, IsInterfaceIfThere, first_met, met};
 ghost use Rattle.member_link.specs.Found.{AreSame, IsField, IsFieldFound};
 
 use crate::found::Found;

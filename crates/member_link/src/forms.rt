@@ -5,9 +5,9 @@ ghost use Rattle.class_model.specs.declared.pool.Const.{Const};
 ghost use Rattle.class_tree.specs.Headers.{Headers, headers_of, class_named};
 ghost use Rattle.member_link.specs.DeclaredMembers.{Declared};
 ghost use Rattle.member_link.specs.Forms.{FitsCall, FitsKind, IsInterfaceNamed, IsInstantiable};
-ghost use Rattle.member_link.specs.NeededForms.{IsFieldForm, IsMethodForm};
+ghost use Rattle.member_link.specs.Inner.NeededForms.{IsFieldForm, IsMethodForm};
 ghost use Rattle.member_link.specs.References.{Reference};
-ghost use Rattle.member_link.specs.Resolutions.{IsCallee};
+ghost use Rattle.member_link.specs.Inner.Resolutions.{IsCallee};
 
 use crate::resolution::{Callee, Referent};
 use class_model::{ACC_ABSTRACT, ACC_INTERFACE, ACC_PRIVATE, ACC_STATIC, Const, Header, Text, has};

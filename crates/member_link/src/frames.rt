@@ -2,7 +2,7 @@
 ghost use Rattle.std.specs.Prelude.{};
 ghost use Rattle.class_model.specs.Checks.{asked_each};
 ghost use Rattle.class_tree.specs.Answers.{Answers};
-ghost use Rattle.member_link.specs.Resolving.{resolved_scope};
+ghost use Rattle.member_link.specs.Inner.Resolving.{resolved_scope};
 ghost use Rattle.member_link.specs.Uses.{frame_checks, type_checks};
 
 use crate::resolver::{Resolver, check_name};

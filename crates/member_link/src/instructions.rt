@@ -2,7 +2,7 @@
 ghost use Rattle.std.specs.Prelude.{◌≡◌};
 ghost use Rattle.class_model.specs.Pool.{constant_at};
 ghost use Rattle.class_tree.specs.Answers.{Answers};
-ghost use Rattle.member_link.specs.Resolving.{resolved_scope};
+ghost use Rattle.member_link.specs.Inner.Resolving.{resolved_scope};
 ghost use Rattle.member_link.specs.Uses.{instr_use_checks, new_checks, loaded_checks, dynamic_use_checks};
 
 use crate::forms::{FieldForm, MethodForm};

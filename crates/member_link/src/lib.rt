@@ -4,8 +4,8 @@
 
 mod access;
 mod ask;
-mod class_access;
 mod body;
+mod class_access;
 mod code_uses;
 mod constants;
 mod declarations;
@@ -38,8 +38,8 @@ mod upwards;
 mod uses;
 
 pub use access::accessible;
-pub use class_access::class_accessible;
 pub use body::MethodBody;
+pub use class_access::class_accessible;
 pub use fields::find_field;
 pub use found::Found;
 pub use laws::{

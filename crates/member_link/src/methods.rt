@@ -3,7 +3,7 @@ ghost use Rattle.std.specs.Prelude.{◌≡◌, ◌↔◌, ◌<◌, length, bytes
 ghost use Rattle.class_model.specs.declared.header.Header.{Header};
 ghost use Rattle.class_tree.specs.Headers.{headers_of};
 ghost use Rattle.class_tree.specs.Order.{header_at, first_place};
-ghost use Rattle.member_link.specs.Counting.{IsValid, Counts};
+ghost use Rattle.member_link.specs.Inner.Counting.{IsValid, Counts};
 ghost use Rattle.member_link.specs.DeclaredMembers.{Declared, declared_by};
 ghost use Rattle.member_link.specs.Found.{AreSame, IsMethodFound, IsMethodOf};
 ghost use Rattle.member_link.specs.Methods as methods;

@@ -8,7 +8,7 @@ ghost use Rattle.class_tree.specs.Order.{header_at};
 ghost use Rattle.class_tree.specs.Subtype.{IsBelow};
 ghost use Rattle.member_link.specs.DeclaredMembers.{Declared, declared_by};
 ghost use Rattle.member_link.specs.Found.{IsMethodFound};
-ghost use Rattle.member_link.specs.OpenMethods.{IsAbove, IsAboveOfKind, IsAnyOf, IsSameOf, OpensPackage};
+ghost use Rattle.member_link.specs.Inner.OpenMethods.{IsAbove, IsAboveOfKind, IsAnyOf, IsSameOf, OpensPackage};
 ghost use Rattle.member_link.specs.Overriding.{MayOverride, Overrides};
 
 use crate::flags::{is_inherited, is_open};

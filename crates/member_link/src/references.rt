@@ -4,8 +4,8 @@ ghost use Rattle.class_model.specs.Pool.{constant_at};
 ghost use Rattle.class_tree.specs.Answers.{Answers};
 ghost use Rattle.class_tree.specs.declared.fault.LinkRule.TheVariants as rules;
 ghost use Rattle.member_link.specs.Declarations.{asked};
-ghost use Rattle.member_link.specs.NeededForms.{IsFieldForm, IsMethodForm};
-ghost use Rattle.member_link.specs.Resolving.{resolved_scope};
+ghost use Rattle.member_link.specs.Inner.NeededForms.{IsFieldForm, IsMethodForm};
+ghost use Rattle.member_link.specs.Inner.Resolving.{resolved_scope};
 ghost use Rattle.member_link.specs.Uses.{fieldref_use_checks, methodref_use_checks, handle_use_checks};
 
 use crate::constants::{is_field, is_method};

@@ -5,8 +5,8 @@ ghost use Rattle.class_model.specs.Pool.{constant_at};
 ghost use Rattle.class_tree.specs.Answers.{Answers};
 ghost use Rattle.class_tree.specs.Headers.{headers_of};
 ghost use Rattle.member_link.specs.Declarations.{asked};
-ghost use Rattle.member_link.specs.Resolutions.{Resolves};
-ghost use Rattle.member_link.specs.Resolving.{resolved_scope};
+ghost use Rattle.member_link.specs.Inner.Resolutions.{Resolves};
+ghost use Rattle.member_link.specs.Inner.Resolving.{resolved_scope};
 ghost use Rattle.member_link.specs.Uses.{class_use_checks, type_name_checks};
 
 use crate::ask::ask_at;
@@ -30,8 +30,8 @@ pub(crate) struct Resolver<'a> {
 
 impl<'a> Model for Resolver<'a> {
     ghost use Rattle.class_tree.specs.Headers.{headers_of};
-    ghost use Rattle.member_link.specs.Resolutions.{AreResolutions};
-    ghost use Rattle.member_link.specs.Resolving.{Resolved};
+    ghost use Rattle.member_link.specs.Inner.Resolutions.{AreResolutions};
+    ghost use Rattle.member_link.specs.Inner.Resolving.{Resolved};
 
     ghost Value = { Resolved };
 

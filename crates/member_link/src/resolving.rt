@@ -4,7 +4,7 @@ ghost use Rattle.std.specs.Option.{option_copied};
 ghost use Rattle.class_tree.specs.Headers.{headers_of, IsThere};
 ghost use Rattle.member_link.specs.Access.{IsClassAccessible};
 ghost use Rattle.member_link.specs.References.{DescriptorNames, Reference as Named};
-ghost use Rattle.member_link.specs.Resolutions.{IsCallee, IfHad, Resolves, ClassResolves, FieldResolves, MethodResolves, TypesResolve};
+ghost use Rattle.member_link.specs.Inner.Resolutions.{IsCallee, IfHad, Resolves, ClassResolves, FieldResolves, MethodResolves, TypesResolve};
 
 use crate::access::accessible;
 use crate::constants::{Reference, descriptor_of, reference_of};

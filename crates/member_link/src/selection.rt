@@ -6,11 +6,11 @@ ghost use Rattle.class_model.specs.declared.header.Header.{Header};
 ghost use Rattle.class_tree.specs.Headers.{Headers, headers_of};
 ghost use Rattle.class_tree.specs.Names as names;
 ghost use Rattle.class_tree.specs.Order.{header_at, place_of};
-ghost use Rattle.member_link.specs.Counting.{Counts, IsValid};
+ghost use Rattle.member_link.specs.Inner.Counting.{Counts, IsValid};
 ghost use Rattle.member_link.specs.DeclaredMembers.{Declared};
 ghost use Rattle.member_link.specs.Found.{IsMethodFound, IsChoice};
 ghost use Rattle.member_link.specs.Selection.{Choice, Chooses, ChoosesDefault, Selects, choice_of, public_choice_of, start_of};
-ghost use Rattle.member_link.specs.SelectionSteps.{CountsFrom, IsFixed, choice_by};
+ghost use Rattle.member_link.specs.Inner.SelectionSteps.{CountsFrom, IsFixed, choice_by};
 
 use crate::defaults::{DefaultMethods, defaults};
 use crate::found::Found;

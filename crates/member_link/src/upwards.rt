@@ -5,7 +5,7 @@ ghost use Rattle.class_model.specs.declared.header.Header.{Header};
 ghost use Rattle.class_tree.specs.Headers.{headers_of};
 ghost use Rattle.class_tree.specs.Names as names;
 ghost use Rattle.class_tree.specs.Order.{header_at};
-ghost use Rattle.member_link.specs.Counting.{IsValid, Counts};
+ghost use Rattle.member_link.specs.Inner.Counting.{IsValid, Counts};
 ghost use Rattle.member_link.specs.DeclaredMembers.{Declared};
 ghost use Rattle.member_link.specs.Found.{AreSame, IsMethodFound};
 ghost use Rattle.member_link.specs.Upwards.{FirstUpwards};

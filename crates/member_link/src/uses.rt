@@ -5,7 +5,7 @@ ghost use Rattle.class_model.specs.Header.{header_of};
 ghost use Rattle.class_model.specs.Methods.{home_of};
 ghost use Rattle.class_tree.specs.Answers.{Answers};
 ghost use Rattle.class_tree.specs.Headers.{headers_of};
-ghost use Rattle.member_link.specs.Resolving.{resolved_scope};
+ghost use Rattle.member_link.specs.Inner.Resolving.{resolved_scope};
 ghost use Rattle.member_link.specs.Uses.{attr_checks, use_checks};
 ghost use Rattle.code_bytes.specs.Codes.{HasInstrs, IsReadMethod, HasReadMethods};
 

@@ -11,9 +11,9 @@ use Rattle.member_link.specs.Rows.Operands.{AllFit, lowest_of, topmost, under}
 use Rattle.member_link.specs.Rows.Row.{Row}
 use Rattle.member_link.specs.Signatures.{result_of}
 use Rattle.type_rules.proofs.RowSteps.{concluded_row}
-use Rattle.type_rules.specs.Calls.{init_signature}
+use Rattle.type_rules.specs.Inner.Calls.{init_signature}
 use Rattle.type_rules.specs.Rule.{RowRules}
-use Rattle.type_rules.specs.Steps.{Concludes}
+use Rattle.type_rules.specs.Inner.Steps.{Concludes}
 use Rattle.type_rules.specs.declared.fault.RuleFault.{RuleFault}
 use Rattle.type_rules.specs.declared.ruled.Ruled.{Ruled}
 

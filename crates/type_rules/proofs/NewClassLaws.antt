@@ -5,8 +5,8 @@ use Rattle.class_model.specs.Instructions.{decoded}
 use Rattle.class_model.specs.declared.instr.Placed.{Placed}
 use Rattle.class_tree.specs.Headers.{Name}
 use Rattle.member_link.specs.CodedMethods.{CodedMethod, placed_at}
-use Rattle.type_rules.specs.CodedScopes.{coded_of}
-use Rattle.type_rules.specs.NewClasses.{class_made}
+use Rattle.type_rules.specs.Inner.CodedScopes.{coded_of}
+use Rattle.type_rules.specs.Inner.NewClasses.{class_made}
 use Rattle.member_link.specs.Scope.{Scope, class_of_new, instructions}
 
 pub are_own : (s : Scope) (instrs : List Placed) → decoded s.part.code ≡ Ok instrs → instrs ≡ instructions s

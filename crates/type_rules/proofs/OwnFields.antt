@@ -8,7 +8,8 @@ use Rattle.class_tree.specs.Order.{first_place, header_at, member_place}
 use Rattle.class_tree.specs.declared.place.Place.{Place}
 use Rattle.member_link.specs.References.{Reference}
 use Rattle.member_link.specs.Rows.MemberRows.{IsOwnField}
-use Rattle.member_link.specs.Scope.{Scope, current, row_scope}
+use Rattle.member_link.specs.Scope.{Scope, row_scope}
+use Rattle.member_link.specs.Inner.Scope.{current}
 
 one_more : (found : Option ℕ) → is_some (option_map (λ place. place + 1) found) ≡ is_some found
 one_more None = refl

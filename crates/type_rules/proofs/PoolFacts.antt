@@ -13,7 +13,7 @@ use Rattle.class_model.specs.declared.pool.Const.TheVariants as consts
 use Rattle.class_tree.specs.Headers.{IsClassFile}
 use Rattle.member_link.specs.References.{Reference, reference_at}
 use Rattle.member_link.specs.Signatures.{reference_of}
-use Rattle.type_rules.specs.Signatures.{IsCallable, IsMemberDescriptor}
+use Rattle.type_rules.specs.Inner.Signatures.{IsCallable, IsMemberDescriptor}
 
 -- ---- each constant is asked
 

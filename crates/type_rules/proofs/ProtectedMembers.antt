@@ -10,7 +10,7 @@ use Rattle.member_link.specs.Overriding.{package_of}
 use Rattle.member_link.specs.References.{Reference}
 use Rattle.member_link.specs.RowScope.{RowScope}
 use Rattle.member_link.specs.Rows.MemberRows.{PassesProtected}
-use Rattle.type_rules.specs.Protected.{IsBound, IsForeign, Lends}
+use Rattle.type_rules.specs.Inner.Protected.{IsBound, IsForeign, Lends}
 
 module _ (s : RowScope) (reference : Reference) (Finds : Option Declared → Type 0) where
   -- a foreign member that passes is lent

@@ -7,7 +7,7 @@ use Rattle.member_link.specs.RowScope.{RowScope}
 use Rattle.member_link.specs.Rows.Operands.{AllFit, topmost}
 use Rattle.member_link.specs.Rows.Row.{Row, stack_behind}
 use Rattle.type_rules.specs.Rule.{RowRules, ruled}
-use Rattle.type_rules.specs.Steps.{EndsWith, Concludes, thrown}
+use Rattle.type_rules.specs.Inner.Steps.{EndsWith, Concludes, thrown}
 use Rattle.type_rules.specs.declared.fault.RuleFault.{RuleFault}
 use Rattle.type_rules.specs.declared.fault.RuleFault.TheVariants as faults
 use Rattle.type_rules.specs.declared.fault.TypeRule.TheVariants as rules

@@ -11,7 +11,7 @@ use Rattle.member_link.specs.Rows.Row.{stack_behind}
 use Rattle.member_link.specs.Rows.ShuffleRows.{Width, one, two, Form, need_of, has_width, have_widths, form_in, picked, form_row}
 use Rattle.type_rules.proofs.RowSteps.{ends_row, same_further}
 use Rattle.type_rules.specs.Rule.{RowRules, ruled}
-use Rattle.type_rules.specs.Steps.{Concludes}
+use Rattle.type_rules.specs.Inner.Steps.{Concludes}
 use Rattle.type_rules.specs.declared.fault.RuleFault.{RuleFault}
 use Rattle.type_rules.specs.declared.ruled.Ruled.{Ruled}
 

@@ -11,7 +11,7 @@ use Rattle.class_model.specs.declared.descriptor.FieldType.{FieldType}
 use Rattle.class_model.specs.declared.descriptor.FieldType.TheVariants.{Byte, Char, Short, Bool as Boolean, Int, Long, Float, Double, Named}
 use Rattle.member_link.specs.Signatures.{result_of}
 use Rattle.type_rules.proofs.ClassTexts.{name_is_text}
-use Rattle.type_rules.specs.Signatures.{IsMemberDescriptor}
+use Rattle.type_rules.specs.Inner.Signatures.{IsMemberDescriptor}
 
 -- ---- the type of a text
 

@@ -2,28 +2,18 @@
 use Rattle.std.specs.Prelude.{◌==◌, ◌&&◌, nat_le, nat_lt, ℕ, Bool, List, [], ◌∷◌, Option, Some, if◌then◌else◌}
 use Rattle.class_model.specs.PoolChecks.{class_at}
 use Rattle.class_model.specs.declared.class_file.Handler.{Handler}
-use Rattle.class_model.specs.declared.frame.Frame.{Frame}
 use Rattle.class_tree.specs.Headers.{Name}
 use Rattle.class_tree.specs.Names.{throwable}
-use Rattle.member_link.specs.Bodies.{BodyCatch, BodyCaught, catch_frame}
-use Rattle.member_link.specs.BodyTyping.{IsThrowable}
+use Rattle.member_link.specs.Bodies.{BodyCatch, BodyCaught}
 use Rattle.member_link.specs.Scope.{Scope}
 
 -- the class that a handler catches: any throwable, or one of the pool
 abbrev pub caught : Scope → Handler → Option Name
 caught s handler = if handler.catch_type == 0 then Some throwable else class_at s.class.pool handler.catch_type
 
--- the handler catches throwables
-abbrev pub CatchesThrowables : Scope → Handler → Type 0
-CatchesThrowables s handler = IsThrowable s.headers (caught s handler)
-
 -- the range of a handler has an offset
 abbrev pub covers : Handler → ℕ → Bool
 covers handler at = nat_le handler.start at && nat_lt at handler.end
-
--- what a handler begins with behind these locals
-abbrev pub caught_frame : Scope → Frame → Handler → Frame
-caught_frame s before handler = catch_frame before (caught s handler)
 
 -- ---- as a body has it
 

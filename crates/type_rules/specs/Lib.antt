@@ -1,15 +1,5 @@
-pub mod CodedScopes
-pub mod Forms
-pub mod Signatures
 pub mod Rule
 pub mod TypedFrames
-pub mod Meanings
-pub mod References
-pub mod Protected
-pub mod Steps
-pub mod Calls
-pub mod NewClasses
-pub mod Known
 pub mod Stated
 pub mod Handlers
 pub mod MethodBodies
@@ -17,3 +7,4 @@ pub mod Checks
 pub mod Typed
 pub mod Verified
 pub mod RuleNames
+pub mod Inner

@@ -1,7 +1,7 @@
 //! The receiver and the arguments of a call.
 ghost use Rattle.std.specs.Prelude.{◌≡◌, ◌↔◌, IsTrue, length};
 ghost use Rattle.member_link.specs.Rows.Operands.{AllFit};
-ghost use Rattle.type_rules.specs.Calls.{TakesSo, operand_needs, signature_row};
+ghost use Rattle.type_rules.specs.Inner.Calls.{TakesSo, operand_needs, signature_row};
 ghost use Rattle.type_rules.specs.Rule.{RowRules};
 ghost use Rattle.member_link.specs.Scope.{row_scope};
 

@@ -10,7 +10,7 @@ ghost use Rattle.class_tree.specs.Subtype.{IsReferenceComponent};
 ghost use Rattle.member_link.specs.Rows.ArrayRows as rows;
 ghost use Rattle.member_link.specs.Rows.Operands.{AllFit, IsNullOr, array_among, array_of_references, of_kind, topmost, lowest_of};
 ghost use Rattle.member_link.specs.Rows.Row.{plain};
-ghost use Rattle.type_rules.specs.Meanings.{need_meant};
+ghost use Rattle.type_rules.specs.Inner.Meanings.{need_meant};
 ghost use Rattle.type_rules.specs.Rule.{RowRules};
 ghost use Rattle.member_link.specs.Scope.{row_scope};
 

@@ -14,10 +14,11 @@ ghost use Rattle.member_link.specs.Rows.MemberRows.{IsSpecialTarget, call_row, i
 ghost use Rattle.member_link.specs.Rows.Operands.{lowest_of};
 ghost use Rattle.member_link.specs.Rows.Row.{either};
 ghost use Rattle.member_link.specs.Signatures.{reference_of};
-ghost use Rattle.type_rules.specs.References.{reference_meant};
+ghost use Rattle.type_rules.specs.Inner.References.{reference_meant};
 ghost use Rattle.type_rules.specs.Rule.{RowRules};
-ghost use Rattle.member_link.specs.Scope.{current, row_scope};
-ghost use Rattle.type_rules.specs.Signatures.{IsCallable};
+ghost use Rattle.member_link.specs.Scope.{row_scope};
+ghost use Rattle.member_link.specs.Inner.Scope.{current};
+ghost use Rattle.type_rules.specs.Inner.Signatures.{IsCallable};
 
 use crate::arguments::call_with;
 use crate::assignability::is_object_of;

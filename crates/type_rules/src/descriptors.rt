@@ -6,8 +6,8 @@ ghost use Rattle.class_model.specs.PoolChecks.{IsMethodDescriptor};
 ghost use Rattle.class_model.specs.declared.descriptor.Descriptor.{Descriptor};
 ghost use Rattle.member_link.specs.Rows.MemberRows.{result_types};
 ghost use Rattle.member_link.specs.Signatures.{result_of};
-ghost use Rattle.type_rules.specs.Signatures.{IsMemberDescriptor};
-ghost use Rattle.type_rules.specs.Steps.{given};
+ghost use Rattle.type_rules.specs.Inner.Signatures.{IsMemberDescriptor};
+ghost use Rattle.type_rules.specs.Inner.Steps.{given};
 
 use class_model::{
     Descriptor, FieldType, NameFault, NoMemory, Text, VType, a_descriptor_of_a_text,

@@ -5,7 +5,7 @@ ghost use Rattle.class_model.specs.Descriptors.{type_of};
 ghost use Rattle.class_model.specs.Pool.{constant_at};
 ghost use Rattle.member_link.specs.Rows.MemberRows.{get_static_row, put_static_row, get_field_row, put_field_row, IsOwnField, MayPut, PassesPut};
 ghost use Rattle.member_link.specs.Signatures.{reference_of};
-ghost use Rattle.type_rules.specs.References.{reference_meant};
+ghost use Rattle.type_rules.specs.Inner.References.{reference_meant};
 ghost use Rattle.type_rules.specs.Rule.{RowRules};
 ghost use Rattle.member_link.specs.Scope.{row_scope};
 

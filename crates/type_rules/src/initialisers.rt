@@ -6,11 +6,11 @@ ghost use Rattle.class_model.specs.Header.{header_of};
 ghost use Rattle.class_model.specs.declared.frame.VType.{VType as entry_type};
 ghost use Rattle.member_link.specs.Rows.MemberRows.{MayInitialise, PassesInitialiser, init_row, initialised_type};
 ghost use Rattle.member_link.specs.Rows.Operands.{under};
-ghost use Rattle.type_rules.specs.Calls.{Becomes, init_signature};
-ghost use Rattle.type_rules.specs.References.{reference_meant};
+ghost use Rattle.type_rules.specs.Inner.Calls.{Becomes, init_signature};
+ghost use Rattle.type_rules.specs.Inner.References.{reference_meant};
 ghost use Rattle.type_rules.specs.Rule.{RowRules};
 ghost use Rattle.member_link.specs.Scope.{class_of_new, row_scope};
-ghost use Rattle.type_rules.specs.Steps.{given};
+ghost use Rattle.type_rules.specs.Inner.Steps.{given};
 
 use crate::arguments::take_operands;
 use crate::calls::receiver_of;

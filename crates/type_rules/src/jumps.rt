@@ -1,7 +1,7 @@
 //! Jumps that compare (JVM Specification SE 8, 6.5).
 ghost use Rattle.std.specs.Prelude.{map};
 ghost use Rattle.member_link.specs.Rows.Table.{jump_row};
-ghost use Rattle.type_rules.specs.Meanings.{need_meant};
+ghost use Rattle.type_rules.specs.Inner.Meanings.{need_meant};
 ghost use Rattle.type_rules.specs.Rule.{RowRules};
 ghost use Rattle.member_link.specs.Scope.{row_scope};
 

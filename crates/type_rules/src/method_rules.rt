@@ -8,9 +8,10 @@ ghost use Rattle.class_tree.specs.Order.{header_at};
 ghost use Rattle.code_bytes.specs.Codes.{HasOperands, IsReadMethod};
 ghost use Rattle.member_link.specs.Linked.{IsLinked};
 ghost use Rattle.member_link.specs.Signatures.{result_of};
-ghost use Rattle.type_rules.specs.NewClasses.{class_made};
+ghost use Rattle.type_rules.specs.Inner.NewClasses.{class_made};
 ghost use Rattle.type_rules.specs.Rule.{FitsPool};
-ghost use Rattle.member_link.specs.Scope.{class_of_new, current, instructions, is_init, own_descriptor, scope_at, scope_of};
+ghost use Rattle.member_link.specs.Scope.{class_of_new, instructions, is_init, own_descriptor, scope_at, scope_of};
+ghost use Rattle.member_link.specs.Inner.Scope.{current};
 ghost use Rattle.type_rules.specs.Stated.{entry, stated_at};
 
 use crate::code::code_of;
@@ -41,7 +42,7 @@ pub struct MethodRules<'a> {
 
 impl<'a> Model for MethodRules<'a> {
     ghost use Rattle.class_tree.specs.Headers.{headers_of};
-    ghost use Rattle.type_rules.specs.Known.{IsKnown};
+    ghost use Rattle.type_rules.specs.Inner.Known.{IsKnown};
     ghost use Rattle.member_link.specs.Scope.{Scope};
 
     ghost Value = { Scope };

@@ -4,7 +4,7 @@ ghost use Rattle.class_model.specs.Code.{verification_type};
 ghost use Rattle.class_tree.specs.Headers.{Name};
 ghost use Rattle.class_tree.specs.Subtype.{IsArray, IsReferenceComponent};
 ghost use Rattle.member_link.specs.Rows.Operands.{Fits, AllFit, IsAmong, IsNullOr, IsOfKind, assignable_to, topmost};
-ghost use Rattle.type_rules.specs.Meanings.{need_meant};
+ghost use Rattle.type_rules.specs.Inner.Meanings.{need_meant};
 ghost use Rattle.member_link.specs.Scope.{row_scope};
 
 use crate::assignability::{is_object_of, is_value_of};

@@ -8,8 +8,8 @@ ghost use Rattle.member_link.specs.Access.{IsAtOrBelow};
 ghost use Rattle.member_link.specs.DeclaredMembers.{Declared};
 ghost use Rattle.member_link.specs.Found.{AreSame, IsFoundIn};
 ghost use Rattle.member_link.specs.Rows.MemberRows.{PassesField, PassesMethod};
-ghost use Rattle.type_rules.specs.Protected.{IsBound, IsCloneOfArray, IsForeign, IsFree};
-ghost use Rattle.type_rules.specs.References.{reference_meant};
+ghost use Rattle.type_rules.specs.Inner.Protected.{IsBound, IsCloneOfArray, IsForeign, IsFree};
+ghost use Rattle.type_rules.specs.Inner.References.{reference_meant};
 ghost use Rattle.member_link.specs.Scope.{row_scope};
 
 use crate::assignability::is_object_of;

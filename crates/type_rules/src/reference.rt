@@ -4,7 +4,7 @@ ghost use Rattle.std.specs.Option.{option_map};
 ghost use Rattle.class_model.specs.Pool.{constant_at};
 ghost use Rattle.member_link.specs.References.{reference_at as referred};
 ghost use Rattle.member_link.specs.Signatures.{reference_of};
-ghost use Rattle.type_rules.specs.References.{reference_meant};
+ghost use Rattle.type_rules.specs.Inner.References.{reference_meant};
 
 use class_model::{ClassFile, Const, Pool, Text};
 

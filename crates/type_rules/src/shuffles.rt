@@ -2,7 +2,7 @@
 ghost use Rattle.std.specs.Prelude.{◌≡◌, ◌++◌, map, OnOk};
 ghost use Rattle.std.specs.Option.{option_map, option_copied};
 ghost use Rattle.member_link.specs.Rows.ShuffleRows.{forms_of, form_in, has_width, have_widths, picked, shuffle_row};
-ghost use Rattle.type_rules.specs.Forms.{form_meant, width_meant};
+ghost use Rattle.type_rules.specs.Inner.Forms.{form_meant, width_meant};
 ghost use Rattle.type_rules.specs.Rule.{RowRules};
 ghost use Rattle.member_link.specs.Scope.{row_scope};
 

@@ -3,10 +3,10 @@ ghost use Rattle.std.specs.Prelude.{◌≡◌, ◌↔◌, ◌≤◌, [], ◌∷�
 ghost use Rattle.class_model.specs.Frames.{depth};
 ghost use Rattle.member_link.specs.Rows.Operands.{under};
 ghost use Rattle.member_link.specs.Rows.Row.{plain, conditional, no_row};
-ghost use Rattle.type_rules.specs.Meanings.{need_meant};
+ghost use Rattle.type_rules.specs.Inner.Meanings.{need_meant};
 ghost use Rattle.type_rules.specs.Rule.{RowRules};
 ghost use Rattle.member_link.specs.Scope.{row_scope};
-ghost use Rattle.type_rules.specs.Steps.{Concludes, Ends, Holds, TakesNeeds, given, thrown};
+ghost use Rattle.type_rules.specs.Inner.Steps.{Concludes, Ends, Holds, TakesNeeds, given, thrown};
 
 use crate::fault::{RuleFault, TypeRule};
 use crate::method_rules::MethodRules;

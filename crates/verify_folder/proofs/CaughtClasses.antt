@@ -10,7 +10,8 @@ use Rattle.class_model.specs.declared.class_file.Handler.{Handler}
 use Rattle.class_tree.specs.Headers.{Name, Headers}
 use Rattle.class_tree.specs.Names.{throwable}
 use Rattle.member_link.specs.Access.{IsAtOrBelow}
-use Rattle.type_rules.specs.Handlers.{CatchesThrowables, caught, caught_in}
+use Rattle.type_rules.specs.Handlers.{caught, caught_in}
+use Rattle.type_rules.specs.Inner.Handlers.{CatchesThrowables}
 use Rattle.member_link.specs.Scope.{Scope}
 use Rattle.type_rules.specs.Typed.{CaughtIsThrowable, FailsInTable}
 

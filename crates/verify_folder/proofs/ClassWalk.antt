@@ -10,7 +10,8 @@ use Rattle.type_rules.specs.TypedFrames.{FolderFrames}
 use Rattle.type_rules.specs.declared.fault.VerifyFault.{VerifyFault}
 use Rattle.type_rules.specs.declared.fault.VerifyFault.TheVariants as faults
 use Rattle.type_rules.specs.Verified.{AreTypedMethods, AreTypedClasses}
-use Rattle.verify_folder.specs.Verifying.{Failure, ClassesFail, ClassIsTyped, ClassVerifies, FolderIsTyped, FolderVerifies, MethodsFail}
+use Rattle.verify_folder.specs.Verifying.{Failure, ClassesFail, FolderIsTyped, FolderVerifies, MethodsFail}
+use Rattle.verify_folder.specs.Inner.Verifying.{ClassIsTyped, ClassVerifies}
 
 pub record SoFar (headers : Headers) (folder : List ClassFile) (place : ℕ) (typed : FolderFrames) : Type 0 where
   pub typed_rest : (rest : FolderFrames) → AreTypedClasses headers (drop place folder) rest → AreTypedClasses headers folder (typed ++ rest)

@@ -13,7 +13,7 @@ use Rattle.type_rules.specs.MethodBodies.{body_of}
 use Rattle.member_link.specs.Scope.{Scope}
 use Rattle.type_rules.specs.declared.fault.TypeRule.{TypeRule}
 use Rattle.verify_folder.proofs.Stepping.{refused}
-use Rattle.verify_folder.specs.Steps.{ChecksAnswer}
+use Rattle.verify_folder.specs.Inner.Steps.{ChecksAnswer}
 use Rattle.verify_folder.specs.declared.stop.Stop.{Stop}
 
 -- what the first of some handlers is asked, and then the others

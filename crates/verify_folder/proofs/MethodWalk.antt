@@ -17,7 +17,8 @@ use Rattle.member_link.specs.Scope.{Scope, scope_at, scope_of}
 use Rattle.type_rules.specs.Verified.{TypesMethod, AreTypedMethods}
 use Rattle.type_rules.specs.declared.fault.VerifyFault.{VerifyFault}
 use Rattle.type_rules.specs.declared.fault.VerifyFault.TheVariants as faults
-use Rattle.verify_folder.specs.Verifying.{Failure, MethodFails, MethodsFail, MethodVerifies, VerifiesAs, ClassIsTyped, ClassVerifies}
+use Rattle.verify_folder.specs.Verifying.{Failure, MethodFails, MethodsFail, MethodVerifies, VerifiesAs}
+use Rattle.verify_folder.specs.Inner.Verifying.{ClassIsTyped, ClassVerifies}
 
 -- ---- where a method stands
 

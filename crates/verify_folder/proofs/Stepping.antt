@@ -14,7 +14,7 @@ use Rattle.type_rules.specs.Rule.{row_checks}
 use Rattle.member_link.specs.Scope.{Scope, row_scope}
 use Rattle.type_rules.specs.Stated.{stated_at}
 use Rattle.type_rules.specs.declared.fault.TypeRule.{TypeRule}
-use Rattle.verify_folder.specs.Steps.{BeforeAnswers, ChecksAnswer, RowAnswers, StepAnswers}
+use Rattle.verify_folder.specs.Inner.Steps.{BeforeAnswers, ChecksAnswer, RowAnswers, StepAnswers}
 use Rattle.verify_folder.specs.declared.stop.Stop.{Stop}
 use Rattle.verify_folder.specs.declared.stop.Stop.TheVariants.{Fails, NoMemory}
 

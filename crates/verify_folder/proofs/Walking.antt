@@ -9,7 +9,7 @@ use Rattle.member_link.specs.Scope.{Scope}
 use Rattle.type_rules.specs.Stated.{entry}
 use Rattle.type_rules.specs.Typed.{AreTyped, FailsIn}
 use Rattle.type_rules.specs.declared.fault.TypeRule.{TypeRule}
-use Rattle.verify_folder.specs.Steps.{StepAnswers}
+use Rattle.verify_folder.specs.Inner.Steps.{StepAnswers}
 
 -- These frames type the first instructions; this frame flows into those that are left.
 pub record IsOnWalk (s : Scope) (frames : List Frame) (flows : Option Frame) (left : List Placed) : Type 0 where

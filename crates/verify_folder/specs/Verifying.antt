@@ -11,7 +11,7 @@ use Rattle.class_tree.specs.Headers.{Name, Classes, Headers, headers_of}
 use Rattle.member_link.specs.Scope.{Scope, scope_at, scope_of}
 use Rattle.type_rules.specs.Typed.{IsFirstFailure}
 use Rattle.type_rules.specs.TypedFrames.{FolderFrames}
-use Rattle.type_rules.specs.Verified.{AreTypedClasses, AreTypedMethods, TypesFolder, TypesMethod}
+use Rattle.type_rules.specs.Verified.{AreTypedMethods, TypesFolder, TypesMethod}
 use Rattle.type_rules.specs.declared.fault.TypeRule.{TypeRule}
 use Rattle.type_rules.specs.declared.fault.VerifyFault.{VerifyFault}
 use Rattle.type_rules.specs.declared.fault.VerifyFault.TheVariants as faults
@@ -48,7 +48,7 @@ ClassesFail headers (class ∷ classes) failure =
 
 -- ---- what verification answers
 
-abbrev failure_of : Name → Member → ℕ → TypeRule → Failure
+abbrev pub failure_of : Name → Member → ℕ → TypeRule → Failure
 failure_of class method offset rule = record { class = class; method = method; offset = offset; rule = rule }
 
 -- of a method, which is this member of its class's header
@@ -61,18 +61,6 @@ MethodVerifies scope header member (Err faults.NoMemory) = Unit {0}
 abbrev pub VerifiesAs : Classes → MethodAt → Result (List Frame) VerifyFault → Type 0
 VerifiesAs classes at result =
     (s : Scope) (member : Member) → scope_at classes at ≡ Some s → slice_get (header_of s.class).methods at.method ≡ Some member → MethodVerifies (Some s) (header_of s.class) member result
-
--- of the methods of a class
-abbrev pub ClassVerifies : Headers → ClassFile → Result (List (Option (List Frame))) VerifyFault → Type 0
-ClassVerifies headers class (Ok typed) = AreTypedMethods headers class class.methods typed
-ClassVerifies headers class (Err (faults.Unverified name method offset rule)) = MethodsFail headers class class.methods (header_of class).methods (failure_of name method offset rule)
-ClassVerifies headers class (Err faults.NoMemory) = Unit {0}
-
--- of the methods of a class, whose frames are not kept
-abbrev pub ClassIsTyped : Headers → ClassFile → Result Unit VerifyFault → Type 0
-ClassIsTyped headers class (Ok done) = (typed : List (Option (List Frame))) × AreTypedMethods headers class class.methods typed
-ClassIsTyped headers class (Err (faults.Unverified name method offset rule)) = MethodsFail headers class class.methods (header_of class).methods (failure_of name method offset rule)
-ClassIsTyped headers class (Err faults.NoMemory) = Unit {0}
 
 -- of a folder
 abbrev pub FolderVerifies : Classes → Result FolderFrames VerifyFault → Type 0

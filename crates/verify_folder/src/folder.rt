@@ -3,7 +3,8 @@ ghost use Rattle.std.specs.Prelude.{◌≡◌, is_some, slice_get, Some};
 ghost use Rattle.class_model.specs.MethodCode.{code_of};
 ghost use Rattle.class_tree.specs.Headers.{headers_of};
 ghost use Rattle.member_link.specs.Linked.{IsLinked};
-ghost use Rattle.verify_folder.specs.Verifying.{ClassIsTyped, ClassVerifies, FolderIsTyped, FolderVerifies};
+ghost use Rattle.verify_folder.specs.Verifying.{FolderIsTyped, FolderVerifies};
+ghost use Rattle.verify_folder.specs.Inner.Verifying.{ClassIsTyped, ClassVerifies};
 
 use crate::method::verify_method;
 use class_model::{Attr, ClassFile, MethodAt};

@@ -4,8 +4,9 @@ ghost use Rattle.class_tree.specs.Headers.{headers_of};
 ghost use Rattle.class_tree.specs.Names.{throwable};
 ghost use Rattle.member_link.specs.Access.{IsAtOrBelow};
 ghost use Rattle.member_link.specs.Bodies.{caught_type};
-ghost use Rattle.type_rules.specs.Handlers.{CatchesThrowables, caught, caught_frame, covers};
-ghost use Rattle.verify_folder.specs.Steps.{TableAnswers};
+ghost use Rattle.type_rules.specs.Handlers.{caught, covers};
+ghost use Rattle.type_rules.specs.Inner.Handlers.{CatchesThrowables, caught_frame};
+ghost use Rattle.verify_folder.specs.Inner.Steps.{TableAnswers};
 
 use crate::stop::Stop;
 use class_model::{Frame, Handler, NoMemory, Text, VType, VTypeList};

@@ -6,12 +6,13 @@ ghost use Rattle.class_tree.specs.Names.{throwable};
 ghost use Rattle.member_link.specs.Bodies.{falls_through};
 ghost use Rattle.member_link.specs.BodyTyping.{MayGoTo};
 ghost use Rattle.type_rules.specs.Checks.{handler_checks, target_checks};
-ghost use Rattle.type_rules.specs.Handlers.{catches_at, caught_frame};
+ghost use Rattle.type_rules.specs.Handlers.{catches_at};
+ghost use Rattle.type_rules.specs.Inner.Handlers.{caught_frame};
 ghost use Rattle.type_rules.specs.MethodBodies.{body_of};
 ghost use Rattle.type_rules.specs.Rule.{FitsPool};
 ghost use Rattle.member_link.specs.Scope.{row_scope};
 ghost use Rattle.type_rules.specs.Stated.{stated_at};
-ghost use Rattle.verify_folder.specs.Steps.{BeforeAnswers, ChecksAnswer, RowAnswers, StepAnswers, TypingAnswers, WalkAnswers};
+ghost use Rattle.verify_folder.specs.Inner.Steps.{BeforeAnswers, ChecksAnswer, RowAnswers, StepAnswers, TypingAnswers, WalkAnswers};
 
 use crate::flow::falls_through;
 use crate::handlers::{caught_frame, check_catch_types, covers};

@@ -1,4 +1,4 @@
-use Rattle.member_link.specs.Resolving.{resolved_scope}
+use Rattle.member_link.specs.Inner.Resolving.{resolved_scope}
 use Rattle.member_link.specs.Uses.{handler_use_checks}
 use Rattle.member_link.proofs.EachUse.{UsedBelow}
 use Rattle.member_link.proofs.code_uses.check_handlers.Given as goal

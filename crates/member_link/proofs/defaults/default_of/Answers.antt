@@ -4,7 +4,7 @@ use Rattle.class_model.specs.Members.{has, ABSTRACT}
 use Rattle.class_tree.specs.Headers.{headers_of}
 use Rattle.class_tree.specs.Laws.Headers.{header_there}
 use Rattle.member_link.proofs.FoundOr.{some_same, none_same}
-use Rattle.member_link.specs.DefaultsAt.{inherited_of, IsDefaultOf}
+use Rattle.member_link.specs.Inner.DefaultsAt.{inherited_of, IsDefaultOf}
 use Rattle.member_link.specs.Found.{IsMethodFound}
 use Rattle.member_link.specs.declared.found.Found.{Found}
 use Rattle.member_link.proofs.DefaultMethods.{no_default, abstract_no_default, hidden_no_default, one_default}

@@ -1,7 +1,7 @@
 use Rattle.std.proofs.Common.{◌+◌, [], Option, drop, sym, subst, ◌∙◌}
 use Rattle.class_tree.specs.Headers.{headers_of}
 use Rattle.class_tree.specs.declared.place.Place.TheVariants.{Folder}
-use Rattle.member_link.specs.DefaultsAt.{IsDefaultOf}
+use Rattle.member_link.specs.Inner.DefaultsAt.{IsDefaultOf}
 use Rattle.member_link.specs.declared.found.Found.{Found}
 use Rattle.member_link.proofs.DefaultsSoFar.{IsSoFar, none_so_far, all_met, only_one, passed_over, first_met, second_met}
 use Rattle.member_link.proofs.Superinterfaces.{superinterfaces_of, superinterface_at}

@@ -5,7 +5,7 @@ use Rattle.class_tree.specs.Laws.Headers.{header_there}
 use Rattle.class_tree.specs.declared.place.Place.TheVariants.{Folder}
 use Rattle.member_link.specs.DeclaredMembers.{Declared}
 use Rattle.member_link.specs.Defaults.{first_inherited}
-use Rattle.member_link.specs.DefaultsAt.{inherited_of}
+use Rattle.member_link.specs.Inner.DefaultsAt.{inherited_of}
 use Rattle.member_link.specs.Found.{AreSame, IsMethodFound}
 use Rattle.member_link.proofs.FirstInherited.{first_of_next, as_many, first_is, first_is_other}
 use Rattle.member_link.proofs.InheritedMethods.{same_found}

@@ -3,7 +3,7 @@ use Rattle.std.proofs.lemmas.Option.{same_Some}
 use Rattle.class_model.specs.declared.header.Header.{Header}
 use Rattle.class_tree.specs.Headers.{headers_of}
 use Rattle.class_tree.specs.Names.{is_interface}
-use Rattle.member_link.specs.DefaultsAt.{inherited_of}
+use Rattle.member_link.specs.Inner.DefaultsAt.{inherited_of}
 use Rattle.member_link.specs.Found.{IsMethodFound}
 use Rattle.member_link.proofs.InheritedMethods.{same_found}
 use Rattle.member_link.proofs.Superinterfaces.{superinterfaces_of, placed_decides}

@@ -4,7 +4,7 @@ use Rattle.class_model.specs.declared.header.Header.{Header}
 use Rattle.class_tree.specs.Headers.{Name, headers_of}
 use Rattle.class_tree.specs.Interfaces.{AreSuperinterfaces, each_once}
 use Rattle.class_tree.specs.Order.{place_of}
-use Rattle.member_link.specs.FieldSearch.{met}
+use Rattle.member_link.specs.Inner.FieldSearch.{met}
 use Rattle.member_link.specs.Found.{AreSame, IsFieldFound}
 use Rattle.member_link.proofs.FieldWalks.{first_met_in, first_met-placed, interface_finds}
 use Rattle.member_link.proofs.FoundOr.{found_first, found_then}

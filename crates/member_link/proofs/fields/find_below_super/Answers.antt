@@ -5,7 +5,7 @@ use Rattle.class_model.specs.declared.header.Header.{Header}
 use Rattle.class_tree.specs.Headers.{Name, headers_of}
 use Rattle.member_link.specs.DeclaredMembers.{declared_by, declared}
 use Rattle.member_link.specs.Fields.{FindsFirst, in_class}
-use Rattle.member_link.specs.FieldSearch.{IsInterfaceIfThere}
+use Rattle.member_link.specs.Inner.FieldSearch.{IsInterfaceIfThere}
 use Rattle.member_link.specs.Found.{IsFieldFound}
 use Rattle.member_link.proofs.Climbed.{own_some, own_none}
 use Rattle.member_link.proofs.FieldWalks.{super_left}

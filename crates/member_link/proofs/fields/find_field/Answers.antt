@@ -1,7 +1,7 @@
 use Rattle.std.proofs.Common.{sym, subst}
 use Rattle.class_tree.specs.Headers.{headers_of}
 use Rattle.class_tree.specs.Laws.Headers.{header_there}
-use Rattle.member_link.specs.FieldSearch.{FindsOrLeaves}
+use Rattle.member_link.specs.Inner.FieldSearch.{FindsOrLeaves}
 use Rattle.member_link.specs.Found.{IsFieldFound}
 use Rattle.member_link.proofs.FieldsUpwards.{IsSearched, first_searched, searched_more}
 use Rattle.member_link.proofs.FoundOr.{none_same}

@@ -2,7 +2,7 @@ use Rattle.std.proofs.Common.{◌∙◌, Some, sym, subst}
 use Rattle.std.proofs.lemmas.List.{at_drop_more}
 use Rattle.class_tree.specs.Headers.{headers_of}
 use Rattle.class_tree.specs.declared.place.Place.TheVariants.{Folder}
-use Rattle.member_link.specs.FieldSearch.{first_met}
+use Rattle.member_link.specs.Inner.FieldSearch.{first_met}
 use Rattle.member_link.specs.Found.{AreSame, IsFieldFound}
 use Rattle.member_link.proofs.FoundOr.{found_first}
 use Rattle.member_link.proofs.fields.first_met.Goals as goal

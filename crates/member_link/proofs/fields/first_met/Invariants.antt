@@ -1,7 +1,7 @@
 use Rattle.std.proofs.Common.{◌≡◌, drop, Option}
 use Rattle.class_tree.specs.Headers.{headers_of}
 use Rattle.member_link.specs.DeclaredMembers.{Declared}
-use Rattle.member_link.specs.FieldSearch.{first_met}
+use Rattle.member_link.specs.Inner.FieldSearch.{first_met}
 use Rattle.member_link.specs.Found.{AreSame, IsFieldFound}
 use Rattle.member_link.proofs.fields.first_met.Given as goal
 

@@ -1,5 +1,5 @@
 use Rattle.std.proofs.Common.{◌↔◌, IsTrue, sym, subst}
-use Rattle.member_link.specs.NeededForms.{IsMethodForm}
+use Rattle.member_link.specs.Inner.NeededForms.{IsMethodForm}
 use Rattle.member_link.proofs.forms.fits_method.Goals as goal
 
 pub returns-in-Call : goal.returns-in-Call

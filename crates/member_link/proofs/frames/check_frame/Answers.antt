@@ -1,6 +1,6 @@
 use Rattle.std.proofs.Common.{refl}
 use Rattle.std.proofs.lemmas.Result.{err_from_is_err_and}
-use Rattle.member_link.specs.Resolving.{resolved_scope}
+use Rattle.member_link.specs.Inner.Resolving.{resolved_scope}
 use Rattle.member_link.specs.Uses.{type_checks}
 use Rattle.member_link.proofs.EachUse.{first_list_refused, second_list}
 use Rattle.member_link.proofs.frames.check_frame.Goals as goal

@@ -1,4 +1,4 @@
-use Rattle.member_link.specs.Resolving.{resolved_scope}
+use Rattle.member_link.specs.Inner.Resolving.{resolved_scope}
 use Rattle.member_link.specs.Uses.{frame_checks}
 use Rattle.member_link.proofs.EachUse.{AskedBelow}
 use Rattle.member_link.proofs.frames.check_frames.Given as goal

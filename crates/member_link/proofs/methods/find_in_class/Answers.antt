@@ -1,6 +1,6 @@
 use Rattle.std.proofs.Common.{Option, Some, None, is_some, sym, ap, subst, ◌∙◌}
 use Rattle.class_tree.specs.Headers.{headers_of}
-use Rattle.member_link.specs.Counting.{Counts}
+use Rattle.member_link.specs.Inner.Counting.{Counts}
 use Rattle.member_link.specs.DeclaredMembers.{Declared}
 use Rattle.member_link.specs.Found.{AreSame, IsMethodFound}
 use Rattle.member_link.specs.Methods.{nowhere}

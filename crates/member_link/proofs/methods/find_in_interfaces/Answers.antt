@@ -1,7 +1,7 @@
 use Rattle.std.proofs.Common.{Some, subst}
 use Rattle.class_tree.specs.Headers.{headers_of}
 use Rattle.member_link.specs.Defaults.{first_inherited}
-use Rattle.member_link.specs.DefaultsOf.{AreDefaults}
+use Rattle.member_link.specs.Inner.DefaultsOf.{AreDefaults}
 use Rattle.member_link.specs.Methods.{one_default, first_of_all}
 use Rattle.member_link.proofs.FoundInClass.{not_one_default}
 use Rattle.member_link.proofs.methods.find_in_interfaces.Goals as goal

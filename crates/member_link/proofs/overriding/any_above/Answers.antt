@@ -1,7 +1,7 @@
 use Rattle.std.proofs.Common.{false, sym, subst, ◌∙◌}
 use Rattle.class_tree.specs.Headers.{headers_of}
 use Rattle.member_link.specs.DeclaredMembers.{declared_by}
-use Rattle.member_link.specs.OpenMethods.{IsAbove, IsAboveOfKind, IsAnyOf}
+use Rattle.member_link.specs.Inner.OpenMethods.{IsAbove, IsAboveOfKind, IsAnyOf}
 use Rattle.member_link.proofs.WaysUp.{interfaces_say, class_says}
 use Rattle.member_link.proofs.overriding.any_above.Goals as goal
 use Rattle.member_link.proofs.overriding.any_above.Goals.{then-any_superclass, else-any_superclass}

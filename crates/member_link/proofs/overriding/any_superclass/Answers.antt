@@ -4,7 +4,7 @@ use Rattle.class_tree.specs.Hierarchy.{superclass_of}
 use Rattle.class_tree.specs.Laws.Headers.{header_there}
 use Rattle.class_tree.specs.Order.{header_at}
 use Rattle.member_link.specs.DeclaredMembers.{declared_by}
-use Rattle.member_link.specs.OpenMethods.{IsSameOf, IsAnyOf}
+use Rattle.member_link.specs.Inner.OpenMethods.{IsSameOf, IsAnyOf}
 use Rattle.member_link.proofs.WaysUp.{AreClassesLeft, HasNone, first_class, next_class, no_class_left, met, unmet}
 use Rattle.member_link.proofs.overriding.any_superclass.Goals as goal
 

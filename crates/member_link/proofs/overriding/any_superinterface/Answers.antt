@@ -2,7 +2,7 @@ use Rattle.std.proofs.Common.{is_some, true, ap, subst}
 use Rattle.class_tree.specs.Headers.{headers_of}
 use Rattle.class_tree.specs.declared.place.Place.TheVariants.{Folder}
 use Rattle.member_link.specs.DeclaredMembers.{declared_by}
-use Rattle.member_link.specs.OpenMethods.{IsSameOf, IsAnyOf}
+use Rattle.member_link.specs.Inner.OpenMethods.{IsSameOf, IsAnyOf}
 use Rattle.member_link.proofs.Superinterfaces.{superinterfaces_of, superinterface_at}
 use Rattle.member_link.proofs.WaysUp.{HasNone, first_interfaces, next_interfaces, no_interface_left, met, unmet}
 use Rattle.member_link.proofs.overriding.any_superinterface.Goals as goal

@@ -1,7 +1,7 @@
 use Rattle.std.proofs.Common.{rules, ◌↔◌, IsTrue, sym, subst}
 use Rattle.class_tree.specs.Headers.{headers_of}
 use Rattle.member_link.specs.DeclaredMembers.{declared_by}
-use Rattle.member_link.specs.OpenMethods.{OpensPackage}
+use Rattle.member_link.specs.Inner.OpenMethods.{OpensPackage}
 use Rattle.member_link.proofs.overriding.opens_package.Goals as goal
 
 pub returns-then-is_same_package : goal.returns-then-is_same_package

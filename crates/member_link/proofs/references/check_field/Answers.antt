@@ -3,9 +3,9 @@ use Rattle.class_model.specs.Pool.{constant_at}
 use Rattle.class_tree.specs.Answers.{Answers}
 use Rattle.class_tree.specs.declared.fault.LinkRule.TheVariants as rules
 use Rattle.member_link.specs.Declarations.{asked}
-use Rattle.member_link.specs.NeededForms.{IsFieldForm}
-use Rattle.member_link.specs.Resolutions.{Resolves}
-use Rattle.member_link.specs.Resolving.{resolved_scope}
+use Rattle.member_link.specs.Inner.NeededForms.{IsFieldForm}
+use Rattle.member_link.specs.Inner.Resolutions.{Resolves}
+use Rattle.member_link.specs.Inner.Resolving.{resolved_scope}
 use Rattle.class_model.specs.PoolChecks.{IsFieldConstant}
 use Rattle.member_link.proofs.ToldReferences.{told_broken_field, told_field}
 use Rattle.member_link.proofs.references.check_field.Goals as goal

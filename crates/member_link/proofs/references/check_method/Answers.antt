@@ -3,9 +3,9 @@ use Rattle.class_model.specs.Pool.{constant_at}
 use Rattle.class_tree.specs.Answers.{Answers}
 use Rattle.class_tree.specs.declared.fault.LinkRule.TheVariants as rules
 use Rattle.member_link.specs.Declarations.{asked}
-use Rattle.member_link.specs.NeededForms.{IsMethodForm}
-use Rattle.member_link.specs.Resolutions.{IsCalleeConstant, Resolves}
-use Rattle.member_link.specs.Resolving.{resolved_scope}
+use Rattle.member_link.specs.Inner.NeededForms.{IsMethodForm}
+use Rattle.member_link.specs.Inner.Resolutions.{IsCalleeConstant, Resolves}
+use Rattle.member_link.specs.Inner.Resolving.{resolved_scope}
 use Rattle.member_link.proofs.ToldReferences.{told_broken_method, told_method, told_settled_method}
 use Rattle.member_link.proofs.references.check_method.Goals as goal
 

@@ -1,9 +1,9 @@
 use Rattle.std.proofs.Common.{Some, subst}
 use Rattle.class_tree.specs.Headers.{headers_of}
-use Rattle.member_link.specs.Counting.{Counts}
+use Rattle.member_link.specs.Inner.Counting.{Counts}
 use Rattle.member_link.specs.Found.{AreSame, IsMethodFound}
 use Rattle.member_link.specs.Selection.{first_upwards, by_default}
-use Rattle.member_link.specs.SelectionSteps.{CountsFrom, choice_by}
+use Rattle.member_link.specs.Inner.SelectionSteps.{CountsFrom, choice_by}
 use Rattle.member_link.specs.Upwards.{FirstUpwards}
 use Rattle.member_link.proofs.FoundOr.{some_same, none_same}
 use Rattle.member_link.proofs.UpwardsOnce.{upwards_as}

@@ -2,7 +2,7 @@ use Rattle.std.proofs.Common.{◌≢◌, ◌⊎◌, ◌↔◌, ◌∙◌, IsTrue
 use Rattle.class_model.specs.Members.{has, PUBLIC, STATIC}
 use Rattle.class_tree.specs.Headers.{headers_of}
 use Rattle.class_tree.specs.Names.{object}
-use Rattle.member_link.specs.SelectionSteps.{CountsFrom}
+use Rattle.member_link.specs.Inner.SelectionSteps.{CountsFrom}
 use Rattle.member_link.specs.declared.selection.CallForm.{CallForm}
 use Rattle.member_link.proofs.Selecting.{special_at_interface, special_at_class}
 use Rattle.member_link.proofs.selection.counted_for.Goals as goal

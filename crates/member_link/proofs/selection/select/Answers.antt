@@ -4,7 +4,7 @@ use Rattle.std.proofs.lemmas.Option.{none-some, same_Some}
 use Rattle.class_model.specs.declared.header.Member.{Member}
 use Rattle.class_tree.specs.Headers.{Name, headers_of}
 use Rattle.member_link.specs.Selection.{Chooses, abstract_choice, choice_of, start_of}
-use Rattle.member_link.specs.SelectionSteps.{CountsFrom, choice_by}
+use Rattle.member_link.specs.Inner.SelectionSteps.{CountsFrom, choice_by}
 use Rattle.member_link.proofs.Selecting.{fixed_selects, chooses_selects, absent_chooses}
 use Rattle.member_link.proofs.selection.select.Goals as goal
 

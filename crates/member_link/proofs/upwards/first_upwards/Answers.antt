@@ -3,7 +3,7 @@ use Rattle.std.proofs.lemmas.Bool.{false≢true}
 use Rattle.std.proofs.lemmas.Option.{none-some, same_Some}
 use Rattle.class_tree.specs.Headers.{headers_of}
 use Rattle.class_tree.specs.Laws.Headers.{header_there}
-use Rattle.member_link.specs.Counting.{Counts}
+use Rattle.member_link.specs.Inner.Counting.{Counts}
 use Rattle.member_link.specs.DeclaredMembers.{declared_by, declared}
 use Rattle.member_link.specs.Found.{IsMethodFound}
 use Rattle.member_link.specs.Upwards.{IsPassedOver}

@@ -1,6 +1,6 @@
 use Rattle.class_tree.specs.Headers.{headers_of}
 use Rattle.class_tree.specs.Hierarchy.{height}
-use Rattle.member_link.specs.Counting.{Counts}
+use Rattle.member_link.specs.Inner.Counting.{Counts}
 use Rattle.member_link.proofs.Climbed.{IsClimbed}
 use Rattle.member_link.proofs.upwards.first_upwards.Given as goal
 

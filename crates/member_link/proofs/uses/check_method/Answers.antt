@@ -3,7 +3,7 @@ use Rattle.std.proofs.lemmas.Result.{err_from_is_err_and}
 use Rattle.class_model.specs.Checks.{asked_each}
 use Rattle.class_model.specs.Methods.{home_of}
 use Rattle.class_tree.specs.Answers.{Answers}
-use Rattle.member_link.specs.Resolving.{Resolved, resolved_scope}
+use Rattle.member_link.specs.Inner.Resolving.{Resolved, resolved_scope}
 use Rattle.member_link.specs.Uses.{attr_checks}
 use Rattle.member_link.proofs.EachUse.{one_used, one_use_refused}
 use Rattle.member_link.proofs.uses.check_method.Goals as goal

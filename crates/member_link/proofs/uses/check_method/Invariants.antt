@@ -1,5 +1,5 @@
 use Rattle.class_model.specs.Methods.{home_of}
-use Rattle.member_link.specs.Resolving.{resolved_scope}
+use Rattle.member_link.specs.Inner.Resolving.{resolved_scope}
 use Rattle.member_link.specs.Uses.{attr_checks}
 use Rattle.member_link.proofs.EachUse.{UsedBelow}
 use Rattle.member_link.proofs.uses.check_method.Given as goal

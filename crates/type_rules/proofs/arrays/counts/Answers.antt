@@ -3,7 +3,7 @@ use Rattle.class_model.specs.declared.descriptor.Kind.TheVariants as kinds
 use Rattle.member_link.specs.Rows.Operands.{of_kind}
 use Rattle.type_rules.proofs.PushedElements.{map_replicate}
 use Rattle.type_rules.proofs.arrays.counts.Goals as goal
-use Rattle.type_rules.specs.Meanings.{need_meant}
+use Rattle.type_rules.specs.Inner.Meanings.{need_meant}
 use Rattle.type_rules.specs.declared.need.Need.TheVariants.{OfKind}
 
 pub returns : goal.returns

@@ -4,9 +4,9 @@ use Rattle.member_link.specs.Signatures.{reference_of}
 use Rattle.type_rules.proofs.CallRows.{chosen_by_receiver}
 use Rattle.type_rules.proofs.PoolFacts.{method_descriptor}
 use Rattle.type_rules.proofs.calls.call.Goals as goal
-use Rattle.type_rules.specs.References.{reference_meant}
+use Rattle.type_rules.specs.Inner.References.{reference_meant}
 use Rattle.member_link.specs.Scope.{Scope, row_scope}
-use Rattle.type_rules.specs.Signatures.{IsCallable}
+use Rattle.type_rules.specs.Inner.Signatures.{IsCallable}
 
 pub method_descriptor-requires : goal.method_descriptor-requires
 method_descriptor-requires c =

@@ -5,7 +5,8 @@ use Rattle.class_tree.specs.Headers.{Name, headers_of}
 use Rattle.class_tree.specs.Subtype.{IsChain}
 use Rattle.type_rules.proofs.Chains.{is_there, on_chain}
 use Rattle.type_rules.proofs.calls.is_on_chain.Goals as goal
-use Rattle.member_link.specs.Scope.{Scope, current}
+use Rattle.member_link.specs.Scope.{Scope}
+use Rattle.member_link.specs.Inner.Scope.{current}
 
 pub chain-requires : goal.chain-requires
 chain-requires c = is_there (headers_of c.rules.inside.tree.now) c.rules.inside.place c.rules.inside.header.now c.a_tree_is_a_hierarchy.ensures c.rules.invariant.stands

@@ -5,7 +5,7 @@ use Rattle.class_model.specs.declared.frame.VType.{VType}
 use Rattle.member_link.specs.Rows.Operands.{AllFit, Fits}
 use Rattle.type_rules.proofs.Pairwise.{all_fit_pairs, fit_as_long, pairs_decide}
 use Rattle.type_rules.proofs.need.all_fit.Goals as goal
-use Rattle.type_rules.specs.Meanings.{need_meant}
+use Rattle.type_rules.specs.Inner.Meanings.{need_meant}
 use Rattle.member_link.specs.Scope.{row_scope}
 use Rattle.type_rules.specs.declared.need.Need.{Need}
 

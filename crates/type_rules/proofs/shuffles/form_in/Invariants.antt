@@ -1,7 +1,7 @@
 use Rattle.std.proofs.Common.{◌≡◌, map, drop}
 use Rattle.member_link.specs.Rows.ShuffleRows.{form_in}
 use Rattle.type_rules.proofs.shuffles.form_in.Given as goal
-use Rattle.type_rules.specs.Forms.{form_meant}
+use Rattle.type_rules.specs.Inner.Forms.{form_meant}
 
 abbrev pub invariant-loop-form : goal.invariant-loop-form
 invariant-loop-form l = form_in (map form_meant (drop l.form-index l.forms)) l.stack ≡ form_in (map form_meant l.forms) l.stack

@@ -6,7 +6,7 @@ use Rattle.member_link.specs.Rows.Operands.{topmost, under}
 use Rattle.member_link.specs.Rows.ShuffleRows.{Form, form_in, forms_of, picked}
 use Rattle.type_rules.proofs.ShuffleForms.{row_of_form}
 use Rattle.type_rules.proofs.shuffles.shuffle.Goals as goal
-use Rattle.type_rules.specs.Forms.{form_meant, width_meant}
+use Rattle.type_rules.specs.Inner.Forms.{form_meant, width_meant}
 use Rattle.member_link.specs.Scope.{row_scope}
 
 pub returns : goal.returns

@@ -2,7 +2,7 @@ use Rattle.std.proofs.Common.{◌↔◌, IsTrue, not, sym, subst, ◌∙◌}
 use Rattle.std.proofs.lemmas.Bool.{both_ways}
 use Rattle.class_tree.specs.Headers.{headers_of}
 use Rattle.class_tree.specs.Laws.Places.{same_place}
-use Rattle.member_link.specs.Counting.{IsValid, Counts}
+use Rattle.member_link.specs.Inner.Counting.{IsValid, Counts}
 use Rattle.member_link.specs.declared.upwards.Counted.{Counted}
 use Rattle.member_link.proofs.CountedMethods.{of_interface, of_overriding, of_instance}
 use Rattle.member_link.proofs.SameFound.{same_found}

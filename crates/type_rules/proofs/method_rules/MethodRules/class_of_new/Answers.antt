@@ -1,6 +1,6 @@
 use Rattle.std.proofs.Common.{◌≡◌, ◌∙◌, None, Some, subst, ap}
 use Rattle.std.specs.Option.{option_copied}
-use Rattle.type_rules.specs.CodedScopes.{coded_of}
+use Rattle.type_rules.specs.Inner.CodedScopes.{coded_of}
 use Rattle.member_link.specs.Scope.{Scope}
 use Rattle.type_rules.proofs.NewClassLaws.{made_there}
 use Rattle.type_rules.proofs.method_rules.MethodRules.class_of_new.Goals as goal

@@ -12,7 +12,7 @@ use Rattle.member_link.specs.RowScope.{RowScope}
 use Rattle.member_link.specs.Rows.MemberRows.{MayInitialise, PassesInitialiser, initialised_type, result_types}
 use Rattle.member_link.specs.Rows.Operands.{Need, AllFit, assignable_to, lowest_of, topmost, uninitialised}
 use Rattle.member_link.specs.Rows.Row.{Row, conditional}
-use Rattle.type_rules.specs.Meanings.{need_meant}
+use Rattle.type_rules.specs.Inner.Meanings.{need_meant}
 use Rattle.type_rules.specs.declared.fault.RuleFault.{RuleFault}
 use Rattle.type_rules.specs.declared.fault.RuleFault.TheVariants as faults
 use Rattle.type_rules.specs.declared.fault.TypeRule.TheVariants as rules

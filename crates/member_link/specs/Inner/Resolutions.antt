@@ -15,7 +15,7 @@ use Rattle.member_link.specs.Fields.{FindsField}
 use Rattle.member_link.specs.Forms.{FitsKind, IsInstantiable}
 use Rattle.member_link.specs.Methods.{FindsMethod}
 use Rattle.member_link.specs.References.{Reference, reference_at, FieldTypeNames, DescriptorNames, IsNamedThere, IsNamedAccessible}
-use Rattle.member_link.specs.Resolving.{Resolved}
+use Rattle.member_link.specs.Inner.Resolving.{Resolved}
 use Rattle.member_link.specs.declared.resolution.Callee.{Callee}
 use Rattle.member_link.specs.declared.resolution.Referent.{Referent}
 use Rattle.member_link.specs.declared.resolution.Resolution.{Resolution}

@@ -7,7 +7,7 @@ use Rattle.class_tree.specs.Headers.{Classes, headers_of, IsClassFile}
 use Rattle.class_tree.specs.Order.{header_at}
 use Rattle.class_tree.specs.declared.place.Place.{Place}
 use Rattle.member_link.specs.CodedMethods.{CodedMethod}
-use Rattle.type_rules.specs.CodedScopes.{coded_of}
+use Rattle.type_rules.specs.Inner.CodedScopes.{coded_of}
 use Rattle.type_rules.specs.Rule.{FitsPool}
 use Rattle.member_link.specs.Scope.{Scope, instructions}
 
