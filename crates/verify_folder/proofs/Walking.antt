@@ -1,5 +1,5 @@
 -- The instructions are typed one after the other.
-use Rattle.std.proofs.Common.{◌≡◌, ◌+◌, ◌<◌, ◌≤◌, ℕ, List, [], ◌∷◌, ◌++◌, length, drop, map, get_or, Option, Some, None, Ok, sym, subst, inr}
+use Rattle.std.proofs.Common.{◌≡◌, ◌+◌, ◌<◌, ◌≤◌, ℕ, List, [], ◌∷◌, ◌++◌, length, drop, map, get_or, Option, Some, None, Ok, Err, sym, subst, inl, inr}
 use Rattle.std.proofs.Math.Seq.{append_snoc}
 use Rattle.std.proofs.lemmas.List.{append-nil, drop_more, drop_all}
 use Rattle.class_model.specs.declared.frame.Frame.{Frame}
@@ -7,9 +7,11 @@ use Rattle.class_model.specs.declared.instr.Placed.{Placed}
 use Rattle.type_rules.specs.MethodBodies.{body_of, point_of}
 use Rattle.member_link.specs.Scope.{Scope}
 use Rattle.type_rules.specs.Stated.{entry}
+use Rattle.verify_folder.specs.declared.stop.Stop.{Stop}
+use Rattle.verify_folder.specs.declared.stop.Stop.TheVariants.{Fails, NoMemory}
 use Rattle.type_rules.specs.Typed.{AreTyped, FailsIn}
 use Rattle.type_rules.specs.declared.fault.TypeRule.{TypeRule}
-use Rattle.verify_folder.specs.Inner.Steps.{StepAnswers}
+use Rattle.verify_folder.specs.Inner.Steps.{StepAnswers, WalkAnswers}
 
 -- These frames type the first instructions; this frame flows into those that are left.
 pub record IsOnWalk (s : Scope) (frames : List Frame) (flows : Option Frame) (left : List Placed) : Type 0 where
@@ -29,6 +31,10 @@ module _ (s : Scope) (frames : List Frame) (flows : Option Frame) (instrs : List
       fails = λ at rule h.
           on.fails at rule (subst (λ left. FailsIn (body_of s) flows (map (point_of s) left) at rule) here (inr (before, told.0, subst (λ frame. FailsIn (body_of s) frame (map (point_of s) (drop (i + 1) instrs)) at rule) told.1 h)));
     }
+
+    pub step_stops : (stop : Stop) → StepAnswers s flows placed (Err stop) → WalkAnswers s (Err stop)
+    step_stops (Fails offset rule) told = on.fails offset rule (subst (λ left. FailsIn (body_of s) flows (map (point_of s) left) offset rule) here (inl (told.1, told.0)))
+    step_stops NoMemory told = tt
 
   pub all_typed : length instrs ≤ i → flows ≡ None → AreTyped (body_of s) (Some (entry s)) (body_of s).points frames
   all_typed end none = subst (AreTyped (body_of s) (Some (entry s)) (body_of s).points) (append-nil frames) (on.types [] (subst (λ left. AreTyped (body_of s) flows (map (point_of s) left) []) (sym (drop_all i instrs end)) none))
