@@ -1,0 +1,4 @@
+pub mod Written
+pub mod Spellings
+pub mod Decoded
+pub mod Steps

@@ -1,0 +1,54 @@
+-- What is written of items so far.
+use Rattle.std.proofs.Common.{◌≡◌, ℕ, zero, suc, ◌+◌, ◌≤◌, ◌<◌, List, [], ◌∷◌, ◌++◌, length, slice_index_or, refl, sym, ap, subst, ◌∙◌, append_assoc, arith, length-append}
+use Rattle.class_model.specs.Instructions.{IsSpelling}
+use Rattle.class_model.specs.declared.instr.Placed.{Placed}
+use Rattle.code_bytes.specs.Forms.{instr_bytes}
+use Rattle.code_layout.specs.Emitting.{with_targets}
+use Rattle.code_layout.specs.Inner.Writing.{AreSpelled}
+use Rattle.code_layout.specs.Layout.{end_from, placed_bytes, placed_from, placed_items, short_len, short_starts, start_in, starts_from}
+use Rattle.code_layout.specs.declared.emitted.EmitItem.{EmitItem}
+use Rattle.code_layout.proofs.Spellings.{len-with_targets}
+
+-- these bytes, and then what is written of the items that are left
+pub record IsWritten (items : List EmitItem) (starts : List ℕ) (code : List ℕ) (left : List EmitItem) : Type 0 where
+  pub bytes : placed_bytes (placed_items items) ≡ code ++ placed_bytes (placed_from (start_in starts) (length code) left)
+  pub end : end_from 0 items ≡ end_from (length code) left
+  pub spelled : AreSpelled (placed_from (start_in starts) (length code) left) → AreSpelled (placed_items items)
+
+-- ---- places
+
+-- items end where they start, or behind it
+pub end-least : (at : ℕ) (items : List EmitItem) → at ≤ end_from at items
+end-least at [] = omega arith
+end-least at (item ∷ items) = let rest = end-least (at + short_len at item.instr) items in omega arith
+
+-- and no item starts behind their end
+pub start-most : (at : ℕ) (items : List EmitItem) (most : ℕ) → end_from at items ≤ most → (to : ℕ) → start_in (starts_from at items) to ≤ most
+start-most at [] most fits zero = omega arith
+start-most at [] most fits (suc to) = omega arith
+start-most at (item ∷ items) most fits zero = let low = end-least (at + short_len at item.instr) items in omega arith
+start-most at (item ∷ items) most fits (suc to) = start-most (at + short_len at item.instr) items most fits to
+
+-- ---- from nothing to all
+
+pub written-none : (items : List EmitItem) (starts : List ℕ) → starts ≡ short_starts items → IsWritten items starts [] items
+written-none items starts are = subst (λ (s : List ℕ). IsWritten items s [] items) (sym are) (record { bytes = refl; end = refl; spelled = λ all. all })
+
+module _ (items : List EmitItem) (starts code bytes : List ℕ) (item : EmitItem) (left : List EmitItem) (written : IsWritten items starts code (item ∷ left))
+    (here : length code ≤ 32767) (small : (to : ℕ) → start_in starts to ≤ 32767)
+    (is : bytes ≡ instr_bytes (length code) (with_targets (start_in starts) item.instr)) where
+  long : length (code ++ bytes) ≡ length code + short_len (length code) item.instr
+  long =
+      length-append code bytes ∙ ap (λ (b : List ℕ). length code + length b) is ∙ ap (λ (n : ℕ). length code + n) (len-with_targets (length code) (start_in starts) item.instr here small)
+
+  -- one more item
+  pub written-more : IsSpelling (length code) (with_targets (start_in starts) item.instr) bytes → IsWritten items starts (code ++ bytes) left
+  written-more spells = record {
+    bytes =
+        written.bytes
+        ∙ ap (λ (b : List ℕ). code ++ (b ++ placed_bytes (placed_from (start_in starts) (length code + short_len (length code) item.instr) left))) (sym is)
+        ∙ sym (append_assoc code bytes (placed_bytes (placed_from (start_in starts) (length code + short_len (length code) item.instr) left)))
+        ∙ ap (λ (n : ℕ). (code ++ bytes) ++ placed_bytes (placed_from (start_in starts) n left)) (sym long);
+    end = written.end ∙ ap (λ (n : ℕ). end_from n left) (sym long);
+    spelled = λ rest. written.spelled (subst (λ (b : List ℕ). IsSpelling (length code) (with_targets (start_in starts) item.instr) b) is spells, subst (λ (n : ℕ). AreSpelled (placed_from (start_in starts) n left)) long rest);
+  }

@@ -1,0 +1,59 @@
+-- Code that was emitted: instructions whose targets are numbers of items. It is this project's profile.
+use Rattle.std.specs.Prelude.{◌≡◌, ℕ, ◌+◌, ◌<◌, Bool, true, false, List, length, map, slice_get, Some}
+use Rattle.std.specs.List.{AllByRecursion}
+use Rattle.class_model.specs.Instructions.{targets}
+use Rattle.class_model.specs.declared.instr.Imm.TheVariants as imms
+use Rattle.class_model.specs.declared.instr.Instr.{Instr}
+use Rattle.class_model.specs.declared.instr.Instr.TheVariants.{Const, If, If2, IfSame, IfNull, Goto, Table, Lookup, Throw}
+use Rattle.class_model.specs.declared.instr.Pair.{Pair}
+use Rattle.code_bytes.specs.Encoding.{FitsForm}
+use Rattle.code_layout.specs.declared.emitted.Catch.{Catch}
+use Rattle.code_layout.specs.declared.emitted.EmitItem.{EmitItem}
+
+-- the key, and the target that a map makes of its target
+abbrev pub pair_to : (ℕ → ℕ) → Pair → Pair
+pair_to place pair = record { key = pair.key; to = place pair.to }
+
+-- the instruction whose targets are those that a map makes of its targets
+abbrev pub with_targets : (ℕ → ℕ) → Instr → Instr
+with_targets place (If opcode to) = If opcode (place to)
+with_targets place (If2 opcode to) = If2 opcode (place to)
+with_targets place (IfSame opcode to) = IfSame opcode (place to)
+with_targets place (IfNull opcode to) = IfNull opcode (place to)
+with_targets place (Goto to) = Goto (place to)
+with_targets place (Table low other to) = Table low (place other) (map place to)
+with_targets place (Lookup other pairs) = Lookup (place other) (map (pair_to place) pairs)
+with_targets place instr = instr
+
+-- its opcode, count, code and numbers are of its form: it would have a spelling if it stood where it jumps to
+abbrev pub HasForm : Instr → Type 0
+HasForm instr = FitsForm 0 (with_targets (λ _. 0) instr)
+
+-- a number names one of so many items
+abbrev pub NamesItem : ℕ → ℕ → Type 0
+NamesItem items to = to < items
+
+-- the item of a number has this instruction
+abbrev pub HasInstr : List EmitItem → ℕ → Instr → Type 0
+HasInstr items at instr = (item : EmitItem) × (slice_get items at ≡ Some item) × (item.instr ≡ instr)
+
+-- The jump inside a test against null: an ifnonnull to three items on, over an aconst_null and an athrow.
+pub record JumpsNear (items : List EmitItem) (at : ℕ) (instr : Instr) : Type 0 where
+  pub jump : instr ≡ IfNull 199 (at + 3)
+  pub null : HasInstr items (at + 1) (Const imms.Null)
+  pub throw : HasInstr items (at + 2) Throw
+
+abbrev pub IfNear : List EmitItem → ℕ → EmitItem → Type 0
+IfNear items at item = item.near ≡ true → JumpsNear items at item.instr
+
+-- what is asked of an item that stands at a number among items
+pub record IsItem (items : List EmitItem) (at : ℕ) (item : EmitItem) : Type 0 where
+  pub form : HasForm item.instr
+  pub targets : AllByRecursion (NamesItem (length items)) (targets item.instr)
+  pub catches : AllByRecursion (λ catch. NamesItem (length items) catch.to) item.catches
+  pub near : IfNear items at item
+
+-- There is an item, and each is as asked.
+pub record IsEmitted (items : List EmitItem) : Type 0 where
+  pub some : 0 < length items
+  pub each : (at : ℕ) (item : EmitItem) → slice_get items at ≡ Some item → IsItem items at item

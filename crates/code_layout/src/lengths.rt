@@ -1,0 +1,25 @@
+//! How long instructions are in the short form.
+ghost use Rattle.std.specs.Prelude.{◌≡◌, ◌≤◌};
+ghost use Rattle.code_layout.specs.Emitting.{HasForm};
+ghost use Rattle.code_layout.specs.Layout.{short_len};
+
+use class_model::Instr;
+use code_bytes::code_len;
+
+/// How many bytes an instruction takes in the short form at an offset, in bytes.
+pub(crate) fn short_len(instr: &Instr, at: u32) -> u32
+    requires place { at ≤ 32767 }
+    requires form { HasForm instr.now }
+    ensures { result ≡ short_len at instr.now }
+{
+    match instr {
+        Instr::If(opcode, _) => code_len(&Instr::If(*opcode, at), at),
+        Instr::If2(opcode, _) => code_len(&Instr::If2(*opcode, at), at),
+        Instr::IfSame(opcode, _) => code_len(&Instr::IfSame(*opcode, at), at),
+        Instr::IfNull(opcode, _) => code_len(&Instr::IfNull(*opcode, at), at),
+        Instr::Goto(_) => code_len(&Instr::Goto(at), at),
+        Instr::Table { targets, .. } => 13 + (3 - at % 4) + 4 * targets.len() as u32,
+        Instr::Lookup { pairs, .. } => 9 + (3 - at % 4) + 8 * pairs.len() as u32,
+        _ => code_len(instr, at),
+    }
+}
