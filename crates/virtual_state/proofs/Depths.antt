@@ -76,8 +76,8 @@ module _ (site : ℕ) (change : ℕ → ℕ) where
     reached = λ other present. reached_still state.slots state.objects (is.reached other (sym (present_still state.objects other) ∙ present));
     acyclic = λ other path. is.acyclic other (path_there state.objects path);
     usable = λ other object found.
-    let was = was_there state.objects other object found in
-    ap (λ (one : VObject). list_any is_unusable one.fields) was.is ∙ ap (list_any is_unusable) (own_fields was.before) ∙ is.usable other was.before was.there;
+        let was = was_there state.objects other object found in
+        ap (λ (one : VObject). list_any is_unusable one.fields) was.is ∙ ap (list_any is_unusable) (own_fields was.before) ∙ is.usable other was.before was.there;
   }
 
 -- an object of the site, and another one
@@ -94,19 +94,19 @@ put_is_redepth before after object depth first second there has =
     let change : ℕ → ℕ = λ _. depth in
     same_objects after (map (object_with_depth site change) before) second (subst IsIncreasing (sym (redepth_sites site change before)) first) (λ other. elim (same_or_not other site) [
       | inl same ↦
-        ap (object_of after) same
-        ∙ has.here
-        ∙ ap (λ (one : VObject). Some one) (sym (redepth_here site change object refl))
-        ∙ sym (redepth_found site change before other ∙ ap (λ (n : ℕ). option_map (object_with_depth site change) (object_of before n)) same ∙ ap (option_map (object_with_depth site change)) there)
+          ap (object_of after) same
+          ∙ has.here
+          ∙ ap (λ (one : VObject). Some one) (sym (redepth_here site change object refl))
+          ∙ sym (redepth_found site change before other ∙ ap (λ (n : ℕ). option_map (object_with_depth site change) (object_of before n)) same ∙ ap (option_map (object_with_depth site change)) there)
       | inr differ ↦
-        has.others other differ
-        ∙ elim (some_or_none (object_of before other)) [
-          | inl found ↦
-            found.1
-            ∙ ap (λ (one : VObject). Some one) (sym (redepth_other site change found.0 (λ same. differ (sym (found_site before other found.0 found.1) ∙ same))))
-            ∙ sym (redepth_found site change before other ∙ ap (option_map (object_with_depth site change)) found.1)
-          | inr none ↦ none ∙ sym (redepth_found site change before other ∙ ap (option_map (object_with_depth site change)) none)
-        ]
+          has.others other differ
+          ∙ elim (some_or_none (object_of before other)) [
+            | inl found ↦
+                found.1
+                ∙ ap (λ (one : VObject). Some one) (sym (redepth_other site change found.0 (λ same. differ (sym (found_site before other found.0 found.1) ∙ same))))
+                ∙ sym (redepth_found site change before other ∙ ap (option_map (object_with_depth site change)) found.1)
+            | inr none ↦ none ∙ sym (redepth_found site change before other ∙ ap (option_map (object_with_depth site change)) none)
+          ]
     ])
 
 -- changes that agree on the depth of the site
@@ -114,23 +114,23 @@ pub redepth_agrees : (objects : List VObject) (object : VObject) (one other : �
 redepth_agrees objects object one other order there agree =
     let site = object.site in
     same_objects (map (object_with_depth site one) objects) (map (object_with_depth site other) objects) (subst IsIncreasing (sym (redepth_sites site one objects)) order) (subst IsIncreasing (sym (redepth_sites site other objects)) order) (λ at.
-      redepth_found site one objects at
-      ∙ elim (some_or_none (object_of objects at)) [
-        | inl found ↦
+    redepth_found site one objects at
+    ∙ elim (some_or_none (object_of objects at)) [
+      | inl found ↦
           let own = found_site objects at found.0 found.1 in
           ap (option_map (object_with_depth site one)) found.1
           ∙ ap (λ (o : VObject). Some o) (elim (same_or_not found.0.site site) [
             | inl same ↦
-              let is : found.0 ≡ object = same_Some found.0 object (sym (ap (object_of objects) (sym same ∙ own) ∙ found.1) ∙ there) in
-              redepth_here site one found.0 same
-              ∙ ap (λ (n : ℕ). record found.0 { depth = n }) (ap (λ (o : VObject). one o.depth) is ∙ agree ∙ ap (λ (o : VObject). other o.depth) (sym is))
-              ∙ sym (redepth_here site other found.0 same)
+                let is : found.0 ≡ object = same_Some found.0 object (sym (ap (object_of objects) (sym same ∙ own) ∙ found.1) ∙ there) in
+                redepth_here site one found.0 same
+                ∙ ap (λ (n : ℕ). record found.0 { depth = n }) (ap (λ (o : VObject). one o.depth) is ∙ agree ∙ ap (λ (o : VObject). other o.depth) (sym is))
+                ∙ sym (redepth_here site other found.0 same)
             | inr differ ↦ redepth_other site one found.0 differ ∙ sym (redepth_other site other found.0 differ)
           ])
           ∙ sym (ap (option_map (object_with_depth site other)) found.1)
-        | inr none ↦ ap (option_map (object_with_depth site one)) none ∙ sym (ap (option_map (object_with_depth site other)) none)
-      ]
-      ∙ sym (redepth_found site other objects at))
+      | inr none ↦ ap (option_map (object_with_depth site one)) none ∙ sym (ap (option_map (object_with_depth site other)) none)
+    ]
+    ∙ sym (redepth_found site other objects at))
 
 -- the depth of one object, and of its site
 pub depth_moves : (state : State) (object : VObject) (site : ℕ) (change : ℕ → ℕ) → IsIncreasing (sites_of state.objects) → object_of state.objects site ≡ Some object → with_depth state object.site (λ _. change object.depth) ≡ with_depth state site change

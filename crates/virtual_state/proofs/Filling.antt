@@ -24,8 +24,8 @@ filled_more whole before after site filled None is same = record {
   before = λ other low. ap (λ (part : List VObject). object_of part other) same ∙ elim (cases_lt other site) [
     | inl less ↦ filled.before other less
     | inr more ↦
-      let here : other ≡ site = omega arith in
-      filled.behind other more ∙ sym is ∙ ap (object_of whole) (sym here)
+        let here : other ≡ site = omega arith in
+        filled.behind other more ∙ sym is ∙ ap (object_of whole) (sym here)
   ];
   behind = λ other high. ap (λ (part : List VObject). object_of part other) same ∙ filled.behind other (omega arith);
 }
@@ -38,10 +38,11 @@ filled_more whole before after site filled (Some object) is has =
       ];
       behind = λ other high. has.others other (λ same. absurd (too_high other high (same ∙ own))) ∙ filled.behind other (omega arith);
     } where
-  less_of : (other : ℕ) → ¬ (other ≡ site) → other < site + 1 → other < site
-  less_of other differ low = elim (cases_lt other site) [ inl less ↦ less | inr more ↦ absurd (differ (omega arith)) ]
-  too_high : (other : ℕ) → site + 1 ≤ other → ¬ (other ≡ site)
-  too_high other high same = omega arith
+      less_of : (other : ℕ) → ¬ (other ≡ site) → other < site + 1 → other < site
+      less_of other differ low = elim (cases_lt other site) [ inl less ↦ less | inr more ↦ absurd (differ (omega arith)) ]
+
+      too_high : (other : ℕ) → site + 1 ≤ other → ¬ (other ≡ site)
+      too_high other high same = omega arith
 
 pub filled_all : (whole part : List VObject) (end : ℕ) → IsFilled whole part end → ((site : ℕ) → end ≤ site → object_of whole site ≡ None) → IsIncreasing (sites_of part) → IsIncreasing (sites_of whole) → part ≡ whole
 filled_all whole part end filled past first second = same_objects part whole first second (λ site. elim (cases_lt site end) [
@@ -55,16 +56,16 @@ pub stays_found : (away : ℕ → Bool) (objects : List VObject) (site : ℕ) �
 stays_found away objects site =
     elim (some_or_none (object_of objects site)) [
       | inl found ↦
-        let own = found_site objects site found.0 found.1 in
-        elim (cases_Bool (away site)) [
-          | inl is_away ↦
-            gone away objects site is_away
-            ∙ sym (ap (stays_as away) found.1 ∙ ap (λ (b : Bool). cond b None (Some (object_without away found.0))) (ap away own ∙ is_away))
-          | inr not_away ↦
-            stays away objects site not_away
-            ∙ ap (option_map (object_without away)) found.1
-            ∙ sym (ap (stays_as away) found.1 ∙ ap (λ (b : Bool). cond b None (Some (object_without away found.0))) (ap away own ∙ not_away))
-        ]
+          let own = found_site objects site found.0 found.1 in
+          elim (cases_Bool (away site)) [
+            | inl is_away ↦
+                gone away objects site is_away
+                ∙ sym (ap (stays_as away) found.1 ∙ ap (λ (b : Bool). cond b None (Some (object_without away found.0))) (ap away own ∙ is_away))
+            | inr not_away ↦
+                stays away objects site not_away
+                ∙ ap (option_map (object_without away)) found.1
+                ∙ sym (ap (stays_as away) found.1 ∙ ap (λ (b : Bool). cond b None (Some (object_without away found.0))) (ap away own ∙ not_away))
+          ]
       | inr none ↦ elim (cases_Bool (away site)) [
         | inl is_away ↦ gone away objects site is_away ∙ sym (ap (stays_as away) none)
         | inr not_away ↦ stays away objects site not_away ∙ ap (option_map (object_without away)) none ∙ sym (ap (stays_as away) none)
@@ -78,20 +79,20 @@ pub among_found : (test : ℕ → Bool) (objects : List VObject) (site : ℕ) �
 among_found test objects site =
     elim (some_or_none (object_of objects site)) [
       | inl found ↦
-        let own = found_site objects site found.0 found.1 in
-        object_of-filter test objects site
-        ∙ ap (λ (o : Option VObject). cond (test site) o None) found.1
-        ∙ ap (λ (n : ℕ). cond (test n) (Some found.0) None) (sym own)
-        ∙ sym (ap (if_among test) found.1)
+          let own = found_site objects site found.0 found.1 in
+          object_of-filter test objects site
+          ∙ ap (λ (o : Option VObject). cond (test site) o None) found.1
+          ∙ ap (λ (n : ℕ). cond (test n) (Some found.0) None) (sym own)
+          ∙ sym (ap (if_among test) found.1)
       | inr none ↦
-        object_of-filter test objects site
-        ∙ ap (λ (o : Option VObject). cond (test site) o None) none
-        ∙ neither (test site)
-        ∙ sym (ap (if_among test) none)
+          object_of-filter test objects site
+          ∙ ap (λ (o : Option VObject). cond (test site) o None) none
+          ∙ neither (test site)
+          ∙ sym (ap (if_among test) none)
     ] where
-  neither : (b : Bool) → ◌≡◌ {A = Option VObject} (cond b None None) None
-  neither true = refl
-  neither false = refl
+      neither : (b : Bool) → ◌≡◌ {A = Option VObject} (cond b None None) None
+      neither true = refl
+      neither false = refl
 
 pub among_past : (test : ℕ → Bool) (objects : List VObject) (site : ℕ) → object_of objects site ≡ None → object_of (of_sites test objects) site ≡ None
 among_past test objects site none = among_found test objects site ∙ ap (if_among test) none

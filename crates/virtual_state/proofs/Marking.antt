@@ -24,13 +24,12 @@ has_push sites site one = list_any-append (λ number. number == one) sites (site
 pub marked_both : {one two three : List ℕ} {first second : ℕ → Bool} → HasMarked one two first → HasMarked two three second → HasMarked one three (λ site. first site || second site)
 marked_both {one} {two} {three} {first} {second} before after = record {
   kept =
-  let shorter : length one ≤ length two = omega (arith, length-take (length one) two, ap {B = ℕ} (λ (list : List ℕ). length list) before.kept) in
-  sym (take-take (length one) (length two) three shorter)
-  ∙ ap (take (length one)) after.kept
-  ∙ before.kept;
+      let shorter : length one ≤ length two = omega (arith, length-take (length one) two, ap {B = ℕ} (λ (list : List ℕ). length list) before.kept) in
+      sym (take-take (length one) (length two) three shorter)
+      ∙ ap (take (length one)) after.kept
+      ∙ before.kept;
   marked = λ site. after.marked site ∙ ap (λ (b : Bool). b || second site) (before.marked site) ∙ or_assoc (has one site) (first site) (second site);
 } where
   or_assoc : (a b c : Bool) → ((a || b) || c) ≡ (a || (b || c))
   or_assoc true b c = refl
   or_assoc false b c = refl
-

@@ -72,11 +72,11 @@ reached_is_state slots objects sites order can reached =
       order = filter_in_order test objects order;
       places = λ site named. there site (reached.all site (from_slot site named)) (can.places site named);
       fields = λ from to edge.
-      let was = edge_of_all test objects from to edge in
-      there to (reached.closed from to was.1 was.0) (can.fields from to was.1);
+          let was = edge_of_all test objects from to edge in
+          there to (reached.closed from to was.1 was.0) (can.fields from to was.1);
       reached = λ site present.
-      let found = found_present (of_sites test objects) site present in
-      reached_among test slots objects reached.all (reached.only site (among_found test objects site found.0 found.1).0);
+          let found = found_present (of_sites test objects) site present in
+          reached_among test slots objects reached.all (reached.only site (among_found test objects site found.0 found.1).0);
       acyclic = λ site path. can.acyclic site (path_of_all test objects path);
       usable = λ site object found. can.usable site object (among_found test objects site object found).1;
     }
@@ -85,8 +85,8 @@ pub reached_is_of : (slots : List Slot) (objects : List VObject) (sites : List �
 reached_is_of slots objects sites reached = record {
   same_slots = refl;
   reached = λ site present.
-  let found = found_present (of_sites (has sites) objects) site present in
-  reached.only site (among_found (has sites) objects site found.0 found.1).0;
+      let found = found_present (of_sites (has sites) objects) site present in
+      reached.only site (among_found (has sites) objects site found.0 found.1).0;
   kept = λ site way. among_yes (has sites) objects site (reached.all site way);
 }
 

@@ -44,6 +44,7 @@ pub gap_is_free : (sites : List ℕ) (site at : ℕ) → IsGap sites site at →
 gap_is_free sites site at gap = not_there sites site (λ index within same. by_cases index within same (index_cases index)) where
   index_cases : (index : ℕ) → (index < at) ⊎ (at ≤ index)
   index_cases index = cases_lt index at
+
   by_cases : (index : ℕ) → index < length sites → get_or sites index 0 ≡ site → (index < at) ⊎ (at ≤ index) → ⊥
   by_cases index within same (inl low) = let less = gap.before index low in omega arith
   by_cases index within same (inr high) = let more = gap.behind index high within in omega arith
@@ -61,11 +62,11 @@ has_insert sites site at one =
     ∙ or_move (has (take at sites) one) (site == one) (has (drop at sites) one)
     ∙ ap (λ (b : Bool). b || site == one) (sym (list_any-append (λ number. number == one) (take at sites) (drop at sites)))
     ∙ ap (λ (list : List ℕ). has list one || site == one) (take_drop sites at) where
-  take_drop : (sites : List ℕ) (at : ℕ) → take at sites ++ drop at sites ≡ sites
-  take_drop [] zero = refl
-  take_drop [] (suc at) = refl
-  take_drop (first ∷ sites) zero = refl
-  take_drop (first ∷ sites) (suc at) = ap (λ (rest : List ℕ). first ∷ rest) (take_drop sites at)
+      take_drop : (sites : List ℕ) (at : ℕ) → take at sites ++ drop at sites ≡ sites
+      take_drop [] zero = refl
+      take_drop [] (suc at) = refl
+      take_drop (first ∷ sites) zero = refl
+      take_drop (first ∷ sites) (suc at) = ap (λ (rest : List ℕ). first ∷ rest) (take_drop sites at)
 
 all_insert : (P : ℕ → Type 0) (sites : List ℕ) (site at : ℕ) → AllByRecursion P sites → P site → AllByRecursion P (take at sites ++ site ∷ drop at sites)
 all_insert P [] site zero all here = (here, tt)

@@ -85,6 +85,7 @@ set_entry_at entries at entry within = record { here = here entries at within; o
   here [] at within = absurd (omega arith)
   here (first ∷ entries) zero within = refl
   here (first ∷ entries) (suc at) within = here entries at (omega arith)
+
   others : (entries : List (Option VObject)) (at other : ℕ) → other ≢ at → entry_at (set entries at entry) other ≡ entry_at entries other
   others [] at other differ = refl
   others (first ∷ entries) zero zero differ = absurd (differ refl)

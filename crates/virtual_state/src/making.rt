@@ -59,11 +59,7 @@ fn put_all(alloc: Global, table: &mut ObjectTable, objects: VObjectList) -> Resu
 }
 
 // The state of these slots with those of the objects that the slots reach.
-fn reached_state(
-    alloc: Global,
-    slots: SlotList,
-    table: &ObjectTable,
-) -> Result<VState, NoMemory>
+fn reached_state(alloc: Global, slots: SlotList, table: &ObjectTable) -> Result<VState, NoMemory>
     requires { CanBeState slots table.now }
     ensures { IfOk result (λ state. IsStateOf slots table.now state) }
 {

@@ -81,11 +81,7 @@ fn holds_any(slots: &[Slot], away: &MarkedSites) -> bool
 }
 
 // Slots where the objects of marked sites are made.
-fn slots_without(
-    alloc: Global,
-    slots: &[Slot],
-    away: &MarkedSites,
-) -> Result<SlotList, NoMemory>
+fn slots_without(alloc: Global, slots: &[Slot], away: &MarkedSites) -> Result<SlotList, NoMemory>
     ensures { IfOk result (λ rest. rest ≡ map (made_plain (has away.now)) slots.now) }
 {
     let mut rest = Vec::with_capacity(alloc, slots.len())?;
@@ -100,13 +96,7 @@ fn slot_without(slot: Slot, away: &MarkedSites) -> Slot
     ensures { result ≡ made_plain (has away.now) slot }
 {
     match slot {
-        Slot::Virt(site) => {
-            if away.has(site) {
-                Slot::Plain
-            } else {
-                slot
-            }
-        }
+        Slot::Virt(site) => { if away.has(site) { Slot::Plain } else { slot } }
         Slot::Plain | Slot::Unusable => slot,
     }
 }

@@ -68,23 +68,23 @@ same_objects (object ∷ one) [] first second same = absurd (none-some object (s
 same_objects (left ∷ one) (right ∷ other) first second same =
     elim (cases_order left.site right.site) [
       | inl equal ↦
-        let heads : left ≡ right = same_Some left right (sym (object_first left one left.site refl) ∙ same left.site ∙ object_first right other left.site (sym equal)) in
-        let tails : (site : ℕ) → object_of one site ≡ object_of other site = λ site. elim (same_or_not left.site site) [
-          | inl here ↦
-            none_below one site (subst (λ (low : ℕ). AllByRecursion (λ number. low < number) (sites_of one)) here first.0)
-            ∙ sym (none_below other site (subst (λ (low : ℕ). AllByRecursion (λ number. low < number) (sites_of other)) (sym equal ∙ here) second.0))
-          | inr differ ↦
-            sym (object_behind left one site differ) ∙ same site ∙ object_behind right other site (λ here. differ (equal ∙ here))
-        ] in
-        λ i. heads i ∷ same_objects one other first.1 second.1 tails i
+          let heads : left ≡ right = same_Some left right (sym (object_first left one left.site refl) ∙ same left.site ∙ object_first right other left.site (sym equal)) in
+          let tails : (site : ℕ) → object_of one site ≡ object_of other site = λ site. elim (same_or_not left.site site) [
+            | inl here ↦
+                none_below one site (subst (λ (low : ℕ). AllByRecursion (λ number. low < number) (sites_of one)) here first.0)
+                ∙ sym (none_below other site (subst (λ (low : ℕ). AllByRecursion (λ number. low < number) (sites_of other)) (sym equal ∙ here) second.0))
+            | inr differ ↦
+                sym (object_behind left one site differ) ∙ same site ∙ object_behind right other site (λ here. differ (equal ∙ here))
+          ] in
+          λ i. heads i ∷ same_objects one other first.1 second.1 tails i
       | inr (inl less) ↦
-        let above : AllByRecursion (λ number. left.site < number) (sites_of (right ∷ other)) =
-        (less, AllByRecursion-weaker (λ number. right.site < number) (λ number. left.site < number) (λ number far. omega arith) (sites_of other) second.0) in
-        absurd (none-some left (sym (none_below (right ∷ other) left.site above) ∙ sym (same left.site) ∙ object_first left one left.site refl))
+          let above : AllByRecursion (λ number. left.site < number) (sites_of (right ∷ other)) =
+          (less, AllByRecursion-weaker (λ number. right.site < number) (λ number. left.site < number) (λ number far. omega arith) (sites_of other) second.0) in
+          absurd (none-some left (sym (none_below (right ∷ other) left.site above) ∙ sym (same left.site) ∙ object_first left one left.site refl))
       | inr (inr more) ↦
-        let above : AllByRecursion (λ number. right.site < number) (sites_of (left ∷ one)) =
-        (more, AllByRecursion-weaker (λ number. left.site < number) (λ number. right.site < number) (λ number far. omega arith) (sites_of one) first.0) in
-        absurd (none-some right (sym (none_below (left ∷ one) right.site above) ∙ same right.site ∙ object_first right other right.site refl))
+          let above : AllByRecursion (λ number. right.site < number) (sites_of (left ∷ one)) =
+          (more, AllByRecursion-weaker (λ number. left.site < number) (λ number. right.site < number) (λ number far. omega arith) (sites_of one) first.0) in
+          absurd (none-some right (sym (none_below (left ∷ one) right.site above) ∙ same right.site ∙ object_first right other right.site refl))
     ]
 
 -- ---- objects that change, and that are left out
@@ -95,12 +95,12 @@ object_of-map change keeps [] site = refl
 object_of-map change keeps (object ∷ objects) site =
     elim (same_or_not object.site site) [
       | inl same ↦
-        object_first (change object) (map change objects) site (keeps object ∙ same)
-        ∙ sym (ap (option_map change) (object_first object objects site same))
+          object_first (change object) (map change objects) site (keeps object ∙ same)
+          ∙ sym (ap (option_map change) (object_first object objects site same))
       | inr differ ↦
-        object_behind (change object) (map change objects) site (λ same. differ (sym (keeps object) ∙ same))
-        ∙ object_of-map change keeps objects site
-        ∙ sym (ap (option_map change) (object_behind object objects site differ))
+          object_behind (change object) (map change objects) site (λ same. differ (sym (keeps object) ∙ same))
+          ∙ object_of-map change keeps objects site
+          ∙ sym (ap (option_map change) (object_behind object objects site differ))
     ]
 
 pub sites_of-map : (change : VObject → VObject) → ((object : VObject) → (change object).site ≡ object.site) → (objects : List VObject) → sites_of (map change objects) ≡ sites_of objects
@@ -126,26 +126,26 @@ object_of-filter test (object ∷ objects) site =
     elim (same_or_not object.site site) [
       | inl same ↦ elim (cases_Bool (test object.site)) [
         | inl passes ↦
-          ap (λ (list : List VObject). object_of list site) (filter_first test object objects passes)
-          ∙ object_first object (of_sites test objects) site same
-          ∙ sym (object_first object objects site same)
-          ∙ sym (ap (λ (b : Bool). cond b (object_of (object ∷ objects) site) None) (sym (ap test same) ∙ passes))
+            ap (λ (list : List VObject). object_of list site) (filter_first test object objects passes)
+            ∙ object_first object (of_sites test objects) site same
+            ∙ sym (object_first object objects site same)
+            ∙ sym (ap (λ (b : Bool). cond b (object_of (object ∷ objects) site) None) (sym (ap test same) ∙ passes))
         | inr fails ↦
-          let fails_here : test site ≡ false = sym (ap test same) ∙ fails in
-          ap (λ (list : List VObject). object_of list site) (filter_behind test object objects fails)
-          ∙ object_of-filter test objects site
-          ∙ ap (λ (b : Bool). cond b (object_of objects site) None) fails_here
-          ∙ sym (ap (λ (b : Bool). cond b (object_of (object ∷ objects) site) None) fails_here)
+            let fails_here : test site ≡ false = sym (ap test same) ∙ fails in
+            ap (λ (list : List VObject). object_of list site) (filter_behind test object objects fails)
+            ∙ object_of-filter test objects site
+            ∙ ap (λ (b : Bool). cond b (object_of objects site) None) fails_here
+            ∙ sym (ap (λ (b : Bool). cond b (object_of (object ∷ objects) site) None) fails_here)
       ]
       | inr differ ↦
-        let rest = object_of-filter test objects site ∙ ap (λ (o : Option VObject). cond (test site) o None) (sym (object_behind object objects site differ)) in
-        elim (cases_Bool (test object.site)) [
-          | inl passes ↦
-            ap (λ (list : List VObject). object_of list site) (filter_first test object objects passes)
-            ∙ object_behind object (of_sites test objects) site differ
-            ∙ rest
-          | inr fails ↦ ap (λ (list : List VObject). object_of list site) (filter_behind test object objects fails) ∙ rest
-        ]
+          let rest = object_of-filter test objects site ∙ ap (λ (o : Option VObject). cond (test site) o None) (sym (object_behind object objects site differ)) in
+          elim (cases_Bool (test object.site)) [
+            | inl passes ↦
+                ap (λ (list : List VObject). object_of list site) (filter_first test object objects passes)
+                ∙ object_behind object (of_sites test objects) site differ
+                ∙ rest
+            | inr fails ↦ ap (λ (list : List VObject). object_of list site) (filter_behind test object objects fails) ∙ rest
+          ]
     ]
 
 -- what holds of each site holds of those that are kept

@@ -27,42 +27,43 @@ has_where test [] site = refl
 has_where test (object ∷ objects) site =
     elim (same_or_not object.site site) [
       | inl same ↦
-        let present = ap is_some (object_first object objects site same) in
-        elim (cases_Bool (test object.site)) [
-          | inl passes ↦
-            ap (λ (list : List ℕ). has list site) (ap (λ (b : Bool). cond b (object.site ∷ sites_where test objects) (sites_where test objects)) passes)
-            ∙ ap (λ (b : Bool). b || has (sites_where test objects) site) (eq-eqb object.site site same)
-            ∙ sym (and_from (is_present (object ∷ objects) site) (test site) present (sym (ap test same) ∙ passes))
-          | inr fails ↦
-            let fails_here = sym (ap test same) ∙ fails in
-            ap (λ (list : List ℕ). has list site) (ap (λ (b : Bool). cond b (object.site ∷ sites_where test objects) (sites_where test objects)) fails)
-            ∙ has_where test objects site
-            ∙ ap (λ (b : Bool). is_present objects site && b) fails_here
-            ∙ no_and (is_present objects site)
-            ∙ sym (ap (λ (b : Bool). is_present (object ∷ objects) site && b) fails_here ∙ no_and (is_present (object ∷ objects) site))
-        ]
+          let present = ap is_some (object_first object objects site same) in
+          elim (cases_Bool (test object.site)) [
+            | inl passes ↦
+                ap (λ (list : List ℕ). has list site) (ap (λ (b : Bool). cond b (object.site ∷ sites_where test objects) (sites_where test objects)) passes)
+                ∙ ap (λ (b : Bool). b || has (sites_where test objects) site) (eq-eqb object.site site same)
+                ∙ sym (and_from (is_present (object ∷ objects) site) (test site) present (sym (ap test same) ∙ passes))
+            | inr fails ↦
+                let fails_here = sym (ap test same) ∙ fails in
+                ap (λ (list : List ℕ). has list site) (ap (λ (b : Bool). cond b (object.site ∷ sites_where test objects) (sites_where test objects)) fails)
+                ∙ has_where test objects site
+                ∙ ap (λ (b : Bool). is_present objects site && b) fails_here
+                ∙ no_and (is_present objects site)
+                ∙ sym (ap (λ (b : Bool). is_present (object ∷ objects) site && b) fails_here ∙ no_and (is_present (object ∷ objects) site))
+          ]
       | inr differ ↦
-        let behind = ap (λ (o : Option VObject). is_some o && test site) (object_behind object objects site differ) in
-        elim (cases_Bool (test object.site)) [
-          | inl passes ↦
-            ap (λ (list : List ℕ). has list site) (ap (λ (b : Bool). cond b (object.site ∷ sites_where test objects) (sites_where test objects)) passes)
-            ∙ other_first object.site site (has (sites_where test objects) site) differ
-            ∙ has_where test objects site
-            ∙ sym behind
-          | inr fails ↦
-            ap (λ (list : List ℕ). has list site) (ap (λ (b : Bool). cond b (object.site ∷ sites_where test objects) (sites_where test objects)) fails)
-            ∙ has_where test objects site
-            ∙ sym behind
-        ]
+          let behind = ap (λ (o : Option VObject). is_some o && test site) (object_behind object objects site differ) in
+          elim (cases_Bool (test object.site)) [
+            | inl passes ↦
+                ap (λ (list : List ℕ). has list site) (ap (λ (b : Bool). cond b (object.site ∷ sites_where test objects) (sites_where test objects)) passes)
+                ∙ other_first object.site site (has (sites_where test objects) site) differ
+                ∙ has_where test objects site
+                ∙ sym behind
+            | inr fails ↦
+                ap (λ (list : List ℕ). has list site) (ap (λ (b : Bool). cond b (object.site ∷ sites_where test objects) (sites_where test objects)) fails)
+                ∙ has_where test objects site
+                ∙ sym behind
+          ]
     ] where
-  no_and : (b : Bool) → (b && false) ≡ false
-  no_and true = refl
-  no_and false = refl
-  other_first : (one other : ℕ) (b : Bool) → one ≢ other → ((one == other) || b) ≡ b
-  other_first one other b differ = elim (cases_Bool (one == other)) [
-    | inl same ↦ absurd (differ (eqb-true one other same))
-    | inr not_same ↦ ap (λ (c : Bool). c || b) not_same
-  ]
+      no_and : (b : Bool) → (b && false) ≡ false
+      no_and true = refl
+      no_and false = refl
+
+      other_first : (one other : ℕ) (b : Bool) → one ≢ other → ((one == other) || b) ≡ b
+      other_first one other b differ = elim (cases_Bool (one == other)) [
+        | inl same ↦ absurd (differ (eqb-true one other same))
+        | inr not_same ↦ ap (λ (c : Bool). c || b) not_same
+      ]
 
 -- ---- a closed set takes a state to one above it
 
@@ -74,8 +75,8 @@ below_without state away is closed =
       sites = sites;
       there = λ site one. (and_parts (is_present state.objects site) (away site) (sym (among site) ∙ one)).0;
       closed = λ from to edge one.
-      let from_away = (and_parts (is_present state.objects from) (away from) (sym (among from) ∙ one)).1 in
-      among to ∙ and_from (is_present state.objects to) (away to) (is.fields from to edge) (closed from to edge from_away);
+          let from_away = (and_parts (is_present state.objects from) (away from) (sym (among from) ∙ one)).1 in
+          among to ∙ and_from (is_present state.objects to) (away to) (is.fields from to edge) (closed from to edge from_away);
       is = without_agrees state away (has sites) is (λ site present. sym (among site ∙ ap (λ (b : Bool). b && away site) present));
     }
 
@@ -88,11 +89,11 @@ pub taken_absent : (state other : State) → (below : IsBelow state other) → (
 taken_absent state other below site present =
     elim (cases_Bool (has below.sites site)) [
       | inl away ↦
-        let none = ap (λ (above : State). object_of above.objects site) below.is ∙ gone (has below.sites) state.objects site away in
-        away ∙ sym (ap (λ (o : Option VObject). not (is_some o)) none)
+          let none = ap (λ (above : State). object_of above.objects site) below.is ∙ gone (has below.sites) state.objects site away in
+          away ∙ sym (ap (λ (o : Option VObject). not (is_some o)) none)
       | inr kept ↦
-        let there = present_behind (has below.sites) state.objects site present kept in
-        kept ∙ sym (ap (λ (above : State). not (is_present above.objects site)) below.is ∙ not_from_true (is_present (objects_without (has below.sites) state.objects) site) there)
+          let there = present_behind (has below.sites) state.objects site present kept in
+          kept ∙ sym (ap (λ (above : State). not (is_present above.objects site)) below.is ∙ not_from_true (is_present (objects_without (has below.sites) state.objects) site) there)
     ]
 
 pub below_is_without : (state other : State) → IsState state → IsBelow state other → other ≡ without state (absent other)
@@ -143,15 +144,15 @@ below_and_below one two three first second =
         | inr not_first ↦ elim (cases_Bool (has first.sites to)) [
           | inl to_first ↦ both to ∙ or_left (has first.sites to) (has second.sites to) to_first
           | inr to_stays ↦
-            let in_second : IsTrue (has second.sites from) = sym (ap (λ (b : Bool). b || has second.sites from) not_first) ∙ sym (both from) ∙ among in
-            let later = subst (λ (state : State). IsEdge state.objects from to) (sym first.is) (edge_behind (has first.sites) one.objects from to edge not_first to_stays) in
-            both to ∙ or_right (has first.sites to) (has second.sites to) (second.closed from to later in_second)
+              let in_second : IsTrue (has second.sites from) = sym (ap (λ (b : Bool). b || has second.sites from) not_first) ∙ sym (both from) ∙ among in
+              let later = subst (λ (state : State). IsEdge state.objects from to) (sym first.is) (edge_behind (has first.sites) one.objects from to edge not_first to_stays) in
+              both to ∙ or_right (has first.sites to) (has second.sites to) (second.closed from to later in_second)
         ]
       ];
       is = second.is
-      ∙ ap (λ (state : State). without state (has second.sites)) first.is
-      ∙ without_twice one (has first.sites) (has second.sites)
-      ∙ ap (without one) (λ i site. sym (both site) i);
+          ∙ ap (λ (state : State). without state (has second.sites)) first.is
+          ∙ without_twice one (has first.sites) (has second.sites)
+          ∙ ap (without one) (λ i site. sym (both site) i);
     }
 
 -- a state above is the same one, or has fewer objects
@@ -196,7 +197,7 @@ join_associates one two three front back joined first whole second = record {
   left = below_and_below one front joined first.left whole.left;
   right = second.least joined (below_and_below two front joined first.right whole.left) whole.right;
   least = λ above left right.
-  whole.least above (first.least above left (below_and_below two back above second.left right)) (below_and_below three back above second.right right);
+      whole.least above (first.least above left (below_and_below two back above second.left right)) (below_and_below three back above second.right right);
 }
 
 pub join_grows : (one other one_above other_above joined joined_above : State) → IsBelow one one_above → IsBelow other other_above → IsJoin one other joined → IsJoin one_above other_above joined_above → IsBelow joined joined_above

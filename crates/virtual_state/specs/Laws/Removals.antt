@@ -115,17 +115,17 @@ pub without_is_state : (state : State) (away : ℕ → Bool) → IsState state �
 without_is_state state away is closed = record {
   order = subst IsIncreasing (sym (sites_of-map (object_without away) (λ object. refl) (of_sites (stay away) state.objects))) (filter_in_order (stay away) state.objects is.order);
   places = λ site named.
-  let before = named_before away state.slots site named in
-  present_behind away state.objects site (is.places site before.0) before.1;
+      let before = named_before away state.slots site named in
+      present_behind away state.objects site (is.places site before.0) before.1;
   fields = λ from to edge.
-  let was = edge_before away state.objects from to edge in
-  present_behind away state.objects to (is.fields from to was.edge) was.to_stays;
+      let was = edge_before away state.objects from to edge in
+      present_behind away state.objects to (is.fields from to was.edge) was.to_stays;
   reached = λ site present.
-  reached_behind away state.slots state.objects closed (is.reached site (present_before away state.objects site present)) (present_not_away away state.objects site present);
+      reached_behind away state.slots state.objects closed (is.reached site (present_before away state.objects site present)) (present_not_away away state.objects site present);
   acyclic = λ site path. is.acyclic site (path_before away state.objects path);
   usable = λ site object found.
-  let was = was_found away state.objects site object found in
-  subst (λ (one : VObject). IsFalse (list_any is_unusable one.fields)) (sym was.is) (usable_made away was.before.fields ∙ is.usable site was.before was.there);
+      let was = was_found away state.objects site object found in
+      subst (λ (one : VObject). IsFalse (list_any is_unusable one.fields)) (sym was.is) (usable_made away was.before.fields ∙ is.usable site was.before was.there);
 }
 
 -- ---- only the sites that are present count
@@ -144,21 +144,21 @@ look_up_agrees : (state : State) (one other : ℕ → Bool) → IsState state �
 look_up_agrees state one other is agree site =
     elim (some_or_none (object_of state.objects site)) [
       | inl found ↦
-        let same = agree site (present_found state.objects site found.0 found.1) in
-        elim (cases_Bool (one site)) [
-          | inl is_away ↦ gone one state.objects site is_away ∙ sym (gone other state.objects site (sym same ∙ is_away))
-          | inr not_away ↦
-            still_found one state.objects site found.0 found.1 not_away
-            ∙ ap (λ (object : VObject). Some object) (object_agrees state one other is agree site found.0 found.1)
-            ∙ sym (still_found other state.objects site found.0 found.1 (sym same ∙ not_away))
-        ]
+          let same = agree site (present_found state.objects site found.0 found.1) in
+          elim (cases_Bool (one site)) [
+            | inl is_away ↦ gone one state.objects site is_away ∙ sym (gone other state.objects site (sym same ∙ is_away))
+            | inr not_away ↦
+                still_found one state.objects site found.0 found.1 not_away
+                ∙ ap (λ (object : VObject). Some object) (object_agrees state one other is agree site found.0 found.1)
+                ∙ sym (still_found other state.objects site found.0 found.1 (sym same ∙ not_away))
+          ]
       | inr none ↦ nothing one none ∙ sym (nothing other none)
     ] where
-  nothing : (away : ℕ → Bool) → object_of state.objects site ≡ None → object_of (objects_without away state.objects) site ≡ None
-  nothing away none = elim (cases_Bool (away site)) [
-    | inl is_away ↦ gone away state.objects site is_away
-    | inr not_away ↦ stays away state.objects site not_away ∙ ap (option_map (object_without away)) none
-  ]
+      nothing : (away : ℕ → Bool) → object_of state.objects site ≡ None → object_of (objects_without away state.objects) site ≡ None
+      nothing away none = elim (cases_Bool (away site)) [
+        | inl is_away ↦ gone away state.objects site is_away
+        | inr not_away ↦ stays away state.objects site not_away ∙ ap (option_map (object_without away)) none
+      ]
 
 pub without_in_order : (away : ℕ → Bool) (objects : List VObject) → IsIncreasing (sites_of objects) → IsIncreasing (sites_of (objects_without away objects))
 without_in_order away objects order = subst IsIncreasing (sym (sites_of-map (object_without away) (λ object. refl) (of_sites (stay away) objects))) (filter_in_order (stay away) objects order)
@@ -194,20 +194,20 @@ objects_without_twice : (one other : ℕ → Bool) (objects : List VObject) → 
 objects_without_twice one other [] = refl
 objects_without_twice one other (object ∷ objects) = elim (cases_Bool (one object.site)) [
   | inl first ↦
-    ap (λ (list : List VObject). objects_without other (map (object_without one) list)) (filter_behind (stay one) object objects (not_from_true (one object.site) first))
-    ∙ objects_without_twice one other objects
-    ∙ sym (ap (map (object_without (either one other))) (filter_behind (stay (either one other)) object objects (not_from_true (either one other object.site) (or_left (one object.site) (other object.site) first))))
+      ap (λ (list : List VObject). objects_without other (map (object_without one) list)) (filter_behind (stay one) object objects (not_from_true (one object.site) first))
+      ∙ objects_without_twice one other objects
+      ∙ sym (ap (map (object_without (either one other))) (filter_behind (stay (either one other)) object objects (not_from_true (either one other object.site) (or_left (one object.site) (other object.site) first))))
   | inr not_first ↦ elim (cases_Bool (other object.site)) [
     | inl second ↦
-      ap (λ (list : List VObject). objects_without other (map (object_without one) list)) (filter_first (stay one) object objects (not_from_false (one object.site) not_first))
-      ∙ ap (map (object_without other)) (filter_behind (stay other) (object_without one object) (objects_without one objects) (not_from_true (other object.site) second))
-      ∙ objects_without_twice one other objects
-      ∙ sym (ap (map (object_without (either one other))) (filter_behind (stay (either one other)) object objects (not_from_true (either one other object.site) (or_right (one object.site) (other object.site) second))))
+        ap (λ (list : List VObject). objects_without other (map (object_without one) list)) (filter_first (stay one) object objects (not_from_false (one object.site) not_first))
+        ∙ ap (map (object_without other)) (filter_behind (stay other) (object_without one object) (objects_without one objects) (not_from_true (other object.site) second))
+        ∙ objects_without_twice one other objects
+        ∙ sym (ap (map (object_without (either one other))) (filter_behind (stay (either one other)) object objects (not_from_true (either one other object.site) (or_right (one object.site) (other object.site) second))))
     | inr not_second ↦
-      ap (λ (list : List VObject). objects_without other (map (object_without one) list)) (filter_first (stay one) object objects (not_from_false (one object.site) not_first))
-      ∙ ap (map (object_without other)) (filter_first (stay other) (object_without one object) (objects_without one objects) (not_from_false (other object.site) not_second))
-      ∙ (λ i. object_without_twice one other object i ∷ objects_without_twice one other objects i)
-      ∙ sym (ap (map (object_without (either one other))) (filter_first (stay (either one other)) object objects (not_from_false (either one other object.site) (ap (λ (b : Bool). b || other object.site) not_first ∙ not_second))))
+        ap (λ (list : List VObject). objects_without other (map (object_without one) list)) (filter_first (stay one) object objects (not_from_false (one object.site) not_first))
+        ∙ ap (map (object_without other)) (filter_first (stay other) (object_without one object) (objects_without one objects) (not_from_false (other object.site) not_second))
+        ∙ (λ i. object_without_twice one other object i ∷ objects_without_twice one other objects i)
+        ∙ sym (ap (map (object_without (either one other))) (filter_first (stay (either one other)) object objects (not_from_false (either one other object.site) (ap (λ (b : Bool). b || other object.site) not_first ∙ not_second))))
   ]
 ]
 
@@ -232,7 +232,7 @@ fewer_objects away (object ∷ objects) site present is_away =
     elim (cases_Bool (away object.site)) [
       | inl first ↦ omega (arith, filter_len (stay away) objects, ap {B = ℕ} (λ (list : List VObject). length list) (filter_behind (stay away) object objects (not_from_true (away object.site) first)))
       | inr kept ↦
-        let differ : ¬ (object.site ≡ site) = λ same. both_ways (away site) (sym (ap away same) ∙ kept) is_away in
-        let rest = fewer_objects away objects site (ap is_some (sym (object_behind object objects site differ)) ∙ present) is_away in
-        omega (arith, rest, ap {B = ℕ} (λ (list : List VObject). length list) (filter_first (stay away) object objects (not_from_false (away object.site) kept)))
+          let differ : ¬ (object.site ≡ site) = λ same. both_ways (away site) (sym (ap away same) ∙ kept) is_away in
+          let rest = fewer_objects away objects site (ap is_some (sym (object_behind object objects site differ)) ∙ present) is_away in
+          omega (arith, rest, ap {B = ℕ} (λ (list : List VObject). length list) (filter_first (stay away) object objects (not_from_false (away object.site) kept)))
     ]

@@ -8,15 +8,15 @@ use Rattle.virtual_state.proofs.state.VState.of.Goals as goal
 pub reached_state-requires : goal.reached_state-requires
 reached_state-requires c =
     let same : LookAlike c.put_all.new.table c.args.objects = λ site.
-      c.in_ok-put_all.ensures site
-      ∙ ap (λ (objects : List VObject). object_of (c.args.objects ++ objects) site) c.new-table.ensures
-      ∙ ap (λ (objects : List VObject). object_of objects site) (append-nil c.args.objects) in
+    c.in_ok-put_all.ensures site
+    ∙ ap (λ (objects : List VObject). object_of (c.args.objects ++ objects) site) c.new-table.ensures
+    ∙ ap (λ (objects : List VObject). object_of objects site) (append-nil c.args.objects) in
     can_be_alike c.args.slots c.put_all.new.table c.args.objects same c.requires
 
 pub returns : goal.returns
 returns c =
     let same : LookAlike c.put_all.new.table c.args.objects = λ site.
-      c.in_ok-put_all.ensures site
-      ∙ ap (λ (objects : List VObject). object_of (c.args.objects ++ objects) site) c.new-table.ensures
-      ∙ ap (λ (objects : List VObject). object_of objects site) (append-nil c.args.objects) in
+    c.in_ok-put_all.ensures site
+    ∙ ap (λ (objects : List VObject). object_of (c.args.objects ++ objects) site) c.new-table.ensures
+    ∙ ap (λ (objects : List VObject). object_of objects site) (append-nil c.args.objects) in
     state_of_alike c.args.slots c.put_all.new.table c.args.objects c.in_ok-state.state same c.in_ok-state.ensures
