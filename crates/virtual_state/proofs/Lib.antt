@@ -5,3 +5,7 @@ pub mod SiteSets
 pub mod Filling
 pub mod Depths
 pub mod Reaching
+pub mod Agreeing
+pub mod Joining
+pub mod Comparisons
+pub mod LostSites

@@ -1,5 +1,7 @@
 pub mod Tables
 pub mod Marks
 pub mod Agreement
+pub mod Slots
+pub mod Comparing
 pub mod Places
 pub mod Filling

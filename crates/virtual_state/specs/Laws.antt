@@ -2,3 +2,4 @@ pub mod Objects
 pub mod Fields
 pub mod Removals
 pub mod Orders
+pub mod Ranks

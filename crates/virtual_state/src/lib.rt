@@ -3,9 +3,13 @@
 //! Replacement for Java", CGO 2014; the definitions are this project's profile).
 #![tactic(auto)]
 
+mod compare;
 mod depth;
+mod laws;
+mod lost;
 mod making;
 mod marks;
+mod merge;
 mod removal;
 mod shared;
 mod sites;
@@ -14,7 +18,14 @@ mod spread;
 mod state;
 mod table;
 
+pub use compare::below;
 pub use depth::{enter, leave};
+pub use laws::{
+    below_is_a_partial_order, chains_end, differing_sites_are_taken_away, joins_are_least,
+    sets_are_taken_one_by_one,
+};
+pub use lost::differing;
+pub use merge::join;
 pub use removal::without;
 pub use sites::SiteSet;
 pub use slot::{Slot, SlotList, VObject, VObjectList};

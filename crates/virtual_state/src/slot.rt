@@ -1,4 +1,7 @@
 //! What a place of a frame or a field of a virtual object holds, and virtual objects.
+ghost use Rattle.std.specs.Prelude.{◌≡◌};
+ghost use Rattle.virtual_state.specs.Inner.Slots.{slot_eq};
+
 use class_model::ListOf;
 
 /// What a place of a frame or a field holds.
@@ -25,3 +28,28 @@ pub struct VObject {
 
 /// Virtual objects.
 pub type VObjectList = ListOf<VObject>;
+
+impl Slot {
+    /// Whether two slots are the same.
+    pub(crate) fn is_same(self, other: Slot) -> bool
+        ensures { result ≡ slot_eq self other }
+    {
+        match self {
+            Slot::Plain => match other {
+                Slot::Plain => true,
+                Slot::Virt(_) => false,
+                Slot::Unusable => false,
+            },
+            Slot::Virt(site) => match other {
+                Slot::Plain => false,
+                Slot::Virt(other) => site == other,
+                Slot::Unusable => false,
+            },
+            Slot::Unusable => match other {
+                Slot::Plain => false,
+                Slot::Virt(_) => false,
+                Slot::Unusable => true,
+            },
+        }
+    }
+}

@@ -2,7 +2,7 @@
 ghost use Rattle.std.specs.Prelude.{◌≡◌, ◌<◌, ◌≤◌, ℕ, [], length, IfOk, OnOk};
 ghost use Rattle.std.specs.Option.{option_copied};
 ghost use Rattle.virtual_state.specs.Inner.Tables.{entry_at, HasSet, HasSetEntry, HaveSameEntries};
-ghost use Rattle.virtual_state.specs.States.{IsIncreasing, object_of, sites_of};
+ghost use Rattle.virtual_state.specs.States.{IsIncreasing, is_present, object_of, sites_of};
 
 use crate::shared::SharedObject;
 use class_model::NoMemory;
@@ -57,6 +57,13 @@ impl ObjectTable {
         ensures { option_copied result ≡ object_of self.now site }
     {
         entry_of(self.entries.as_slice(), site)
+    }
+
+    /// Whether a site has an object.
+    pub(crate) fn has(&self, site: u16) -> bool
+        ensures { result ≡ is_present self.now site }
+    {
+        self.get(usize::from(site)).is_some()
     }
 
     /// Puts an object in the place of that of its site.
