@@ -188,7 +188,7 @@ number_behind w rest x e =
     let g = guard_false (ltb (length rest.bytes) count) (fault rest.at rules.Short) (take count rest.bytes, behind count rest) item.0 item.1 in
     ap (λ (z : ℕ × Rest). z.1) (sym (same_done (from_be_bytes w item.0.0, item.0.1) x item.2)) ∙ ap (λ (z : List ℕ × Rest). z.1) (sym g.1)
 
-behind_version : (bytes : List ℕ) (x : Version × Rest) → version_at (uncut bytes) ≡ Ok x → x.1 ≡ rest_at bytes 8
+pub behind_version : (bytes : List ℕ) (x : Version × Rest) → version_at (uncut bytes) ≡ Ok x → x.1 ≡ rest_at bytes 8
 behind_version bytes x e =
     let first = bind_ok (u4_at (uncut bytes)) _ x e in
     let magical = bind_ok (cond (first.0.0 == magic) (Ok first.0.1) (Err (fault 0 rules.Magic))) _ x first.2 in

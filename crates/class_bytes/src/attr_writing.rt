@@ -1,8 +1,9 @@
 //! Writing attributes.
 ghost use Rattle.std.specs.Prelude.{◌≡◌, ◌≤◌, ◌++◌, length, OnOk, OnErr};
-ghost use Rattle.std.specs.List.{flat_map};
+ghost use Rattle.std.specs.List.{flat_map, AllByRecursion};
 ghost use Rattle.class_model.specs.Spelling.{u2, raw_bytes, inner_bytes, handler_bytes, code_part_bytes, attr_bytes, attrs_bytes};
 ghost use Rattle.class_bytes.specs.Counts.{FitsContent, FitsInner, FitsInners, FitsPart, FitsAttr, FitsAttrs};
+ghost use Rattle.class_bytes.specs.Numbers.{AttrNumbers, PartNumbers, HandlerNumbers, InnerNumber};
 ghost use Rattle.pool_bytes.specs.Appended.{Grows};
 
 use class_model::{
@@ -13,6 +14,7 @@ use class_model::{
 pub(crate) fn push_attrs(out: &mut Vec<u8>, attrs: &AttrList) -> Result<(), NoMemory>
     requires { FitsAttrs attrs.now }
     ensures ok { OnOk result (out.new.items ≡ out.old.items ++ attrs_bytes attrs.now) }
+    ensures numbers { OnOk result (AllByRecursion AttrNumbers attrs.now) }
     ensures err { OnErr result (Grows out.old.items out.new.items) }
 {
     let attrs = attrs.as_slice();
@@ -27,6 +29,7 @@ pub(crate) fn push_attrs(out: &mut Vec<u8>, attrs: &AttrList) -> Result<(), NoMe
 fn push_attr(out: &mut Vec<u8>, attr: &Attr) -> Result<(), NoMemory>
     requires { FitsAttr attr.now }
     ensures ok { OnOk result (out.new.items ≡ out.old.items ++ attr_bytes attr.now) }
+    ensures numbers { OnOk result (AttrNumbers attr.now) }
     ensures err { OnErr result (Grows out.old.items out.new.items) }
 {
     match attr {
@@ -67,6 +70,7 @@ fn part_len(part: &CodePart) -> u32
 fn push_code_part(out: &mut Vec<u8>, part: &CodePart) -> Result<(), NoMemory>
     requires { FitsPart part.now }
     ensures ok { OnOk result (out.new.items ≡ out.old.items ++ code_part_bytes part.now) }
+    ensures numbers { OnOk result (PartNumbers part.now) }
     ensures err { OnErr result (Grows out.old.items out.new.items) }
 {
     push_u2(out, part.max_stack)?;
@@ -81,6 +85,7 @@ fn push_code_part(out: &mut Vec<u8>, part: &CodePart) -> Result<(), NoMemory>
 fn push_handlers(out: &mut Vec<u8>, handlers: &HandlerList) -> Result<(), NoMemory>
     requires { length handlers.now ≤ 65535 }
     ensures ok { OnOk result (out.new.items ≡ out.old.items ++ (u2 (length handlers.now) ++ flat_map handler_bytes handlers.now)) }
+    ensures numbers { OnOk result (AllByRecursion HandlerNumbers handlers.now) }
     ensures err { OnErr result (Grows out.old.items out.new.items) }
 {
     let handlers = handlers.as_slice();
@@ -94,6 +99,7 @@ fn push_handlers(out: &mut Vec<u8>, handlers: &HandlerList) -> Result<(), NoMemo
 // Appends an entry of an exception table.
 fn push_handler(out: &mut Vec<u8>, handler: &Handler) -> Result<(), NoMemory>
     ensures ok { OnOk result (out.new.items ≡ out.old.items ++ handler_bytes handler.now) }
+    ensures numbers { OnOk result (HandlerNumbers handler.now) }
     ensures err { OnErr result (Grows out.old.items out.new.items) }
 {
     push_u2(out, handler.start)?;
@@ -106,6 +112,7 @@ fn push_handler(out: &mut Vec<u8>, handler: &Handler) -> Result<(), NoMemory>
 fn push_inner_attrs(out: &mut Vec<u8>, attrs: &InnerAttrList) -> Result<(), NoMemory>
     requires { FitsInners attrs.now }
     ensures ok { OnOk result (out.new.items ≡ out.old.items ++ (u2 (length attrs.now) ++ flat_map inner_bytes attrs.now)) }
+    ensures numbers { OnOk result (AllByRecursion InnerNumber attrs.now) }
     ensures err { OnErr result (Grows out.old.items out.new.items) }
 {
     let attrs = attrs.as_slice();

@@ -2,6 +2,7 @@
 ghost use Rattle.std.specs.Prelude.{ℕ, List};
 ghost use Rattle.class_model.specs.Checks.{AllHold};
 ghost use Rattle.class_model.specs.ClassOf.{ClassOf};
+ghost use Rattle.class_model.specs.Cutting.{IsBytes};
 ghost use Rattle.class_model.specs.Header.{HeaderOf, header_of};
 ghost use Rattle.class_model.specs.Spelling.{class_bytes};
 ghost use Rattle.class_model.specs.Values.{IsValue};
@@ -10,6 +11,7 @@ ghost use Rattle.class_bytes.specs.Counts.{FitsCounts};
 ghost use Rattle.class_bytes.specs.Numbers.{FitsNumbers};
 ghost use Rattle.pool_bytes.specs.Reading.{Stands, pool_checks, rest_at};
 
+use class_model::a_cut_pool_is_spelled;
 use pool_bytes::a_pool_is_read_back;
 
 /// A class file that is read is read as a library's and its pool by itself: neither is refused.
@@ -23,4 +25,11 @@ pub fn a_value_is_the_class_file_of_its_bytes()
     ensures { (class : ClassFile) → FitsCounts class → FitsNumbers class → IsValue class → ClassOf (class_bytes class) class }
 {
     a_pool_is_read_back();
+}
+
+/// The lists of a class file fit the items that count them.
+pub fn a_class_file_fits_its_counts()
+    ensures { (bytes : List ℕ) (class : ClassFile) → IsBytes bytes → ClassOf bytes class → FitsCounts class }
+{
+    a_cut_pool_is_spelled();
 }

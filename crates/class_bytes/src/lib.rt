@@ -30,6 +30,9 @@ mod signatures;
 mod writing;
 
 pub use header::read_header;
-pub use laws::{a_class_file_has_a_header_and_a_pool, a_value_is_the_class_file_of_its_bytes};
+pub use laws::{
+    a_class_file_fits_its_counts, a_class_file_has_a_header_and_a_pool,
+    a_value_is_the_class_file_of_its_bytes,
+};
 pub use reading::read_class;
 pub use writing::{push_class, write_class};

@@ -1,9 +1,13 @@
 //! Writing a class file.
 ghost use Rattle.std.specs.Prelude.{◌≡◌, ◌≤◌, ◌++◌, length, IfOk, OnOk, OnErr};
-ghost use Rattle.std.specs.List.{flat_map};
+ghost use Rattle.std.specs.List.{flat_map, AllByRecursion};
+ghost use Rattle.class_model.specs.ClassOf.{ClassOf};
 ghost use Rattle.class_model.specs.Spelling.{u2, u2s, field_bytes, method_bytes, class_bytes};
+ghost use Rattle.class_model.specs.Values.{IsValue};
 ghost use Rattle.class_bytes.specs.Counts.{FitsField, FitsFields, FitsMethod, FitsMethods, FitsCounts};
+ghost use Rattle.class_bytes.specs.Numbers.{FieldNumbers, MethodNumbers};
 ghost use Rattle.pool_bytes.specs.Appended.{Grows};
+ghost use Rattle.pool_bytes.specs.Items.{IsU2};
 
 use crate::attr_writing::push_attrs;
 use crate::cut::MAGIC;
@@ -14,13 +18,15 @@ use class_model::{
 use pool_bytes::push_pool;
 use std::alloc::Global;
 
-/// The bytes of a class file (JVM Specification SE 8, 4.1), each list of which fits its count.
+/// The bytes of a class file (JVM Specification SE 8, 4.1), each list of which fits its count. It is read from them again
+/// where its checks hold.
 ///
 /// # Errors
 /// `NoMemory`, where memory runs out.
 pub fn write_class(alloc: Global, class: &ClassFile) -> Result<ByteList, NoMemory>
     requires { FitsCounts class.now }
-    ensures { IfOk result (λ bytes. bytes ≡ class_bytes class.now) }
+    ensures same { IfOk result (λ bytes. bytes ≡ class_bytes class.now) }
+    ensures read { IfOk result (λ bytes. IsValue class.now → ClassOf bytes class.now) }
 {
     let mut out = Vec::new(alloc);
     push_class(&mut out, class)?;
@@ -34,6 +40,7 @@ pub fn write_class(alloc: Global, class: &ClassFile) -> Result<ByteList, NoMemor
 pub fn push_class(out: &mut Vec<u8>, class: &ClassFile) -> Result<(), NoMemory>
     requires { FitsCounts class.now }
     ensures ok { OnOk result (out.new.items ≡ out.old.items ++ class_bytes class.now) }
+    ensures read { OnOk result (IsValue class.now → ClassOf (class_bytes class.now) class.now) }
     ensures err { OnErr result (Grows out.old.items out.new.items) }
 {
     push_u4(out, MAGIC)?;
@@ -54,6 +61,7 @@ pub fn push_class(out: &mut Vec<u8>, class: &ClassFile) -> Result<(), NoMemory>
 fn push_interfaces(out: &mut Vec<u8>, interfaces: &IndexList) -> Result<(), NoMemory>
     requires { length interfaces.now ≤ 65535 }
     ensures ok { OnOk result (out.new.items ≡ out.old.items ++ (u2 (length interfaces.now) ++ u2s interfaces.now)) }
+    ensures numbers { OnOk result (AllByRecursion IsU2 interfaces.now) }
     ensures err { OnErr result (Grows out.old.items out.new.items) }
 {
     let interfaces = interfaces.as_slice();
@@ -68,6 +76,7 @@ fn push_interfaces(out: &mut Vec<u8>, interfaces: &IndexList) -> Result<(), NoMe
 fn push_fields(out: &mut Vec<u8>, fields: &FieldList) -> Result<(), NoMemory>
     requires { FitsFields fields.now }
     ensures ok { OnOk result (out.new.items ≡ out.old.items ++ (u2 (length fields.now) ++ flat_map field_bytes fields.now)) }
+    ensures numbers { OnOk result (AllByRecursion FieldNumbers fields.now) }
     ensures err { OnErr result (Grows out.old.items out.new.items) }
 {
     let fields = fields.as_slice();
@@ -82,6 +91,7 @@ fn push_fields(out: &mut Vec<u8>, fields: &FieldList) -> Result<(), NoMemory>
 fn push_field(out: &mut Vec<u8>, field: &Field) -> Result<(), NoMemory>
     requires { FitsField field.now }
     ensures ok { OnOk result (out.new.items ≡ out.old.items ++ field_bytes field.now) }
+    ensures numbers { OnOk result (FieldNumbers field.now) }
     ensures err { OnErr result (Grows out.old.items out.new.items) }
 {
     push_u2(out, field.flags)?;
@@ -94,6 +104,7 @@ fn push_field(out: &mut Vec<u8>, field: &Field) -> Result<(), NoMemory>
 fn push_methods(out: &mut Vec<u8>, methods: &MethodList) -> Result<(), NoMemory>
     requires { FitsMethods methods.now }
     ensures ok { OnOk result (out.new.items ≡ out.old.items ++ (u2 (length methods.now) ++ flat_map method_bytes methods.now)) }
+    ensures numbers { OnOk result (AllByRecursion MethodNumbers methods.now) }
     ensures err { OnErr result (Grows out.old.items out.new.items) }
 {
     let methods = methods.as_slice();
@@ -108,6 +119,7 @@ fn push_methods(out: &mut Vec<u8>, methods: &MethodList) -> Result<(), NoMemory>
 fn push_method(out: &mut Vec<u8>, method: &Method) -> Result<(), NoMemory>
     requires { FitsMethod method.now }
     ensures ok { OnOk result (out.new.items ≡ out.old.items ++ method_bytes method.now) }
+    ensures numbers { OnOk result (MethodNumbers method.now) }
     ensures err { OnErr result (Grows out.old.items out.new.items) }
 {
     push_u2(out, method.flags)?;

@@ -19,6 +19,7 @@ pub mod DecidedOperands
 pub mod DecidedCode
 pub mod DecidedMembers
 pub mod DecidedClass
+pub mod DecidedHeader
 pub mod DescriptorShapes
 pub mod CutTypes
 pub mod TextDescriptors
@@ -26,3 +27,8 @@ pub mod ArrayDimensions
 pub mod LocalUnits
 pub mod LocalParts
 pub mod LocalEquality
+pub mod KeptPools
+pub mod KeptFrames
+pub mod KeptCode
+pub mod KeptMembers
+pub mod KeptClass

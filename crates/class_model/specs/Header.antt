@@ -28,7 +28,7 @@ texts_checks at (Some (Utf8 text) ∷ entries) = check at rules.Text (IsModified
 texts_checks at (Some constant ∷ entries) = texts_checks (at + length (constant_bytes constant)) entries
 
 -- the name and the descriptor of a field
-abbrev field_name_checks : Constants → ℕ → List Field → List (Check Fault)
+abbrev pub field_name_checks : Constants → ℕ → List Field → List (Check Fault)
 field_name_checks pool at [] = []
 field_name_checks pool at (field ∷ fields) =
     check (at + 2) rules.Index (IsSome (utf8_at pool field.name))
@@ -38,7 +38,7 @@ field_name_checks pool at (field ∷ fields) =
     ∷ field_name_checks pool (at + length (field_bytes field)) fields
 
 -- the name and the descriptor of a method
-abbrev method_name_checks : Constants → ℕ → List Method → List (Check Fault)
+abbrev pub method_name_checks : Constants → ℕ → List Method → List (Check Fault)
 method_name_checks pool at [] = []
 method_name_checks pool at (method ∷ methods) =
     check (at + 2) rules.Index (IsSome (utf8_at pool method.name))

@@ -83,7 +83,7 @@ abbrev pub units_at_call : ℕ → List ℕ → ℕ
 units_at_call flags text = parameter_units (parameters_of text) + this_units flags
 
 -- a fault of a code, at its place in the file
-abbrev placed_at : {X : Type 0} → ℕ → Result X Fault → Result X Fault
+abbrev pub placed_at : {X : Type 0} → ℕ → Result X Fault → Result X Fault
 placed_at start (Ok x) = Ok x
 placed_at start (Err f) = Err (fault (start + f.at) f.rule)
 

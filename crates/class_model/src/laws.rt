@@ -1,6 +1,6 @@
 //! Laws: functions that do nothing, whose contracts say what always holds.
 ghost use Rattle.std.specs.Prelude.{◌≡◌, ◌⊎◌, ◌↔◌, ◌+◌, ◌++◌, ℕ, List, length, Ok, IsTrue};
-ghost use Rattle.class_model.specs.Checks.{Fault};
+ghost use Rattle.class_model.specs.Checks.{Fault, AllHold, IsFirstFault};
 ghost use Rattle.class_model.specs.ClassOf.{ClassOf, FirstFault, IsOtherVersion};
 ghost use Rattle.class_model.specs.Cutting.{IsBytes, Rest, Version, version_at, class_file_at, pool_at, uncut};
 ghost use Rattle.class_model.specs.Descriptors.{SpellsFieldType, SpellsDescriptor, parameters_of};
@@ -8,7 +8,7 @@ ghost use Rattle.class_model.specs.Header.{FirstHeaderFault, HeaderOf, IsNoLibra
 ghost use Rattle.class_model.specs.Instructions.{IsSpelling};
 ghost use Rattle.class_model.specs.ModifiedUtf8.{IsText};
 ghost use Rattle.class_model.specs.Pool.{Constants};
-ghost use Rattle.class_model.specs.PoolChecks.{BytesSpell};
+ghost use Rattle.class_model.specs.PoolChecks.{BytesSpell, entries_checks};
 ghost use Rattle.class_model.specs.Spelling.{class_bytes, pool_bytes};
 ghost use Rattle.class_model.specs.contracts.pool.ConstPartialEq.TheImpl.{ghosts as constants};
 ghost use Rattle.class_model.specs.declared.class_file.ClassFile.{ClassFile};
@@ -77,6 +77,16 @@ pub fn a_library_file_is_told_once()
     ensures no_fault { (bytes : List ℕ) (header : Header) (f : Fault) → HeaderOf bytes header → ¬ FirstHeaderFault bytes f }
     ensures no_other { (bytes : List ℕ) (header : Header) (v : Version) → HeaderOf bytes header → ¬ IsNoLibraryVersion bytes v }
     ensures other_no_fault { (bytes : List ℕ) (v : Version) (f : Fault) → IsNoLibraryVersion bytes v → ¬ FirstHeaderFault bytes f }
+{}
+
+/// The bytes of a library's class file have a header, or are of a version that is not read, or have a first fault.
+pub fn each_library_file_is_told()
+    ensures { (bytes : List ℕ) → ((header : Header) × HeaderOf bytes header) ⊎ (((version : Version) × IsNoLibraryVersion bytes version) ⊎ ((f : Fault) × FirstHeaderFault bytes f)) }
+{}
+
+/// The checks of a pool hold, or one of them is the first that fails.
+pub fn each_pool_is_decided()
+    ensures { (major : ℕ) (pool : Constants) (at : ℕ) (entries : Constants) → AllHold (entries_checks major pool at entries) ⊎ ((f : Fault) × IsFirstFault (entries_checks major pool at entries) f) }
 {}
 
 /// A constant pool that is cut from bytes is spelled by those that it took.

@@ -22,6 +22,7 @@ mod names;
 pub mod opcodes;
 mod pool;
 mod text;
+mod value_laws;
 
 pub use class_file::{
     Attr, AttrList, ClassFile, CodePart, Field, FieldList, Handler, HandlerList, IndexList,
@@ -48,7 +49,8 @@ pub use laws::{
     a_cut_pool_is_spelled, a_descriptor_of_a_text, a_library_file_is_told_once,
     a_spelling_is_one_instruction, a_text_spells_one_descriptor, a_text_spells_one_field_type,
     another_version_is_no_class_file, bytes_are_one_class_file, constants_compare_by_value,
-    each_file_is_told, one_first_fault, parameters_are_spelled,
+    each_file_is_told, each_library_file_is_told, each_pool_is_decided, one_first_fault,
+    parameters_are_spelled,
 };
 pub use list::{ByteList, ListOf};
 pub use local_types::LocalTypeList;
@@ -59,3 +61,7 @@ pub use names::{
 };
 pub use pool::{Const, Pool};
 pub use text::{Text, TextFault, is_modified_utf8};
+pub use value_laws::{
+    a_class_file_holds_over_a_grown_pool, checks_do_not_depend_on_places,
+    checks_hold_over_a_grown_pool,
+};

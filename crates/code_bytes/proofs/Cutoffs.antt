@@ -6,7 +6,7 @@ use Rattle.class_model.specs.Laws.Cuts.{below_byte}
 use Rattle.class_model.specs.Spelling.{u2, u4}
 use Rattle.class_model.specs.Instructions.{u1_in, u2_in, u4_in}
 use Rattle.code_bytes.specs.Numbers.{IsU1, IsU2}
-use Rattle.code_bytes.proofs.OperandForms.{IsU4, u1}
+use Rattle.code_bytes.specs.Spellings.{IsU4, u1}
 
 -- the number that bytes begin with, and the bytes behind it
 pub record Cuts (Fits : ℕ → Type 0) (spelling : ℕ → List ℕ) (number : ℕ) (bytes others : List ℕ) : Type 0 where

@@ -5,7 +5,7 @@ use Rattle.std.proofs.lemmas.Nat.{from_be_bytes-to_be_bytes_4}
 use Rattle.class_model.specs.Spelling.{u4}
 use Rattle.class_model.specs.Instructions.{Operands, u4_in, with_operands}
 use Rattle.class_model.specs.declared.instr.Instr.{Instr}
-use Rattle.code_bytes.proofs.OperandForms.{IsU4}
+use Rattle.code_bytes.specs.Spellings.{IsU4}
 
 pub u4_front : (number : ℕ) (rest : List ℕ) → IsU4 number → u4_in (u4 number ++ rest) 0 ≡ number
 u4_front number rest fits = from_be_bytes-to_be_bytes_4 number fits

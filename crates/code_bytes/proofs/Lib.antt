@@ -1,6 +1,8 @@
+pub mod AllSpellings
 pub mod ChosenBytes
 pub mod Cutoffs
 pub mod FormLengths
+pub mod InstrLengths
 pub mod Fronts
 pub mod Offsets
 pub mod OperandForms

@@ -8,7 +8,7 @@ use Rattle.class_model.specs.Instructions.{target_of}
 use Rattle.code_bytes.specs.Encoding.{Reaches}
 use Rattle.code_bytes.specs.Forms.{offset_of, is_near}
 use Rattle.code_bytes.specs.Numbers.{IsU2}
-use Rattle.code_bytes.proofs.OperandForms.{IsU4, to_of}
+use Rattle.code_bytes.specs.Spellings.{IsU4, to_of}
 
 -- ---- from a target to its offset and back
 

@@ -15,7 +15,7 @@ use Rattle.class_model.specs.declared.instr.Instr.TheVariants.{Const, Ldc, Iinc,
 use Rattle.code_bytes.specs.Encoding.{HasZeroPad}
 use Rattle.code_bytes.specs.Forms.{kind_index, is_short, int_bytes, ldc_bytes, local_bytes, iinc_bytes, offset_of, is_near, jump_bytes, goto_bytes}
 use Rattle.code_bytes.specs.Numbers.{IsU1, IsU2}
-use Rattle.code_bytes.proofs.OperandForms.{IsU4, to_of}
+use Rattle.code_bytes.specs.Spellings.{IsU4, to_of}
 use Rattle.code_bytes.proofs.Offsets.{offset_back, near_offset, target_fits}
 use Rattle.code_bytes.proofs.SpelledForms.{short_fits, byte_fits, spells_int, spells_ldc, HasLocalRows, spells_local, spells_iinc, spells_goto, is_small}
 

@@ -11,7 +11,7 @@ use Rattle.class_model.specs.Instructions.{Operands, Alone, U1, U2, S1, S2, U1S1
 use Rattle.class_model.specs.declared.instr.Instr.{Instr}
 use Rattle.class_model.specs.declared.instr.Instr.TheVariants.{Iinc}
 use Rattle.code_bytes.proofs.Cutoffs.{Cuts, cut_u1, cut_u2, cut_u4, no_more}
-use Rattle.code_bytes.proofs.OperandForms.{ReadsWide, ReadsWideIinc, Reads, to_of}
+use Rattle.code_bytes.specs.Spellings.{ReadsWide, ReadsWideIinc, Reads, to_of}
 use Rattle.code_bytes.proofs.ReadSwitches.{reads_table, reads_lookup}
 use Rattle.code_bytes.proofs.Sized.{ok_parts, not_fault, not_other_fault, sized_is, sized_if_is}
 

@@ -12,7 +12,8 @@ use Rattle.class_model.specs.declared.instr.Pair.{Pair}
 use Rattle.class_model.specs.declared.instr.Instr.{Instr}
 use Rattle.class_model.specs.declared.instr.Instr.TheVariants.{Table, Lookup}
 use Rattle.code_bytes.proofs.Cutoffs.{cut_u4, no_more}
-use Rattle.code_bytes.proofs.OperandForms.{IsU4, s4, to_of, ReadsTable, ReadsLookup, entry_bytes, FitsEntry, pair_of, pair_is}
+use Rattle.code_bytes.specs.Spellings.{IsU4, s4, to_of, ReadsTable, ReadsLookup, entry_bytes, FitsEntry, pair_of}
+use Rattle.code_bytes.proofs.OperandForms.{pair_is}
 use Rattle.code_bytes.proofs.Sized.{ok_parts, not_fault, not_other_fault}
 use Rattle.code_bytes.proofs.WrittenSwitches.{same_cons, table_by, table_at_is, lookup_by, lookup_at_is}
 

@@ -4,7 +4,7 @@ use Rattle.std.specs.Prelude.{ℤ, pos, negsuc, int_le, unsigned_abs, ◌+ℤ◌
 use Rattle.std.specs.Int.{cast_unsigned}
 use Rattle.std.proofs.lemmas.Int.{ints, to_z-of_z}
 use Rattle.std.proofs.lemmas.Bool.{cond_both, ltb-true, leb-true, and_parts}
-use Rattle.class_model.specs.Spelling.{u2}
+use Rattle.class_model.specs.Spelling.{u2, u4}
 use Rattle.class_model.specs.Instructions.{Alone, U1, U2, S1, S2, U1S1, Jump2, Jump4, Wide, rows, wide_rows, operands_in, is_array_code, IsSpelling}
 use Rattle.class_model.specs.declared.descriptor.Kind.{Kind}
 use Rattle.class_model.specs.declared.descriptor.Kind.TheVariants as kinds
@@ -166,8 +166,12 @@ spells_jump at opcode to makes found fits near = spells_read at opcode (Jump2 ma
   instr_is = ap makes (sym (near_back at to fits near));
 })
 
+pub spells_wide_goto : (at to : ℕ) → to < 2 ^ 32 → IsSpelling at (Goto to) (200 ∷ u4 (offset_of at to))
+spells_wide_goto at to fits =
+    spells_read at 200 (Jump4 Goto) _ _ refl (record { number = offset_of at to; fits = offset_fits at to; tail_is = refl; instr_is = ap Goto (sym (target_back at to fits)) })
+
 pub spells_goto : (at to : ℕ) → to < 2 ^ 32 → IsSpelling at (Goto to) (goto_bytes at to)
 spells_goto at to fits =
     cond_both (is_near (offset_of at to)) _ _ (IsSpelling at (Goto to))
     (λ near. spells_jump at 167 to Goto refl fits near)
-    (λ _. spells_read at 200 (Jump4 Goto) _ _ refl (record { number = offset_of at to; fits = offset_fits at to; tail_is = refl; instr_is = ap Goto (sym (target_back at to fits)) }))
+    (λ _. spells_wide_goto at to fits)

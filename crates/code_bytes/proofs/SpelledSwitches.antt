@@ -13,7 +13,7 @@ use Rattle.code_bytes.specs.Encoding.{IsPlace}
 use Rattle.code_bytes.specs.Forms.{offset_of, target_bytes, pair_bytes, table_bytes, lookup_bytes}
 use Rattle.code_bytes.specs.FormBytes.{FitsTable}
 use Rattle.code_bytes.specs.Numbers.{FitsKeys}
-use Rattle.code_bytes.proofs.OperandForms.{IsU4, s4, to_of, entry_bytes, FitsEntry, pair_of}
+use Rattle.code_bytes.specs.Spellings.{IsU4, s4, to_of, entry_bytes, FitsEntry, pair_of}
 use Rattle.code_bytes.proofs.Offsets.{offset_fits, target_back}
 use Rattle.code_bytes.proofs.WrittenForms.{spells_read}
 

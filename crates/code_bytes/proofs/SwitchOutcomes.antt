@@ -14,7 +14,7 @@ use Rattle.class_model.specs.declared.instr.Instr.{Instr}
 use Rattle.class_model.specs.declared.instr.Instr.TheVariants.{Table, Lookup}
 use Rattle.code_bytes.specs.Encoding.{HasZeroPad}
 use Rattle.code_bytes.specs.Forms.{target_bytes, pair_bytes, switch_bytes, table_bytes, lookup_bytes}
-use Rattle.code_bytes.proofs.OperandForms.{IsU4, s4, to_of, ReadsTable, ReadsLookup, entry_bytes, FitsEntry, pair_of}
+use Rattle.code_bytes.specs.Spellings.{IsU4, s4, to_of, ReadsTable, ReadsLookup, entry_bytes, FitsEntry, pair_of}
 use Rattle.code_bytes.proofs.Offsets.{offset_back}
 use Rattle.code_bytes.proofs.Outcomes.{Outcome}
 

@@ -11,7 +11,7 @@ use Rattle.class_model.specs.declared.instr.Instr.{Instr}
 use Rattle.class_model.specs.declared.instr.Instr.TheVariants.{Const, Ldc, Ldc2, Load, Store, Iinc, If, If2, IfSame, IfNull, Goto, GetStatic, PutStatic, GetField, PutField, Invoke, Dynamic, New, NewArray, NewRefArray, NewMulti, Cast, InstanceOf}
 use Rattle.code_bytes.specs.Forms.{kind_index, jump_bytes, instr_bytes}
 use Rattle.code_bytes.specs.Numbers.{IsU2}
-use Rattle.code_bytes.proofs.OperandForms.{ReadsOne, ReadsTwo, Reads}
+use Rattle.code_bytes.specs.Spellings.{ReadsOne, ReadsTwo, Reads}
 use Rattle.code_bytes.proofs.Outcomes.{Outcome, exact, int_byte, int_word, ldc_byte, ldc_word, local_byte, local_wide, iinc_byte, iinc_wide, jump_near, goto_near, goto_far}
 use Rattle.code_bytes.proofs.SpelledForms.{load_rows, store_rows}
 use Rattle.code_bytes.proofs.SwitchOutcomes.{table_outcome, lookup_outcome}

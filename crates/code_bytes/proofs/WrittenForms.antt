@@ -13,7 +13,7 @@ use Rattle.class_model.specs.declared.instr.Instr.TheVariants.{Iinc}
 use Rattle.code_bytes.proofs.Sized.{no_fault, sized_long, sized_if_long}
 use Rattle.code_bytes.proofs.Fronts.{u4_front, GivesBack}
 use Rattle.code_bytes.proofs.WrittenSwitches.{gives_table, gives_lookup}
-use Rattle.code_bytes.proofs.OperandForms.{ReadsWide, ReadsWideIinc, Reads, to_of}
+use Rattle.code_bytes.specs.Spellings.{ReadsWide, ReadsWideIinc, Reads, to_of}
 
 pub at_opcode : (at opcode : ℕ) (operands : Operands) (tail : List ℕ) → operands_in rows opcode ≡ Some operands → instr_at at (opcode ∷ tail) ≡ with_operands at (opcode ∷ tail) (Some operands)
 unfolding instr_at

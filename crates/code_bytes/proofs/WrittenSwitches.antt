@@ -10,7 +10,8 @@ use Rattle.class_model.specs.Instructions.{TableSwitch, LookupSwitch, Read, u4_i
 use Rattle.class_model.specs.declared.instr.Instr.{Instr}
 use Rattle.class_model.specs.declared.instr.Pair.{Pair}
 use Rattle.class_model.specs.declared.instr.Instr.TheVariants.{Table, Lookup}
-use Rattle.code_bytes.proofs.OperandForms.{IsU4, ReadsTable, ReadsLookup, to_of, s4, FitsEntry, entry_bytes, pair_of, pair_is}
+use Rattle.code_bytes.specs.Spellings.{IsU4, ReadsTable, ReadsLookup, to_of, s4, FitsEntry, entry_bytes, pair_of}
+use Rattle.code_bytes.proofs.OperandForms.{pair_is}
 use Rattle.code_bytes.proofs.Fronts.{u4_behind, GivesBack}
 
 pub same_cons : {A : Type 0} (x y : A) (xs ys : List A) → x ≡ y → xs ≡ ys → x ∷ xs ≡ y ∷ ys

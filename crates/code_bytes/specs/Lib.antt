@@ -5,6 +5,8 @@ pub mod Forms
 pub mod Numbers
 pub mod Opcodes
 pub mod Operands
+pub mod Spellings
+pub mod Lengths
 pub mod Starts
 pub mod Codes
 pub mod Entry

@@ -13,7 +13,7 @@ mod texts;
 mod writing;
 
 pub use cutting::cut_pool;
-pub use laws::a_pool_is_read_back;
+pub use laws::{a_pool_is_read_back, each_pool_is_told};
 pub use raw::RawPool;
 pub use reading::read_pool;
 pub use writing::{push_pool, write_pool};
