@@ -8,6 +8,7 @@ use Rattle.class_model.specs.Instructions.{Operands, Alone, U1, U2, S1, S2, U1S1
 use Rattle.class_model.specs.declared.instr.Pair.{Pair}
 use Rattle.class_model.specs.declared.instr.Instr.{Instr}
 use Rattle.class_model.specs.declared.instr.Instr.TheVariants.{Iinc, Table, Lookup}
+use Rattle.class_model.specs.declared.opcodes.TheConstants.{IINC}
 use Rattle.code_bytes.specs.Numbers.{IsU1, IsU2}
 
 abbrev pub IsU4 : ℕ → Type 0
@@ -76,7 +77,7 @@ pub record ReadsWideIinc (tail : List ℕ) (instr : Instr) : Type 0 where
   pub bits : ℕ
   pub index_fits : IsU2 index
   pub bits_fit : IsU2 bits
-  pub tail_is : tail ≡ 132 ∷ (u2 index ++ u2 bits)
+  pub tail_is : tail ≡ IINC ∷ (u2 index ++ u2 bits)
   pub instr_is : instr ≡ Iinc index (cast_signed w16 bits)
 
 -- one number, of which the bytes and the instruction are made

@@ -5,6 +5,7 @@ ghost use Rattle.class_model.specs.Instructions.{IsSpelling};
 ghost use Rattle.class_model.specs.Spelling.{u4};
 ghost use Rattle.class_model.specs.declared.instr.Instr.{Instr};
 ghost use Rattle.class_model.specs.declared.instr.Instr.TheVariants.{Goto};
+ghost use Rattle.class_model.specs.declared.opcodes.TheConstants.{GOTO_W};
 ghost use Rattle.code_bytes.specs.Encoding.{HasSpelling, IsChosen};
 ghost use Rattle.code_bytes.specs.Forms.{instr_bytes, offset_of};
 ghost use Rattle.code_bytes.specs.Lengths.{without_targets, is_far};
@@ -26,7 +27,7 @@ pub fn a_length_does_not_depend_on_targets()
 
 /// `goto_w` and an offset of 32 bits spell a goto (JVM Specification SE 8, 6.5.goto_w).
 pub fn a_wide_goto_spells_a_goto()
-    ensures { (at to : ℕ) → to < 2 ^ 32 → IsSpelling at (Goto to) (200 ∷ u4 (offset_of at to)) }
+    ensures { (at to : ℕ) → to < 2 ^ 32 → IsSpelling at (Goto to) (GOTO_W ∷ u4 (offset_of at to)) }
 {}
 
 /// The spellings of an instruction are an opcode of the table and operands that make it: no other bytes spell it.
