@@ -4,7 +4,6 @@
 
 mod emitted;
 mod laid;
-
 mod lengths;
 mod places;
 mod retarget;

@@ -12,7 +12,11 @@ use code_bytes::encode_one;
 use std::alloc::Global;
 
 /// The bytes of items whose offsets in the short form these are.
-pub(crate) fn code_of(alloc: Global, items: &[EmitItem], starts: &[u32]) -> Result<Vec<u8>, NoMemory>
+pub(crate) fn code_of(
+    alloc: Global,
+    items: &[EmitItem],
+    starts: &[u32],
+) -> Result<Vec<u8>, NoMemory>
     requires { ArePlaced items.now starts.now }
     ensures bytes { IfOk result (λ code. code.items ≡ placed_bytes (placed_items items.now)) }
     ensures spelled { OnOk result (AreSpelled (placed_items items.now)) }
@@ -41,7 +45,13 @@ pub(crate) fn table_of(
     let mut at = 0;
     for item in items {
         let end = at + short_len(&item.instr, at);
-        push_ranges(&mut table, item.catches.as_slice(), starts, at as u16, end as u16)?;
+        push_ranges(
+            &mut table,
+            item.catches.as_slice(),
+            starts,
+            at as u16,
+            end as u16,
+        )?;
         at = end;
     }
     Ok(table)

@@ -46,8 +46,8 @@ loop-item-preserved c =
     let same : c.in_ok-instr.instr ≡ placed = c.in_ok-instr.ensures in
     let written : bytes ≡ instr_bytes at placed = c.as_slice.ensures ∙ c.in_ok-bytes.ensures.written ∙ ap (λ (n : ℕ). instr_bytes n c.in_ok-instr.instr) len ∙ ap (instr_bytes at) same in
     let spells : IsSpelling at placed bytes =
-      subst (λ (b : List ℕ). IsSpelling at placed b) (sym c.as_slice.ensures)
-      (subst (λ (instr : Instr). IsSpelling at instr c.in_ok-bytes.bytes) same
-      (subst (λ (n : ℕ). IsSpelling n c.in_ok-instr.instr c.in_ok-bytes.bytes) len c.in_ok-bytes.ensures.chosen.shortest.spells)) in
+    subst (λ (b : List ℕ). IsSpelling at placed b) (sym c.as_slice.ensures)
+    (subst (λ (instr : Instr). IsSpelling at instr c.in_ok-bytes.bytes) same
+    (subst (λ (n : ℕ). IsSpelling n c.in_ok-instr.instr c.in_ok-bytes.bytes) len c.in_ok-bytes.ensures.chosen.shortest.spells)) in
     subst (λ (all : List ℕ). IsWritten items starts all (drop (i + 1) items)) (sym c.in_ok-extend_from_slice.ensures.items)
     (written-more items starts code bytes item (drop (i + 1) items) before here (small-starts items starts c.requires) written spells)

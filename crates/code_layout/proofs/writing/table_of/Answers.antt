@@ -49,8 +49,9 @@ loop-item-preserved c =
     let end : at + c.short_len.result ≡ at + short_len at item.instr = ap (λ (n : ℕ). at + n) c.short_len.ensures in
     let more = map (range_of place at (at + c.short_len.result)) c.as_slice.result.now in
     let same : more ≡ map (range_of place at (at + short_len at item.instr)) item.catches =
-      ap (λ (n : ℕ). map (range_of place at n) c.as_slice.result.now) end ∙ ap (λ (catches : List Catch). map (range_of place at (at + short_len at item.instr)) catches) c.as_slice.ensures in
-    (ranges-step items i item is place at c.loop-item.table.items more c.loop-item.invariant.0 same
-    ∙ ap (λ (table : List Handler). table ++ ranges_from place (at + short_len at item.instr) (drop (i + 1) items)) (sym c.in_ok-push_ranges.ensures)
-    ∙ ap (λ (n : ℕ). c.push_ranges.new.table.items ++ ranges_from place n (drop (i + 1) items)) (sym end),
-    end-step items i item is at (end_from 0 items) c.loop-item.invariant.1 ∙ ap (λ (n : ℕ). end_from n (drop (i + 1) items)) (sym end))
+    ap (λ (n : ℕ). map (range_of place at n) c.as_slice.result.now) end ∙ ap (λ (catches : List Catch). map (range_of place at (at + short_len at item.instr)) catches) c.as_slice.ensures in (
+      ranges-step items i item is place at c.loop-item.table.items more c.loop-item.invariant.0 same
+          ∙ ap (λ (table : List Handler). table ++ ranges_from place (at + short_len at item.instr) (drop (i + 1) items)) (sym c.in_ok-push_ranges.ensures)
+          ∙ ap (λ (n : ℕ). c.push_ranges.new.table.items ++ ranges_from place n (drop (i + 1) items)) (sym end),
+      end-step items i item is at (end_from 0 items) c.loop-item.invariant.1 ∙ ap (λ (n : ℕ). end_from n (drop (i + 1) items)) (sym end),
+    )
