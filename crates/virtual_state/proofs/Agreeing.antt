@@ -1,20 +1,19 @@
 -- Sites that are marked so that slots and objects agree without them.
-use Rattle.std.proofs.Common.{◌≡◌, ◌==◌, ◌||◌, ◌+◌, ◌<◌, ◌≤◌, ℕ, zero, suc, Bool, true, false, cond, List, [], ◌∷◌, ◌++◌, map, length, take, get_or, Option, Some, None, max, IsTrue, IsFalse, refl, sym, ap, subst, ◌∙◌, inl, inr, arith}
+use Rattle.std.proofs.Common.{◌≡◌, ◌==◌, ◌||◌, ◌+◌, ◌<◌, ◌≤◌, ℕ, zero, suc, Bool, true, false, cond, List, [], ◌∷◌, ◌++◌, map, length, take, get_or, Option, Some, None, IsTrue, refl, sym, ap, subst, ◌∙◌, inl, inr, arith}
 use Rattle.std.specs.List.{list_any}
 use Rattle.std.proofs.lemmas.Bool.{cases_Bool, cases_lt, or_cases, or_left, or_right, or_parts, eq-eqb, eqb-true, eqb-false, true≢false, false≢true, both_ways}
 use Rattle.std.proofs.lemmas.List.{get_or-take, length-map, length-take-le, map_push, take-take, take_all, take_more}
-use Rattle.std.proofs.lemmas.Option.{none-some, same_Some}
 use Rattle.virtual_state.specs.Inner.Agreement.{IsPart, AgreeWithout, ObjectsAgree, FieldsFollow, ArePair, AreUsable, HasMarkedPair, HasMarkedDifferences, HasMarkedObject, HasMarkedObjects, HaveMarkedObjects}
 use Rattle.virtual_state.specs.Inner.Marks.{HasMarked}
 use Rattle.virtual_state.specs.Inner.Slots.{slot_eq}
 use Rattle.virtual_state.specs.Sites.{has}
-use Rattle.virtual_state.specs.States.{IsEdge, is_virtual, is_unusable, names, object_of}
+use Rattle.virtual_state.specs.States.{is_virtual, is_unusable, names, object_of}
 use Rattle.virtual_state.specs.Without.{IsClosed, made_plain}
 use Rattle.virtual_state.specs.declared.slot.Slot.{Slot}
 use Rattle.virtual_state.specs.declared.slot.Slot.TheVariants.{Plain, Virt, Unusable}
 use Rattle.virtual_state.specs.declared.slot.VObject.{VObject}
 use Rattle.virtual_state.specs.Laws.Fields.{plain_slot, kept_slot, agree_more}
-use Rattle.virtual_state.specs.Laws.Objects.{same_or_not, some_or_none, found_site}
+use Rattle.virtual_state.specs.Laws.Objects.{found_site}
 
 -- ---- slots that are the same
 

@@ -1,18 +1,17 @@
 -- A state is below another one exactly where its slots and objects fit.
-use Rattle.std.proofs.Common.{◌≡◌, ◌↔◌, ◌==◌, ◌||◌, ◌+◌, ◌<◌, ◌≤◌, ℕ, zero, suc, Bool, true, false, cond, not, List, [], ◌∷◌, ◌++◌, map, length, take, get_or, max, Option, Some, None, is_some, IsTrue, IsFalse, refl, sym, ap, subst, ◌∙◌, inl, inr, arith}
+use Rattle.std.proofs.Common.{◌≡◌, ◌==◌, ◌||◌, ◌+◌, ◌<◌, ◌≤◌, ℕ, zero, suc, Bool, true, false, not, List, [], ◌∷◌, ◌++◌, map, length, take, get_or, Option, Some, None, is_some, IsTrue, IsFalse, refl, sym, ap, subst, ◌∙◌, inl, inr}
 use Rattle.std.specs.List.{list_any}
-use Rattle.std.proofs.lemmas.Bool.{cases_Bool, cases_lt, or_cases, or_parts, or_from, not-true, not-false, not_from_true, not_from_false, eq-eqb, eqb-true, false≢true, true≢false, both_ways}
+use Rattle.std.proofs.lemmas.Bool.{cases_Bool, or_cases, or_parts, or_from, not-true, not_from_false, eq-eqb, eqb-true, false≢true}
 use Rattle.std.proofs.lemmas.List.{take_all, take_more, map_push, length-map}
-use Rattle.std.proofs.lemmas.Option.{none-some, same_Some}
 use Rattle.virtual_state.specs.Inner.Comparing.{ObjectFits, ObjectsFit, absent_from}
 use Rattle.virtual_state.specs.Inner.Filling.{is_away, stays_as}
 use Rattle.virtual_state.specs.Orders.{IsBelow}
-use Rattle.virtual_state.specs.States.{State, IsState, IsEdge, is_virtual, is_present, names, object_of}
+use Rattle.virtual_state.specs.States.{State, IsState, is_virtual, is_present, names, object_of}
 use Rattle.virtual_state.specs.Without.{IsClosed, made_plain, object_without, objects_without, without}
 use Rattle.virtual_state.specs.declared.slot.Slot.{Slot}
 use Rattle.virtual_state.specs.declared.slot.Slot.TheVariants.{Plain, Virt, Unusable}
 use Rattle.virtual_state.specs.declared.slot.VObject.{VObject}
-use Rattle.virtual_state.specs.Laws.Objects.{some_or_none, found_site, present_found, not_found_absent, same_objects}
+use Rattle.virtual_state.specs.Laws.Objects.{found_site, not_found_absent, same_objects}
 use Rattle.virtual_state.specs.Laws.Orders.{absent, below_without, below_is_without, below_is_closed}
 use Rattle.virtual_state.specs.Laws.Removals.{without_in_order}
 use Rattle.virtual_state.proofs.Filling.{stays_found}

@@ -1,15 +1,15 @@
 -- States where the depth of one object is changed.
-use Rattle.std.proofs.Common.{◌≡◌, ◌==◌, ◌<◌, ℕ, Bool, true, false, cond, List, [], ◌∷◌, map, Option, Some, None, is_some, IsTrue, IsFalse, refl, sym, ap, subst, ◌∙◌, inl, inr, arith}
+use Rattle.std.proofs.Common.{◌≡◌, ◌==◌, ℕ, Bool, true, false, cond, List, map, Option, Some, None, is_some, IsTrue, refl, sym, ap, subst, ◌∙◌, inl, inr}
 use Rattle.std.specs.List.{list_any}
 use Rattle.std.specs.Option.{option_map, IsSomeAnd}
-use Rattle.std.proofs.lemmas.Bool.{cases_Bool, eq-eqb, ne_eqb}
+use Rattle.std.proofs.lemmas.Bool.{eq-eqb, ne_eqb}
 use Rattle.std.proofs.lemmas.Option.{none-some, same_Some}
 use Rattle.virtual_state.specs.Depths.{depth_of, object_with_depth, with_depth}
 use Rattle.virtual_state.specs.Inner.Tables.{HasSet}
 use Rattle.virtual_state.specs.States.{State, IsState, IsEdge, IsPath, one_edge, edge_and_path, IsReached, from_slot, from_field, object_of, is_present, is_unusable, names, sites_of, IsIncreasing}
 use Rattle.virtual_state.specs.declared.slot.Slot.{Slot}
 use Rattle.virtual_state.specs.declared.slot.VObject.{VObject}
-use Rattle.virtual_state.specs.Laws.Objects.{same_or_not, some_or_none, found_site, found_present, present_found, same_objects, object_of-map, sites_of-map}
+use Rattle.virtual_state.specs.Laws.Objects.{same_or_not, some_or_none, found_site, same_objects, object_of-map, sites_of-map}
 
 module _ (site : ℕ) (change : ℕ → ℕ) where
   abbrev redepth : VObject → VObject

@@ -1,11 +1,10 @@
 -- Tables of objects that are filled site by site.
-use Rattle.std.proofs.Common.{◌≡◌, ◌==◌, ◌||◌, map, length, ◌+◌, ◌<◌, ◌≤◌, ℕ, Bool, true, false, cond, not, List, [], ◌∷◌, Option, Some, None, IsTrue, refl, sym, ap, subst, ◌∙◌, inl, inr, arith}
+use Rattle.std.proofs.Common.{◌≡◌, ◌==◌, ◌||◌, map, length, ◌+◌, ◌<◌, ◌≤◌, ℕ, Bool, true, false, cond, List, [], ◌∷◌, Option, Some, None, refl, sym, ap, ◌∙◌, inl, inr, arith}
 use Rattle.std.specs.List.{list_any}
 use Rattle.std.specs.Option.{option_map}
 use Rattle.std.proofs.lemmas.Bool.{cases_Bool, cases_lt, eqb-true, or_parts}
 use Rattle.virtual_state.specs.Inner.Filling.{is_away, stays_as, if_among, of_sites, HasPut, IsFilled}
 use Rattle.virtual_state.specs.Inner.Marks.{HasMarked}
-use Rattle.virtual_state.specs.Inner.Tables.{HasSet}
 use Rattle.virtual_state.specs.Laws.Objects.{same_or_not, some_or_none, found_site, same_objects, object_of-filter}
 use Rattle.virtual_state.specs.Laws.Fields.{kept_slot}
 use Rattle.virtual_state.specs.Laws.Removals.{gone, stays, without_none}

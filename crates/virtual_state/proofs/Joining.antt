@@ -1,18 +1,17 @@
 -- The least state that two are below.
-use Rattle.std.proofs.Common.{◌≡◌, ◌||◌, ℕ, Bool, true, false, cond, not, List, [], ◌∷◌, map, Option, Some, None, IsTrue, IsFalse, refl, sym, ap, subst, ◌∙◌, inl, inr}
-use Rattle.std.proofs.lemmas.Bool.{cases_Bool, or_left, both_ways, true≢false, false≢true}
+use Rattle.std.proofs.Common.{◌≡◌, ◌||◌, ℕ, Bool, true, false, cond, List, [], Option, Some, None, refl, sym, ap, subst, ◌∙◌, inl, inr}
+use Rattle.std.proofs.lemmas.Bool.{cases_Bool, or_left, false≢true}
 use Rattle.std.proofs.lemmas.Option.{none-some, same_Some}
 use Rattle.virtual_state.specs.Inner.Agreement.{IsPart, AgreeWithout, ObjectsAgree, HasMarkedDifferences, HaveMarkedObjects}
 use Rattle.virtual_state.specs.Inner.Filling.{stays_as}
 use Rattle.virtual_state.specs.Inner.Marks.{HasSpread}
 use Rattle.virtual_state.specs.Orders.{IsBelow, IsJoin}
 use Rattle.virtual_state.specs.Sites.{has}
-use Rattle.virtual_state.specs.States.{State, IsState, IsEdge, object_of, sites_of, IsIncreasing}
-use Rattle.virtual_state.specs.Without.{IsClosed, made_plain, object_without, objects_without, without}
-use Rattle.virtual_state.specs.declared.slot.Slot.{Slot}
+use Rattle.virtual_state.specs.States.{State, IsState, object_of}
+use Rattle.virtual_state.specs.Without.{IsClosed, object_without, objects_without, without}
 use Rattle.virtual_state.specs.declared.slot.VObject.{VObject}
 use Rattle.virtual_state.specs.Laws.Fields.{agree_more}
-use Rattle.virtual_state.specs.Laws.Objects.{some_or_none, found_site, same_objects}
+use Rattle.virtual_state.specs.Laws.Objects.{found_site, same_objects}
 use Rattle.virtual_state.specs.Laws.Orders.{absent, below_without, below_is_without, below_is_closed}
 use Rattle.virtual_state.specs.Laws.Removals.{either, edge_before, without_in_order, without_is_state, without_twice}
 use Rattle.virtual_state.proofs.Agreeing.{objects_agree_part}

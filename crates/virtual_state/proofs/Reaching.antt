@@ -1,8 +1,7 @@
 -- The objects that slots reach make a state.
-use Rattle.std.proofs.Common.{◌≡◌, ◌==◌, ◌||◌, ◌++◌, ℕ, Bool, true, false, cond, List, [], ◌∷◌, Option, Some, None, is_some, IsTrue, IsFalse, refl, sym, ap, subst, ◌∙◌, inl, inr, append_assoc}
-use Rattle.std.specs.List.{filter, list_any}
+use Rattle.std.proofs.Common.{◌≡◌, ◌==◌, ◌||◌, ◌++◌, ℕ, Bool, true, false, cond, List, [], ◌∷◌, Some, None, is_some, IsTrue, refl, sym, ap, ◌∙◌, inl, inr, append_assoc}
 use Rattle.std.specs.Option.{option_or}
-use Rattle.std.proofs.lemmas.Bool.{cases_Bool, true≢false}
+use Rattle.std.proofs.lemmas.Bool.{cases_Bool}
 use Rattle.std.proofs.lemmas.List.Folds.{find-append}
 use Rattle.std.proofs.lemmas.Option.{none-some}
 use Rattle.virtual_state.specs.Inner.Filling.{of_sites}
@@ -13,7 +12,7 @@ use Rattle.virtual_state.specs.Sites.{has}
 use Rattle.virtual_state.specs.States.{State, IsState, IsEdge, IsPath, one_edge, edge_and_path, IsReached, from_slot, from_field, object_of, is_present, names, sites_of, IsIncreasing}
 use Rattle.virtual_state.specs.declared.slot.Slot.{Slot}
 use Rattle.virtual_state.specs.declared.slot.VObject.{VObject}
-use Rattle.virtual_state.specs.Laws.Objects.{same_or_not, some_or_none, found_present, present_found, object_first, object_behind, object_of-filter, filter_in_order}
+use Rattle.virtual_state.specs.Laws.Objects.{same_or_not, found_present, object_first, object_behind, object_of-filter, filter_in_order}
 use Rattle.virtual_state.proofs.Spreading.{spread_is_reached, reached_in_closed}
 
 -- ---- objects among marked sites

@@ -1,7 +1,6 @@
 -- Objects that stand at the indices of their sites: looked up among those that are listed, and in order.
-use Rattle.std.proofs.Common.{◌≡◌, ◌≢◌, ◌⊎◌, ◌==◌, ℕ, zero, suc, ◌+◌, ◌<◌, ◌≤◌, Bool, true, false, cond, List, [], ◌∷◌, ◌++◌, length, set, slice_get, Option, Some, None, refl, sym, ap, subst, ◌∙◌, inl, inr, arith}
-use Rattle.std.specs.List.{find, AllByRecursion}
-use Rattle.std.specs.Option.{option_flatten}
+use Rattle.std.proofs.Common.{◌≡◌, ◌≢◌, ◌⊎◌, ◌==◌, ℕ, zero, suc, ◌+◌, ◌<◌, Bool, cond, List, [], ◌∷◌, ◌++◌, length, set, Option, Some, None, refl, sym, ap, ◌∙◌, inl, inr, arith}
+use Rattle.std.specs.List.{AllByRecursion}
 use Rattle.std.proofs.lemmas.Bool.{cases_Bool, eq-eqb, eqb-true, ne_eqb, eqb-false}
 use Rattle.virtual_state.specs.States.{object_of, sites_of, IsIncreasing}
 use Rattle.virtual_state.specs.Inner.Tables.{listed, entry_at, ArePlacedFrom, HaveSameEntries, HasSetEntry, HasSet}

@@ -1,5 +1,5 @@
 -- How often the monitor of a virtual object is entered.
-use Rattle.std.specs.Prelude.{◌==◌, ℕ, List, map, Option, if◌then◌else◌}
+use Rattle.std.specs.Prelude.{◌==◌, ℕ, map, Option, if◌then◌else◌}
 use Rattle.std.specs.Option.{option_map}
 use Rattle.virtual_state.specs.States.{State, object_of}
 use Rattle.virtual_state.specs.declared.slot.VObject.{VObject}

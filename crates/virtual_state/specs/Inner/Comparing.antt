@@ -5,7 +5,6 @@ use Rattle.std.specs.declared.option.Option.TheVariants.{Some, None}
 use Rattle.virtual_state.specs.Inner.Filling.{is_away}
 use Rattle.virtual_state.specs.States.{is_present, object_of}
 use Rattle.virtual_state.specs.Without.{made_plain}
-use Rattle.virtual_state.specs.declared.slot.Slot.{Slot}
 use Rattle.virtual_state.specs.declared.slot.VObject.{VObject}
 
 -- the sites that have no object among these

@@ -6,7 +6,6 @@ use Rattle.virtual_state.specs.States.{is_virtual, is_unusable, names}
 use Rattle.virtual_state.specs.Without.{made_plain}
 use Rattle.virtual_state.specs.declared.slot.Slot.{Slot}
 use Rattle.virtual_state.specs.declared.slot.Slot.TheVariants.{Plain, Virt, Unusable}
-use Rattle.virtual_state.specs.Laws.Objects.{same_or_not}
 
 -- slots where the objects of some sites are made
 abbrev pub made : (ℕ → Bool) → List Slot → List Slot

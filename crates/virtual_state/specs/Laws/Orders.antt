@@ -1,17 +1,16 @@
 -- The order of states is a partial one, along which states have fewer and fewer objects; a join is the least state above two.
-use Rattle.std.proofs.Common.{◌≡◌, ◌≢◌, ◌⊎◌, ℕ, suc, ◌+◌, ◌<◌, ◌≤◌, ◌==◌, Bool, true, false, cond, not, ◌&&◌, ◌||◌, List, [], ◌∷◌, ◌++◌, map, length, Option, Some, None, is_some, IsTrue, IsFalse, refl, sym, ap, subst, ◌∙◌, inl, inr, arith}
-use Rattle.std.specs.List.{filter, list_any}
-use Rattle.std.specs.Option.{option_map}
-use Rattle.std.proofs.lemmas.Bool.{cases_Bool, or_cases, or_left, or_right, and_parts, and_from, eq-eqb, eqb-true, not-true, not_from_true, not_from_false, true≢false, false≢true, both_ways}
+use Rattle.std.proofs.Common.{◌≡◌, ◌≢◌, ◌⊎◌, ℕ, ◌<◌, ◌≤◌, ◌==◌, Bool, true, false, cond, not, ◌&&◌, ◌||◌, List, [], ◌∷◌, ◌++◌, length, Option, is_some, IsTrue, refl, sym, ap, subst, ◌∙◌, inl, inr, arith}
+use Rattle.std.specs.List.{filter}
+use Rattle.std.proofs.lemmas.Bool.{cases_Bool, or_cases, or_left, or_right, and_parts, and_from, eq-eqb, eqb-true, not_from_true, false≢true}
 use Rattle.std.proofs.lemmas.List.{length-map}
 use Rattle.std.proofs.lemmas.List.Folds.{list_any-append}
 use Rattle.virtual_state.specs.Orders.{IsBelow, IsJoin, IsChain}
 use Rattle.virtual_state.specs.Sites.{has, differing}
-use Rattle.virtual_state.specs.States.{State, IsState, IsEdge, object_of, is_present, names, sites_of, IsIncreasing}
+use Rattle.virtual_state.specs.States.{State, IsState, IsEdge, object_of, is_present, sites_of}
 use Rattle.virtual_state.specs.Without.{IsClosed, object_without, objects_without, without}
 use Rattle.virtual_state.specs.declared.slot.VObject.{VObject}
-use Rattle.virtual_state.specs.Laws.Objects.{same_or_not, some_or_none, found_present, present_found, not_found_absent, of_sites, object_first, object_behind}
-use Rattle.virtual_state.specs.Laws.Removals.{stay, either, gone, stays, present_before, present_behind, present_not_away, edge_before, edge_behind, without_is_state, without_agrees, without_none, without_twice, fewer_objects}
+use Rattle.virtual_state.specs.Laws.Objects.{same_or_not, present_found, of_sites, object_first, object_behind}
+use Rattle.virtual_state.specs.Laws.Removals.{stay, gone, present_before, present_behind, edge_behind, without_is_state, without_agrees, without_none, without_twice, fewer_objects}
 
 -- ---- sets of sites as lists
 

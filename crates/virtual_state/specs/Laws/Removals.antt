@@ -1,14 +1,14 @@
 -- States without some of their sites: what is found there, and that they are states.
-use Rattle.std.proofs.Common.{◌≡◌, ℕ, ◌<◌, ◌≤◌, Bool, true, false, cond, not, ◌&&◌, ◌||◌, List, [], ◌∷◌, map, length, Option, Some, None, is_some, IsTrue, IsFalse, refl, sym, ap, subst, ◌∙◌, inl, inr, arith}
-use Rattle.std.specs.List.{filter, list_any}
+use Rattle.std.proofs.Common.{◌≡◌, ℕ, ◌<◌, ◌≤◌, Bool, false, cond, not, ◌||◌, List, [], ◌∷◌, map, length, Some, None, is_some, IsTrue, IsFalse, refl, sym, ap, subst, ◌∙◌, inl, inr, arith}
+use Rattle.std.specs.List.{list_any}
 use Rattle.std.specs.Option.{option_map}
-use Rattle.std.proofs.lemmas.Bool.{cases_Bool, not-true, not-false, not_from_true, not_from_false, true≢false, false≢true, both_ways, or_left, or_right}
+use Rattle.std.proofs.lemmas.Bool.{cases_Bool, not_from_true, not_from_false, false≢true, both_ways, or_left, or_right}
 use Rattle.std.proofs.lemmas.Option.{none-some, same_Some}
 use Rattle.virtual_state.specs.States.{State, IsState, IsEdge, IsPath, one_edge, edge_and_path, IsReached, from_slot, from_field, object_of, is_present, is_unusable, names, sites_of, IsIncreasing}
-use Rattle.virtual_state.specs.Without.{IsClosed, made_plain, object_without, objects_without, without}
+use Rattle.virtual_state.specs.Without.{IsClosed, object_without, objects_without, without}
 use Rattle.virtual_state.specs.declared.slot.Slot.{Slot}
 use Rattle.virtual_state.specs.declared.slot.VObject.{VObject}
-use Rattle.virtual_state.specs.Laws.Objects.{some_or_none, found_present, present_found, not_found_absent, same_objects, object_behind, object_of-map, object_of-filter, sites_of-map, of_sites, filter_first, filter_behind, filter_in_order}
+use Rattle.virtual_state.specs.Laws.Objects.{some_or_none, found_present, present_found, same_objects, object_behind, object_of-map, object_of-filter, sites_of-map, of_sites, filter_first, filter_behind, filter_in_order}
 use Rattle.virtual_state.specs.Laws.Fields.{made, named_before, named_behind, made_same, made_none, made_twice, usable_made}
 
 -- the sites that stay

@@ -1,4 +1,4 @@
-use Rattle.std.proofs.Common.{◌≡◌, List, map, sym, ap, subst, ◌∙◌}
+use Rattle.std.proofs.Common.{◌≡◌, List, map, sym, subst, ◌∙◌}
 use Rattle.std.proofs.lemmas.Bool.{both_ways, false≢true}
 use Rattle.virtual_state.proofs.Comparisons.{below_fits, fits_below}
 use Rattle.virtual_state.specs.Inner.Comparing.{ObjectsFit, absent_from}

@@ -1,5 +1,5 @@
-use Rattle.std.proofs.Common.{◌≡◌, ◌+◌, ◌-◌, ◌<◌, ℕ, Some, None, sym, ap, ◌∙◌, arith}
-use Rattle.virtual_state.proofs.Depths.{depth_moves, depth_there, no_depth}
+use Rattle.std.proofs.Common.{◌≡◌, ◌-◌, ℕ, Some, sym, ap, ◌∙◌}
+use Rattle.virtual_state.proofs.Depths.{depth_moves}
 use Rattle.virtual_state.specs.Laws.Objects.{found_site}
 use Rattle.virtual_state.specs.States.{object_of}
 use Rattle.virtual_state.proofs.depth.leave.Goals as goal

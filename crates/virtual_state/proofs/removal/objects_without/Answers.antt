@@ -1,5 +1,5 @@
 use Rattle.std.proofs.Common.{◌≤◌, Option, arith, subst}
-use Rattle.virtual_state.proofs.Filling.{filled_none, filled_more, filled_all, stays_found, stays_past}
+use Rattle.virtual_state.proofs.Filling.{filled_more, filled_all, stays_found, stays_past}
 use Rattle.virtual_state.specs.Inner.Filling.{stays_as, HasPut}
 use Rattle.virtual_state.specs.Laws.Removals.{without_in_order}
 use Rattle.virtual_state.specs.Sites.{has}

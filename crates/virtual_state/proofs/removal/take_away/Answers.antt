@@ -1,4 +1,4 @@
-use Rattle.std.proofs.Common.{◌≡◌, map, true, sym, ap, subst, ◌∙◌}
+use Rattle.std.proofs.Common.{◌≡◌, map, sym, ap, subst, ◌∙◌}
 use Rattle.virtual_state.proofs.Filling.{empty_takes_none}
 use Rattle.virtual_state.specs.Laws.Removals.{without_is_state}
 use Rattle.virtual_state.specs.Sites.{has}

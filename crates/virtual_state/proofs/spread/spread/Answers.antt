@@ -1,4 +1,4 @@
-use Rattle.std.proofs.Common.{◌≡◌, ◌<◌, ◌≤◌, length, arith}
+use Rattle.std.proofs.Common.{◌<◌, ◌≤◌, length, arith}
 use Rattle.virtual_state.proofs.Marking.{marked_both}
 use Rattle.virtual_state.proofs.Spreading.{spreading_begins, spreading_goes_on, spreading_ends}
 use Rattle.virtual_state.proofs.spread.spread.Goals as goal

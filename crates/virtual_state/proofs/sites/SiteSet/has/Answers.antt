@@ -1,5 +1,4 @@
-use Rattle.std.proofs.Common.{ℕ, List, ap, subst, ◌∙◌}
-use Rattle.virtual_state.specs.Inner.Places.{IsPlaceOf}
+use Rattle.std.proofs.Common.{ℕ, List, ap, ◌∙◌}
 use Rattle.virtual_state.specs.Sites.{has}
 use Rattle.virtual_state.proofs.SiteSets.{place_tells}
 use Rattle.virtual_state.proofs.sites.SiteSet.has.Goals as goal

@@ -1,4 +1,4 @@
-use Rattle.std.proofs.Common.{◌≡◌, List, sym, ap, subst, ◌∙◌}
+use Rattle.std.proofs.Common.{◌≡◌, List, sym, subst}
 use Rattle.virtual_state.specs.Inner.Tables.{entry_at}
 use Rattle.virtual_state.specs.States.{object_of}
 use Rattle.virtual_state.specs.declared.slot.VObject.{VObject}

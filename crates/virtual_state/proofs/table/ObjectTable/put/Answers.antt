@@ -1,6 +1,6 @@
-use Rattle.std.proofs.Common.{rules, ◌≡◌, ℕ, Option, Some, List, ap, sym, subst, ◌∙◌}
+use Rattle.std.proofs.Common.{rules, ◌≡◌, ℕ, Some, List, ap, sym, subst, ◌∙◌}
 use Rattle.std.proofs.lemmas.Option.{same_Some}
-use Rattle.virtual_state.specs.Inner.Tables.{HasSet, HasSetEntry, listed}
+use Rattle.virtual_state.specs.Inner.Tables.{HasSet, listed}
 use Rattle.virtual_state.specs.declared.slot.VObject.{VObject}
 use Rattle.virtual_state.proofs.Tables.{set_listed_behind}
 use Rattle.virtual_state.proofs.table.ObjectTable.put.Goals as goal

@@ -1,4 +1,4 @@
-use Rattle.std.proofs.Common.{rules, ◌≡◌, None, List, refl, ap, sym, subst, ◌∙◌, true≢false}
+use Rattle.std.proofs.Common.{rules, ◌≡◌, None, List, refl, ap, subst, ◌∙◌}
 use Rattle.std.specs.Option.{option_flatten}
 use Rattle.std.proofs.lemmas.Option.{slice_get_past, none-some}
 use Rattle.virtual_state.specs.Inner.Tables.{HasSet, listed}
