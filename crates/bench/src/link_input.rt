@@ -1,6 +1,6 @@
 //! Classes that use one another by number, of which as many can be made as is wanted.
+use cases_notation::Input;
 use class_model::{ClassFault, NoMemory};
-use class_notation::Input;
 use std::alloc::Global;
 
 // How many packages there are.

@@ -1,6 +1,6 @@
 //! Classes of a hierarchy by number, of which as many can be made as is wanted.
+use cases_notation::{Head, Input, OBJECT};
 use class_model::ClassFault;
-use class_notation::{Head, Input, OBJECT};
 use std::alloc::Global;
 
 // The flags of a plain class, public and with the treatment of calls of today, and of a plain interface, public and abstract.

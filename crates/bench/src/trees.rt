@@ -1,7 +1,7 @@
 //! Hierarchies of generated class files.
 use crate::tree_input::{INTERFACES, chain_of, class_name, tree_of};
+use cases_notation::superclasses;
 use class_model::Text;
-use class_notation::superclasses;
 use class_tree::{Place, Tree, is_sub};
 use std::alloc::Global;
 

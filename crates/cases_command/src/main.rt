@@ -1,0 +1,102 @@
+//! Asks the cases of the files that the words name, and compares what is answered. It prints each case that is answered
+//! otherwise, with its line, and the number of cases of each file.
+//!
+//! A line of a file that begins with `#` is a comment, and one that begins with two spaces goes on with the line before it.
+//! Any other has statements, with ` ; ` between them. They are done in order, over one host in memory, and what a file leaves
+//! stands for the next. A statement is a setting or a case: a question, ` => ` and the answer.
+//!
+//! The settings are:
+//! - `host`, a new host without files; `host failing 3`, one whose calls of these numbers fail, counted from 0;
+//! - `base ROOT`, which puts the class files of the base library there; `base ROOT 2`, its first two;
+//! - `put ROOT/FILE CONTENT`, which puts a file there;
+//! - `bytes NAME CONTENT`, which names a content.
+//!
+//! A content is words, each of which appends bytes to those before: hex digits; `"first`, a text; `'first`, the Utf8 constant
+//! of a text; and `=NAME`, a content that has a name. `length:7` cuts what stands before to this length, or fills it with zeros,
+//! and `byte:7:35` has the hex digits 35 in the place of its byte 7. In a text and in a name of a file `\20` is the byte of
+//! these hex digits.
+//!
+//! The questions are:
+//! - `run WORDS`, the command of these words, cut at each space, so that two spaces make an empty word. The answer is the code
+//!   and the status, and behind ` | ` what was printed, if anything was;
+//! - `explain WORDS`, what the command of these words explains;
+//! - `files ROOT/FILE ..`, the name of the content of each file: `-` where no file is there, and `?` where the content has no
+//!   name;
+//! - `faults List`, or of another kind of call: how often calls of this kind have failed;
+//! - `content CONTENT`, its name, or `?`;
+//! - `meaning KIND RULE`, what a rule of the kind `file`, `link` or `type` says in words where it is broken;
+//! - `code STATUS`, the code of a status without names;
+//! - `vanishing WORDS`, the code and the status of the command over a host whose files are gone between their listing and their
+//!   reads, and whether it was asked to write and to print;
+//! - `base_library`, how many classes it has.
+//!
+//! An answer has `\0a` where a byte is no printable ASCII, or is a backslash.
+#![tactic(auto)]
+
+mod answers;
+mod base_library;
+mod contents;
+mod meanings;
+mod setting;
+mod statuses;
+mod texts;
+mod vanishing;
+
+use answers::answer;
+use cases_notation::{lines_of, print_difference, question_of};
+use setting::Setting;
+use std::process::ExitCode;
+use std::{env, fs};
+
+fn main(rt: HostRuntime) -> ExitCode {
+    match compare_files(&rt) {
+        Some(()) => ExitCode::SUCCESS,
+        None => ExitCode::FAILURE,
+    }
+}
+
+// Asks the cases of all files. None where the words or a file cannot be read or memory runs out.
+fn compare_files(rt: &HostRuntime) -> Option<()> {
+    let names = env::args(rt)
+        .ok()?
+        .skip(1)
+        .collect::<Vec<String>>(rt.alloc())
+        .ok()?;
+    let mut setting = Setting::empty(rt.alloc())?;
+    for name in names.as_slice() {
+        compare_file(rt, &mut setting, name)?;
+    }
+    Some(())
+}
+
+// Asks the cases of a file, and prints those that are answered otherwise and how many there are.
+fn compare_file(rt: &HostRuntime, setting: &mut Setting, name: &str) -> Option<()> {
+    let text = fs::read_to_string(rt, name).ok()?;
+    let mut count: u64 = 0;
+    for line in lines_of(rt.alloc(), &text)?.as_slice() {
+        let place = format!(in rt.alloc(); "{name}:{}", line.number).ok()?;
+        for statement in line.text.split(" ; ") {
+            if is_case(rt, setting, &place, statement)? {
+                let came = question_of(statement).and_then(|question| answer(
+                    rt.alloc(),
+                    setting,
+                    question,
+                ));
+                print_difference(rt, &place, statement, came)?;
+                count = count.wrapping_add(1);
+            }
+        }
+    }
+    println!(rt; "{name}: {count}").ok()
+}
+
+// Whether a statement is a case. A setting is done, and printed with its place where it cannot be.
+fn is_case(rt: &HostRuntime, setting: &mut Setting, place: &str, statement: &str) -> Option<bool> {
+    match setting.take(rt.alloc(), statement) {
+        Some(is_setting) => Some(!is_setting),
+        None => {
+            println!(rt; "{place}: no setting: {statement}").ok()?;
+            Some(false)
+        }
+    }
+}

@@ -1,0 +1,73 @@
+//! What the cases are asked over.
+use crate::base_library::put_first;
+use crate::contents::Contents;
+use crate::texts::root_and_name;
+use cases_notation::word_and_rest;
+use class_model::ListOf;
+use host_tree::MemoryHost;
+use std::alloc::Global;
+
+/// A host in memory, and the contents that have names.
+#[derive(Drop)]
+pub(crate) struct Setting {
+    pub host: MemoryHost,
+    pub contents: Contents,
+}
+
+impl Setting {
+    /// A host without files, and no names.
+    pub(crate) fn empty(alloc: Global) -> Option<Self> {
+        Some(Setting {
+            host: host_failing(alloc, "")?,
+            contents: Contents::empty(alloc),
+        })
+    }
+
+    /// Does what a statement says. False where it is no setting, and None where it is none that can be done or memory runs out.
+    pub(crate) fn take(&mut self, alloc: Global, statement: &str) -> Option<bool> {
+        let (word, said) = word_and_rest(statement);
+        match word {
+            "host" => self.host = host_failing(alloc, said)?,
+            "base" => self.put_library(alloc, said)?,
+            "put" => self.put_file(alloc, said)?,
+            "bytes" => self.name_content(alloc, said)?,
+            _ => return Some(false),
+        }
+        Some(true)
+    }
+
+    // Puts the base library, or as many class files of it, into a root.
+    fn put_library(&mut self, alloc: Global, said: &str) -> Option<()> {
+        let (root, count) = word_and_rest(said);
+        if count.is_empty() {
+            return put_first(alloc, &mut self.host, root, usize::MAX);
+        }
+        put_first(alloc, &mut self.host, root, count.parse::<usize>().ok()?)
+    }
+
+    // Puts a file into a root.
+    fn put_file(&mut self, alloc: Global, said: &str) -> Option<()> {
+        let (path, content) = said.split_once(' ')?;
+        let (root, name) = root_and_name(alloc, path)?;
+        let bytes = self.contents.written(alloc, content)?;
+        self.host.put(alloc, &root, &name, &bytes).ok()
+    }
+
+    // Names a content.
+    fn name_content(&mut self, alloc: Global, said: &str) -> Option<()> {
+        let (name, content) = said.split_once(' ')?;
+        let bytes = self.contents.written(alloc, content)?;
+        self.contents.add(alloc, name, bytes)
+    }
+}
+
+// A host without files, whose calls of the numbers fail that are said behind `failing`.
+fn host_failing(alloc: Global, said: &str) -> Option<MemoryHost> {
+    let mut numbers = ListOf::new(alloc);
+    if !said.is_empty() {
+        for number in said.strip_prefix("failing ")?.split(' ') {
+            numbers.push(number.parse::<u64>().ok()?).ok()?;
+        }
+    }
+    MemoryHost::new(alloc, numbers).ok()
+}
