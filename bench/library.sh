@@ -9,7 +9,7 @@ cd "$(dirname "$0")/.."
 . bench/measures.sh
 in_memory
 mkdir in
-if ! said=$(bash "$root/scripts/jdk-library.sh" lib); then
+if ! said=$(bash "$root/scripts/jdk-library.sh" --whole lib); then
     echo "library: skipped, since $said"
     exit 0
 fi
