@@ -1,8 +1,9 @@
 -- A program in which nothing is replaced is itself.
-use Rattle.std.specs.Prelude.{◌≡◌, ◌-◌, ℕ, zero, suc, List, [], ◌∷◌, ◌++◌, map, bit_and, Option, Some, None}
+use Rattle.std.specs.Prelude.{◌≡◌, ◌+◌, ◌-◌, ℕ, zero, suc, List, [], ◌∷◌, ◌++◌, map, bit_and, Option, Some, None}
 use Rattle.std.proofs.Common.{refl, sym, ap, ◌∙◌, arith}
 use Rattle.std.proofs.lemmas.List.{append-nil}
 use Rattle.std.specs.Int.Bits.{and_zero_r}
+use Rattle.class_model.specs.Members.{PRIVATE, FINAL}
 use Rattle.class_model.specs.declared.header.Member.{Member}
 use Rattle.machine_laws.specs.Replacing.{ReplacesNothing}
 use Rattle.member_link.specs.Machine.Programs.{Program, RunClass, RunMethod}
@@ -13,7 +14,7 @@ same_items change same number [] = refl
 same_items change same number (item ∷ items) = λ i. same number item i ∷ same_items change same (suc number) items i
 
 nothing_cleared : (flags : ℕ) → without_flags flags 0 ≡ flags
-nothing_cleared flags = let e : bit_and flags 0 ≡ 0 = and_zero_r flags in rw e (omega arith)
+nothing_cleared flags = let e : bit_and flags (bit_and 0 (PRIVATE + FINAL)) ≡ 0 = and_zero_r flags in rw e (omega arith)
 
 module _ (r : Replacement) (none : ReplacesNothing r) where
   same_field : (class field : ℕ) (member : Member) → field_cleared r class field member ≡ member

@@ -61,7 +61,7 @@ module _
 
   same_select : a.select ≡ b.select
   same_select = fun_ext (λ receiver. fun_ext (λ r. fun_ext (λ form. by_name r.name
-      (λ e. is.initialiser_itself receiver r form e ∙ sym (also.initialiser_itself receiver r form e))
+      (λ e. is.no_initialiser receiver r form e ∙ sym (also.no_initialiser receiver r form e))
       (λ n. same_choice receiver form (own_method headers r.class r.name r.desc) (a.select receiver r form) (b.select receiver r form) (is.select receiver r form n) (also.select receiver r form n)))))
 
   pub links_once : a ≡ b

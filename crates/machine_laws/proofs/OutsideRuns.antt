@@ -7,4 +7,6 @@ unfolding descriptors.types_before
 outside_run = record {
   dynamic_call = refl;
   float_asked = refl;
+  external_receiver = refl;
+  library_field = refl;
 }

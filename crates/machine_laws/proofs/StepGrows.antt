@@ -20,7 +20,7 @@ use Rattle.member_link.specs.Machine.Values.{has_kind, narrowed}
 use Rattle.member_link.specs.Machine.Ops as ops
 use Rattle.member_link.specs.Machine.Ops.{Op}
 use Rattle.member_link.specs.Machine.Programs.{Program, Point, point_at}
-use Rattle.member_link.specs.Machine.Stepping.{is_stuck, load_step, store_units, store_step, increment_step, test_step, shuffle_step, jump_step, switch_step, return_step, work_step, op_step, point_step, frames_step, is_library_turn, step}
+use Rattle.member_link.specs.Machine.Stepping.{ends_stuck, load_step, store_units, store_step, increment_step, test_step, shuffle_step, jump_step, switch_step, return_step, work_step, op_step, point_step, frames_step, is_library_turn, step}
 use Rattle.member_link.specs.Machine.Work.{arity, work}
 use Rattle.member_link.specs.Machine.Worlds.{World}
 
@@ -36,13 +36,13 @@ pub either_grows : {w : World} (b : Bool) (c d : World) → WorldGrows w c → W
 either_grows true c d g h = g
 either_grows false c d g h = h
 
-pub stuck_grows : (w : World) → WorldGrows w (is_stuck w)
+pub stuck_grows : (w : World) → WorldGrows w (ends_stuck w)
 stuck_grows w = of_halt w _
 
 pub store_grows : (w : World) (f : MethodState) (rest : List RunFrame) (k : Kind) (at : ℕ) (s : List Value) → WorldGrows w (store_step w f rest k at s)
 store_grows w f rest k at [] = of_halt w _
 store_grows w f rest k at (v ∷ s) =
-    either_grows (has_kind k v) (store_units w f rest s (stored at v f.locals)) (is_stuck w) (store_units_grows w f rest s (stored at v f.locals)) (stuck_grows w)
+    either_grows (has_kind k v) (store_units w f rest s (stored at v f.locals)) (ends_stuck w) (store_units_grows w f rest s (stored at v f.locals)) (stuck_grows w)
 
 pub increment_grows : (w : World) (f : MethodState) (rest : List RunFrame) (at : ℕ) (by : ℤ) (v : Option Value) → WorldGrows w (increment_step w f rest at by v)
 increment_grows w f rest at by None = of_halt w _
@@ -68,12 +68,12 @@ switch_grows w f rest target other = stuck_grows w
 pub return_grows : (P : Program) (w : World) (f : MethodState) (rest : List RunFrame) (t : FieldType) (s : List Value) → WorldGrows w (return_step P w f rest t s)
 return_grows P w f rest t [] = of_halt w _
 return_grows P w f rest t (v ∷ s) =
-    either_grows (has_kind (kind_of t) v) (returned_value P w f rest t v) (is_stuck w) (returned_grows P w f rest (narrowed t v ∷ [])) (stuck_grows w)
+    either_grows (has_kind (kind_of t) v) (returned_value P w f rest t v) (ends_stuck w) (returned_grows P w f rest (narrowed t v ∷ [])) (stuck_grows w)
 
 pub work_step_grows : (P : Program) (w : World) (f : MethodState) (rest : List RunFrame) (op : Op) → WorldGrows w (work_step P w f rest op)
 work_step_grows P w f rest op =
     either_grows (nat_le (arity op) (length f.stack))
-    (perform P w f (record f { stack = drop (arity op) f.stack }) rest (work P w.memory op (reverse (take (arity op) f.stack)))) (is_stuck w)
+    (perform P w f (record f { stack = drop (arity op) f.stack }) rest (work P w.memory op (reverse (take (arity op) f.stack)))) (ends_stuck w)
     (perform_grows P w f (record f { stack = drop (arity op) f.stack }) rest (work P w.memory op (reverse (take (arity op) f.stack))) (work_grows P w.memory op _))
     (stuck_grows w)
 

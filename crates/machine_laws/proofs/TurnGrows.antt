@@ -12,7 +12,7 @@ use Rattle.machine_laws.proofs.WorkGrows.{memory_same, Grown}
 use Rattle.member_link.specs.Machine.Beginnings.{with_start, with_starts, begun_memory, begun_on, beginning_step, starts_of, initialised, begun_next, beginning_of, initialiser_of, first_unbegun, come_first}
 use Rattle.member_link.specs.Machine.Completions.{Completion, gives, raises, throws, begins, calls, asks, ends}
 use Rattle.machine_laws.specs.Growth.{MemoryGrows, WorldGrows}
-use Rattle.member_link.specs.Machine.Performing.{Locked, Locking, locked_by, locked, called, unlocked, is_initialiser, returned_to, returned_by, returned, past_method, past_handler, handler_at, Landing, lands_in, lands_in_library, leaves_initialiser, lands_nowhere, unwind, landed, thrown, raised, perform}
+use Rattle.member_link.specs.Machine.Performing.{Locked, Locking, locked_by, locked, called, unlocked, is_initialiser, returned_to, returned_by, returned, past_method, past_handler, handler_at, Landing, lands_in, lands_in_library, leaves_initialiser, lands_nowhere, unwind, landed, thrown, thrown_in, raised, perform}
 use Rattle.member_link.specs.Machine.Programs.{Program, StaticStart, RunMethod, RunClass, StartValue, start_value, start_string, run_method, point_at}
 use Rattle.member_link.specs.Machine.Performing as performing
 use Rattle.member_link.specs.Machine.Heaps.{constant_made}
@@ -99,11 +99,14 @@ landed_grows P w r (lands_in_library m fs) l = world_through (of_memory w _ _ _ 
 landed_grows P w r (leaves_initialiser m fs) l = of_memory w _ _ _ l.is
 landed_grows P w r lands_nowhere l = of_memory w _ _ _ (memory_same _)
 
+pub thrown_in_grows : (P : Program) (w : World) (r : ℕ) (fs : List RunFrame) (m : Memory) → MemoryGrows w.memory m → WorldGrows w (thrown_in P w r fs m)
+thrown_in_grows P w r fs m g = landed_grows P w r _ (lands_through _ _ _ g (unwind_lands P r fs m))
+
 pub thrown_grows : (P : Program) (w : World) (r : ℕ) (fs : List RunFrame) → WorldGrows w (thrown P w r fs)
-thrown_grows P w r fs = landed_grows P w r _ (unwind_lands P r fs w.memory)
+thrown_grows P w r fs = thrown_in_grows P w r fs w.memory (memory_same _)
 
 pub raised_grows : (P : Program) (w : World) (c : Name) (fs : List RunFrame) → WorldGrows w (raised P w c fs)
-raised_grows P w c fs = world_through (of_memory w _ _ _ (record { objects = keep_added _ _; allocations = omega arith; entries = omega arith })) (thrown_grows P _ _ fs)
+raised_grows P w c fs = thrown_in_grows P w _ fs _ (record { objects = keep_added _ _; allocations = omega arith; entries = omega arith })
 
 -- ---- initialisation
 
@@ -140,7 +143,7 @@ beginning_grows P c w rest = by (slice_get P.classes c) where
   by_first None = by_initialiser (initialiser_of P c)
 
   by : (k : Option RunClass) → WorldGrows w (beginning_of P c w rest k)
-  by None = of_frames w _
+  by None = of_halt w _
   by (Some k) = by_first (first_unbegun P w.memory (come_first P k.header))
 
 -- ---- completions

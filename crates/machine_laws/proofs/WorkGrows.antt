@@ -114,11 +114,11 @@ enter_grows m vs = record { is = grind (arith, keep_entered) }
 pub leave_grows : (m : Memory) (vs : List Value) → Grown m (leave_monitor_work m vs)
 leave_grows m vs = record { is = grind (arith, keep_left) }
 
-pub throw_grows : (m : Memory) (vs : List Value) → Grown m (throw_work vs)
-throw_grows m vs = record { is = grind (arith) }
+pub throw_grows : (P : Program) (m : Memory) (vs : List Value) → Grown m (throw_work P m vs)
+throw_grows P m vs = record { is = grind (arith) }
 
-pub call_static_grows : (P : Program) (m : Memory) (f : Option Reference) (vs : List Value) → Grown m (call_static_work P m f vs)
-call_static_grows P m f vs = record { is = grind (arith) }
+pub call_static_grows : (P : Program) (m : Memory) (n : Reference) (f : Option Reference) (vs : List Value) → Grown m (call_static_work P m n f vs)
+call_static_grows P m n f vs = record { is = grind (arith) }
 
 pub run_call_grows : (P : Program) (m : Memory) (f : Reference) (vs : List Value) → Grown m (run_call P f vs)
 run_call_grows P m f vs = record { is = grind (arith) }
@@ -126,8 +126,8 @@ run_call_grows P m f vs = record { is = grind (arith) }
 pub run_chosen_grows : (P : Program) (m : Memory) (c : Chosen) (vs : List Value) → Grown m (run_chosen P c vs)
 run_chosen_grows P m c vs = record { is = grind (arith, run_call_grows) }
 
-pub on_receiver_grows : (P : Program) (m : Memory) (s : Shape) (f : Reference) (c : Chosen) (vs : List Value) → Grown m (on_receiver P s f c vs)
-on_receiver_grows P m s f c vs = grind (arith, run_chosen_grows)
+pub on_receiver_grows : (P : Program) (m : Memory) (s : Shape) (n f : Reference) (c : Chosen) (vs : List Value) → Grown m (on_receiver P s n f c vs)
+on_receiver_grows P m s n f c vs = grind (arith, run_chosen_grows)
 
 pub with_receiver_grows : (P : Program) (m : Memory) (d : List ℕ) (of_shape : Shape → Completion) (vs : List Value) → ((s : Shape) → Grown m (of_shape s)) → Grown m (with_receiver P m d of_shape vs)
 with_receiver_grows P m d of_shape vs g = record { is = grind (arith, g) }
@@ -153,13 +153,13 @@ call_interface_grows P m n (Some f) vs =
     let g = with_receiver_grows P m n.desc (interface_on P n f vs) vs (interface_on_grows P m n f vs) in
     grind (arith, g)
 
-pub special_on_grows : (P : Program) (m : Memory) (from : Name) (f : Reference) (vs : List Value) (s : Shape) → Grown m (special_on P m from f vs s)
-special_on_grows P m from f vs s = grind (arith, on_receiver_grows, memory_same)
+pub special_on_grows : (P : Program) (m : Memory) (n : Reference) (from : Name) (f : Reference) (vs : List Value) (s : Shape) → Grown m (special_on P m n from f vs s)
+special_on_grows P m n from f vs s = grind (arith, on_receiver_grows, memory_same)
 
 pub found_special_grows : (P : Program) (m : Memory) (n : Reference) (from : Name) (f : Option Reference) (vs : List Value) → Grown m (call_found_special P m n from f vs)
 found_special_grows P m n from None vs = record { is = tt }
 found_special_grows P m n from (Some f) vs =
-    let g = with_receiver_grows P m n.desc (if_conforms P n (special_on P m from f vs)) vs (if_conforms_grows P m n (special_on P m from f vs) (special_on_grows P m from f vs)) in
+    let g = with_receiver_grows P m n.desc (if_conforms P n (special_on P m n from f vs)) vs (if_conforms_grows P m n (special_on P m n from f vs) (special_on_grows P m n from f vs)) in
     grind (arith, g)
 
 pub call_special_grows : (P : Program) (m : Memory) (n : Reference) (from : Name) (vs : List Value) → Grown m (call_special_work P m n from vs)
@@ -196,12 +196,12 @@ work_grows P m (ops.push_constant c) vs = record { is = record { objects = keep_
 work_grows P m (ops.pure_arithmetic o) vs = grind (arith, memory_same)
 work_grows P m (ops.division o) vs = grind (arith, memory_same)
 work_grows P m (ops.float_arithmetic o) vs = grind (arith, memory_same)
-work_grows P m ops.throw_reference vs = throw_grows m vs
+work_grows P m ops.throw_reference vs = throw_grows P m vs
 work_grows P m (ops.get_static f) vs = get_static_grows P m _
 work_grows P m (ops.put_static f i) vs = put_static_grows P m _ i vs
 work_grows P m (ops.get_field f) vs = get_field_grows P m f.class _ vs
 work_grows P m (ops.put_field f i) vs = put_field_grows P m f.class _ i vs
-work_grows P m (ops.call_static f) vs = call_static_grows P m _ vs
+work_grows P m (ops.call_static f) vs = call_static_grows P m f _ vs
 work_grows P m (ops.call_virtual f) vs = call_virtual_grows P m f _ vs
 work_grows P m (ops.call_interface f) vs = call_interface_grows P m f _ vs
 work_grows P m (ops.call_special f from) vs = call_special_grows P m f from vs

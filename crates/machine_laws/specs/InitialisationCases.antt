@@ -11,7 +11,7 @@ use Rattle.machine_laws.specs.TestPrograms.{class_above, with_code, member, prog
 use Rattle.member_link.specs.Machine.Ops as ops
 use Rattle.member_link.specs.Machine.Programs.{Program, start_value}
 
--- class A (static int a = 7; <clinit> calls L.use("A")), class B extends A (static int b; <clinit> { b = A.a; })
+-- class A (static byte a, whose ConstantValue is 300; <clinit> calls L.use("A")), class B extends A (static int b; <clinit> { b = A.a; })
 abbrev pub init_program : Program
 init_program = program (record (class_above 33 (codes "A") (codes "java/lang/Object") [] (member 8 (codes "a") (codes "B") ∷ []) (with_code 8 (codes "<clinit>") (codes "()V") 0 (ops.push_constant (constants.Str (codes "A")) ∷ ops.call_static (reference (codes "L") (codes "use") (codes "(Ljava/lang/Object;)V")) ∷ ops.return_nothing ∷ []) ∷ [])) { starts = record { field = 0; value = start_value (values.Int (pos 300)) } ∷ [] }
     ∷ class_above 33 (codes "B") (codes "A") [] (member 8 (codes "b") (codes "I") ∷ []) (with_code 8 (codes "<clinit>") (codes "()V") 0 (ops.get_static (reference (codes "A") (codes "a") (codes "B")) ∷ ops.put_static (reference (codes "B") (codes "b") (codes "I")) (Some (codes "B")) ∷ ops.return_nothing ∷ []) ∷ with_code 9 (codes "get") (codes "()I") 0 (ops.get_static (reference (codes "B") (codes "b") (codes "I")) ∷ ops.return_value types.Int ∷ []) ∷ [])

@@ -55,7 +55,7 @@ base =
     ∷ throwable_class (codes "java/lang/IllegalAccessError")
     ∷ throwable_class (codes "java/lang/IncompatibleClassChangeError")
     ∷ throwable_class (codes "java/lang/AbstractMethodError")
-    ∷ library_class (codes "L") (Some object) 33 (member 265 (codes "use") (codes "(Ljava/lang/Object;)V") ∷ member 265 (codes "keep") (codes "(Ljava/lang/Object;)V") ∷ [])
+    ∷ record (library_class (codes "L") (Some object) 33 (member 265 (codes "use") (codes "(Ljava/lang/Object;)V") ∷ member 265 (codes "keep") (codes "(Ljava/lang/Object;)V") ∷ [])) { fields = member 9 (codes "n") (codes "I") ∷ [] }
     ∷ []
 
 -- ---- links by plain walks, as many steps as there are classes

@@ -71,7 +71,7 @@ pub enum EventKind {
         opcode: u8,
         values: SeenList,
     },
-    /// What a call or a construction of the library gave, and what it threw.
+    /// What a `Call` or `Construct` of the library ended with: a value, or an object that was thrown.
     Result(Option<Seen>),
     Threw(SeenRef),
     /// An element, a length in elements, and an object that the library made.

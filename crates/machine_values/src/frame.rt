@@ -7,7 +7,7 @@ use std::marker::Model;
 pub type LocalList = ListOf<Option<Value>>;
 
 /// The frame of a method: the number of the instruction at which it stands, its locals and operand stack, and the reference
-/// whose monitor the method entered as a synchronized one. A frame that waits for a call stands at the call, whose operands are
+/// whose monitor the method entered as a synchronized one. A frame that waits for a call or the library stands at its instruction, whose operands are
 /// taken. Contracts see the top of the stack first.
 #[derive(Debug, Drop)]
 pub struct MethodFrame {

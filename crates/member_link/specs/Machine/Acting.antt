@@ -193,10 +193,11 @@ abbrev pub waiting_in : Program → List RunFrame → Option Waiting
 waiting_in P (Library made ∷ Method f ∷ rest) = option_map (λ p. record { frame = f; rest = rest; pending = p }) (option_and_then (λ point. pending_of point.op) (point_at P f.at f.place))
 waiting_in P frames = None
 
--- the value goes to the frame that waits, narrowed to the type
+-- the frame that waits goes on with these values
 abbrev pub answered : World → Waiting → List Value → World
 answered w waiting values = record w { frames = Method (resumed waiting.frame values) ∷ waiting.rest }
 
+-- a value that conforms to the type goes to it, narrowed
 abbrev pub answer_with : Program → World → Waiting → Option FieldType → Option Value → World
 answer_with P w waiting (Some type) (Some value) =
     if value_conforms P w.memory.heap type value then answered w waiting (narrowed type value ∷ []) else fault w

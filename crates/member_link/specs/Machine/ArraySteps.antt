@@ -1,6 +1,7 @@
 -- Arrays (JVM Specification SE 8, 6.5: newarray, anewarray, multianewarray, arraylength, the loads and stores of elements). Of an
 -- access null is tested first, then the index, then of a store into an array of references the value. An array of more than
--- 1,000,000 elements ends the run: this project's profile.
+-- 1,000,000 elements ends the run, and so do arrays of arrays of which one level has more: this
+-- project's profile.
 use Rattle.std.specs.Prelude.{◌==◌, ◌||◌, ◌*◌, ◌+◌, ℕ, zero, suc, ℤ, pos, negsuc, nat_lt, Bool, true, false, List, [], ◌∷◌, replicate, slice_get, bytes_eq, codes, Option, Some, None, is_some, if◌then◌else◌}
 use Rattle.class_model.specs.Descriptors.{type_of}
 use Rattle.class_tree.specs.Headers.{Name}

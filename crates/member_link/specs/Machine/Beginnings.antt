@@ -19,7 +19,7 @@ use Rattle.machine_values.specs.declared.value.Value.TheVariants.{Ref}
 use Rattle.member_link.specs.Machine.Heaps.{Made, constant_made}
 use Rattle.member_link.specs.Machine.Programs.{Program, RunClass, Code, StartValue, start_value, start_string, StaticStart, headers_in, header_named, folder_number, place_of_method, code_at, name_of_class}
 use Rattle.member_link.specs.Machine.Values.{narrowed}
-use Rattle.member_link.specs.Machine.Worlds.{Memory, World, with_heap, with_static, is_begun, field_desc}
+use Rattle.member_link.specs.Machine.Worlds.{Memory, World, with_heap, with_static, is_begun, field_desc, stuck}
 
 -- ---- the static fields of a class that begins (4.7.2)
 
@@ -112,7 +112,7 @@ begun_next P class w rest (Some first) = begun_on P first w (Beginning class ∷
 begun_next P class w rest None = initialised P w rest (initialiser_of P class)
 
 abbrev pub beginning_of : Program → ℕ → World → List RunFrame → Option RunClass → World
-beginning_of P class w rest None = record w { frames = rest }
+beginning_of P class w rest None = record w { halt = stuck }
 beginning_of P class w rest (Some found) = begun_next P class w rest (first_unbegun P w.memory (come_first P found.header))
 
 -- one step of a beginning

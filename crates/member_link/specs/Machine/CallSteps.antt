@@ -2,7 +2,7 @@
 -- call is external where the receiver's class is the library's, or the method that it runs is native or the library's.
 use Rattle.std.specs.Prelude.{◌&&◌, ◌||◌, not, ℕ, Bool, true, false, List, [], ◌∷◌, bytes_eq, codes, Option, Some, None, is_some, if◌then◌else◌}
 use Rattle.class_model.specs.Descriptors.{parameters_of}
-use Rattle.class_model.specs.Members.{STATIC}
+use Rattle.class_model.specs.Members.{ABSTRACT, STATIC}
 use Rattle.class_model.specs.Names.{init}
 use Rattle.class_model.specs.declared.class_file.MethodAt.{MethodAt}
 use Rattle.class_tree.specs.Headers.{Name}
@@ -37,20 +37,35 @@ run_chosen P abstract_method values = raises abstract_called
 run_chosen P several_defaults values = raises incompatible_change
 run_chosen P not_public values = raises illegal_access
 
+-- ---- methods that are found under every descriptor
+
+-- The methods of the library's java/lang/invoke/MethodHandle that are signature polymorphic (2.9): nothing is selected, and the
+-- library is asked.
+abbrev pub is_polymorphic : Program → Reference → Bool
+is_polymorphic P named =
+    bytes_eq named.class method_handle
+    && ((bytes_eq named.name (codes "invoke") || bytes_eq named.name (codes "invokeExact")) && not (is_some (folder_number P named.class)))
+
+-- the method that the library is asked for: of a signature polymorphic one, by the descriptor of the call
+abbrev pub as_asked : Program → Reference → Reference → Reference
+as_asked P named found = if is_polymorphic P named then record found { desc = named.desc } else found
+
 -- ---- static methods: the class that declares the method is begun first
 
-abbrev pub call_static_work : Program → Memory → Option Reference → List Value → Completion
-call_static_work P memory None values = ends stuck
-call_static_work P memory (Some method) values =
-    if has_flag (method_of P method) STATIC && have_kinds (parameters_of method.desc) values
-    then begun_first P memory method.class (run_call P method values)
+abbrev pub call_static_work : Program → Memory → Reference → Option Reference → List Value → Completion
+call_static_work P memory named None values = ends stuck
+call_static_work P memory named (Some found) values =
+    if has_flag (method_of P found) STATIC && have_kinds (parameters_of named.desc) values
+    then begun_first P memory found.class (run_call P (as_asked P named found) values)
     else ends stuck
 
 -- ---- methods of an object
 
--- What a call on an object of a shape comes to, behind the test of null: of a receiver of the library's class the found method.
-abbrev pub on_receiver : Program → Shape → Reference → Chosen → List Value → Completion
-on_receiver P shape found choice values = if is_external shape then asks (asks_call found values) else run_chosen P choice values
+-- What a call on an object of a shape comes to, after the test of null: of a receiver of the library's class, and of a signature
+-- polymorphic method, the library is asked for the found method.
+abbrev pub on_receiver : Program → Shape → Reference → Reference → Chosen → List Value → Completion
+on_receiver P shape named found choice values =
+    if is_external shape || is_polymorphic P named then asks (asks_call (as_asked P named found) values) else run_chosen P choice values
 
 -- The receiver and the arguments of a call: what happens for null, for an object of a shape, and for operands that are none.
 abbrev pub with_receiver : Program → Memory → List ℕ → (Shape → Completion) → List Value → Completion
@@ -65,18 +80,9 @@ with_receiver P memory desc of_shape (receiver ∷ values) = if have_kinds (para
   of_receiver (Ref reference) = of_object (object_at memory.heap reference)
   of_receiver other = ends stuck
 
--- the methods of the library's java/lang/invoke/MethodHandle that are found under every descriptor (2.9): the library is asked, by
--- the descriptor of the call
-abbrev pub is_polymorphic : Program → Reference → Bool
-is_polymorphic P named =
-    bytes_eq named.class method_handle
-    && ((bytes_eq named.name (codes "invoke") || bytes_eq named.name (codes "invokeExact")) && not (is_some (folder_number P named.class)))
-
 -- on an object of a shape
 abbrev pub virtual_on : Program → Reference → Reference → List Value → Shape → Completion
-virtual_on P named found values shape =
-    if is_polymorphic P named then asks (asks_call (record found { desc = named.desc }) values)
-    else on_receiver P shape found (P.links.select (class_of_shape P shape) found Virtual) values
+virtual_on P named found values shape = on_receiver P shape named found (P.links.select (class_of_shape P shape) found Virtual) values
 
 -- the receiver conforms to the named class, or the run ends
 abbrev pub if_conforms : Program → Reference → (Shape → Completion) → Shape → Completion
@@ -88,11 +94,11 @@ call_virtual_work P memory named (Some found) values =
     if has_flag (method_of P found) STATIC then ends stuck
     else with_receiver P memory named.desc (if_conforms P named (virtual_on P named found values)) values
 
--- The interface is asked of every receiver, behind null and before all else.
+-- The interface is asked of every receiver, after null and before all else.
 abbrev pub interface_on : Program → Reference → Reference → List Value → Shape → Completion
 interface_on P named found values shape =
     if is_instance P shape named.class
-    then on_receiver P shape found (P.links.select (class_of_shape P shape) found Interface) values
+    then on_receiver P shape named found (P.links.select (class_of_shape P shape) found Interface) values
     else raises incompatible_change
 
 abbrev pub call_interface_work : Program → Memory → Reference → Option Reference → List Value → Completion
@@ -100,30 +106,33 @@ call_interface_work P memory named None values = ends stuck
 call_interface_work P memory named (Some found) values =
     if has_flag (method_of P found) STATIC then ends stuck else with_receiver P memory named.desc (interface_on P named found values) values
 
--- the initialiser of java/lang/Object does nothing
+-- the instance initialiser of java/lang/Object does nothing
 abbrev pub is_object_init : Reference → Bool
 is_object_init method = bytes_eq method.class object && bytes_eq method.name init
 
--- an initialiser is found in the named class alone, and is itself the choice
+-- an instance initialiser is found in the named class alone
 abbrev pub found_special : Program → Reference → Option Reference
 found_special P named = if bytes_eq named.name init then own (is_some (method_of P named)) else P.links.method named where
   own : Bool → Option Reference
   own true = Some named
   own false = None
 
--- the method that a special call from a class on runs
+-- the method that a special call from a class on runs: of an instance initialiser that one, if it is not abstract
 abbrev pub special_choice : Program → Name → Reference → Chosen
-special_choice P from found = if bytes_eq found.name init then chosen found else P.links.select from found Special
+special_choice P from found = if bytes_eq found.name init then itself (has_flag (method_of P found) ABSTRACT) else P.links.select from found Special where
+  itself : Bool → Chosen
+  itself true = abstract_method
+  itself false = chosen found
 
-abbrev pub special_on : Program → Memory → Name → Reference → List Value → Shape → Completion
-special_on P memory from found values shape =
-    if is_object_init found then gives memory [] else on_receiver P shape found (special_choice P from found) values
+abbrev pub special_on : Program → Memory → Reference → Name → Reference → List Value → Shape → Completion
+special_on P memory named from found values shape =
+    if is_object_init found then gives memory [] else on_receiver P shape named found (special_choice P from found) values
 
 abbrev pub call_found_special : Program → Memory → Reference → Name → Option Reference → List Value → Completion
 call_found_special P memory named from None values = ends stuck
 call_found_special P memory named from (Some found) values =
     if has_flag (method_of P found) STATIC then ends stuck
-    else with_receiver P memory named.desc (if_conforms P named (special_on P memory from found values)) values
+    else with_receiver P memory named.desc (if_conforms P named (special_on P memory named from found values)) values
 
 abbrev pub call_special_work : Program → Memory → Reference → Name → List Value → Completion
 call_special_work P memory named from values = call_found_special P memory named from (found_special P named) values

@@ -197,7 +197,8 @@ run_code links locals points = record { locals = locals; points = map point_of p
 abbrev pub covers : Handler → ℕ → Bool
 covers handler at = nat_le handler.start at && nat_lt at handler.end
 
--- A handler of catch type 0 catches everything. One whose type is no class, which no class file has that is read, catches nothing.
+-- A handler of catch type 0 catches everything. A catch type that names no class, which a class file that was read never has, catches
+-- nothing.
 abbrev pub catch_in : Constants → Handler → List Catch
 catch_in pool handler = if handler.catch_type == 0 then record { to = handler.at; class = None } ∷ [] else of_class (class_at pool handler.catch_type) where
   of_class : Option Name → List Catch

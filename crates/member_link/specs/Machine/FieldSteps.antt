@@ -1,5 +1,6 @@
 -- Fields (JVM Specification SE 8, 5.5 and 6.5: getstatic, putstatic, getfield, putfield). A field is external where a class of the library
--- declares it. The test of a final field comes before that of null; the class of a static field is begun before both.
+-- declares it. The test of a final field comes before that of null; a static field's class is begun before the test of a final
+-- one.
 use Rattle.std.specs.Prelude.{◌&&◌, not, ℕ, Bool, false, List, [], ◌∷◌, slice_get, bytes_eq, Option, Some, None, if◌then◌else◌}
 use Rattle.class_model.specs.Descriptors.{kind_of, type_of}
 use Rattle.class_model.specs.Members.{FINAL, STATIC}

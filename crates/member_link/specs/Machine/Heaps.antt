@@ -15,7 +15,7 @@ pub record Kept : Type 0 where
   pub constant : Constant
   pub reference : ℕ
 
--- a new reference is the number of objects; no constant stands twice
+-- a new reference is the number of objects; a constant that is kept is not made again
 pub record Heap : Type 0 where
   pub objects : List Object
   pub constants : List Kept

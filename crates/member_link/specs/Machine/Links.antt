@@ -1,5 +1,5 @@
--- Links that are those of a hierarchy: what subtyping, look-up and selection answer there, for every question. Of an instance
--- initialiser they say nothing: its look-up is in the named class alone, and it is itself the choice.
+-- Links that are those of a hierarchy: what subtyping, look-up and selection answer there, for every question. A link of an
+-- instance initialiser is none: it is looked up in the named class alone and is itself the choice, so calls do not ask links for it.
 use Rattle.std.specs.Prelude.{◌≡◌, ◌≢◌, ◌↔◌, IsTrue, Option, Some, None, option_map}
 use Rattle.class_model.specs.Names.{init}
 use Rattle.class_tree.specs.Headers.{Name, Headers}
@@ -45,4 +45,4 @@ pub record AreLinksOf (headers : Headers) (links : Links) : Type 0 where
   pub method : (r : Reference) → r.name ≢ init → IsLink (FindsMethod headers r.class r.name r.desc) (links.method r)
   pub initialiser : (r : Reference) → r.name ≡ init → links.method r ≡ None
   pub select : (receiver : Name) (r : Reference) (form : CallForm) → r.name ≢ init → IsSelection headers receiver form (own_method headers r.class r.name r.desc) (links.select receiver r form)
-  pub initialiser_itself : (receiver : Name) (r : Reference) (form : CallForm) → r.name ≡ init → links.select receiver r form ≡ abstract_method
+  pub no_initialiser : (receiver : Name) (r : Reference) (form : CallForm) → r.name ≡ init → links.select receiver r form ≡ abstract_method

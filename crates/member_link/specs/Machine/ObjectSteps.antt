@@ -1,12 +1,13 @@
 -- Objects (JVM Specification SE 8, 6.5: new, checkcast, instanceof, monitorenter, monitorexit, athrow). A monitor can always be entered.
 use Rattle.std.specs.Prelude.{◌==◌, ◌+◌, ℕ, pos, Bool, false, List, [], ◌∷◌, map, Option, Some, None, if◌then◌else◌}
 use Rattle.class_tree.specs.Headers.{Name}
+use Rattle.class_tree.specs.Names.{throwable}
 use Rattle.machine_values.specs.declared.object.Object.{Object}
 use Rattle.machine_values.specs.declared.object.Shape.TheVariants.{Folder}
 use Rattle.machine_values.specs.declared.value.Value.{Value}
 use Rattle.machine_values.specs.declared.value.Value.TheVariants.{Int, Null, Ref}
 use Rattle.member_link.specs.Machine.Completions.{Completion, gives, raises, throws, ends}
-use Rattle.member_link.specs.Machine.Heaps.{Heap, Made, object_at, allocated, external, entered, left, monitor_count}
+use Rattle.member_link.specs.Machine.Heaps.{Heap, Made, object_at, allocated, external, entered, left}
 use Rattle.member_link.specs.Machine.FieldSteps.{begun_first}
 use Rattle.member_link.specs.Machine.Layouts.{slots_of}
 use Rattle.member_link.specs.Machine.Programs.{Program, folder_number, name_of_class}
@@ -31,22 +32,27 @@ new_object_work P memory class = begun_first P memory class (counted (object_of 
   counted : Made → Completion
   counted made = gives (record memory { heap = made.heap; allocations = memory.allocations + 1 }) (Ref made.reference ∷ [])
 
--- ---- tests of classes
+-- ---- what a reference names
 
-abbrev pub is_instance_at : Program → Option Object → Name → Bool
-is_instance_at P None name = false
-is_instance_at P (Some object) name = is_instance P object.shape name
+-- what a reference names, if there is such an object
+abbrev pub if_there : Memory → ℕ → (Object → Completion) → Completion
+if_there memory reference of_object = by (object_at memory.heap reference) where
+  by : Option Object → Completion
+  by None = ends stuck
+  by (Some object) = of_object object
+
+-- ---- tests of classes
 
 abbrev pub check_cast_work : Program → Memory → Name → List Value → Completion
 check_cast_work P memory name (Null ∷ []) = gives memory (Null ∷ [])
 check_cast_work P memory name (Ref reference ∷ []) =
-    if is_instance_at P (object_at memory.heap reference) name then gives memory (Ref reference ∷ []) else raises class_cast
+    if_there memory reference (λ object. if is_instance P object.shape name then gives memory (Ref reference ∷ []) else raises class_cast)
 check_cast_work P memory name operands = ends stuck
 
 abbrev pub instance_of_work : Program → Memory → Name → List Value → Completion
 instance_of_work P memory name (Null ∷ []) = gives memory (Int (pos 0) ∷ [])
 instance_of_work P memory name (Ref reference ∷ []) =
-    gives memory (Int (if is_instance_at P (object_at memory.heap reference) name then pos 1 else pos 0) ∷ [])
+    if_there memory reference (λ object. gives memory (Int (if is_instance P object.shape name then pos 1 else pos 0) ∷ []))
 instance_of_work P memory name operands = ends stuck
 
 -- ---- monitors
@@ -56,18 +62,19 @@ with_entered memory reference = record memory { heap = entered memory.heap refer
 
 abbrev pub enter_monitor_work : Memory → List Value → Completion
 enter_monitor_work memory (Null ∷ []) = raises null_pointer
-enter_monitor_work memory (Ref reference ∷ []) = gives (with_entered memory reference) []
+enter_monitor_work memory (Ref reference ∷ []) = if_there memory reference (λ object. gives (with_entered memory reference) [])
 enter_monitor_work memory operands = ends stuck
 
 abbrev pub leave_monitor_work : Memory → List Value → Completion
 leave_monitor_work memory (Null ∷ []) = raises null_pointer
 leave_monitor_work memory (Ref reference ∷ []) =
-    if monitor_count memory.heap reference == 0 then raises illegal_monitor else gives (with_heap memory (left memory.heap reference)) []
+    if_there memory reference (λ object. if object.monitor == 0 then raises illegal_monitor else gives (with_heap memory (left memory.heap reference)) [])
 leave_monitor_work memory operands = ends stuck
 
 -- ---- throwing
 
-abbrev pub throw_work : List Value → Completion
-throw_work (Null ∷ []) = raises null_pointer
-throw_work (Ref reference ∷ []) = throws reference
-throw_work operands = ends stuck
+abbrev pub throw_work : Program → Memory → List Value → Completion
+throw_work P memory (Null ∷ []) = raises null_pointer
+throw_work P memory (Ref reference ∷ []) =
+    if_there memory reference (λ object. if is_instance P object.shape throwable then throws reference else ends stuck)
+throw_work P memory operands = ends stuck

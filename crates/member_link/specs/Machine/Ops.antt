@@ -9,10 +9,11 @@ use Rattle.machine_values.specs.declared.object.Constant.{Constant}
 use Rattle.machine_values.specs.declared.value.Value.{Value}
 use Rattle.member_link.specs.References.{Reference}
 
--- Jumps name numbers of points. A number behind an operation of arithmetic, of the stack or of elements is its opcode.
+-- Jumps name numbers of points. The first number of an operation of arithmetic, of the stack, of elements
+-- or of a conditional jump is its opcode.
 pub data Op : Type 0 where
   no_operation : Op
-  -- an instruction whose constant is of another kind, or whose return is of another kind than the method's result
+  -- an instruction whose constant is none that it could name, or whose return is of another kind than the method's result
   meaningless : Op
   -- ---- constants
   push_value : Value → Op

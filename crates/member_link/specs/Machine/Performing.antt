@@ -79,7 +79,7 @@ abbrev pub unlocked : Memory → Option ℕ → Memory
 unlocked memory None = memory
 unlocked memory (Some reference) = with_heap memory (left memory.heap reference)
 
--- a frame that waited for a call goes on behind it with the value on top
+-- a frame that waited for a call goes on after it with the value on top
 abbrev pub resumed : MethodState → List Value → MethodState
 resumed f values = record f { place = f.place + 1; stack = reverse values ++ f.stack }
 
@@ -92,8 +92,8 @@ abbrev pub result_seen : Option ℕ → List Value → Option Value
 result_seen (Some made) values = Some (Ref made)
 result_seen None values = value_in values
 
--- A method's value, or none, goes to the frame below. An initialiser's end goes to nobody: what is below goes on with what it was
--- to do.
+-- A method's value, or none, goes to the frame below. A class initialiser returns to no caller: the frame below goes on with what it
+-- was to do.
 abbrev pub returned_to : Program → World → Option ℕ → List Value → List RunFrame → World
 returned_to P w held values (Method waiting ∷ others) =
     record w { memory = unlocked w.memory held; frames = Method (resumed waiting values) ∷ others }
@@ -149,19 +149,23 @@ unwind P reference (Beginning class ∷ rest) memory = lands_nowhere
 unwind P reference (Method f ∷ rest) memory =
     past_handler reference f rest (run_method P f.at) (unwind P reference rest) memory (handler_at P memory.heap (point_at P f.at f.place) reference)
 
+-- a world that is as before where an object lands nowhere
 abbrev pub landed : Program → World → ℕ → Landing → World
 landed P w reference (lands_in memory frames) = record w { memory = memory; frames = frames }
 landed P w reference (lands_in_library memory frames) = shows_threw P (record w { memory = memory; frames = frames }) reference
 landed P w reference (leaves_initialiser memory frames) = record w { memory = memory; frames = frames; halt = init_threw }
 landed P w reference lands_nowhere = record w { halt = stuck }
 
--- an object is thrown with these frames standing
+-- an object is thrown with these frames standing, and this memory
+abbrev pub thrown_in : Program → World → ℕ → List RunFrame → Memory → World
+thrown_in P w reference frames memory = landed P w reference (unwind P reference frames memory)
+
 abbrev pub thrown : Program → World → ℕ → List RunFrame → World
-thrown P w reference frames = landed P w reference (unwind P reference frames w.memory)
+thrown P w reference frames = thrown_in P w reference frames w.memory
 
 -- a throwable of the machine is made, and thrown
 abbrev pub thrown_made : Program → World → List RunFrame → Made → World
-thrown_made P w frames made = thrown P (record w { memory = with_heap w.memory made.heap }) made.reference frames
+thrown_made P w frames made = thrown_in P w made.reference frames (with_heap w.memory made.heap)
 
 abbrev pub raised : Program → World → Name → List RunFrame → World
 raised P w class frames = thrown_made P w frames (external w.memory.heap class)

@@ -1,20 +1,22 @@
--- A program in which some methods run other code, private and final flags of some fields are cleared, and methods are added at the end of
--- some classes.
-use Rattle.std.specs.Prelude.{◌-◌, ℕ, zero, suc, List, [], ◌∷◌, ◌++◌, map, bit_and, Option, Some, None}
+-- A program in which some methods with code run other code, private and final flags of some fields are cleared, and instance initialisers
+-- are added at the end of some classes. Its links are the same, since they say nothing of instance initialisers.
+use Rattle.std.specs.Prelude.{◌≡◌, ◌+◌, ◌-◌, All, ℕ, zero, suc, List, [], ◌∷◌, ◌++◌, map, bit_and, Option, Some, None, option_map}
+use Rattle.class_model.specs.Members.{PRIVATE, FINAL}
+use Rattle.class_model.specs.Names.{init}
 use Rattle.class_model.specs.declared.class_file.MethodAt.{MethodAt}
 use Rattle.class_model.specs.declared.header.Member.{Member}
 use Rattle.member_link.specs.Machine.Programs.{Program, RunClass, RunMethod, Code}
 
--- What takes the place: the code of a method, if it is another one; the flags that are cleared of a field, by the numbers of its class
--- and its own; and the methods that are added to a class.
+-- What takes the place: the code of a method, if it is another one; the flags that are cleared of a field, of private and final, by the
+-- numbers of its class and its own; and the methods that are added to a class.
 pub record Replacement : Type 0 where
   pub body : MethodAt → Option Code
   pub cleared : ℕ → ℕ → ℕ
   pub added : ℕ → List RunMethod
 
--- flags less those that are cleared
+-- flags less those of private and final that are cleared
 abbrev pub without_flags : ℕ → ℕ → ℕ
-without_flags flags cleared = flags - bit_and flags cleared
+without_flags flags cleared = flags - bit_and flags (bit_and cleared (PRIVATE + FINAL))
 
 -- each item of a list by its number, from the number of the first on
 abbrev pub map_numbered : {A B : Type 0} → (ℕ → A → B) → ℕ → List A → List B
@@ -27,7 +29,7 @@ field_cleared r class field member = record member { flags = without_flags membe
 
 abbrev pub with_body : RunMethod → Option Code → RunMethod
 with_body method None = method
-with_body method (Some code) = record method { code = Some code }
+with_body method (Some code) = record method { code = option_map (λ old. code) method.code }
 
 -- a method with the code that takes the place of its own, if one does
 abbrev pub method_replaced : Replacement → ℕ → ℕ → RunMethod → RunMethod
@@ -41,6 +43,10 @@ replaced_class r number class = record class {
   };
   methods = map_numbered (method_replaced r number) zero class.methods ++ r.added number;
 }
+
+-- each method that is added is an instance initialiser
+abbrev pub AddsInitialisers : Replacement → Type 0
+AddsInitialisers r = (class : ℕ) → All (λ (method : RunMethod). method.member.name ≡ init) (r.added class)
 
 abbrev pub replaced : Program → Replacement → Program
 replaced P r = record P { classes = map_numbered (replaced_class r) zero P.classes }

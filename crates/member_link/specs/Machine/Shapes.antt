@@ -44,7 +44,7 @@ abbrev pub class_in : List ℕ → Option Name
 class_in [] = None
 class_in (first ∷ rest) = if first == CLASS_LETTER then Some (take (length rest - 1) rest) else None
 
--- a class conforms to each interface, and to those above it
+-- a class conforms to each interface, and to the classes above it; components of arrays conform by the same rule
 abbrev pub class_conforms : Program → Name → Name → Bool
 class_conforms P low high = is_interface_named P high || P.links.below low high
 

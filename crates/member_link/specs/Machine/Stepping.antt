@@ -21,8 +21,8 @@ use Rattle.member_link.specs.Machine.Work.{arity, work}
 use Rattle.member_link.specs.Machine.Worlds.{World, stuck}
 
 -- the run ends, and all else is as it was
-abbrev pub is_stuck : World → World
-is_stuck w = record w { halt = stuck }
+abbrev pub ends_stuck : World → World
+ends_stuck w = record w { halt = stuck }
 
 -- the top frame goes on as this one
 abbrev pub with_top : World → List RunFrame → MethodState → World
@@ -35,43 +35,43 @@ abbrev pub next_with : MethodState → List Value → MethodState
 next_with f stack = record f { place = f.place + 1; stack = stack }
 
 abbrev pub load_step : World → MethodState → List RunFrame → Option Value → World
-load_step w f rest None = is_stuck w
+load_step w f rest None = ends_stuck w
 load_step w f rest (Some value) = with_top w rest (next_with f (value ∷ f.stack))
 
 abbrev pub store_units : World → MethodState → List RunFrame → List Value → Option (List (Option Value)) → World
-store_units w f rest stack None = is_stuck w
+store_units w f rest stack None = ends_stuck w
 store_units w f rest stack (Some units) = with_top w rest (record (next_with f stack) { locals = units })
 
 abbrev pub store_step : World → MethodState → List RunFrame → Kind → ℕ → List Value → World
-store_step w f rest kind at [] = is_stuck w
-store_step w f rest kind at (value ∷ stack) = if has_kind kind value then store_units w f rest stack (stored at value f.locals) else is_stuck w
+store_step w f rest kind at [] = ends_stuck w
+store_step w f rest kind at (value ∷ stack) = if has_kind kind value then store_units w f rest stack (stored at value f.locals) else ends_stuck w
 
 abbrev pub increment_step : World → MethodState → List RunFrame → ℕ → ℤ → Option Value → World
-increment_step w f rest at by None = is_stuck w
+increment_step w f rest at by None = ends_stuck w
 increment_step w f rest at by (Some value) = store_units w f rest f.stack (stored at (incremented by value) f.locals)
 
 abbrev pub test_step : Program → World → MethodState → List RunFrame → Option Value → World
 test_step P w f rest (Some Null) = raised P w null_pointer (Method f ∷ rest)
 test_step P w f rest (Some (Ref reference)) = with_top w rest (next_with f f.stack)
-test_step P w f rest other = is_stuck w
+test_step P w f rest other = ends_stuck w
 
 abbrev pub shuffle_step : World → MethodState → List RunFrame → Option (List Value) → World
-shuffle_step w f rest None = is_stuck w
+shuffle_step w f rest None = ends_stuck w
 shuffle_step w f rest (Some stack) = with_top w rest (next_with f stack)
 
 -- ---- control
 
 abbrev pub jump_step : World → MethodState → List RunFrame → ℕ → Jump → World
-jump_step w f rest to None = is_stuck w
+jump_step w f rest to None = ends_stuck w
 jump_step w f rest to (Some jump) = with_top w rest (record f { place = if jump.0 then to else f.place + 1; stack = jump.1 })
 
 abbrev pub switch_step : World → MethodState → List RunFrame → (ℤ → ℕ) → List Value → World
 switch_step w f rest target (Int key ∷ stack) = with_top w rest (record f { place = target key; stack = stack })
-switch_step w f rest target stack = is_stuck w
+switch_step w f rest target stack = ends_stuck w
 
 abbrev pub return_step : Program → World → MethodState → List RunFrame → FieldType → List Value → World
-return_step P w f rest type [] = is_stuck w
-return_step P w f rest type (value ∷ stack) = if has_kind (kind_of type) value then returned_value P w f rest type value else is_stuck w
+return_step P w f rest type [] = ends_stuck w
+return_step P w f rest type (value ∷ stack) = if has_kind (kind_of type) value then returned_value P w f rest type value else ends_stuck w
 
 -- ---- an operation
 
@@ -80,11 +80,11 @@ abbrev pub work_step : Program → World → MethodState → List RunFrame → O
 work_step P w f rest op =
     if nat_le (arity op) (length f.stack)
     then perform P w f (record f { stack = drop (arity op) f.stack }) rest (work P w.memory op (reverse (take (arity op) f.stack)))
-    else is_stuck w
+    else ends_stuck w
 
 abbrev pub op_step : Program → World → MethodState → List RunFrame → Op → World
 op_step P w f rest no_operation = with_top w rest (next_with f f.stack)
-op_step P w f rest meaningless = is_stuck w
+op_step P w f rest meaningless = ends_stuck w
 op_step P w f rest (load_local kind at) = load_step w f rest (local_value kind f.locals at)
 op_step P w f rest (store_local kind at) = store_step w f rest kind at f.stack
 op_step P w f rest (increment_local at by) = increment_step w f rest at by (local_value kinds.Int f.locals at)
@@ -103,13 +103,13 @@ op_step P w f rest op = work_step P w f rest op
 
 -- where no instruction stands the run ends
 abbrev pub point_step : Program → World → MethodState → List RunFrame → Option Point → World
-point_step P w f rest None = is_stuck w
+point_step P w f rest None = ends_stuck w
 point_step P w f rest (Some point) = op_step P w f rest point.op
 
 -- ---- a step
 
 abbrev pub frames_step : Program → World → List RunFrame → World
-frames_step P w [] = is_stuck w
+frames_step P w [] = ends_stuck w
 frames_step P w (Library made ∷ rest) = w
 frames_step P w (Beginning class ∷ rest) = beginning_step P class w rest
 frames_step P w (Method f ∷ rest) = point_step P w f rest (point_at P f.at f.place)

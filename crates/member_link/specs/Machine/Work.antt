@@ -77,7 +77,7 @@ divides_by_zero (Int one ∷ Int (pos number) ∷ []) = number == 0
 divides_by_zero (Long one ∷ Long (pos number) ∷ []) = number == 0
 divides_by_zero operands = false
 
--- a zero of the other kind is no operand, so the operands are those of the operation
+-- operands of other kinds are tested first, so that a zero is one of the operation's kind
 abbrev pub division_work : Memory → Option Meaning → List Value → Completion
 division_work memory None operands = ends stuck
 division_work memory (Some meaning) operands = of_operands (result_by meaning operands) where
@@ -102,12 +102,12 @@ work P memory (push_constant constant) operands = push_constant_work memory cons
 work P memory (pure_arithmetic opcode) operands = arithmetic_work memory (meaning_in pure_meanings opcode) operands
 work P memory (division opcode) operands = division_work memory (meaning_in divide_meanings opcode) operands
 work P memory (float_arithmetic opcode) operands = float_work opcode (operation_in float_operations opcode) operands
-work P memory throw_reference operands = throw_work operands
+work P memory throw_reference operands = throw_work P memory operands
 work P memory (get_static field) operands = get_static_work P memory (P.links.field field)
 work P memory (put_static field initialises) operands = put_static_work P memory (P.links.field field) initialises operands
 work P memory (get_field field) operands = get_field_work P memory field.class (P.links.field field) operands
 work P memory (put_field field initialises) operands = put_field_work P memory field.class (P.links.field field) initialises operands
-work P memory (call_static method) operands = call_static_work P memory (P.links.method method) operands
+work P memory (call_static method) operands = call_static_work P memory method (P.links.method method) operands
 work P memory (call_virtual method) operands = call_virtual_work P memory method (P.links.method method) operands
 work P memory (call_interface method) operands = call_interface_work P memory method (P.links.method method) operands
 work P memory (call_special method from) operands = call_special_work P memory method from operands
