@@ -6,7 +6,7 @@ use Rattle.machine_values.specs.declared.object.Shape.{Shape}
 use Rattle.machine_values.specs.declared.value.Value.{Value}
 use Rattle.machine_laws.proofs.Grows.{keep_same, keep_through, keep_added, keep_value, keep_entered, keep_left, keep_constant}
 use Rattle.member_link.specs.Machine.ArraySteps.{new_array_work, array_length_work, load_element_work, store_element_work, put_element, nested, blank_array, made_times, arrays_of_counts, counts_of, Counts, all_counts, negative_count, no_counts}
-use Rattle.member_link.specs.Machine.CallSteps.{call_static_work, call_virtual_work, call_interface_work, call_special_work, call_dynamic_work, run_call, run_chosen, on_receiver, with_receiver, virtual_on, if_conforms, interface_on, special_on, call_found_special}
+use Rattle.member_link.specs.Machine.CallSteps.{call_static_work, call_virtual_work, call_interface_work, call_special_work, call_dynamic_work, run_call, run_chosen, on_receiver, with_receiver, virtual_on, if_conforms, interface_on, is_object_init, special_choice, special_on, call_found_special}
 use Rattle.member_link.specs.Machine.Completions.{Completion, gives, ends}
 use Rattle.member_link.specs.Machine.FieldSteps.{get_static_work, put_static_work, get_field_work, put_field_work, begun_first, if_fits, put_static_value, put_static_begun, put_field_value, put_into, put_field_in, put_field_tested}
 use Rattle.machine_laws.specs.Growth.{KeepShapes, MemoryGrows}
@@ -154,7 +154,9 @@ call_interface_grows P m n (Some f) vs =
     grind (arith, g)
 
 pub special_on_grows : (P : Program) (m : Memory) (n : Reference) (from : Name) (f : Reference) (vs : List Value) (s : Shape) → Grown m (special_on P m n from f vs s)
-special_on_grows P m n from f vs s = grind (arith, on_receiver_grows, memory_same)
+special_on_grows P m n from f vs s =
+    if_grows m (is_object_init f) (gives m []) (on_receiver P s n f (special_choice P from f) vs) (record { is = memory_same m })
+    (on_receiver_grows P m s n f _ vs)
 
 pub found_special_grows : (P : Program) (m : Memory) (n : Reference) (from : Name) (f : Option Reference) (vs : List Value) → Grown m (call_found_special P m n from f vs)
 found_special_grows P m n from None vs = record { is = tt }

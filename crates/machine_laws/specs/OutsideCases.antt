@@ -1,5 +1,5 @@
 -- Small programs and what they show: what the library is asked.
-use Rattle.std.specs.Prelude.{pos, [], ◌∷◌, codes, Some}
+use Rattle.std.specs.Prelude.{pos, [], ◌∷◌, codes, Some, None}
 use Rattle.class_model.specs.declared.descriptor.FieldType.TheVariants as types
 use Rattle.class_model.specs.declared.descriptor.Kind.TheVariants as kinds
 use Rattle.machine_values.specs.declared.action.Action.TheVariants as actions

@@ -1,5 +1,5 @@
 -- The handlers of an instruction are asked one after the other.
-use Rattle.std.proofs.Common.{◌≡◌, ◌+◌, ◌<◌, ℕ, Bool, true, false, List, [], ◌∷◌, ◌++◌, length, drop, get_or, Err, refl, sym, subst}
+use Rattle.std.proofs.Common.{◌≡◌, ◌+◌, ◌<◌, ℕ, Bool, true, false, List, [], ◌∷◌, ◌++◌, length, drop, get_or, Err, refl, subst}
 use Rattle.std.proofs.lemmas.List.{drop_more}
 use Rattle.std.specs.Prelude.{if◌then◌else◌}
 use Rattle.class_model.specs.Checks.{AllHold, Check}
@@ -25,20 +25,17 @@ first_asked s at before handler others = by (covers handler at) (catches_at s at
   by false rest = refl
 
 -- a loop over handlers is at one
-module _ (s : Scope) (at : ℕ) (before : Frame) (handlers : List Handler) (i : ℕ) (handler : Handler) (within : i < length handlers) (is : handler ≡ get_or handlers i handler) where
+module _ (s : Scope) (at : ℕ) (before : Frame) (handlers : List Handler) (i : ℕ) (none : Handler) (within : i < length handlers) where
   abbrev of_one : List (Check TypeRule)
-  of_one = handler_checks (body_of s) before (catches_at s at (handler ∷ []))
+  of_one = handler_checks (body_of s) before (catches_at s at (get_or handlers i none ∷ []))
 
   abbrev of_others : List (Check TypeRule)
   of_others = handler_checks (body_of s) before (catches_at s at (drop (i + 1) handlers))
 
-  here : drop i handlers ≡ handler ∷ drop (i + 1) handlers
-  here = subst (λ (first : Handler). drop i handlers ≡ first ∷ drop (i + 1) handlers) (sym is) (drop_more handlers i handler within)
-
   at_one : {whole : List (Check TypeRule)} → Remain whole (handler_checks (body_of s) before (catches_at s at (drop i handlers))) → Remain whole (of_one ++ of_others)
   at_one {whole} left =
-      subst (λ (checks : List (Check TypeRule)). Remain whole checks) (first_asked s at before handler (drop (i + 1) handlers))
-      (subst (λ (rest : List Handler). Remain whole (handler_checks (body_of s) before (catches_at s at rest))) here left)
+      subst (λ (checks : List (Check TypeRule)). Remain whole checks) (first_asked s at before (get_or handlers i none) (drop (i + 1) handlers))
+      (subst (λ (rest : List Handler). Remain whole (handler_checks (body_of s) before (catches_at s at rest))) (drop_more handlers i none within) left)
 
   pub one_holds : {whole : List (Check TypeRule)} → Remain whole (handler_checks (body_of s) before (catches_at s at (drop i handlers))) → AllHold of_one → Remain whole of_others
   one_holds {whole} left holds = remain of_one of_others (at_one left) holds
