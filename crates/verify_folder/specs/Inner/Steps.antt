@@ -7,7 +7,6 @@ use Rattle.class_model.specs.declared.frame.Frame.{Frame}
 use Rattle.class_model.specs.declared.instr.Placed.{Placed}
 use Rattle.class_tree.specs.Headers.{Name}
 use Rattle.class_tree.specs.Names.{throwable}
-use Rattle.code_bytes.specs.Codes.{IsReadMethod}
 use Rattle.member_link.specs.Bodies.{flows_on}
 use Rattle.member_link.specs.Rows.Table.{row_of}
 use Rattle.type_rules.specs.Checks.{FailsAt, IsTypedAt, MayFlowIn, frame_before}
