@@ -14,3 +14,4 @@ mod FinalFieldsRuns
 mod OutsideRuns
 mod FaultsRuns
 mod NothingReplaced
+mod CallsRuns

@@ -8,3 +8,4 @@ pub mod SynchronizationCases
 pub mod FinalFieldsCases
 pub mod OutsideCases
 pub mod FaultsCases
+pub mod CallsCases

@@ -1,5 +1,6 @@
 //! What small programs show, computed from the definitions alone.
 ghost use Rattle.machine_laws.specs.ArraysCases.{RunArrays};
+ghost use Rattle.machine_laws.specs.CallsCases.{RunCalls};
 ghost use Rattle.machine_laws.specs.FaultsCases.{RunFaults};
 ghost use Rattle.machine_laws.specs.FinalFieldsCases.{RunFinalFields};
 ghost use Rattle.machine_laws.specs.InitialisationCases.{RunInitialisation};
@@ -35,6 +36,11 @@ pub fn programs_show_which_stores_are_final()
 /// What the library is asked.
 pub fn programs_show_what_the_library_is_asked()
     ensures { RunOutside }
+{}
+
+/// Selections and their failures, signature polymorphic methods, switches, and what calls begin and enter.
+pub fn programs_show_what_calls_run()
+    ensures { RunCalls }
 {}
 
 /// Actions that are faults, and the ends of runs.
