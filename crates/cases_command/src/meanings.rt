@@ -14,6 +14,20 @@ pub(crate) fn meaning(kind: &str, name: &str) -> Option<&'static str> {
 }
 
 fn file_meaning(name: &str) -> Option<&'static str> {
+    match class_meaning(name) {
+        Some(text) => Some(text),
+        None => code_meaning(name),
+    }
+}
+
+fn class_meaning(name: &str) -> Option<&'static str> {
+    match pool_meaning(name) {
+        Some(text) => Some(text),
+        None => member_meaning(name),
+    }
+}
+
+fn pool_meaning(name: &str) -> Option<&'static str> {
     Some(match name {
         "Short" => FileRule::Short.text(),
         "Magic" => FileRule::Magic.text(),
@@ -23,6 +37,12 @@ fn file_meaning(name: &str) -> Option<&'static str> {
         "Index" => FileRule::Index.text(),
         "Name" => FileRule::Name.text(),
         "Descriptor" => FileRule::Descriptor.text(),
+        _ => return None,
+    })
+}
+
+fn member_meaning(name: &str) -> Option<&'static str> {
+    Some(match name {
         "Flags" => FileRule::Flags.text(),
         "Twice" => FileRule::Twice.text(),
         "NoCode" => FileRule::NoCode.text(),
@@ -31,6 +51,12 @@ fn file_meaning(name: &str) -> Option<&'static str> {
         "Attribute" => FileRule::Attribute.text(),
         "CodeLength" => FileRule::CodeLength.text(),
         "Locals" => FileRule::Locals.text(),
+        _ => return None,
+    })
+}
+
+fn code_meaning(name: &str) -> Option<&'static str> {
+    Some(match name {
         "Opcode" => FileRule::Opcode.text(),
         "Operand" => FileRule::Operand.text(),
         "Jump" => FileRule::Jump.text(),
