@@ -1,9 +1,8 @@
 -- The class file behind its version is its pool and what stands behind that.
 use Rattle.std.proofs.Common.{◌≡◌, Ok, Err, refl, ◌∙◌}
 use Rattle.class_model.specs.Checks.{◌>>=◌, Fault}
-use Rattle.class_model.specs.Cutting.{Rest, Version, pool_at, class_file_at}
+use Rattle.class_model.specs.Cutting.{Rest, Version, pool_at, class_file_at, body_at}
 use Rattle.class_model.specs.Pool.{Constants}
-use Rattle.class_bytes.specs.Inner.Parts.{body_at}
 
 in_two : (version : Version) (rest : Rest) → class_file_at version rest ≡ (pool_at version.major rest >>= λ pool. body_at version pool.0 pool.1)
 in_two version rest = refl

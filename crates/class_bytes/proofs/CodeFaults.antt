@@ -6,7 +6,7 @@ use Rattle.std.proofs.lemmas.Bool.{lt-ltb}
 use Rattle.std.proofs.lemmas.List.{length-drop}
 use Rattle.class_model.specs.Checks.{Fault, fault, asked_of, AllHold, IsFirstFault, ◌>>=◌}
 use Rattle.class_model.specs.Code.{jump_checks}
-use Rattle.class_model.specs.Instructions.{Read, Operands, Alone, U1, U2, S1, S2, U1S1, U2U1, U2U1Zero, U2ZeroZero, Jump2, Jump4, TableSwitch, LookupSwitch, Wide, rows, wide_rows, operands_in, with_operands, wide_operands, table_switch_at, lookup_switch_at, instr_at, instrs_at, decoded, sized, sized_if, u1_in, u4_in, s4_in, pad_of, span, keys_increase, pairs_in}
+use Rattle.class_model.specs.Instructions.{Read, Operands, Alone, U1, U2, S1, S2, U1S1, ArrayCode, Dimensions, U2U1Zero, U2ZeroZero, Jump2, Jump4, TableSwitch, LookupSwitch, Wide, rows, wide_rows, operands_in, with_operands, wide_operands, table_switch_at, lookup_switch_at, instr_at, instrs_at, decoded, sized, sized_if, u1_in, u4_in, s4_in, pad_of, span, keys_increase, pairs_in}
 use Rattle.class_model.specs.declared.fault.FileRule.{FileRule}
 use Rattle.class_model.specs.declared.fault.FileRule.TheVariants as rules
 use Rattle.class_model.specs.declared.instr.Instr.{Instr}
@@ -60,12 +60,13 @@ wide_fails at bytes other = increment_fails at bytes _ _
 operands_fail : (at : ℕ) (bytes : List ℕ) (operands : Option Operands) → FailsAt at (with_operands at bytes operands)
 operands_fail at bytes None = refl
 operands_fail at bytes (Some (Alone instr)) = tt
-operands_fail at bytes (Some (U1 makes)) = sized_if_fails _ at bytes 2 _
+operands_fail at bytes (Some (U1 makes)) = sized_fails at bytes 2 _
 operands_fail at bytes (Some (U2 makes)) = sized_fails at bytes 3 _
 operands_fail at bytes (Some (S1 makes)) = sized_fails at bytes 2 _
 operands_fail at bytes (Some (S2 makes)) = sized_fails at bytes 3 _
 operands_fail at bytes (Some (U1S1 makes)) = sized_fails at bytes 3 _
-operands_fail at bytes (Some (U2U1 makes)) = sized_if_fails _ at bytes 4 _
+operands_fail at bytes (Some ArrayCode) = sized_if_fails _ at bytes 2 _
+operands_fail at bytes (Some Dimensions) = sized_if_fails _ at bytes 4 _
 operands_fail at bytes (Some (U2U1Zero makes)) = sized_if_fails _ at bytes 5 _
 operands_fail at bytes (Some (U2ZeroZero makes)) = sized_if_fails _ at bytes 5 _
 operands_fail at bytes (Some (Jump2 makes)) = sized_fails at bytes 3 _

@@ -5,7 +5,7 @@ use Rattle.std.specs.List.{AllByRecursion}
 use Rattle.class_model.specs.Checks.{fault}
 use Rattle.class_model.specs.ClassOf.{entered, entered_attr, entered_method}
 use Rattle.class_model.specs.Code.{handler_at, inner_at, part_at, code_part}
-use Rattle.class_model.specs.Cutting.{IsBytes, Rest, Version, attr_at, field_at, method_at, uncut}
+use Rattle.class_model.specs.Cutting.{IsBytes, Rest, Version, attr_at, field_at, method_at, uncut, body_at}
 use Rattle.class_model.specs.Laws.Cuts.{guard_true, whole_some}
 use Rattle.class_model.specs.Laws.Lists.{AllByRecursion-weaker}
 use Rattle.class_model.specs.Members.{is_named}
@@ -19,7 +19,6 @@ use Rattle.class_model.specs.declared.class_file.Field.{Field}
 use Rattle.class_model.specs.declared.class_file.Method.{Method}
 use Rattle.class_model.specs.declared.fault.FileRule.TheVariants as rules
 use Rattle.class_bytes.specs.Counts.{FitsContent, FitsInner, FitsInners, FitsPart, FitsAttr, FitsAttrs, FitsField, FitsMethod, FitsCounts}
-use Rattle.class_bytes.specs.Inner.Parts.{body_at}
 use Rattle.class_bytes.proofs.CutBytes.{AreBytes, Keeps, step, made, bytes_kept, u2_kept, u4_kept, IsCounted, counted_kept}
 use Rattle.class_bytes.proofs.PartLengths.{part_len, part_fills}
 

@@ -1,14 +1,13 @@
 -- A reader of headers cuts a class file as a whole reader does, and keeps less.
 use Rattle.std.proofs.Common.{◌≡◌, ◌==◌, ℕ, zero, suc, Bool, true, false, cond, length, map, Result, Ok, Err, refl, sym, ap, ◌∙◌}
 use Rattle.class_model.specs.Checks.{Fault, fault, ◌>>=◌}
-use Rattle.class_model.specs.Cutting.{Rest, Version, Cut, u2_at, many_at, counted_at, attr_at, field_at, method_at}
+use Rattle.class_model.specs.Cutting.{Rest, Version, Cut, u2_at, many_at, counted_at, attr_at, field_at, method_at, body_at}
 use Rattle.class_model.specs.Laws.Cuts.{bind_ok, guard_true}
 use Rattle.class_model.specs.Pool.{Constants}
 use Rattle.class_model.specs.declared.class_file.ClassFile.{ClassFile}
 use Rattle.class_model.specs.declared.fault.FileRule.TheVariants as rules
 use Rattle.class_bytes.specs.Inner.Cut.{result_seen}
 use Rattle.class_bytes.specs.Inner.HeaderParts.{cut_seen, member_head_at, cut_header_at, field_head, method_head, cut_header}
-use Rattle.class_bytes.specs.Inner.Parts.{body_at}
 use Rattle.class_bytes.specs.declared.header_cutting.CutHeader.{CutHeader}
 
 -- ---- one step after the other

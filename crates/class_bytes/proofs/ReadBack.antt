@@ -1,12 +1,11 @@
 -- A class file value whose lists and numbers fit their items is read from its bytes, with its Code as bytes.
-use Rattle.std.proofs.Common.{◌≡◌, ℕ, ◌+◌, ◌^◌, ◌<◌, ◌≤◌, ◌==◌, true, List, [], ◌∷◌, ◌++◌, length, map, Some, Ok, refl, sym, ap, subst, ◌∙◌, append_assoc, arith}
+use Rattle.std.proofs.Common.{◌≡◌, ℕ, ◌+◌, List, [], ◌∷◌, ◌++◌, length, map, Some, Ok, refl, ap, ◌∙◌, append_assoc, arith}
 use Rattle.std.specs.List.{flat_map, AllByRecursion}
 use Rattle.std.proofs.lemmas.List.{append-nil}
-use Rattle.class_model.specs.Checks.{Fault, fault, ◌>>=◌}
+use Rattle.class_model.specs.Checks.{◌>>=◌}
 use Rattle.class_model.specs.Code.{handler_at, inner_at, part_at, code_part}
-use Rattle.class_model.specs.Cutting.{Rest, Cut, Version, bytes_at, u2_at, u4_at, counted_at, attr_at, field_at, method_at, version_at, pool_at, class_file_at, uncut}
+use Rattle.class_model.specs.Cutting.{Rest, Cut, Version, bytes_at, u2_at, u4_at, counted_at, attr_at, field_at, method_at, version_at, class_file_at, uncut, body_at}
 use Rattle.class_model.specs.Laws.CutBack.{rest_of, CutsAs, next, then_cut, made_cut, whole_cut, bytes_cut, u2_cut, u4_cut, counted_cut, counted_alike}
-use Rattle.class_model.specs.Pool.{Constants}
 use Rattle.class_model.specs.Spelling.{u2, u4, u2s, raw_bytes, inner_bytes, handler_bytes, code_part_bytes, attr_bytes, attrs_bytes, field_bytes, method_bytes, pool_bytes, magic, class_bytes}
 use Rattle.class_model.specs.declared.class_file.Attr.{Attr}
 use Rattle.class_model.specs.declared.class_file.Attr.TheVariants.{Raw, Code}
@@ -18,9 +17,8 @@ use Rattle.class_model.specs.declared.class_file.InnerAttr.{InnerAttr}
 use Rattle.class_model.specs.declared.class_file.Method.{Method}
 use Rattle.pool_bytes.specs.Items.{IsU2}
 use Rattle.pool_bytes.specs.ReadBack.{IsReadBackIn}
-use Rattle.class_bytes.specs.Counts.{FitsContent, FitsInner, FitsInners, FitsPart, FitsAttr, FitsAttrs, FitsField, FitsFields, FitsMethod, FitsMethods, FitsCounts}
+use Rattle.class_bytes.specs.Counts.{FitsContent, FitsInner, FitsPart, FitsAttr, FitsAttrs, FitsField, FitsMethod, FitsCounts}
 use Rattle.class_bytes.specs.Numbers.{InnerNumber, HandlerNumbers, PartNumbers, AttrNumbers, FieldNumbers, MethodNumbers, BodyNumbers}
-use Rattle.class_bytes.specs.Inner.Parts.{body_at}
 
 -- each item is both
 both_each : {X : Type 0} (P Q : X → Type 0) (xs : List X) → AllByRecursion P xs → AllByRecursion Q xs → AllByRecursion (λ x. P x × Q x) xs

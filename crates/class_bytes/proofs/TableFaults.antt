@@ -1,14 +1,15 @@
 -- A fault of a StackMapTable stands at one of its bytes, or at its end.
 use Rattle.std.proofs.Common.{◌≡◌, ◌==◌, ◌||◌, inl, inr, sym, ap, subst, ◌∙◌, ℕ, zero, suc, ◌+◌, ◌-◌, ◌≤◌, Bool, true, false, ltb, eqb, List, [], length, Option, Some, None, Result, Ok, Err, refl, arith}
-use Rattle.std.specs.Prelude.{nat_lt, nat_le, if◌then◌else◌}
+use Rattle.std.specs.Prelude.{nat_lt, if◌then◌else◌}
 use Rattle.std.proofs.lemmas.Bool.{ltb-false, cases_Bool}
 use Rattle.std.proofs.lemmas.List.{length-drop}
 use Rattle.class_model.specs.Checks.{Fault, fault, AllHold, IsFirstFault, ◌>>=◌}
 use Rattle.class_model.specs.Code.{table_fault}
 use Rattle.class_model.specs.Cutting.{Rest, Cut, behind}
-use Rattle.class_model.specs.Frames.{Setting, Stated, is_new_at, missing, depth, filled, verification_type_at, verification_types_at, frame_at, frames_at, listed, stack_map_table_at}
+use Rattle.class_model.specs.Frames.{Setting, Stated, TypeOperand, NoOperand, ClassIndex, NewOffset, FrameForm, SameFrame, ItemFrame, ReservedFrame, ItemFrameExtended, ChopFrame, SameFrameExtended, AppendFrame, FullFrame, is_new_at, missing, depth, filled, type_rows, type_behind, verification_type_at, verification_types_at, counted_types_at, item_at, item_frame_at, frame_rows, frame_behind, frame_at, frames_at, listed, stack_map_table_at}
 use Rattle.class_model.specs.Instructions.{u1_in, u2_in, is_start}
 use Rattle.class_model.specs.PoolChecks.{class_at}
+use Rattle.class_model.specs.Tables.{given_in}
 use Rattle.class_model.specs.declared.fault.FileRule.TheVariants as rules
 use Rattle.class_model.specs.declared.frame.Frame.{Frame}
 use Rattle.class_model.specs.declared.frame.PlacedFrame.{PlacedFrame}
@@ -81,19 +82,20 @@ unfolding object_in
 object_within end frame rest (Some name) here inside = got end (Object name) rest inside
 object_within end frame rest None here inside = fault_within end (fault frame rules.FrameType) here
 
+type_behind_within : (s : Setting) (end frame : ℕ) (operand : Option TypeOperand) (rest : Rest) → frame ≤ end → Inside end rest → Within end (type_behind s frame operand rest)
+unfolding number_in object_in
+type_behind_within s end frame None rest here inside = fault_within end (fault frame rules.FrameType) here
+type_behind_within s end frame (Some (NoOperand type)) rest here inside = got end type rest inside
+type_behind_within s end frame (Some ClassIndex) rest here inside =
+    next_part end (number_in rest) _ (number_within end rest inside) (λ index left. object_within end frame index.1 (class_at s.pool index.0) here left)
+type_behind_within s end frame (Some NewOffset) rest here inside =
+    next_part end (number_in rest) _ (number_within end rest inside) (λ at left.
+    either end (is_new_at s.code at.0) _ _ (got end (Uninit at.0) at.1 left) (fault_within end (fault frame rules.FrameType) here))
+
 entry_within : (s : Setting) (end frame : ℕ) (rest : Rest) → frame ≤ end → Inside end rest → Within end (verification_type_at s frame rest)
-unfolding object_in
 entry_within s end frame rest here inside =
-    refused end (ltb (length rest.bytes) 1) missing _ (none_missing end) (λ some.
-    let one : (type : VType) → Within end (Ok (type, behind 1 rest)) = λ type. got end type (behind 1 rest) (behind_inside end 1 rest inside some) in
-    let bad : Within {X = VType} end (Err (fault frame rules.FrameType)) = fault_within end (fault frame rules.FrameType) here in
-    let tag = u1_in rest.bytes 0 in
-    either end (tag == 0) _ _ (one _) (either end (tag == 1) _ _ (one _) (either end (tag == 2) _ _ (one _) (either end (tag == 3) _ _ (one _)
-    (either end (tag == 4) _ _ (one _) (either end (tag == 5) _ _ (one _) (either end (tag == 6) _ _ (one _)
-    (either end (nat_lt 8 tag) _ _ bad (refused end (nat_lt (length rest.bytes) 3) missing _ (none_missing end) (λ enough.
-    let three : Inside end (behind 3 rest) = behind_inside end 3 rest inside enough in
-    either end (tag == 7) _ _ (object_within end frame (behind 3 rest) (class_at s.pool (u2_in rest.bytes 1)) here three)
-    (either end (is_new_at s.code (u2_in rest.bytes 1)) _ _ (got end (Uninit (u2_in rest.bytes 1)) (behind 3 rest) three) bad)))))))))))
+    refused end (ltb (length rest.bytes) 1) missing _ (none_missing end)
+    (λ some. type_behind_within s end frame (given_in type_rows (u1_in rest.bytes 0)) (behind 1 rest) here (behind_inside end 1 rest inside some))
 
 entries_within : (s : Setting) (end frame count : ℕ) (rest : Rest) → frame ≤ end → Inside end rest → Within end (verification_types_at s frame count rest)
 unfolding verification_types_at
@@ -104,36 +106,42 @@ entries_within s end frame (suc count) rest here inside =
 
 -- ---- frames
 
-full_within : (s : Setting) (end frame : ℕ) (rest : Rest) (makes : ℕ → List VType → List VType → Stated) → frame ≤ end → Inside end rest
-    → Within end (number_in rest >>= λ delta. number_in delta.1 >>= λ locals. verification_types_at s frame locals.0 locals.1 >>= λ local_types.
-    number_in local_types.1 >>= λ stack. verification_types_at s frame stack.0 stack.1 >>= λ stack_types. Ok (makes delta.0 local_types.0 stack_types.0, stack_types.1))
-full_within s end frame rest makes here inside =
+counted_within : (s : Setting) (end frame : ℕ) (rest : Rest) → frame ≤ end → Inside end rest → Within end (counted_types_at s frame rest)
+unfolding number_in
+counted_within s end frame rest here inside =
+    next_part end (number_in rest) _ (number_within end rest inside) (λ count left. entries_within s end frame count.0 count.1 here left)
+
+item_within : (s : Setting) (end delta : ℕ) (locals : List VType) (frame : ℕ) (rest : Rest) → frame ≤ end → Inside end rest → Within end (item_frame_at s delta locals frame rest)
+item_within s end delta locals frame rest here inside =
+    next_part end (item_at s frame rest) _
+    (next_part end (verification_type_at s frame rest) _ (entry_within s end frame rest here inside) (λ item left. got end _ _ left)) (λ stack last. got end _ _ last)
+
+frame_behind_within : (s : Setting) (end : ℕ) (locals : List VType) (frame : ℕ) (form : Option FrameForm) (rest : Rest) → frame ≤ end → Inside end rest → Within end (frame_behind s locals frame form rest)
+unfolding number_in
+frame_behind_within s end locals frame None rest here inside = fault_within end (fault frame rules.FrameKind) here
+frame_behind_within s end locals frame (Some (SameFrame delta)) rest here inside = got end _ _ inside
+frame_behind_within s end locals frame (Some (ItemFrame delta)) rest here inside = item_within s end delta locals frame rest here inside
+frame_behind_within s end locals frame (Some ReservedFrame) rest here inside = fault_within end (fault frame rules.FrameKind) here
+frame_behind_within s end locals frame (Some ItemFrameExtended) rest here inside =
+    next_part end (number_in rest) _ (number_within end rest inside) (λ delta left. item_within s end delta.0 locals frame delta.1 here left)
+frame_behind_within s end locals frame (Some (ChopFrame count)) rest here inside =
+    either end (nat_lt (length locals) count) _ _ (fault_within end (fault frame rules.FrameKind) here)
+    (next_part end (number_in rest) _ (number_within end rest inside) (λ delta left. got end _ _ left))
+frame_behind_within s end locals frame (Some SameFrameExtended) rest here inside =
+    next_part end (number_in rest) _ (number_within end rest inside) (λ delta left. got end _ _ left)
+frame_behind_within s end locals frame (Some (AppendFrame count)) rest here inside =
+    next_part end (number_in rest) _ (number_within end rest inside) (λ delta left.
+    next_part end (verification_types_at s frame count delta.1) _ (entries_within s end frame count delta.1 here left) (λ more last. got end _ _ last))
+frame_behind_within s end locals frame (Some FullFrame) rest here inside =
     next_part end (number_in rest) _ (number_within end rest inside) (λ delta a.
-    next_part end (number_in delta.1) _ (number_within end delta.1 a) (λ locals b.
-    next_part end (verification_types_at s frame locals.0 locals.1) _ (entries_within s end frame locals.0 locals.1 here b) (λ local_types c.
-    next_part end (number_in local_types.1) _ (number_within end local_types.1 c) (λ stack d.
-    next_part end (verification_types_at s frame stack.0 stack.1) _ (entries_within s end frame stack.0 stack.1 here d) (λ stack_types e. got end _ _ e)))))
+    next_part end (counted_types_at s frame delta.1) _ (counted_within s end frame delta.1 here a) (λ types b.
+    next_part end (counted_types_at s frame types.1) _ (counted_within s end frame types.1 here b) (λ stack c. got end _ _ c)))
 
 frame_within : (s : Setting) (end : ℕ) (locals : List VType) (rest : Rest) → Inside end rest → Within end (frame_at s locals rest)
-unfolding number_in
 frame_within s end locals rest inside =
     let here : rest.at ≤ end = omega arith in
-    refused end (ltb (length rest.bytes) 1) missing _ (none_missing end) (λ some.
-    let in_it : Inside end (behind 1 rest) = behind_inside end 1 rest inside some in
-    let item : (at : Rest) → Inside end at → Within end (verification_type_at s rest.at at) = λ at. entry_within s end rest.at at here in
-    let front : Rest = behind 1 rest in
-    let bad : Within {X = Stated} end (Err (fault rest.at rules.FrameKind)) = fault_within end (fault rest.at rules.FrameKind) here in
-    let number = number_within end front in_it in
-    let kind = u1_in rest.bytes 0 in
-    either end (nat_le kind 63) _ _ (got end _ _ in_it)
-    (either end (nat_le kind 127) _ _ (next_part end (verification_type_at s rest.at front) _ (item front in_it) (λ entry left. got end _ _ left))
-    (either end (nat_le kind 246) _ _ bad
-    (either end (kind == 247) _ _ (next_part end (number_in front) _ number (λ delta a. next_part end (verification_type_at s rest.at delta.1) _ (item delta.1 a) (λ entry left. got end _ _ left)))
-    (either end (nat_le kind 250) _ _ (either end (nat_lt (length locals) (251 - kind)) _ _ bad (next_part end (number_in front) _ number (λ delta a. got end _ _ a)))
-    (either end (kind == 251) _ _ (next_part end (number_in front) _ number (λ delta a. got end _ _ a))
-    (either end (nat_le kind 254) _ _ (next_part end (number_in front) _ number (λ delta a.
-    next_part end (verification_types_at s rest.at (kind - 251) delta.1) _ (entries_within s end rest.at (kind - 251) delta.1 here a) (λ more left. got end _ _ left)))
-    (full_within s end rest.at front _ here in_it))))))))
+    refused end (ltb (length rest.bytes) 1) missing _ (none_missing end)
+    (λ some. frame_behind_within s end locals rest.at (given_in frame_rows (u1_in rest.bytes 0)) (behind 1 rest) here (behind_inside end 1 rest inside some))
 
 -- ---- the table
 

@@ -4,13 +4,13 @@ use Rattle.std.specs.List.{flat_map}
 use Rattle.class_model.specs.Answers.{Gives, Takes, Tells}
 use Rattle.class_model.specs.Checks.{Fault, fault, AllHold, IsFirstFault, asked_of}
 use Rattle.class_model.specs.ClassOf.{ClassOf, FirstFault, in_head, behind, IsReadVersion, class_file_checks, entered}
-use Rattle.class_model.specs.Cutting.{Rest, Version, version_at, pool_at, class_file_at, uncut}
+use Rattle.class_model.specs.Cutting.{Rest, Version, version_at, pool_at, class_file_at, uncut, body_at}
 use Rattle.class_model.specs.Pool.{Constants}
 use Rattle.class_model.specs.Spelling.{u2, u4, u2s, magic, entry_bytes, pool_bytes, field_bytes, method_bytes, attr_bytes, attrs_bytes, class_bytes}
 use Rattle.class_model.specs.declared.class_file.ClassFile.{ClassFile}
 use Rattle.class_model.specs.declared.fault.ClassFault.{ClassFault}
 use Rattle.class_model.specs.declared.fault.ClassFault.TheVariants as faults
-use Rattle.class_bytes.specs.Inner.Parts.{body_at, behind_len}
+use Rattle.class_bytes.specs.Inner.Parts.{behind_len}
 use Rattle.class_bytes.specs.Reading.{IsReadOf}
 use Rattle.class_bytes.proofs.Bodies.{behind_pool, no_pool}
 

@@ -12,12 +12,14 @@ use Rattle.class_model.specs.declared.fault.ClassFault.TheVariants.{Malformed, V
 abbrev pub IsReadOf : List ℕ → Result ClassFile ClassFault → Type 0
 IsReadOf bytes (Ok class) = ClassOf bytes class
 IsReadOf bytes (Err (Malformed at rule)) = FirstFault bytes (fault at rule)
-IsReadOf bytes (Err (Version major minor)) = IsOtherVersion bytes (record { minor = minor; major = major })
+IsReadOf bytes (Err (Version major minor)) =
+    IsOtherVersion bytes (record { minor = minor; major = major })
 IsReadOf bytes (Err NoMemory) = Unit {0}
 
 -- the header that the bytes have, their first fault, their version that is not read, or want of memory
 abbrev pub IsHeaderReadOf : List ℕ → Result Header ClassFault → Type 0
 IsHeaderReadOf bytes (Ok header) = HeaderOf bytes header
 IsHeaderReadOf bytes (Err (Malformed at rule)) = FirstHeaderFault bytes (fault at rule)
-IsHeaderReadOf bytes (Err (Version major minor)) = IsNoLibraryVersion bytes (record { minor = minor; major = major })
+IsHeaderReadOf bytes (Err (Version major minor)) =
+    IsNoLibraryVersion bytes (record { minor = minor; major = major })
 IsHeaderReadOf bytes (Err NoMemory) = Unit {0}

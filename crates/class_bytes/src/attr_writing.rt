@@ -84,7 +84,8 @@ fn push_code_part(out: &mut Vec<u8>, part: &CodePart) -> Result<(), NoMemory>
 // Appends the number of handlers, and the handlers.
 fn push_handlers(out: &mut Vec<u8>, handlers: &HandlerList) -> Result<(), NoMemory>
     requires { length handlers.now ≤ 65535 }
-    ensures ok { OnOk result (out.new.items ≡ out.old.items ++ (u2 (length handlers.now) ++ flat_map handler_bytes handlers.now)) }
+    ensures ok { OnOk result (out.new.items ≡ out.old.items
+        ++ (u2 (length handlers.now) ++ flat_map handler_bytes handlers.now)) }
     ensures numbers { OnOk result (AllByRecursion HandlerNumbers handlers.now) }
     ensures err { OnErr result (Grows out.old.items out.new.items) }
 {
@@ -111,7 +112,8 @@ fn push_handler(out: &mut Vec<u8>, handler: &Handler) -> Result<(), NoMemory>
 // Appends the number of attributes of a Code attribute, and the attributes.
 fn push_inner_attrs(out: &mut Vec<u8>, attrs: &InnerAttrList) -> Result<(), NoMemory>
     requires { FitsInners attrs.now }
-    ensures ok { OnOk result (out.new.items ≡ out.old.items ++ (u2 (length attrs.now) ++ flat_map inner_bytes attrs.now)) }
+    ensures ok { OnOk result (out.new.items ≡ out.old.items
+        ++ (u2 (length attrs.now) ++ flat_map inner_bytes attrs.now)) }
     ensures numbers { OnOk result (AllByRecursion InnerNumber attrs.now) }
     ensures err { OnErr result (Grows out.old.items out.new.items) }
 {

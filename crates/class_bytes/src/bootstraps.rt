@@ -26,7 +26,8 @@ pub(crate) fn check_class_attrs(
     at: u64,
 ) -> Result<usize, ClassFault>
     requires { at + attrs_len (attrs_of attrs.now) < 2 ^ 63 }
-    ensures { Tells (attrs_checks (class_attr_checks pool.now) [] at (attrs_of attrs.now)) (λ count. count ≡ bootstrap_count pool.now (attrs_of attrs.now)) result }
+    ensures { Tells (attrs_checks (class_attr_checks pool.now) [] at (attrs_of attrs.now))
+        (λ count. count ≡ bootstrap_count pool.now (attrs_of attrs.now)) result }
 {
     let mut place = at;
     let mut found = None;
@@ -49,7 +50,8 @@ fn check_class_attr(
 ) -> Result<Option<usize>, ClassFault>
     requires { at + 6 + length attr.now.content.now < 2 ^ 63 }
     ensures { (before : List Attr) → is_again ≡ has_named pool.now bootstrap_methods before
-        → Tells (class_attr_checks pool.now before at (attr_of attr.now)) (λ own. own ≡ own_count pool.now (attr_of attr.now)) result }
+        → Tells (class_attr_checks pool.now before at (attr_of attr.now))
+        (λ own. own ≡ own_count pool.now (attr_of attr.now)) result }
 {
     let name = ask_text(pool, attr.name, at)?;
     if name.bytes() != BOOTSTRAP_METHODS {
@@ -64,7 +66,8 @@ fn check_class_attr(
 // bootstrap methods it has.
 fn check_table(alloc: Global, pool: &Pool, content: &[u8], at: u64) -> Result<usize, ClassFault>
     requires { at + 6 + length content.now < 2 ^ 64 }
-    ensures { Tells (bootstrap_table_checks pool.now at (bootstraps content.now)) (CountsMethods (bootstraps content.now)) result }
+    ensures { Tells (bootstrap_table_checks pool.now at (bootstraps content.now))
+        (CountsMethods (bootstraps content.now)) result }
 {
     let Some(methods) = cut_table(alloc, content)? else {
         return Err(ClassFault::Malformed {
@@ -79,7 +82,8 @@ fn check_table(alloc: Global, pool: &Pool, content: &[u8], at: u64) -> Result<us
 // Checks bootstrap methods, the first of which stands at this place.
 fn check_bootstraps(pool: &Pool, methods: &[CutBootstrap], at: u64) -> Result<(), ClassFault>
     requires { at + bootstraps_len (bootstraps_of methods.now) < 2 ^ 64 }
-    ensures { Tells (bootstraps_checks pool.now at (bootstraps_of methods.now)) (λ done. Unit {0}) result }
+    ensures { Tells (bootstraps_checks pool.now at (bootstraps_of methods.now))
+        (λ done. Unit {0}) result }
 {
     let mut place = at;
     for method in methods {
@@ -92,7 +96,8 @@ fn check_bootstraps(pool: &Pool, methods: &[CutBootstrap], at: u64) -> Result<()
 // Checks a bootstrap method, which stands at this place.
 fn check_bootstrap(pool: &Pool, method: &CutBootstrap, at: u64) -> Result<(), ClassFault>
     requires { at + 4 + 2 * length method.now.arguments < 2 ^ 64 }
-    ensures { Tells (bootstrap_checks pool.now at (bootstrap_of method.now)) (λ done. Unit {0}) result }
+    ensures { Tells (bootstrap_checks pool.now at (bootstrap_of method.now))
+        (λ done. Unit {0}) result }
 {
     ask(is_handle(pool, method.handle), at, FileRule::Index)?;
     check_arguments(pool, method.arguments.as_slice(), at + 4)
@@ -146,7 +151,8 @@ pub(crate) struct CutBootstrap {
 
 // The bootstrap methods of the content of a BootstrapMethods attribute, if they fill it.
 fn cut_table(alloc: Global, content: &[u8]) -> Result<Option<ListOf<CutBootstrap>>, NoMemory>
-    ensures { IfOk result (λ methods. option_map (λ some. bootstraps_of some) methods ≡ bootstraps content.now) }
+    ensures { IfOk result
+        (λ methods. option_map (λ some. bootstraps_of some) methods ≡ bootstraps content.now) }
 {
     let mut cursor = Cursor::new(content, 0);
     match cut_bootstraps(alloc, &mut cursor) {
@@ -161,7 +167,8 @@ fn cut_bootstraps(
     alloc: Global,
     cursor: &mut Cursor<'_>,
 ) -> Result<ListOf<CutBootstrap>, ClassFault>
-    ensures { Takes (counted_at bootstrap_at cursor.old) cursor.new (result_seen (λ methods. bootstraps_of methods) result) }
+    ensures { Takes (counted_at bootstrap_at cursor.old) cursor.new
+        (result_seen (λ methods. bootstraps_of methods) result) }
 {
     let count = cursor.u2()?;
     let mut methods = ListOf::new(alloc);

@@ -20,7 +20,8 @@ pub(crate) fn ask(holds: bool, at: u64, rule: FileRule) -> Result<(), ClassFault
 
 /// Asks that an index, which is at this place, names a Utf8 constant, and answers its text.
 pub(crate) fn ask_text(pool: &Pool, index: u16, at: u64) -> Result<&Text, ClassFault>
-    ensures { Tells (check at rules.Index (IsSome (utf8_at pool.now index)) ∷ []) (λ text. utf8_at pool.now index ≡ Some text.now) result }
+    ensures { Tells (check at rules.Index (IsSome (utf8_at pool.now index)) ∷ [])
+        (λ text. utf8_at pool.now index ≡ Some text.now) result }
 {
     match pool.utf8(index) {
         Some(text) => Ok(text),

@@ -34,7 +34,8 @@ pub(crate) fn check_class(
 ) -> Result<Pool, ClassFault>
     requires place { flags_at ≡ 10 + length (flat_map entry_bytes raw.now) }
     requires room { flags_at + behind_len (class_of raw.now body.now) < 2 ^ 63 }
-    ensures { Tells (class_file_checks (class_of raw.now body.now)) (λ pool. pool ≡ raw.now) result }
+    ensures { Tells (class_file_checks (class_of raw.now body.now))
+        (λ pool. pool ≡ raw.now) result }
 {
     raw.check(body.version.major, CONSTANTS_AT)?;
     let pool = raw.to_pool(alloc)?;
@@ -51,7 +52,8 @@ fn check_behind(
     at: u64,
 ) -> Result<usize, ClassFault>
     requires { at + behind_len (class_of pool.now body.now) < 2 ^ 63 }
-    ensures { Tells (behind_checks at (class_of pool.now body.now)) (λ count. count ≡ bootstrap_count pool.now (attrs_of body.now.attrs)) result }
+    ensures { Tells (behind_checks at (class_of pool.now body.now))
+        (λ count. count ≡ bootstrap_count pool.now (attrs_of body.now.attrs)) result }
 {
     let fields = check_head(pool, body, at)?;
     let methods = check_fields(

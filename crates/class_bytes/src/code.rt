@@ -32,9 +32,11 @@ pub(crate) fn check_code(
     at: u64,
 ) -> Result<(), ClassFault>
     requires fits { at + 6 + length content.now < 2 ^ 63 }
-    requires descriptor { IfSome (utf8_at home.now.pool.now method.now.desc) (IsDescriptorOf method.now.flags) }
+    requires descriptor { IfSome (utf8_at home.now.pool.now method.now.desc)
+        (IsDescriptorOf method.now.flags) }
     requires there { IsSome (utf8_at home.now.pool.now method.now.desc) }
-    ensures { Tells (content_checks (home_seen home.now) (method_of method.now) at (code_part content.now)) (λ done. Unit {0}) result }
+    ensures { Tells (content_checks (home_seen home.now) (method_of method.now) at
+        (code_part content.now)) (λ done. Unit {0}) result }
 {
     match code_part(alloc, content)? {
         Some(part) => check_part(alloc, home, method, &part, at),
@@ -54,9 +56,11 @@ fn check_part(
     at: u64,
 ) -> Result<(), ClassFault>
     requires fits { at + 14 + parts_len (part_of part.now) < 2 ^ 63 }
-    requires descriptor { IfSome (utf8_at home.now.pool.now method.now.desc) (IsDescriptorOf method.now.flags) }
+    requires descriptor { IfSome (utf8_at home.now.pool.now method.now.desc)
+        (IsDescriptorOf method.now.flags) }
     requires there { IsSome (utf8_at home.now.pool.now method.now.desc) }
-    ensures { Tells (part_checks (home_seen home.now) (method_of method.now) at (part_of part.now)) (λ done. Unit {0}) result }
+    ensures { Tells (part_checks (home_seen home.now) (method_of method.now) at
+        (part_of part.now)) (λ done. Unit {0}) result }
 {
     ask(fits_len(part.code), at + 10, FileRule::CodeLength)?;
     ask(
@@ -87,7 +91,9 @@ fn fits_len(code: &[u8]) -> bool
 // Whether the parameters, this counted where there is one, have room in the locals.
 fn fits_locals(pool: &Pool, method: &CutMember<'_>, max_locals: u16) -> bool
     requires { IfSome (utf8_at pool.now method.now.desc) (IsDescriptorOf method.now.flags) }
-    ensures { IsTrue result ↔ IfSome (utf8_at pool.now method.now.desc) (λ text. units_at_call method.now.flags text ≤ max_locals) }
+    ensures { IsTrue result
+        ↔ IfSome (utf8_at pool.now method.now.desc)
+        (λ text. units_at_call method.now.flags text ≤ max_locals) }
 {
     let Some(text) = pool.utf8(method.desc) else {
         return true;
@@ -113,7 +119,8 @@ fn decode_at(alloc: Global, code: &[u8], start: u64) -> Result<PlacedList, Class
     requires some { 0 < length code.now }
     requires few { length code.now < 65536 }
     requires fits { start + length code.now < 2 ^ 63 }
-    ensures { Tells (decoded_checks start code.now) (λ instrs. decoded code.now ≡ Ok instrs) result }
+    ensures { Tells (decoded_checks start code.now)
+        (λ instrs. decoded code.now ≡ Ok instrs) result }
 {
     match decode(alloc, code) {
         Ok(instrs) => Ok(instrs),
@@ -129,7 +136,8 @@ fn decode_at(alloc: Global, code: &[u8], start: u64) -> Result<PlacedList, Class
 // begins at this place.
 fn check_parts(alloc: Global, code: &MethodCode<'_>, start: u64) -> Result<(), ClassFault>
     requires fits { start + parts_len (part_of code.now.part.now) < 2 ^ 63 }
-    requires descriptor { IfSome (utf8_at code.now.home.now.pool.now code.now.method.now.desc) (IsDescriptorOf code.now.method.now.flags) }
+    requires descriptor { IfSome (utf8_at code.now.home.now.pool.now code.now.method.now.desc)
+        (IsDescriptorOf code.now.method.now.flags) }
     requires there { IsSome (utf8_at code.now.home.now.pool.now code.now.method.now.desc) }
     ensures { Tells (parts_checks code.now start) (λ done. Unit {0}) result }
 {

@@ -3,7 +3,7 @@ ghost use Rattle.class_model.specs.Answers.{Gives, Takes};
 ghost use Rattle.class_model.specs.Cutting.{u2_at, version_at, counted_at, attr_at, field_at, method_at};
 ghost use Rattle.class_model.specs.Code.{inner_at};
 ghost use Rattle.class_model.specs.Pool.{Constants};
-ghost use Rattle.class_bytes.specs.Inner.Parts.{body_at};
+ghost use Rattle.class_model.specs.Cutting.{body_at};
 ghost use Rattle.class_bytes.specs.Inner.Cut.{result_seen, version_of, attr_of, inner_of, attrs_of, inners_of, field_of, method_of, fields_of, methods_of, class_of};
 
 use crate::cut::{CutAttr, CutBody, CutMember, MAGIC, Version};
@@ -31,7 +31,9 @@ pub(crate) fn cut_body<'a>(
     version: Version,
     cursor: &mut Cursor<'a>,
 ) -> Result<CutBody<'a>, ClassFault>
-    ensures { (pool : Constants) → Gives (body_at (version_of version) pool cursor.old) (result_seen (class_of pool) result) }
+    ensures { (pool : Constants)
+        → Gives (body_at (version_of version) pool cursor.old)
+        (result_seen (class_of pool) result) }
 {
     let flags = cursor.u2()?;
     let this_class = cursor.u2()?;
@@ -75,8 +77,10 @@ fn cut_members<'a>(
     alloc: Global,
     cursor: &mut Cursor<'a>,
 ) -> Result<ListOf<CutMember<'a>>, ClassFault>
-    ensures fields { Takes (counted_at field_at cursor.old) cursor.new (result_seen (λ members. fields_of members) result) }
-    ensures methods { Takes (counted_at method_at cursor.old) cursor.new (result_seen (λ members. methods_of members) result) }
+    ensures fields { Takes (counted_at field_at cursor.old) cursor.new
+        (result_seen (λ members. fields_of members) result) }
+    ensures methods { Takes (counted_at method_at cursor.old) cursor.new
+        (result_seen (λ members. methods_of members) result) }
 {
     let count = cursor.u2()?;
     let mut members = ListOf::new(alloc);
@@ -108,8 +112,10 @@ pub(crate) fn cut_attrs<'a>(
     alloc: Global,
     cursor: &mut Cursor<'a>,
 ) -> Result<ListOf<CutAttr<'a>>, ClassFault>
-    ensures attrs { Takes (counted_at attr_at cursor.old) cursor.new (result_seen (λ attrs. attrs_of attrs) result) }
-    ensures inners { Takes (counted_at inner_at cursor.old) cursor.new (result_seen (λ attrs. inners_of attrs) result) }
+    ensures attrs { Takes (counted_at attr_at cursor.old) cursor.new
+        (result_seen (λ attrs. attrs_of attrs) result) }
+    ensures inners { Takes (counted_at inner_at cursor.old) cursor.new
+        (result_seen (λ attrs. inners_of attrs) result) }
 {
     let count = cursor.u2()?;
     let mut attrs = ListOf::new(alloc);

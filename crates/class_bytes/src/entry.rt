@@ -20,9 +20,12 @@ pub(crate) fn entry_frame(
     home: &Home<'_>,
     method: &CutMember<'_>,
 ) -> Result<Frame, NoMemory>
-    requires descriptor { IfSome (utf8_at home.now.pool.now method.now.desc) (IsDescriptorOf method.now.flags) }
+    requires descriptor { IfSome (utf8_at home.now.pool.now method.now.desc)
+        (IsDescriptorOf method.now.flags) }
     requires there { IsSome (utf8_at home.now.pool.now method.now.desc) }
-    ensures { IfOk result (λ frame. (part : CodePart) → listed frame ≡ listed (methods.entry_of (home_seen home.now) (method_of method.now) part)) }
+    ensures { IfOk result (λ frame. (part : CodePart)
+        → listed frame
+        ≡ listed (methods.entry_of (home_seen home.now) (method_of method.now) part)) }
 {
     let Some(desc) = home.pool.utf8(method.desc) else {
         unreachable!()

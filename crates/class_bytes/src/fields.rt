@@ -31,7 +31,8 @@ pub(crate) fn check_fields(
     at: u64,
 ) -> Result<u64, ClassFault>
     requires { at + fields_len (fields_of fields.now) < 2 ^ 64 }
-    ensures { Tells (fields_checks pool.now class_flags [] at (fields_of fields.now)) (λ end. end ≡ at + fields_len (fields_of fields.now)) result }
+    ensures { Tells (fields_checks pool.now class_flags [] at (fields_of fields.now))
+        (λ end. end ≡ at + fields_len (fields_of fields.now)) result }
 {
     let mut signatures = Signatures::new(alloc);
     let mut place = at;
@@ -52,8 +53,10 @@ fn check_field(
     at: u64,
 ) -> Result<u64, ClassFault>
     requires { at + length (field_bytes (field_of field.now)) < 2 ^ 64 }
-    ensures { (before : List Signature) → is_again ≡ stands_before pool.now before (field_signature (field_of field.now))
-        → Tells (field_checks pool.now class_flags before at (field_of field.now)) (λ end. end ≡ at + length (field_bytes (field_of field.now))) result }
+    ensures { (before : List Signature)
+        → is_again ≡ stands_before pool.now before (field_signature (field_of field.now))
+        → Tells (field_checks pool.now class_flags before at (field_of field.now))
+        (λ end. end ≡ at + length (field_bytes (field_of field.now))) result }
 {
     ask(fits_field(class_flags, field.flags), at, FileRule::Flags)?;
     ask(!is_again, at, FileRule::Twice)?;
@@ -85,7 +88,9 @@ fn check_field_attrs(
 ) -> Result<u64, ClassFault>
     requires fits { at + attrs_len (attrs_of field.now.attrs) < 2 ^ 64 }
     requires desc { utf8_at pool.now field.now.desc ≡ Some desc.now }
-    ensures { Tells (attrs_checks (field_attr_checks pool.now (field_of field.now)) [] at (attrs_of field.now.attrs)) (λ end. end ≡ at + attrs_len (attrs_of field.now.attrs)) result }
+    ensures { Tells (attrs_checks (field_attr_checks pool.now (field_of field.now)) [] at
+        (attrs_of field.now.attrs)) (λ end. end
+        ≡ at + attrs_len (attrs_of field.now.attrs)) result }
 {
     let mut place = at;
     let mut has_value = false;
@@ -108,7 +113,8 @@ fn check_field_attr(
 ) -> Result<bool, ClassFault>
     requires desc { utf8_at pool.now field.now.desc ≡ Some desc.now }
     ensures { (before : List Attr) → has_value ≡ has_named pool.now constant_value before
-        → Tells (field_attr_checks pool.now (field_of field.now) before at (attr_of attr.now)) (λ is_value. is_value ≡ is_named pool.now constant_value (attr_of attr.now)) result }
+        → Tells (field_attr_checks pool.now (field_of field.now) before at (attr_of attr.now))
+        (λ is_value. is_value ≡ is_named pool.now constant_value (attr_of attr.now)) result }
 {
     let name = ask_text(pool, attr.name, at)?;
     let is_value = name.bytes() == CONSTANT_VALUE;

@@ -19,9 +19,12 @@ use std::alloc::Global;
 /// Checks the attributes of a code, the first of which stands at this place.
 pub(crate) fn check_inners(alloc: Global, code: &MethodCode<'_>, at: u64) -> Result<(), ClassFault>
     requires fits { at + inners_len (inners_of code.now.part.now.attrs) < 2 ^ 64 }
-    requires descriptor { IfSome (utf8_at code.now.home.now.pool.now code.now.method.now.desc) (IsDescriptorOf code.now.method.now.flags) }
+    requires descriptor { IfSome (utf8_at code.now.home.now.pool.now code.now.method.now.desc)
+        (IsDescriptorOf code.now.method.now.flags) }
     requires there { IsSome (utf8_at code.now.home.now.pool.now code.now.method.now.desc) }
-    ensures { Tells (inners_checks (setting_of_code code.now) (entry_frame_of code.now) false at (inners_of code.now.part.now.attrs)) (λ done. Unit {0}) result }
+    ensures { Tells (inners_checks (setting_of_code code.now)
+        (entry_frame_of code.now) false at (inners_of code.now.part.now.attrs))
+        (λ done. Unit {0}) result }
 {
     let mut place = at;
     let mut has_table = false;
@@ -42,10 +45,14 @@ fn check_inner(
     at: u64,
 ) -> Result<bool, ClassFault>
     requires fits { at + 6 + length attr.now.content.now < 2 ^ 64 }
-    requires descriptor { IfSome (utf8_at code.now.home.now.pool.now code.now.method.now.desc) (IsDescriptorOf code.now.method.now.flags) }
+    requires descriptor { IfSome (utf8_at code.now.home.now.pool.now code.now.method.now.desc)
+        (IsDescriptorOf code.now.method.now.flags) }
     requires there { IsSome (utf8_at code.now.home.now.pool.now code.now.method.now.desc) }
-    ensures { Tells (inner_checks (setting_of_code code.now) (entry_frame_of code.now) has_table at (inner_of attr.now))
-        (λ is_table. is_table ≡ inner_is_named code.now.home.now.pool.now stack_map_table (inner_of attr.now)) result }
+    ensures { Tells (inner_checks (setting_of_code code.now)
+        (entry_frame_of code.now) has_table at (inner_of attr.now))
+        (λ is_table. is_table
+        ≡ inner_is_named code.now.home.now.pool.now stack_map_table
+        (inner_of attr.now)) result }
 {
     let name = ask_text(code.home.pool, attr.name, at)?;
     let is_table = name.bytes() == STACK_MAP_TABLE;
@@ -64,9 +71,11 @@ fn check_table(
     at: u64,
 ) -> Result<(), ClassFault>
     requires fits { at + 6 + length content.now < 2 ^ 64 }
-    requires descriptor { IfSome (utf8_at code.now.home.now.pool.now code.now.method.now.desc) (IsDescriptorOf code.now.method.now.flags) }
+    requires descriptor { IfSome (utf8_at code.now.home.now.pool.now code.now.method.now.desc)
+        (IsDescriptorOf code.now.method.now.flags) }
     requires there { IsSome (utf8_at code.now.home.now.pool.now code.now.method.now.desc) }
-    ensures { Tells (table_checks (setting_of_code code.now) (entry_frame_of code.now) at content.now) (λ done. Unit {0}) result }
+    ensures { Tells (table_checks (setting_of_code code.now)
+        (entry_frame_of code.now) at content.now) (λ done. Unit {0}) result }
 {
     let entry = entry_frame(alloc, code.home, code.method)?;
     let part = code.part;

@@ -23,7 +23,8 @@ pub(crate) fn check_handlers(
     at: u64,
 ) -> Result<(), ClassFault>
     requires { at + 8 * length handlers.now < 2 ^ 64 }
-    ensures { Tells (handlers_checks pool.now instrs.now len at handlers.now) (λ done. Unit {0}) result }
+    ensures { Tells (handlers_checks pool.now instrs.now len at handlers.now)
+        (λ done. Unit {0}) result }
 {
     if handlers.is_empty() {
         return Ok(());
@@ -56,7 +57,9 @@ fn check_handler(
 // Whether an entry is of a range of instructions that is not empty, up to an instruction or the end, and of a
 // handler.
 fn is_range(starts: &Starts, len: usize, handler: &Handler) -> bool
-    ensures { (code : List Placed) → IsStartsOf code starts.now → IsTrue result ↔ IsRange code len handler.now }
+    ensures { (code : List Placed)
+        → IsStartsOf code starts.now
+        → IsTrue result ↔ IsRange code len handler.now }
 {
     handler.start < handler.end
         && starts.has(u32::from(handler.start))

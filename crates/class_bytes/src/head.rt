@@ -14,7 +14,8 @@ use class_model::{
 /// Checks the head, whose flags stand at this place, and answers the place behind the interfaces.
 pub(crate) fn check_head(pool: &Pool, body: &CutBody<'_>, at: u64) -> Result<u64, ClassFault>
     requires { at + head_len (class_of pool.now body.now) < 2 ^ 64 }
-    ensures { Tells (head_checks pool.now at (class_of pool.now body.now)) (λ end. end ≡ at + head_len (class_of pool.now body.now)) result }
+    ensures { Tells (head_checks pool.now at (class_of pool.now body.now))
+        (λ end. end ≡ at + head_len (class_of pool.now body.now)) result }
 {
     if !fits_class(body.flags) {
         return Err(ClassFault::Malformed {

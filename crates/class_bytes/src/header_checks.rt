@@ -32,7 +32,8 @@ pub(crate) fn own_header(
     requires texts { HasTexts pool.now }
     requires none { class_at pool.now 0 ≡ None }
     requires room { at + header_len head.now < 2 ^ 64 }
-    ensures { Tells (cut_header_checks pool.now at head.now) (λ header. header ≡ header_in pool.now head.now) result }
+    ensures { Tells (cut_header_checks pool.now at head.now)
+        (λ header. header ≡ header_in pool.now head.now) result }
 {
     let name = own_class_name(alloc, pool, head.this_class, at + 2)?;
     let super_name = own_super(alloc, pool, head.super_class, at + 4)?;
@@ -73,7 +74,8 @@ fn own_class_name(
     at: u64,
 ) -> Result<Text, ClassFault>
     requires { HasTexts pool.now }
-    ensures { Tells (class_name_checks pool.now at index) (λ name. class_at pool.now index ≡ Some name) result }
+    ensures { Tells (class_name_checks pool.now at index)
+        (λ name. class_at pool.now index ≡ Some name) result }
 {
     let Some(name) = pool.class_text(index) else {
         return Err(ClassFault::Malformed {
@@ -99,7 +101,8 @@ fn own_super(
 ) -> Result<Option<Text>, ClassFault>
     requires texts { HasTexts pool.now }
     requires none { class_at pool.now 0 ≡ None }
-    ensures { Tells (super_checks pool.now at index) (λ name. name ≡ class_at pool.now index) result }
+    ensures { Tells (super_checks pool.now at index)
+        (λ name. name ≡ class_at pool.now index) result }
 {
     if index == 0 {
         return Ok(None);
@@ -116,7 +119,8 @@ fn own_interfaces(
 ) -> Result<TextList, ClassFault>
     requires texts { HasTexts pool.now }
     requires room { at + 2 * length indices.now < 2 ^ 64 }
-    ensures { Tells (interfaces_checks pool.now at indices.now) (λ names. names ≡ map (class_name_in pool.now) indices.now) result }
+    ensures { Tells (interfaces_checks pool.now at indices.now)
+        (λ names. names ≡ map (class_name_in pool.now) indices.now) result }
 {
     let mut names = ListOf::new(alloc);
     let mut place = at;
@@ -150,7 +154,8 @@ fn own_members(
     requires texts { HasTexts pool.now }
     requires room { at + members_len members.now < 2 ^ 64 }
     ensures { Tells (members_checks kind pool.now at members.now)
-        (λ own. (own.0 ≡ map (member_in pool.now) members.now) × (own.1 ≡ at + members_len members.now)) result }
+        (λ own. (own.0 ≡ map (member_in pool.now) members.now)
+        × (own.1 ≡ at + members_len members.now)) result }
 {
     let mut all = ListOf::new(alloc);
     let mut place = at;
@@ -171,7 +176,8 @@ fn own_member(
 ) -> Result<Member, ClassFault>
     requires texts { HasTexts pool.now }
     requires room { at + 8 < 2 ^ 64 }
-    ensures { Tells (member_checks kind pool.now at member.now) (λ own. own ≡ member_in pool.now member.now) result }
+    ensures { Tells (member_checks kind pool.now at member.now)
+        (λ own. own ≡ member_in pool.now member.now) result }
 {
     let (name, desc) = match kind {
         MemberKind::Field => check_field(pool, member, at)?,
@@ -193,7 +199,10 @@ fn check_field<'a>(
     requires texts { HasTexts pool.now }
     requires room { at + 8 < 2 ^ 64 }
     ensures { Tells (field_head_checks pool.now at field.now)
-        (λ lent. (utf8_at pool.now field.now.name ≡ Some lent.0.now) × IsText lent.0.now × (utf8_at pool.now field.now.desc ≡ Some lent.1.now) × IsText lent.1.now) result }
+        (λ lent. (utf8_at pool.now field.now.name ≡ Some lent.0.now)
+        × IsText lent.0.now
+        × (utf8_at pool.now field.now.desc ≡ Some lent.1.now)
+        × IsText lent.1.now) result }
 {
     let name = ask_text(pool, field.name, at + 2)?;
     ask(is_field_name(name), at + 2, FileRule::Name)?;
@@ -211,7 +220,10 @@ fn check_method<'a>(
     requires texts { HasTexts pool.now }
     requires room { at + 8 < 2 ^ 64 }
     ensures { Tells (method_head_checks pool.now at method.now)
-        (λ lent. (utf8_at pool.now method.now.name ≡ Some lent.0.now) × IsText lent.0.now × (utf8_at pool.now method.now.desc ≡ Some lent.1.now) × IsText lent.1.now) result }
+        (λ lent. (utf8_at pool.now method.now.name ≡ Some lent.0.now)
+        × IsText lent.0.now
+        × (utf8_at pool.now method.now.desc ≡ Some lent.1.now)
+        × IsText lent.1.now) result }
 {
     let shape = shape_at(pool, method.desc);
     let name = ask_text(pool, method.name, at + 2)?;
@@ -240,7 +252,8 @@ fn shape_at(pool: &RawPool<'_>, index: u16) -> Option<MethodShape>
 // Asks that an index, which is at this place, names a Utf8 constant, and lends its text.
 fn ask_text<'a>(pool: &'a RawPool<'_>, index: u16, at: u64) -> Result<&'a [u8], ClassFault>
     requires { HasTexts pool.now }
-    ensures { Tells (check at rules.Index (IsSome (utf8_at pool.now index)) ∷ []) (λ text. (utf8_at pool.now index ≡ Some text.now) × IsText text.now) result }
+    ensures { Tells (check at rules.Index (IsSome (utf8_at pool.now index)) ∷ [])
+        (λ text. (utf8_at pool.now index ≡ Some text.now) × IsText text.now) result }
 {
     match pool.text(index) {
         Some(text) => Ok(text),

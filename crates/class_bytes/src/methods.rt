@@ -38,7 +38,8 @@ pub(crate) fn check_methods(
     at: u64,
 ) -> Result<u64, ClassFault>
     requires { at + methods_len (methods_of methods.now) < 2 ^ 63 }
-    ensures { Tells (methods_checks (home_seen home.now) [] at (methods_of methods.now)) (λ end. end ≡ at + methods_len (methods_of methods.now)) result }
+    ensures { Tells (methods_checks (home_seen home.now) [] at (methods_of methods.now))
+        (λ end. end ≡ at + methods_len (methods_of methods.now)) result }
 {
     let mut signatures = Signatures::new(alloc);
     let mut place = at;
@@ -59,8 +60,11 @@ fn check_method(
     at: u64,
 ) -> Result<u64, ClassFault>
     requires { at + length (method_bytes (method_of method.now)) < 2 ^ 63 }
-    ensures { (before : List Signature) → is_again ≡ stands_before home.now.pool.now before (method_signature (method_of method.now))
-        → Tells (method_checks (home_seen home.now) before at (method_of method.now)) (λ end. end ≡ at + length (method_bytes (method_of method.now))) result }
+    ensures { (before : List Signature)
+        → is_again
+        ≡ stands_before home.now.pool.now before (method_signature (method_of method.now))
+        → Tells (method_checks (home_seen home.now) before at (method_of method.now))
+        (λ end. end ≡ at + length (method_bytes (method_of method.now))) result }
 {
     let has_code = has_code(home.pool, method);
     let lacks_code = has(method.flags, ACC_ABSTRACT) || has(method.flags, ACC_NATIVE);
@@ -102,14 +106,20 @@ fn fits_method(home: &Home<'_>, method: &CutMember<'_>, has_code: bool) -> bool
 
 // Whether a class initialiser is static and of the descriptor ()V.
 fn fits_clinit(home: &Home<'_>, method: &CutMember<'_>) -> bool
-    ensures { result ≡ (members.has method.now.flags STATIC && is_text (codes "()V") (utf8_at home.now.pool.now method.now.desc)) }
+    ensures { result
+        ≡ (members.has method.now.flags STATIC
+        && is_text (codes "()V") (utf8_at home.now.pool.now method.now.desc)) }
 {
     has(method.flags, ACC_STATIC) && is_text(home.pool, NO_PARAMETERS, method.desc)
 }
 
 // Whether an instance initialiser is not static, abstract or native, and does not stand in an interface.
 fn fits_init(home: &Home<'_>, flags: u16) -> bool
-    ensures { result ≡ (not (members.has flags STATIC) && not (members.has flags ABSTRACT) && not (members.has flags NATIVE) && not (members.has home.now.flags INTERFACE)) }
+    ensures { result
+        ≡ (not (members.has flags STATIC)
+        && not (members.has flags ABSTRACT)
+        && not (members.has flags NATIVE)
+        && not (members.has home.now.flags INTERFACE)) }
 {
     !has(flags, ACC_STATIC)
         && !has(flags, ACC_ABSTRACT)
@@ -119,7 +129,9 @@ fn fits_init(home: &Home<'_>, flags: u16) -> bool
 
 // Whether below version 52 a method of an interface has no code, and no method is both static and abstract.
 fn fits_other(home: &Home<'_>, flags: u16, has_code: bool) -> bool
-    ensures { result ≡ (not (nat_lt home.now.major 52 && members.has home.now.flags INTERFACE && has_code) && not (members.has flags STATIC && members.has flags ABSTRACT)) }
+    ensures { result
+        ≡ (not (nat_lt home.now.major 52 && members.has home.now.flags INTERFACE && has_code)
+        && not (members.has flags STATIC && members.has flags ABSTRACT)) }
 {
     !(home.major < 52 && has(home.flags, ACC_INTERFACE) && has_code)
         && !(has(flags, ACC_STATIC) && has(flags, ACC_ABSTRACT))
@@ -128,7 +140,8 @@ fn fits_other(home: &Home<'_>, flags: u16, has_code: bool) -> bool
 // Checks the name and the descriptor of a method, which stands at this place.
 fn check_signature(pool: &Pool, method: &CutMember<'_>, at: u64) -> Result<(), ClassFault>
     requires { at + 8 < 2 ^ 63 }
-    ensures { Tells (signature_checks pool.now at (method_of method.now)) (λ done. Unit {0}) result }
+    ensures { Tells (signature_checks pool.now at (method_of method.now))
+        (λ done. Unit {0}) result }
 {
     let shape = shape_at(pool, method.desc);
     let name = ask_text(pool, method.name, at + 2)?;
@@ -153,7 +166,9 @@ fn shape_at(pool: &Pool, index: u16) -> Option<MethodShape>
 /// Whether bytes are the name of a method of a descriptor of this shape, if it is a method descriptor: an
 /// instance initialiser has no result.
 pub(crate) fn is_name_with(name: &[u8], shape: Option<MethodShape>) -> bool
-    ensures { (text : Option (List ℕ)) → IsShape text shape → IsTrue result ↔ (IsMethodName name.now × InitIsVoid name.now text) }
+    ensures { (text : Option (List ℕ))
+        → IsShape text shape
+        → IsTrue result ↔ (IsMethodName name.now × InitIsVoid name.now text) }
 {
     let is_void = match shape {
         Some(shape) => shape.is_void,
@@ -165,7 +180,9 @@ pub(crate) fn is_name_with(name: &[u8], shape: Option<MethodShape>) -> bool
 /// Whether there is a method descriptor, and its parameters take at most 255 local units, this counted where
 /// the method is not static (4.3.3).
 pub(crate) fn fits_units(flags: u16, shape: Option<MethodShape>) -> bool
-    ensures { (text : List ℕ) → IsShape (Some text) shape → IsTrue result ↔ IsDescriptorOf flags text }
+    ensures { (text : List ℕ)
+        → IsShape (Some text) shape
+        → IsTrue result ↔ IsDescriptorOf flags text }
 {
     let most = if has(flags, ACC_STATIC) { 255 } else { 254 };
     match shape {
@@ -183,9 +200,13 @@ fn check_method_attrs(
     at: u64,
 ) -> Result<u64, ClassFault>
     requires fits { at + attrs_len (attrs_of method.now.attrs) < 2 ^ 63 }
-    requires descriptor { IfSome (utf8_at home.now.pool.now method.now.desc) (IsDescriptorOf method.now.flags) }
+    requires descriptor { IfSome (utf8_at home.now.pool.now method.now.desc)
+        (IsDescriptorOf method.now.flags) }
     requires there { IsSome (utf8_at home.now.pool.now method.now.desc) }
-    ensures { Tells (attrs_checks (method_attr_checks (home_seen home.now) (method_of method.now)) [] at (attrs_of method.now.attrs)) (λ end. end ≡ at + attrs_len (attrs_of method.now.attrs)) result }
+    ensures { Tells (attrs_checks
+        (method_attr_checks (home_seen home.now) (method_of method.now)) [] at
+        (attrs_of method.now.attrs)) (λ end. end
+        ≡ at + attrs_len (attrs_of method.now.attrs)) result }
 {
     let mut place = at;
     let mut has_code = false;
@@ -207,10 +228,13 @@ fn check_method_attr(
     at: u64,
 ) -> Result<bool, ClassFault>
     requires fits { at + 6 + length attr.now.content.now < 2 ^ 63 }
-    requires descriptor { IfSome (utf8_at home.now.pool.now method.now.desc) (IsDescriptorOf method.now.flags) }
+    requires descriptor { IfSome (utf8_at home.now.pool.now method.now.desc)
+        (IsDescriptorOf method.now.flags) }
     requires there { IsSome (utf8_at home.now.pool.now method.now.desc) }
     ensures { (before : List Attr) → has_code ≡ has_named home.now.pool.now code before
-        → Tells (method_attr_checks (home_seen home.now) (method_of method.now) before at (attr_of attr.now)) (λ is_code. is_code ≡ is_named home.now.pool.now code (attr_of attr.now)) result }
+        → Tells (method_attr_checks (home_seen home.now) (method_of method.now) before at
+        (attr_of attr.now)) (λ is_code. is_code
+        ≡ is_named home.now.pool.now code (attr_of attr.now)) result }
 {
     let name = ask_text(home.pool, attr.name, at)?;
     let is_code = name.bytes() == CODE;

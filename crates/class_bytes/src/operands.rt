@@ -22,7 +22,8 @@ pub(crate) fn check_operands(
     start: u64,
 ) -> Result<(), ClassFault>
     requires { start < 2 ^ 63 }
-    ensures { Tells (operand_checks start pool.now major max_locals code.now) (λ done. Unit {0}) result }
+    ensures { Tells (operand_checks start pool.now major max_locals code.now)
+        (λ done. Unit {0}) result }
 {
     for placed in code {
         if !fits(pool, major, max_locals, &placed.instr) {
@@ -167,7 +168,8 @@ fn fits_array(name: &[u8]) -> bool
 
 // Whether the array class that an index names has as many dimensions as are made.
 fn fits_dimensions(pool: &Pool, index: u16, dimensions: u8) -> bool
-    ensures { IsTrue result ↔ IfSome (class_at pool.now index) (λ name. HasDimensions name dimensions) }
+    ensures { IsTrue result
+        ↔ IfSome (class_at pool.now index) (λ name. HasDimensions name dimensions) }
 {
     match pool.class_name(index) {
         Some(name) => has_dimensions(name.bytes(), usize::from(dimensions)),

@@ -28,7 +28,10 @@ impl<'p> Signatures<'p> {
     /// Adds a member's, by indices of the pool, and says whether a member of the same stands before. A name or
     /// descriptor that cannot be had is equal to none.
     pub(crate) fn add(&mut self, pool: &'p Pool, name: u16, desc: u16) -> Result<bool, NoMemory>
-        ensures { IfOk result (λ is_again. (before : List Signature) → Knows pool.now before self.old → (is_again ≡ stands_before pool.now before (record { name = name; desc = desc })) × Knows pool.now (before ++ record { name = name; desc = desc } ∷ []) self.new) }
+        ensures { IfOk result (λ is_again. (before : List Signature)
+            → Knows pool.now before self.old
+            → (is_again ≡ stands_before pool.now before (record { name = name; desc = desc }))
+            × Knows pool.now (before ++ record { name = name; desc = desc } ∷ []) self.new) }
     {
         let (Some(name), Some(desc)) = (pool.utf8(name), pool.utf8(desc)) else {
             return Ok(false);

@@ -60,7 +60,8 @@ pub fn push_class(out: &mut Vec<u8>, class: &ClassFile) -> Result<(), NoMemory>
 // Appends the number of interfaces, and their indices.
 fn push_interfaces(out: &mut Vec<u8>, interfaces: &IndexList) -> Result<(), NoMemory>
     requires { length interfaces.now ≤ 65535 }
-    ensures ok { OnOk result (out.new.items ≡ out.old.items ++ (u2 (length interfaces.now) ++ u2s interfaces.now)) }
+    ensures ok { OnOk result
+        (out.new.items ≡ out.old.items ++ (u2 (length interfaces.now) ++ u2s interfaces.now)) }
     ensures numbers { OnOk result (AllByRecursion IsU2 interfaces.now) }
     ensures err { OnErr result (Grows out.old.items out.new.items) }
 {
@@ -75,7 +76,8 @@ fn push_interfaces(out: &mut Vec<u8>, interfaces: &IndexList) -> Result<(), NoMe
 // Appends the number of fields, and the fields.
 fn push_fields(out: &mut Vec<u8>, fields: &FieldList) -> Result<(), NoMemory>
     requires { FitsFields fields.now }
-    ensures ok { OnOk result (out.new.items ≡ out.old.items ++ (u2 (length fields.now) ++ flat_map field_bytes fields.now)) }
+    ensures ok { OnOk result (out.new.items ≡ out.old.items
+        ++ (u2 (length fields.now) ++ flat_map field_bytes fields.now)) }
     ensures numbers { OnOk result (AllByRecursion FieldNumbers fields.now) }
     ensures err { OnErr result (Grows out.old.items out.new.items) }
 {
@@ -103,7 +105,8 @@ fn push_field(out: &mut Vec<u8>, field: &Field) -> Result<(), NoMemory>
 // Appends the number of methods, and the methods.
 fn push_methods(out: &mut Vec<u8>, methods: &MethodList) -> Result<(), NoMemory>
     requires { FitsMethods methods.now }
-    ensures ok { OnOk result (out.new.items ≡ out.old.items ++ (u2 (length methods.now) ++ flat_map method_bytes methods.now)) }
+    ensures ok { OnOk result (out.new.items ≡ out.old.items
+        ++ (u2 (length methods.now) ++ flat_map method_bytes methods.now)) }
     ensures numbers { OnOk result (AllByRecursion MethodNumbers methods.now) }
     ensures err { OnErr result (Grows out.old.items out.new.items) }
 {

@@ -1,11 +1,11 @@
 -- Bytes are a class file, or of a version that is not read, or have a first fault.
-use Rattle.std.proofs.Common.{◌≡◌, ◌⊎◌, inl, inr, ℕ, ◌+◌, ◌*◌, List, [], ◌∷◌, ◌++◌, length, Some, None, Result, Ok, Err, refl, subst, sym}
+use Rattle.std.proofs.Common.{◌⊎◌, ℕ, ◌+◌, ◌*◌, List, [], ◌∷◌, ◌++◌, length, Some, None, refl}
 use Rattle.std.specs.List.{flat_map}
 use Rattle.std.proofs.lemmas.Bool.{cases_eq}
-use Rattle.class_model.specs.Checks.{Fault, IsFirstFault, asked_of}
+use Rattle.class_model.specs.Checks.{Fault}
 use Rattle.class_model.specs.ClassOf.{fields_checks, methods_checks, bootstrap_index_checks, class_file_checks, entered, IsReadVersion, ClassOf, IsOtherVersion, FirstFault}
 use Rattle.class_model.specs.ClassOf.FirstFault.{in_head, behind}
-use Rattle.class_model.specs.Cutting.{Rest, Cut, Version, version_at, class_file_at, uncut}
+use Rattle.class_model.specs.Cutting.{Version}
 use Rattle.class_model.specs.Members.{Signature, field_checks, field_signature}
 use Rattle.class_model.specs.Methods.{Home, method_checks, class_attr_checks, bootstrap_count, method_signature, home_of}
 use Rattle.class_model.specs.Pool.{Constants}
@@ -14,7 +14,9 @@ use Rattle.class_model.specs.declared.class_file.ClassFile.{ClassFile}
 use Rattle.class_model.specs.declared.class_file.Field.{Field}
 use Rattle.class_model.specs.declared.class_file.Method.{Method}
 use Rattle.class_model.specs.declared.pool.Const.TheVariants.{InvokeDynamic}
-use Rattle.class_model.proofs.Decisions.{Decision, both, either, less, is_true, AllDecided, decided-append, settled}
+use Rattle.class_model.specs.Laws.Decisions.{Decision, both, either, is_true}
+use Rattle.class_model.proofs.Decisions.{less, AllDecided, decided-append}
+use Rattle.class_model.proofs.DecidedFiles.{told_as}
 use Rattle.class_model.proofs.DecidedMembers.{class_named_at, super, interfaces, attributes, one_field, one_method, class_attribute}
 use Rattle.class_model.proofs.DecidedPool.{entries}
 
@@ -66,24 +68,10 @@ Told bytes = ((class : ClassFile) × ClassOf bytes class) ⊎ (((version : Versi
 read : (version : Version) → Decision (IsReadVersion version)
 read version = either (cases_eq version.major 50) (either (cases_eq version.major 51) (both (cases_eq version.major 52) (cases_eq version.minor 0)))
 
-module _ (bytes : List ℕ) (version : Version) (rest : Rest) (head : version_at (uncut bytes) ≡ Ok (version, rest)) where
-  cut_told : IsReadVersion version → (r : Result ClassFile Fault) → class_file_at version rest ≡ r → Told bytes
-  cut_told is_read (Ok cut) e = elim (settled (class_file_checks cut) (class cut)) [
-    | inl holds ↦ inl (entered cut, record { version = version; rest = rest; head = head; is_read = is_read; cut = cut; is_cut = e; holds = holds; is = refl })
-    | inr first ↦ inr (inr (first.0, behind version rest first.0 head is_read (subst (λ (r : Result ClassFile Fault). IsFirstFault (asked_of r class_file_checks) first.0) (sym e) first.1)))
-  ]
-  cut_told is_read (Err f) e =
-      inr (inr (f, behind version rest f head is_read (subst (λ (r : Result ClassFile Fault). IsFirstFault (asked_of r class_file_checks) f) (sym e) (inl (λ h. h, refl)))))
-
-  version_told : Told bytes
-  version_told = elim (read version) [
-    | inl is_read ↦ cut_told is_read (class_file_at version rest) refl
-    | inr other ↦ inr (inl (version, record { rest = rest; head = head; other = other }))
-  ]
-
-head_told : (bytes : List ℕ) (r : Cut Version) → version_at (uncut bytes) ≡ r → Told bytes
-head_told bytes (Ok head) e = version_told bytes head.0 head.1 e
-head_told bytes (Err f) e = inr (inr (f, in_head f e))
-
 pub told : (bytes : List ℕ) → Told bytes
-told bytes = head_told bytes (version_at (uncut bytes)) refl
+told bytes =
+    told_as bytes IsReadVersion read class_file_checks class ((class : ClassFile) × ClassOf bytes class) ((version : Version) × IsOtherVersion bytes version) (FirstFault bytes)
+    (λ version rest cut head is_read is_cut holds. (entered cut, record { version = version; rest = rest; head = head; is_read = is_read; cut = cut; is_cut = is_cut; holds = holds; is = refl }))
+    (λ version rest head other. (version, record { rest = rest; head = head; other = other }))
+    (λ f e. in_head f e)
+    (λ version rest f head is_read first. behind version rest f head is_read first)

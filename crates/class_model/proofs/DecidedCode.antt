@@ -14,7 +14,8 @@ use Rattle.class_model.specs.declared.class_file.InnerAttr.{InnerAttr}
 use Rattle.class_model.specs.declared.class_file.Method.{Method}
 use Rattle.class_model.specs.declared.frame.Frame.{Frame}
 use Rattle.class_model.specs.declared.instr.Placed.{Placed}
-use Rattle.class_model.proofs.Decisions.{Decision, mapped, four, either, less, at_most, is_true, is_false, if_some, is_some, AllDecided, decided-append, decided_if, decided_of}
+use Rattle.class_model.specs.Laws.Decisions.{Decision, mapped, either, is_true, is_false}
+use Rattle.class_model.proofs.Decisions.{four, less, at_most, if_some, is_some, AllDecided, decided-append, decided_if, decided_of}
 use Rattle.class_model.proofs.DecidedOperands.{operand_fits}
 use Rattle.class_model.proofs.DecidedPool.{class_named}
 

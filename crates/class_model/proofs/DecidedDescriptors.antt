@@ -11,7 +11,8 @@ use Rattle.class_model.specs.Names.{init}
 use Rattle.class_model.specs.PoolChecks.{IsTypeName, IsFieldDescriptor, BytesSpell, IsMethodDescriptor, ReturnsVoid, InitIsVoid}
 use Rattle.class_model.specs.declared.descriptor.FieldType.{FieldType}
 use Rattle.class_model.specs.declared.descriptor.Descriptor.{Descriptor}
-use Rattle.class_model.proofs.Decisions.{Decision, mapped, both, three, either, implied, at_most, equal_bytes, each, if_some}
+use Rattle.class_model.specs.Laws.Decisions.{Decision, mapped, both, either, implied}
+use Rattle.class_model.proofs.Decisions.{three, at_most, equal_bytes, each, if_some}
 use Rattle.class_model.proofs.DecidedTypes.{one_type, no_type, type_shorter, type_front, field_descriptor, field_type}
 use Rattle.class_model.proofs.Parameters.{one_descriptor}
 

@@ -1,11 +1,11 @@
 -- Bytes of a library have a header, or are of a version that is not read, or have a first fault; and the checks of a pool hold, or
 -- one of them is the first that fails.
-use Rattle.std.proofs.Common.{◌≡◌, ◌⊎◌, inl, inr, ℕ, ◌+◌, ◌*◌, ◌≤◌, List, [], ◌∷◌, ◌++◌, length, Some, None, Result, Ok, Err, refl, subst, sym}
+use Rattle.std.proofs.Common.{◌⊎◌, ℕ, ◌+◌, ◌*◌, List, [], ◌∷◌, length, Some, None, refl}
 use Rattle.std.specs.List.{flat_map}
 use Rattle.std.proofs.lemmas.Bool.{cases_eq}
-use Rattle.class_model.specs.Checks.{Check, Fault, AllHold, IsFirstFault, asked_of}
-use Rattle.class_model.specs.Cutting.{Rest, Cut, Version, version_at, class_file_at, uncut}
-use Rattle.class_model.specs.Header.{HeaderOf, FirstHeaderFault, IsLibraryVersion, IsNoLibraryVersion, header_checks, header_of, library_file_checks, texts_checks, field_name_checks, method_name_checks}
+use Rattle.class_model.specs.Checks.{Fault, AllHold, IsFirstFault}
+use Rattle.class_model.specs.Cutting.{Version}
+use Rattle.class_model.specs.Header.{HeaderOf, FirstHeaderFault, IsLibraryVersion, IsNoLibraryVersion, header_checks, header_of, texts_checks, field_name_checks, method_name_checks}
 use Rattle.class_model.specs.Header.FirstHeaderFault.{in_head, behind}
 use Rattle.class_model.specs.Pool.{Constants}
 use Rattle.class_model.specs.PoolChecks.{utf8_at, entries_checks}
@@ -15,8 +15,10 @@ use Rattle.class_model.specs.declared.class_file.Field.{Field}
 use Rattle.class_model.specs.declared.class_file.Method.{Method}
 use Rattle.class_model.specs.declared.header.Header.{Header}
 use Rattle.class_model.specs.declared.pool.Const.TheVariants.{Utf8}
-use Rattle.class_model.proofs.Decisions.{Decision, both, either, at_most, if_some, is_some, AllDecided, decided-append, settled}
+use Rattle.class_model.specs.Laws.Decisions.{Decision, both, either}
+use Rattle.class_model.proofs.Decisions.{at_most, if_some, is_some, AllDecided, decided-append, settled}
 use Rattle.class_model.proofs.DecidedDescriptors.{descriptor_of}
+use Rattle.class_model.proofs.DecidedFiles.{told_as}
 use Rattle.class_model.proofs.DecidedMembers.{class_named_at, super, interfaces}
 use Rattle.class_model.proofs.DecidedNames.{utf8, field_name}
 use Rattle.class_model.proofs.DecidedPool.{plain_name, entries}
@@ -78,27 +80,13 @@ Told bytes = ((header : Header) × HeaderOf bytes header) ⊎ (((version : Versi
 read : (version : Version) → Decision (IsLibraryVersion version)
 read version = either (both (at_most 45 version.major) (at_most version.major 51)) (both (cases_eq version.major 52) (cases_eq version.minor 0))
 
-module _ (bytes : List ℕ) (version : Version) (rest : Rest) (head : version_at (uncut bytes) ≡ Ok (version, rest)) where
-  cut_told : IsLibraryVersion version → (r : Result ClassFile Fault) → class_file_at version rest ≡ r → Told bytes
-  cut_told is_read (Ok cut) e = elim (settled (header_checks cut) (header cut)) [
-    | inl holds ↦ inl (header_of cut, record { version = version; rest = rest; head = head; is_read = is_read; cut = cut; is_cut = e; holds = holds; is = refl })
-    | inr first ↦ inr (inr (first.0, behind version rest first.0 head is_read (subst (λ (r : Result ClassFile Fault). IsFirstFault (asked_of r header_checks) first.0) (sym e) first.1)))
-  ]
-  cut_told is_read (Err f) e =
-      inr (inr (f, behind version rest f head is_read (subst (λ (r : Result ClassFile Fault). IsFirstFault (asked_of r header_checks) f) (sym e) (inl (λ h. h, refl)))))
-
-  version_told : Told bytes
-  version_told = elim (read version) [
-    | inl is_read ↦ cut_told is_read (class_file_at version rest) refl
-    | inr other ↦ inr (inl (version, record { rest = rest; head = head; other = other }))
-  ]
-
-head_told : (bytes : List ℕ) (r : Cut Version) → version_at (uncut bytes) ≡ r → Told bytes
-head_told bytes (Ok head) e = version_told bytes head.0 head.1 e
-head_told bytes (Err f) e = inr (inr (f, in_head f e))
-
 pub told : (bytes : List ℕ) → Told bytes
-told bytes = head_told bytes (version_at (uncut bytes)) refl
+told bytes =
+    told_as bytes IsLibraryVersion read header_checks header ((header : Header) × HeaderOf bytes header) ((version : Version) × IsNoLibraryVersion bytes version) (FirstHeaderFault bytes)
+    (λ version rest cut head is_read is_cut holds. (header_of cut, record { version = version; rest = rest; head = head; is_read = is_read; cut = cut; is_cut = is_cut; holds = holds; is = refl }))
+    (λ version rest head other. (version, record { rest = rest; head = head; other = other }))
+    (λ f e. in_head f e)
+    (λ version rest f head is_read first. behind version rest f head is_read first)
 
 -- ---- pools
 

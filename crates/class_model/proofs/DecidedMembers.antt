@@ -14,7 +14,8 @@ use Rattle.class_model.specs.declared.class_file.Field.{Field}
 use Rattle.class_model.specs.declared.class_file.Method.{Method}
 use Rattle.class_model.specs.declared.pool.Const.{Const}
 use Rattle.class_model.specs.declared.pool.Const.TheVariants as consts
-use Rattle.class_model.proofs.Decisions.{Decision, mapped, both, equal_bytes, is_true, is_false, if_some, is_some, AllDecided, decided-append, decided_if}
+use Rattle.class_model.specs.Laws.Decisions.{Decision, mapped, both, is_true, is_false}
+use Rattle.class_model.proofs.Decisions.{equal_bytes, if_some, is_some, AllDecided, decided-append, decided_if}
 use Rattle.class_model.proofs.DecidedCode.{content}
 use Rattle.class_model.proofs.DecidedDescriptors.{descriptor_of}
 use Rattle.class_model.proofs.DecidedNames.{class_name, field_name}

@@ -5,7 +5,8 @@ use Rattle.class_model.specs.ModifiedUtf8.{IsModifiedUtf8, IsText}
 use Rattle.class_model.specs.Laws.Texts.{TwoBytes, ThreeBytes, unit_forms, two_bytes}
 use Rattle.class_model.specs.Names.{IsNameByte, IsUnqualifiedName, IsClassName, IsNoAngle, IsPlainMethodName, IsMethodName, BeginsOtherwise, IsFieldName, init, clinit}
 use Rattle.class_model.proofs.ClassNames.{Rest, rest_of_name, name_of_rest, first_byte, slash_before, slash_after, byte_before, byte_after, ends_part, no_part_at_end}
-use Rattle.class_model.proofs.Decisions.{Decision, mapped, both, three, four, either, denied, at_most, equal_bytes, each}
+use Rattle.class_model.specs.Laws.Decisions.{Decision, mapped, both, either, denied}
+use Rattle.class_model.proofs.Decisions.{three, four, at_most, equal_bytes, each}
 use Rattle.class_model.proofs.Units.{Spells, spells_one, spells_two, spells_three, Follows, follows_shorter, utf8_none, utf8_before, utf8_after, nothing_follows}
 
 -- ---- the first code unit of bytes

@@ -13,7 +13,8 @@ use Rattle.class_model.specs.declared.instr.Instr.TheVariants.{Ldc, Ldc2, Load, 
 use Rattle.class_model.specs.declared.opcodes.TheConstants.{INVOKEVIRTUAL, INVOKESPECIAL, INVOKESTATIC, INVOKEINTERFACE}
 use Rattle.class_model.specs.declared.pool.Const.{Const}
 use Rattle.class_model.specs.declared.pool.Const.TheVariants as consts
-use Rattle.class_model.proofs.Decisions.{Decision, both, three, either, denied, at_most, if_some}
+use Rattle.class_model.specs.Laws.Decisions.{Decision, both, either, denied}
+use Rattle.class_model.proofs.Decisions.{three, at_most, if_some}
 use Rattle.class_model.proofs.DecidedDescriptors.{each_one, spelled_descriptor}
 use Rattle.class_model.proofs.DecidedPool.{class_named, is_field, is_method, is_interface_method}
 use Rattle.class_model.proofs.DecidedTypes.{array_type, has_dimensions}

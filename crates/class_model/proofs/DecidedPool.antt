@@ -7,7 +7,8 @@ use Rattle.class_model.specs.PoolChecks.{utf8_at, name_at, descriptor_at, IsClas
 use Rattle.class_model.specs.Spelling.{constant_bytes}
 use Rattle.class_model.specs.declared.pool.Const.{Const}
 use Rattle.class_model.specs.declared.pool.Const.TheVariants.{Utf8, Integer, Float, Long, Double, Class, String, Fieldref, Methodref, InterfaceMethodref, NameAndType, MethodHandle, MethodType, InvokeDynamic}
-use Rattle.class_model.proofs.Decisions.{Decision, both, three, four, either, denied, implied, at_most, equal_bytes, if_some, is_some, AllDecided, decided-append}
+use Rattle.class_model.specs.Laws.Decisions.{Decision, both, either, denied, implied}
+use Rattle.class_model.proofs.Decisions.{three, four, at_most, equal_bytes, if_some, is_some, AllDecided, decided-append}
 use Rattle.class_model.proofs.DecidedDescriptors.{method_descriptor, init_is_void}
 use Rattle.class_model.proofs.DecidedNames.{utf8, unqualified_name, method_name, field_name}
 use Rattle.class_model.proofs.DecidedTypes.{field_descriptor, reference_name}

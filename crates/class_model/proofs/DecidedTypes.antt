@@ -10,7 +10,8 @@ use Rattle.class_model.specs.Inner.DescriptorParts.{base_type_of, ClassNameAt, E
 use Rattle.class_model.specs.PoolChecks.{IsTypeName, IsFieldDescriptor}
 use Rattle.class_model.specs.declared.descriptor.FieldType.{FieldType}
 use Rattle.class_model.specs.declared.descriptor.FieldType.TheVariants.{Named}
-use Rattle.class_model.proofs.Decisions.{Decision, mapped, both, either, at_most}
+use Rattle.class_model.specs.Laws.Decisions.{Decision, mapped, both, either}
+use Rattle.class_model.proofs.Decisions.{at_most}
 use Rattle.class_model.proofs.DecidedNames.{class_name, text}
 use Rattle.class_model.proofs.DescriptorGrammar.{LacksSemicolon, one_split, name_lacks, element_form, one_element, one_count, element_lacks, one_array, FieldForm, named_form, one_form, element_of_class, element_of_base, no_element, no_class, array_of_element, element_of_array, at_whole, whole_array, begins_type, begins}
 

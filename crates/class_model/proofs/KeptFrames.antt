@@ -1,12 +1,13 @@
 -- A table of frames that is read over a pool is read alike over one that keeps what its indices name.
-use Rattle.std.proofs.Common.{◌≡◌, ℕ, zero, suc, ◌+◌, ◌-◌, ◌==◌, Bool, true, false, cond, List, [], ◌∷◌, length, Option, Some, None, Result, Ok, Err, refl, sym, ap, subst, ◌∙◌}
-use Rattle.std.specs.Prelude.{IsSome, nat_lt, nat_le}
+use Rattle.std.proofs.Common.{◌≡◌, ℕ, zero, suc, ◌+◌, Bool, true, false, cond, List, length, Option, Some, None, Result, Ok, Err, refl, sym, ap, ◌∙◌}
+use Rattle.std.specs.Prelude.{IsSome, nat_lt}
 use Rattle.class_model.specs.Checks.{Fault, ◌>>=◌}
 use Rattle.class_model.specs.Cutting.{Rest, behind, uncut}
-use Rattle.class_model.specs.Frames.{Setting, object_of, verification_type_at, verification_types_at, full_at, frame_at, frames_at, fits_at, listed, table_u2_at, stack_map_table_at}
-use Rattle.class_model.specs.Instructions.{u1_in, u2_in}
+use Rattle.class_model.specs.Frames.{Setting, TypeOperand, NoOperand, ClassIndex, NewOffset, FrameForm, SameFrame, ItemFrame, ReservedFrame, ItemFrameExtended, ChopFrame, SameFrameExtended, AppendFrame, FullFrame, object_of, type_rows, type_behind, verification_type_at, verification_types_at, counted_types_at, item_frame_at, frame_rows, frame_behind, frame_at, frames_at, fits_at, listed, table_u2_at, stack_map_table_at}
+use Rattle.class_model.specs.Instructions.{u1_in}
 use Rattle.class_model.specs.Pool.{Constants}
 use Rattle.class_model.specs.PoolChecks.{class_at}
+use Rattle.class_model.specs.Tables.{given_in}
 use Rattle.class_model.specs.declared.frame.Frame.{Frame}
 use Rattle.class_model.specs.declared.frame.VType.{VType}
 use Rattle.class_model.proofs.KeptPools.{Keeps, class_kept}
@@ -49,35 +50,41 @@ module _ (s : Setting) (new : Constants) (keeps : Keeps s.pool new) where
             absurd cc;
       }
 
+  type_behind_kept : (frame : ℕ) (operand : Option TypeOperand) (rest : Rest) → GivesToo (type_behind s frame operand rest) (type_behind over frame operand rest)
+  type_behind_kept frame None rest = same
+  type_behind_kept frame (Some (NoOperand type)) rest = same
+  type_behind_kept frame (Some ClassIndex) rest = steps (as_is (table_u2_at rest)) (λ index. object_kept frame index.1 index.0)
+  type_behind_kept frame (Some NewOffset) rest = same
+
   type_kept : (frame : ℕ) (rest : Rest) → GivesToo (verification_type_at s frame rest) (verification_type_at over frame rest)
   type_kept frame rest =
-      let tag = u1_in rest.bytes 0 in
-      let operand = u2_in rest.bytes 1 in
-      either (nat_lt (length rest.bytes) 1) same
-      (either (tag == 0) same (either (tag == 1) same (either (tag == 2) same (either (tag == 3) same
-      (either (tag == 4) same (either (tag == 5) same (either (tag == 6) same (either (nat_lt 8 tag) same
-      (either (nat_lt (length rest.bytes) 3) same (either (tag == 7) (object_kept frame (behind 3 rest) operand) same))))))))))
+      either (nat_lt (length rest.bytes) 1) same (type_behind_kept frame (given_in type_rows (u1_in rest.bytes 0)) (behind 1 rest))
 
   types_kept : (frame count : ℕ) (rest : Rest) → GivesToo (verification_types_at s frame count rest) (verification_types_at over frame count rest)
   unfolding verification_types_at
   types_kept frame zero rest = same
   types_kept frame (suc count) rest = steps (type_kept frame rest) (λ first. steps (types_kept frame count first.1) (λ others. same))
 
-  full_kept : (frame : ℕ) (rest : Rest) → GivesToo (full_at s frame rest) (full_at over frame rest)
-  full_kept frame rest =
-      steps (as_is (table_u2_at rest)) (λ delta. steps (as_is (table_u2_at delta.1)) (λ locals. steps (types_kept frame locals.0 locals.1) (λ local_types.
-      steps (as_is (table_u2_at local_types.1)) (λ stack. steps (types_kept frame stack.0 stack.1) (λ stack_types. same)))))
+  counted_kept : (frame : ℕ) (rest : Rest) → GivesToo (counted_types_at s frame rest) (counted_types_at over frame rest)
+  counted_kept frame rest = steps (as_is (table_u2_at rest)) (λ count. types_kept frame count.0 count.1)
+
+  item_kept : (delta : ℕ) (locals : List VType) (frame : ℕ) (rest : Rest) → GivesToo (item_frame_at s delta locals frame rest) (item_frame_at over delta locals frame rest)
+  item_kept delta locals frame rest = steps (steps (type_kept frame rest) (λ item. same)) (λ stack. same)
+
+  frame_behind_kept : (locals : List VType) (frame : ℕ) (form : Option FrameForm) (rest : Rest) → GivesToo (frame_behind s locals frame form rest) (frame_behind over locals frame form rest)
+  frame_behind_kept locals frame None rest = same
+  frame_behind_kept locals frame (Some (SameFrame delta)) rest = same
+  frame_behind_kept locals frame (Some (ItemFrame delta)) rest = item_kept delta locals frame rest
+  frame_behind_kept locals frame (Some ReservedFrame) rest = same
+  frame_behind_kept locals frame (Some ItemFrameExtended) rest = steps (as_is (table_u2_at rest)) (λ delta. item_kept delta.0 locals frame delta.1)
+  frame_behind_kept locals frame (Some (ChopFrame count)) rest = same
+  frame_behind_kept locals frame (Some SameFrameExtended) rest = same
+  frame_behind_kept locals frame (Some (AppendFrame count)) rest = steps (as_is (table_u2_at rest)) (λ delta. steps (types_kept frame count delta.1) (λ more. same))
+  frame_behind_kept locals frame (Some FullFrame) rest = steps (as_is (table_u2_at rest)) (λ delta. steps (counted_kept frame delta.1) (λ types. steps (counted_kept frame types.1) (λ stack. same)))
 
   frame_kept : (locals : List VType) (rest : Rest) → GivesToo (frame_at s locals rest) (frame_at over locals rest)
   frame_kept locals rest =
-      let kind = u1_in rest.bytes 0 in
-      let inside = behind 1 rest in
-      either (nat_lt (length rest.bytes) 1) same (either (nat_le kind 63) same
-      (either (nat_le kind 127) (steps (type_kept rest.at inside) (λ item. same)) (either (nat_le kind 246) same
-      (either (kind == 247) (steps (as_is (table_u2_at inside)) (λ delta. steps (type_kept rest.at delta.1) (λ item. same)))
-      (either (nat_le kind 250) same (either (kind == 251) same
-      (either (nat_le kind 254) (steps (as_is (table_u2_at inside)) (λ delta. steps (types_kept rest.at (kind - 251) delta.1) (λ more. same)))
-      (full_kept rest.at inside))))))))
+      either (nat_lt (length rest.bytes) 1) same (frame_behind_kept locals rest.at (given_in frame_rows (u1_in rest.bytes 0)) (behind 1 rest))
 
   frames_kept : (count from : ℕ) (locals : List VType) (rest : Rest) → GivesToo (frames_at s count from locals rest) (frames_at over count from locals rest)
   unfolding frames_at

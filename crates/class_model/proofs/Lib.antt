@@ -19,6 +19,7 @@ pub mod DecidedOperands
 pub mod DecidedCode
 pub mod DecidedMembers
 pub mod DecidedClass
+pub mod DecidedFiles
 pub mod DecidedHeader
 pub mod DescriptorShapes
 pub mod CutTypes

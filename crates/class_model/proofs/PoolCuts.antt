@@ -7,7 +7,7 @@ use Rattle.std.proofs.lemmas.Bool.Decides.{nat_tests}
 use Rattle.std.proofs.lemmas.Grind.{flat_map-append}
 use Rattle.std.proofs.lemmas.Int.{of_z-to_z}
 use Rattle.class_model.specs.Checks.{fault, ◌>>=◌}
-use Rattle.class_model.specs.Cutting.{IsBytes, Rest, Cut, is_tag, fields_at, entries_at, pool_at}
+use Rattle.class_model.specs.Cutting.{IsBytes, Rest, Cut, is_tag, may_stand, fields_at, entries_at, pool_at}
 use Rattle.class_model.specs.Laws.Cuts.{bind_ok, done, guard_false, guard_true}
 use Rattle.class_model.specs.Laws.Pools.{entry_spelled}
 use Rattle.class_model.specs.Pool.{Constants, entries_of}
@@ -135,9 +135,6 @@ constant_cut major tag known =
 -- ---- the entries
 
 -- the tag is known, and that of a long or double does not stand at the last index
-abbrev may_stand : ℕ → ℕ → ℕ → ℕ → Bool
-may_stand major tag index count = is_tag major tag && not (((tag == 5) || (tag == 6)) && (index + 1 == count))
-
 -- such a constant ends with the count
 stands_within : (tag index count : ℕ) → index < count → not (((tag == 5) || (tag == 6)) && (index + 1 == count)) ≡ true → index + units tag ≤ count
 stands_within tag index count lt e = grind (arith, nat_tests)
@@ -163,7 +160,7 @@ entries_take (suc left) major index count rest x le enough fits e =
       | inr more ↦
           let tag = step u1_spelled (takes_none rest fits) _ x more.1 in
           let known = bind_ok _ _ x tag.goes_on in
-          let may = guard_true (may_stand major tag.got.0 index count) (fault rest.at rules.Tag) tag.got.1 known.0 known.1 in
+          let may = guard_true (may_stand major index count tag.got.0) (fault rest.at rules.Tag) tag.got.1 known.0 known.1 in
           let stands = and_parts (is_tag major tag.got.0) _ may.0 in
           let behind : Takes rest (tag.got.0 ∷ []) known.0 = subst (λ (r : Rest). Takes rest (tag.got.0 ∷ []) r) may.1 tag.takes in
           let constant = step (constant_cut major tag.got.0 stands.0) behind _ x known.2 in

@@ -25,14 +25,16 @@ abbrev pub fields_checks : Constants → ℕ → List Signature → ℕ → List
 fields_checks pool flags before at [] = []
 fields_checks pool flags before at (field ∷ fields) =
     field_checks pool flags before at field
-    ++ fields_checks pool flags (before ++ field_signature field ∷ []) (at + length (field_bytes field)) fields
+    ++ fields_checks pool flags (before ++ field_signature field ∷ [])
+    (at + length (field_bytes field)) fields
 
 -- methods (4.6), behind those of these names
 abbrev pub methods_checks : Home → List Signature → ℕ → List Method → List (Check Fault)
 methods_checks home before at [] = []
 methods_checks home before at (method ∷ methods) =
     method_checks home before at method
-    ++ methods_checks home (before ++ method_signature method ∷ []) (at + length (method_bytes method)) methods
+    ++ methods_checks home (before ++ method_signature method ∷ [])
+    (at + length (method_bytes method)) methods
 
 -- ---- the pool and the bootstrap methods
 
@@ -41,8 +43,11 @@ abbrev pub bootstrap_index_checks : ℕ → ℕ → Constants → List (Check Fa
 bootstrap_index_checks count at [] = []
 bootstrap_index_checks count at (None ∷ entries) = bootstrap_index_checks count at entries
 bootstrap_index_checks count at (Some (InvokeDynamic bootstrap member) ∷ entries) =
-    check at rules.Index (bootstrap < count) ∷ bootstrap_index_checks count (at + length (constant_bytes (InvokeDynamic bootstrap member))) entries
-bootstrap_index_checks count at (Some constant ∷ entries) = bootstrap_index_checks count (at + length (constant_bytes constant)) entries
+    check at rules.Index (bootstrap < count)
+    ∷ bootstrap_index_checks count
+    (at + length (constant_bytes (InvokeDynamic bootstrap member))) entries
+bootstrap_index_checks count at (Some constant ∷ entries) =
+    bootstrap_index_checks count (at + length (constant_bytes constant)) entries
 
 -- ---- the whole
 
@@ -69,10 +74,11 @@ class_file_checks c =
 
 -- an attribute of a method that is named Code has its content cut into parts
 abbrev pub entered_attr : Constants → Attr → Attr
-entered_attr pool attr = if is_named pool code attr then of_content attr (code_content attr) else attr where
-  of_content : Attr → Option CodePart → Attr
-  of_content (Raw name bytes) (Some part) = Code name part
-  of_content attr other = attr
+entered_attr pool attr =
+    if is_named pool code attr then of_content attr (code_content attr) else attr where
+      of_content : Attr → Option CodePart → Attr
+      of_content (Raw name bytes) (Some part) = Code name part
+      of_content attr other = attr
 
 -- a method with its Code cut into parts
 abbrev pub entered_method : Constants → Method → Method
@@ -113,4 +119,8 @@ checks_behind version rest = asked_of (class_file_at version rest) class_file_ch
 -- fails.
 pub data FirstFault (bytes : List ℕ) : Fault → Type 0 where
   in_head : (f : Fault) → version_at (uncut bytes) ≡ Err f → FirstFault bytes f
-  behind : (version : Version) (rest : Rest) (f : Fault) → version_at (uncut bytes) ≡ Ok (version, rest) → IsReadVersion version → IsFirstFault (checks_behind version rest) f → FirstFault bytes f
+  behind : (version : Version) (rest : Rest) (f : Fault)
+      → version_at (uncut bytes) ≡ Ok (version, rest)
+      → IsReadVersion version
+      → IsFirstFault (checks_behind version rest) f
+      → FirstFault bytes f

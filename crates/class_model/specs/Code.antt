@@ -2,6 +2,7 @@
 -- length; the length of the code; the locals; the instructions; the exception table; its attributes.
 use Rattle.std.specs.Prelude.{◌≡◌, ◌⊎◌, ◌==◌, ◌||◌, ◌+◌, ◌<◌, ◌≤◌, ℕ, Bool, List, [], ◌∷◌, ◌++◌, length, map, replicate, codes, Option, Some, None, Result, Ok, Err, IfSome, IsSome, IsTrue, IsFalse, if◌then◌else◌}
 use Rattle.std.specs.List.{list_all}
+use Rattle.class_model.specs.Characters.{left_bracket}
 use Rattle.class_model.specs.Checks.{Check, check, Fault, fault, asked_of, asked_if, ◌>>=◌}
 use Rattle.class_model.specs.Cutting.{Rest, Cut, whole, bytes_at, u2_at, u4_at, counted_at}
 use Rattle.class_model.specs.Descriptors.{SpellsDescriptor, field_type_text, IsArrayType, IsElementType, parameter_units, kind_of}
@@ -59,7 +60,16 @@ part_at rest = do
   code ← bytes_at len.0 len.1
   handlers ← counted_at handler_at code.1
   attrs ← counted_at inner_at handlers.1
-  Ok (record { max_stack = stack.0; max_locals = locals.0; code = code.0; handlers = handlers.0; attrs = attrs.0 }, attrs.1)
+  Ok (
+    record {
+      max_stack = stack.0;
+      max_locals = locals.0;
+      code = code.0;
+      handlers = handlers.0;
+      attrs = attrs.0;
+    },
+    attrs.1,
+  )
 
 -- the content of a Code attribute cut into its parts, if they fill it
 abbrev pub code_part : List ℕ → Option CodePart
@@ -100,14 +110,21 @@ units_behind pool (Some member) = descriptor_at pool member
 
 -- the count of an invokeinterface is that of its arguments' units with the receiver
 abbrev pub CountsArguments : Option (List ℕ) → ℕ → Type 0
-CountsArguments descriptor count = IfSome descriptor (λ text. (d : Descriptor) → SpellsDescriptor text d → count ≡ parameter_units d.params + 1)
+CountsArguments descriptor count =
+    IfSome descriptor (λ text. (d : Descriptor)
+    → SpellsDescriptor text d
+    → count ≡ parameter_units d.params + 1)
 
 -- invokevirtual names a method, invokeinterface an interface's, and the other two either in version 52
 abbrev pub IsCalled : Constants → ℕ → ℕ → ℕ → ℕ → Type 0
 IsCalled pool major opcode method count =
     ((opcode ≡ INVOKEVIRTUAL) × IsMethodConstant (constant_at pool method))
-    ⊎ (((opcode ≡ INVOKEINTERFACE) × IsInterfaceConstant (constant_at pool method) × CountsArguments (units_behind pool (member_index (constant_at pool method))) count)
-    ⊎ (((opcode ≡ INVOKESPECIAL) ⊎ (opcode ≡ INVOKESTATIC)) × (IsMethodConstant (constant_at pool method) ⊎ ((major ≡ 52) × IsInterfaceConstant (constant_at pool method)))))
+    ⊎ (((opcode ≡ INVOKEINTERFACE)
+    × IsInterfaceConstant (constant_at pool method)
+    × CountsArguments (units_behind pool (member_index (constant_at pool method))) count)
+    ⊎ (((opcode ≡ INVOKESPECIAL) ⊎ (opcode ≡ INVOKESTATIC))
+    × (IsMethodConstant (constant_at pool method)
+    ⊎ ((major ≡ 52) × IsInterfaceConstant (constant_at pool method)))))
 
 -- how many dimensions an array type has
 pub record HasDimensions (text : List ℕ) (least : ℕ) : Type 0 where
@@ -115,7 +132,7 @@ pub record HasDimensions (text : List ℕ) (least : ℕ) : Type 0 where
   pub element : FieldType
   pub is_element : IsElementType element
   pub enough : least ≤ dimensions
-  pub spelled : text ≡ replicate dimensions 91 ++ field_type_text element
+  pub spelled : text ≡ replicate dimensions left_bracket ++ field_type_text element
 
 -- The array type of an anewarray has at most 255 dimensions and, by this project's profile, at most 65,535
 -- bytes. A class takes two bytes more than its name, and one more bracket makes the array.
@@ -141,11 +158,14 @@ OperandFits pool major max_locals (GetStatic index) = IsFieldConstant (constant_
 OperandFits pool major max_locals (PutStatic index) = IsFieldConstant (constant_at pool index)
 OperandFits pool major max_locals (GetField index) = IsFieldConstant (constant_at pool index)
 OperandFits pool major max_locals (PutField index) = IsFieldConstant (constant_at pool index)
-OperandFits pool major max_locals (Invoke opcode method count) = IsCalled pool major opcode method count
+OperandFits pool major max_locals (Invoke opcode method count) =
+    IsCalled pool major opcode method count
 OperandFits pool major max_locals (Dynamic index) = IsDynamicConstant (constant_at pool index)
 OperandFits pool major max_locals (New index) = IsClassAt pool index
-OperandFits pool major max_locals (NewRefArray index) = IsClassAt pool index × IfSome (class_at pool index) FitsArray
-OperandFits pool major max_locals (NewMulti index dimensions) = IsClassAt pool index × IfSome (class_at pool index) (λ name. HasDimensions name dimensions)
+OperandFits pool major max_locals (NewRefArray index) =
+    IsClassAt pool index × IfSome (class_at pool index) FitsArray
+OperandFits pool major max_locals (NewMulti index dimensions) =
+    IsClassAt pool index × IfSome (class_at pool index) (λ name. HasDimensions name dimensions)
 OperandFits pool major max_locals (Cast index) = IsClassAt pool index
 OperandFits pool major max_locals (InstanceOf index) = IsClassAt pool index
 OperandFits pool major max_locals other = Unit {0}
@@ -156,13 +176,15 @@ OperandFits pool major max_locals other = Unit {0}
 abbrev pub jump_checks : ℕ → List Placed → List Placed → List (Check Fault)
 jump_checks start code [] = []
 jump_checks start code (p ∷ others) =
-    check (start + p.at) rules.Jump (IsTrue (list_all (is_start code) (targets p.instr))) ∷ jump_checks start code others
+    check (start + p.at) rules.Jump (IsTrue (list_all (is_start code) (targets p.instr)))
+    ∷ jump_checks start code others
 
 -- the operands of each instruction fit
 abbrev pub operand_checks : ℕ → Constants → ℕ → ℕ → List Placed → List (Check Fault)
 operand_checks start pool major max_locals [] = []
 operand_checks start pool major max_locals (p ∷ others) =
-    check (start + p.at) rules.Operand (OperandFits pool major max_locals p.instr) ∷ operand_checks start pool major max_locals others
+    check (start + p.at) rules.Operand (OperandFits pool major max_locals p.instr)
+    ∷ operand_checks start pool major max_locals others
 
 -- an entry of the exception table: a range of instructions that is not empty, up to an instruction or the end,
 -- and a handler; and a caught class, or none
@@ -205,8 +227,10 @@ inners_checks s entry had at [] = []
 inners_checks s entry had at (attr ∷ attrs) =
     check at rules.Index (IsSome (utf8_at s.pool attr.name))
     ∷ asked_if (inner_is_named s.pool stack_map_table attr)
-    (check at rules.Twice (IsFalse had) ∷ asked_of (in_table at (stack_map_table_at s entry attr.bytes)) (λ frames. []))
-    ++ inners_checks s entry (had || inner_is_named s.pool stack_map_table attr) (at + length (inner_bytes attr)) attrs
+    (check at rules.Twice (IsFalse had)
+    ∷ asked_of (in_table at (stack_map_table_at s entry attr.bytes)) (λ frames. []))
+    ++ inners_checks s entry (had || inner_is_named s.pool stack_map_table attr)
+    (at + length (inner_bytes attr)) attrs
 
 -- ---- the entry frame (4.10.1.6)
 
@@ -223,12 +247,17 @@ verification_type other = of_kind (kind_of other) where
 
 -- what an uninitialised or initialised this is, if the method has one
 abbrev this_type : ℕ → List ℕ → Option (List ℕ) → List VType
-this_type flags name class = if has flags STATIC then [] else (if is_text init (Some name) then types.UninitThis ∷ [] else of_class class) where
-  of_class : Option (List ℕ) → List VType
-  of_class (Some class) = types.Object class ∷ []
-  of_class None = types.Top ∷ []
+this_type flags name class =
+    if has flags STATIC then []
+    else (if is_text init (Some name) then types.UninitThis ∷ [] else of_class class) where
+      of_class : Option (List ℕ) → List VType
+      of_class (Some class) = types.Object class ∷ []
+      of_class None = types.Top ∷ []
 
 -- the frame that the code of a method of these flags, name, class and parameters begins with
 abbrev pub entry_frame : ℕ → List ℕ → Option (List ℕ) → List FieldType → ℕ → Frame
 entry_frame flags name class params max_locals =
-    record { locals = filled max_locals (this_type flags name class ++ map verification_type params); stack = [] }
+    record {
+      locals = filled max_locals (this_type flags name class ++ map verification_type params);
+      stack = [];
+    }

@@ -7,6 +7,7 @@ use Rattle.std.specs.Int.{Width, w16, w32, w64, byte_len, from_be_bytes, cast_si
 use Rattle.class_model.specs.Checks.{Fault, fault, ◌>>=◌}
 use Rattle.class_model.specs.Pool.{Constants, entries_of}
 use Rattle.class_model.specs.Spelling.{magic}
+use Rattle.class_model.specs.declared.constant_tags.TheConstants.{UTF8_TAG, INTEGER_TAG, FLOAT_TAG, LONG_TAG, DOUBLE_TAG, CLASS_TAG, STRING_TAG, FIELDREF_TAG, METHODREF_TAG, INTERFACE_METHODREF_TAG, NAME_AND_TYPE_TAG, METHOD_HANDLE_TAG, METHOD_TYPE_TAG, INVOKE_DYNAMIC_TAG}
 use Rattle.class_model.specs.declared.fault.FileRule.TheVariants as rules
 use Rattle.class_model.specs.declared.pool.Const.{Const}
 use Rattle.class_model.specs.declared.pool.Const.TheVariants.{Utf8, Integer, Float, Long, Double, Class, String, Fieldref, Methodref, InterfaceMethodref, NameAndType, MethodHandle, MethodType, InvokeDynamic}
@@ -44,7 +45,9 @@ behind count rest = record { at = rest.at + count; bytes = drop count rest.bytes
 
 -- an item of some bytes
 abbrev pub bytes_at : ℕ → Rest → Cut (List ℕ)
-bytes_at count rest = if nat_lt (length rest.bytes) count then Err (fault rest.at rules.Short) else Ok (take count rest.bytes, behind count rest)
+bytes_at count rest =
+    if nat_lt (length rest.bytes) count then Err (fault rest.at rules.Short)
+    else Ok (take count rest.bytes, behind count rest)
 
 -- an item that is a number
 abbrev pub number_at : Width → Rest → Cut ℕ
@@ -90,24 +93,36 @@ counted_at part rest = do
 -- A tag is known, and method handles, method types and invokedynamic stand from version 51 on.
 abbrev pub is_tag : ℕ → ℕ → Bool
 is_tag major tag =
-    (tag == 1) || (nat_le 3 tag && nat_le tag 12) || (nat_le 51 major && ((tag == 15) || (tag == 16) || (tag == 18)))
+    (tag == UTF8_TAG)
+    || (nat_le INTEGER_TAG tag && nat_le tag NAME_AND_TYPE_TAG)
+    || (nat_le 51 major
+    && ((tag == METHOD_HANDLE_TAG) || (tag == METHOD_TYPE_TAG) || (tag == INVOKE_DYNAMIC_TAG)))
+
+-- A tag is known, and that of a long or double is not at the last index.
+abbrev pub may_stand : ℕ → ℕ → ℕ → ℕ → Bool
+may_stand major index count tag =
+    is_tag major tag && not (((tag == LONG_TAG) || (tag == DOUBLE_TAG)) && (index + 1 == count))
 
 -- a constant of a known tag, from behind the tag
 unfoldable pub fields_at : ℕ → Rest → Cut Const
 fields_at tag rest =
-    if tag == 1 then (u2_at rest >>= λ len. bytes_at len.0 len.1 >>= λ text. Ok (Utf8 text.0, text.1))
-    else (if tag == 3 then (u4_at rest >>= λ n. Ok (Integer (cast_signed w32 n.0), n.1))
-    else (if tag == 4 then (u4_at rest >>= λ n. Ok (Float n.0, n.1))
-    else (if tag == 5 then (number_at w64 rest >>= λ n. Ok (Long (cast_signed w64 n.0), n.1))
-    else (if tag == 6 then (number_at w64 rest >>= λ n. Ok (Double n.0, n.1))
-    else (if tag == 7 then (u2_at rest >>= λ n. Ok (Class n.0, n.1))
-    else (if tag == 8 then (u2_at rest >>= λ n. Ok (String n.0, n.1))
-    else (if tag == 9 then (u2_pair_at rest >>= λ n. Ok (Fieldref n.0.0 n.0.1, n.1))
-    else (if tag == 10 then (u2_pair_at rest >>= λ n. Ok (Methodref n.0.0 n.0.1, n.1))
-    else (if tag == 11 then (u2_pair_at rest >>= λ n. Ok (InterfaceMethodref n.0.0 n.0.1, n.1))
-    else (if tag == 12 then (u2_pair_at rest >>= λ n. Ok (NameAndType n.0.0 n.0.1, n.1))
-    else (if tag == 15 then (u1_at rest >>= λ k. u2_at k.1 >>= λ n. Ok (MethodHandle k.0 n.0, n.1))
-    else (if tag == 16 then (u2_at rest >>= λ n. Ok (MethodType n.0, n.1))
+    if tag == UTF8_TAG then
+    (u2_at rest >>= λ len. bytes_at len.0 len.1 >>= λ text. Ok (Utf8 text.0, text.1))
+    else (if tag == INTEGER_TAG then (u4_at rest >>= λ n. Ok (Integer (cast_signed w32 n.0), n.1))
+    else (if tag == FLOAT_TAG then (u4_at rest >>= λ n. Ok (Float n.0, n.1))
+    else (if tag == LONG_TAG then (number_at w64 rest >>= λ n. Ok (Long (cast_signed w64 n.0), n.1))
+    else (if tag == DOUBLE_TAG then (number_at w64 rest >>= λ n. Ok (Double n.0, n.1))
+    else (if tag == CLASS_TAG then (u2_at rest >>= λ n. Ok (Class n.0, n.1))
+    else (if tag == STRING_TAG then (u2_at rest >>= λ n. Ok (String n.0, n.1))
+    else (if tag == FIELDREF_TAG then (u2_pair_at rest >>= λ n. Ok (Fieldref n.0.0 n.0.1, n.1))
+    else (if tag == METHODREF_TAG then (u2_pair_at rest >>= λ n. Ok (Methodref n.0.0 n.0.1, n.1))
+    else (if tag == INTERFACE_METHODREF_TAG then
+    (u2_pair_at rest >>= λ n. Ok (InterfaceMethodref n.0.0 n.0.1, n.1))
+    else (if tag == NAME_AND_TYPE_TAG then
+    (u2_pair_at rest >>= λ n. Ok (NameAndType n.0.0 n.0.1, n.1))
+    else (if tag == METHOD_HANDLE_TAG then
+    (u1_at rest >>= λ k. u2_at k.1 >>= λ n. Ok (MethodHandle k.0 n.0, n.1))
+    else (if tag == METHOD_TYPE_TAG then (u2_at rest >>= λ n. Ok (MethodType n.0, n.1))
     else (u2_pair_at rest >>= λ n. Ok (InvokeDynamic n.0.0 n.0.1, n.1))))))))))))))
 
 -- The constants of the indices from one on up to the count. A long or double takes two, and does not
@@ -117,7 +132,7 @@ entries_at zero major index count rest = Ok ([], rest)
 entries_at (suc left) major index count rest =
     if nat_le count index then Ok ([], rest) else (do
       tag ← u1_at rest
-      known ← if is_tag major tag.0 && not (((tag.0 == 5) || (tag.0 == 6)) && (index + 1 == count)) then Ok tag.1 else Err (fault rest.at rules.Tag)
+      known ← if may_stand major index count tag.0 then Ok tag.1 else Err (fault rest.at rules.Tag)
       constant ← fields_at tag.0 known
       others ← entries_at left major (index + length (entries_of constant.0)) count constant.1
       Ok (entries_of constant.0 ++ others.0, others.1))
@@ -173,11 +188,10 @@ version_at rest = do
   major ← u2_at minor.1
   Ok (record { minor = minor.0; major = major.0 }, major.1)
 
--- the class file from behind its version to its last byte; its attributes are not looked into
-abbrev pub class_file_at : Version → Rest → Result ClassFile Fault
-class_file_at version rest = do
-  pool ← pool_at version.major rest
-  flags ← u2_at pool.1
+-- the class file from behind its pool to its last byte; its attributes are not looked into
+abbrev pub body_at : Version → Constants → Rest → Result ClassFile Fault
+body_at version pool rest = do
+  flags ← u2_at rest
   this ← u2_at flags.1
   super ← u2_at this.1
   interfaces ← counted_at u2_at super.1
@@ -187,7 +201,7 @@ class_file_at version rest = do
   if length attrs.1.bytes == 0 then Ok (record {
     major = version.major;
     minor = version.minor;
-    pool = pool.0;
+    pool = pool;
     flags = flags.0;
     this_class = this.0;
     super_class = super.0;
@@ -196,3 +210,9 @@ class_file_at version rest = do
     methods = methods.0;
     attrs = attrs.0;
   }) else Err (fault attrs.1.at rules.Extra)
+
+-- the class file from behind its version to its last byte
+abbrev pub class_file_at : Version → Rest → Result ClassFile Fault
+class_file_at version rest = do
+  pool ← pool_at version.major rest
+  body_at version pool.0 pool.1

@@ -1,6 +1,7 @@
 -- Descriptors (JVM Specification SE 8, 4.3): the texts of field types and of methods.
 use Rattle.std.specs.Prelude.{◌≡◌, ◌==◌, ◌⊎◌, ℕ, zero, suc, ◌+◌, ◌-◌, ◌≤◌, not, List, [], ◌∷◌, ◌++◌, length, take, drop, take_while, replicate, sum_by, Option, Some, None, IfSome, if◌then◌else◌}
 use Rattle.std.specs.List.{flat_map, AllByRecursion}
+use Rattle.class_model.specs.Characters.{semicolon, left_parenthesis, right_parenthesis, left_bracket, byte_letter, char_letter, double_letter, float_letter, int_letter, long_letter, class_letter, short_letter, void_letter, boolean_letter}
 use Rattle.class_model.specs.ModifiedUtf8.{IsText}
 use Rattle.class_model.specs.Names.{IsClassName}
 use Rattle.class_model.specs.declared.descriptor.Kind.{Kind}
@@ -11,19 +12,21 @@ use Rattle.class_model.specs.declared.descriptor.Descriptor.{Descriptor}
 
 -- the text of a class or array type: an array type stands for itself, and a class name between L and ;
 abbrev pub named_text : List ℕ → List ℕ
-named_text [] = 76 ∷ 59 ∷ []
-named_text (first ∷ rest) = if first == 91 then first ∷ rest else 76 ∷ (first ∷ rest ++ 59 ∷ [])
+named_text [] = class_letter ∷ semicolon ∷ []
+named_text (first ∷ rest) =
+    if first == left_bracket then first ∷ rest
+    else class_letter ∷ (first ∷ rest ++ semicolon ∷ [])
 
 -- the text of a field type (4.3.2)
 abbrev pub field_type_text : FieldType → List ℕ
-field_type_text Byte = 66 ∷ []
-field_type_text Char = 67 ∷ []
-field_type_text Double = 68 ∷ []
-field_type_text Float = 70 ∷ []
-field_type_text Int = 73 ∷ []
-field_type_text Long = 74 ∷ []
-field_type_text Short = 83 ∷ []
-field_type_text Bool = 90 ∷ []
+field_type_text Byte = byte_letter ∷ []
+field_type_text Char = char_letter ∷ []
+field_type_text Double = double_letter ∷ []
+field_type_text Float = float_letter ∷ []
+field_type_text Int = int_letter ∷ []
+field_type_text Long = long_letter ∷ []
+field_type_text Short = short_letter ∷ []
+field_type_text Bool = boolean_letter ∷ []
 field_type_text (Named name) = named_text name
 
 -- a field type that is no array
@@ -45,7 +48,7 @@ pub record IsArrayType (text : List ℕ) : Type 0 where
   pub some : 1 ≤ dimensions
   pub few : dimensions ≤ 255
   pub is_element : IsElementType element
-  pub spelled : text ≡ replicate dimensions 91 ++ field_type_text element
+  pub spelled : text ≡ replicate dimensions left_bracket ++ field_type_text element
 
 -- what a class or array type may be named
 abbrev pub IsReferenceName : List ℕ → Type 0
@@ -94,12 +97,15 @@ parameter_units types = sum_by (λ type. units_of (kind_of type)) types
 
 -- V for no result
 abbrev pub result_text : Option FieldType → List ℕ
-result_text None = 86 ∷ []
+result_text None = void_letter ∷ []
 result_text (Some type) = field_type_text type
 
 -- the parameters in parentheses, and the result (4.3.3)
 abbrev pub descriptor_text : Descriptor → List ℕ
-descriptor_text descriptor = 40 ∷ (flat_map field_type_text descriptor.params ++ 41 ∷ result_text descriptor.result)
+descriptor_text descriptor =
+    left_parenthesis
+    ∷ (flat_map field_type_text descriptor.params ++ right_parenthesis
+    ∷ result_text descriptor.result)
 
 -- the parameters take at most 255 local units, this not counted
 pub record IsDescriptor (descriptor : Descriptor) : Type 0 where
@@ -116,13 +122,14 @@ pub record SpellsDescriptor (text : List ℕ) (descriptor : Descriptor) : Type 0
 
 -- the number of brackets at the front
 abbrev pub brackets : List ℕ → ℕ
-brackets bytes = length (take_while (λ b. b == 91) bytes)
+brackets bytes = length (take_while (λ b. b == left_bracket) bytes)
 
 -- how many bytes the field type at the front takes, by its first byte behind the brackets: up to a semicolon
 -- behind L, and else one
 abbrev pub element_len : List ℕ → ℕ
 element_len [] = 0
-element_len (first ∷ rest) = if first == 76 then length (take_while (λ b. not (b == 59)) rest) + 2 else 1
+element_len (first ∷ rest) =
+    if first == class_letter then length (take_while (λ b. not (b == semicolon)) rest) + 2 else 1
 
 -- how many bytes the field type at the front takes
 abbrev pub type_len : List ℕ → ℕ
@@ -132,9 +139,16 @@ type_len bytes = brackets bytes + element_len (drop (brackets bytes) bytes)
 abbrev pub type_of : List ℕ → FieldType
 type_of [] = Named []
 type_of (first ∷ rest) =
-    if first == 66 then Byte else (if first == 67 then Char else (if first == 68 then Double else (if first == 70 then Float
-    else (if first == 73 then Int else (if first == 74 then Long else (if first == 83 then Short else (if first == 90 then Bool
-    else (if first == 76 then Named (take (length rest - 1) rest) else Named (first ∷ rest)))))))))
+    if first == byte_letter then Byte
+    else (if first == char_letter then Char
+    else (if first == double_letter then Double
+    else (if first == float_letter then Float
+    else (if first == int_letter then Int
+    else (if first == long_letter then Long
+    else (if first == short_letter then Short
+    else (if first == boolean_letter then Bool
+    else (if first == class_letter then Named (take (length rest - 1) rest)
+    else Named (first ∷ rest)))))))))
 
 -- The parameters of a method descriptor's text, from behind its first parenthesis on: the types up to the second.
 -- The first number bounds how many there are.
@@ -142,7 +156,9 @@ unfoldable pub types_before : ℕ → List ℕ → List FieldType
 types_before zero bytes = []
 types_before (suc left) [] = []
 types_before (suc left) (first ∷ rest) =
-    if first == 41 then [] else type_of (take (type_len (first ∷ rest)) (first ∷ rest)) ∷ types_before left (drop (type_len (first ∷ rest)) (first ∷ rest))
+    let len = type_len (first ∷ rest) in
+    if first == right_parenthesis then []
+    else type_of (take len (first ∷ rest)) ∷ types_before left (drop len (first ∷ rest))
 
 -- the parameters that the text of a method descriptor spells
 abbrev pub parameters_of : List ℕ → List FieldType

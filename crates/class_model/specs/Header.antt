@@ -24,8 +24,11 @@ use Rattle.class_model.specs.declared.pool.Const.TheVariants.{Utf8}
 abbrev pub texts_checks : ℕ → Constants → List (Check Fault)
 texts_checks at [] = []
 texts_checks at (None ∷ entries) = texts_checks at entries
-texts_checks at (Some (Utf8 text) ∷ entries) = check at rules.Text (IsModifiedUtf8 text) ∷ texts_checks (at + length (constant_bytes (Utf8 text))) entries
-texts_checks at (Some constant ∷ entries) = texts_checks (at + length (constant_bytes constant)) entries
+texts_checks at (Some (Utf8 text) ∷ entries) =
+    check at rules.Text (IsModifiedUtf8 text)
+    ∷ texts_checks (at + length (constant_bytes (Utf8 text))) entries
+texts_checks at (Some constant ∷ entries) =
+    texts_checks (at + length (constant_bytes constant)) entries
 
 -- the name and the descriptor of a field
 abbrev pub field_name_checks : Constants → ℕ → List Field → List (Check Fault)
@@ -42,9 +45,11 @@ abbrev pub method_name_checks : Constants → ℕ → List Method → List (Chec
 method_name_checks pool at [] = []
 method_name_checks pool at (method ∷ methods) =
     check (at + 2) rules.Index (IsSome (utf8_at pool method.name))
-    ∷ check (at + 2) rules.Name (IfSome (utf8_at pool method.name) (λ name. IsMethodName name × InitIsVoid name (utf8_at pool method.desc)))
+    ∷ check (at + 2) rules.Name (IfSome (utf8_at pool method.name)
+    (λ name. IsMethodName name × InitIsVoid name (utf8_at pool method.desc)))
     ∷ check (at + 4) rules.Index (IsSome (utf8_at pool method.desc))
-    ∷ check (at + 4) rules.Descriptor (IfSome (utf8_at pool method.desc) (IsDescriptorOf method.flags))
+    ∷ check (at + 4) rules.Descriptor
+    (IfSome (utf8_at pool method.desc) (IsDescriptorOf method.flags))
     ∷ method_name_checks pool (at + length (method_bytes method)) methods
 
 -- what is asked of a library's class file that was cut out of bytes
@@ -65,10 +70,18 @@ header_checks c =
 
 -- a field, and a method, by its name and descriptor
 abbrev pub field_member : Constants → Field → Member
-field_member pool field = record { flags = field.flags; name = text_or_empty (utf8_at pool field.name); desc = text_or_empty (utf8_at pool field.desc) }
+field_member pool field = record {
+  flags = field.flags;
+  name = text_or_empty (utf8_at pool field.name);
+  desc = text_or_empty (utf8_at pool field.desc);
+}
 
 abbrev pub method_member : Constants → Method → Member
-method_member pool method = record { flags = method.flags; name = text_or_empty (utf8_at pool method.name); desc = text_or_empty (utf8_at pool method.desc) }
+method_member pool method = record {
+  flags = method.flags;
+  name = text_or_empty (utf8_at pool method.name);
+  desc = text_or_empty (utf8_at pool method.desc);
+}
 
 -- the header of a class file
 abbrev pub header_of : ClassFile → Header
@@ -104,7 +117,11 @@ library_file_checks version rest = asked_of (class_file_at version rest) header_
 -- the first check of a header that fails.
 pub data FirstHeaderFault (bytes : List ℕ) : Fault → Type 0 where
   in_head : (f : Fault) → version_at (uncut bytes) ≡ Err f → FirstHeaderFault bytes f
-  behind : (version : Version) (rest : Rest) (f : Fault) → version_at (uncut bytes) ≡ Ok (version, rest) → IsLibraryVersion version → IsFirstFault (library_file_checks version rest) f → FirstHeaderFault bytes f
+  behind : (version : Version) (rest : Rest) (f : Fault)
+      → version_at (uncut bytes) ≡ Ok (version, rest)
+      → IsLibraryVersion version
+      → IsFirstFault (library_file_checks version rest) f
+      → FirstHeaderFault bytes f
 
 -- the bytes are of a version that is not read of a library
 pub record IsNoLibraryVersion (bytes : List ℕ) (version : Version) : Type 0 where

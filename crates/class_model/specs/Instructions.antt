@@ -3,6 +3,8 @@ use Rattle.std.specs.Prelude.{◌≡◌, ◌==◌, ◌&&◌, ◌+◌, ◌-◌, �
 use Rattle.std.specs.List.{list_any, AllByRecursion}
 use Rattle.std.specs.Int.{w8, w16, w32, from_be_bytes, cast_signed, cast_unsigned}
 use Rattle.class_model.specs.Checks.{Fault, fault, ◌>>=◌}
+use Rattle.class_model.specs.Tables.{Row, one_row, row, given_in}
+use Rattle.class_model.specs.declared.array_codes.TheConstants.{T_BOOLEAN, T_LONG}
 use Rattle.class_model.specs.declared.descriptor.Kind.{Kind}
 use Rattle.class_model.specs.declared.descriptor.Kind.TheVariants as kinds
 use Rattle.class_model.specs.declared.fault.FileRule.TheVariants as rules
@@ -24,7 +26,10 @@ pub data Operands : Type 0 where
   S1 : (ℤ → Instr) → Operands
   S2 : (ℤ → Instr) → Operands
   U1S1 : (ℕ → ℤ → Instr) → Operands
-  U2U1 : (ℕ → ℕ → Instr) → Operands
+  -- the code of a primitive type (newarray)
+  ArrayCode : Operands
+  -- an index and a number of dimensions, one at least (multianewarray)
+  Dimensions : Operands
   -- an index, a count and a byte that is zero
   U2U1Zero : (ℕ → ℕ → Instr) → Operands
   -- an index and two bytes that are zero
@@ -35,15 +40,6 @@ pub data Operands : Type 0 where
   TableSwitch : Operands
   LookupSwitch : Operands
   Wide : Operands
-
--- the opcodes from low to high, and what stands behind each
-pub record OpcodeRow : Type 0 where
-  pub low : ℕ
-  pub high : ℕ
-  pub operands : ℕ → Operands
-
-abbrev row : ℕ → ℕ → (ℕ → Operands) → OpcodeRow
-row low high operands = record { low = low; high = high; operands = operands }
 
 -- int, long, float, double and reference, as the opcodes of loads, stores and returns count them
 abbrev pub kind_at : ℕ → Kind
@@ -65,20 +61,20 @@ double_bits (suc n) = 0x3FF0000000000000
 
 -- The forms of all opcodes. jsr, jsr_w and ret have none: 4.9.1 forbids the first two from version 51 on, and this
 -- project's profile all three.
-abbrev pub rows : List OpcodeRow
+abbrev pub rows : List (Row Operands)
 rows =
-    row NOP NOP (λ o. Alone Nop)
-    ∷ row ACONST_NULL ACONST_NULL (λ o. Alone (Const imms.Null))
-    ∷ row ICONST_M1 ICONST_M1 (λ o. Alone (Const (imms.Int (negsuc 0))))
+    one_row NOP (Alone Nop)
+    ∷ one_row ACONST_NULL (Alone (Const imms.Null))
+    ∷ one_row ICONST_M1 (Alone (Const (imms.Int (negsuc 0))))
     ∷ row ICONST_0 ICONST_5 (λ o. Alone (Const (imms.Int (pos (o - ICONST_0)))))
     ∷ row LCONST_0 LCONST_1 (λ o. Alone (Const (imms.Long (pos (o - LCONST_0)))))
     ∷ row FCONST_0 FCONST_2 (λ o. Alone (Const (imms.Float (float_bits (o - FCONST_0)))))
     ∷ row DCONST_0 DCONST_1 (λ o. Alone (Const (imms.Double (double_bits (o - DCONST_0)))))
-    ∷ row BIPUSH BIPUSH (λ o. S1 (λ n. Const (imms.Int n)))
-    ∷ row SIPUSH SIPUSH (λ o. S2 (λ n. Const (imms.Int n)))
-    ∷ row LDC LDC (λ o. U1 Ldc)
-    ∷ row LDC_W LDC_W (λ o. U2 Ldc)
-    ∷ row LDC2_W LDC2_W (λ o. U2 Ldc2)
+    ∷ one_row BIPUSH (S1 (λ n. Const (imms.Int n)))
+    ∷ one_row SIPUSH (S2 (λ n. Const (imms.Int n)))
+    ∷ one_row LDC (U1 Ldc)
+    ∷ one_row LDC_W (U2 Ldc)
+    ∷ one_row LDC2_W (U2 Ldc2)
     ∷ row ILOAD ALOAD (λ o. U1 (Load (kind_at (o - ILOAD))))
     ∷ row ILOAD_0 ALOAD_3 (λ o. Alone (Load (kind_at ((o - ILOAD_0) / 4)) ((o - ILOAD_0) % 4)))
     ∷ row IALOAD SALOAD (λ o. Alone (ArrayLoad o))
@@ -99,50 +95,49 @@ rows =
     ∷ row INEG LNEG (λ o. Alone (Pure o))
     ∷ row FNEG DNEG (λ o. Alone (FloatAsk o))
     ∷ row ISHL LXOR (λ o. Alone (Pure o))
-    ∷ row IINC IINC (λ o. U1S1 Iinc)
-    ∷ row I2L I2L (λ o. Alone (Pure o))
+    ∷ one_row IINC (U1S1 Iinc)
+    ∷ one_row I2L (Alone (Pure I2L))
     ∷ row I2F I2D (λ o. Alone (FloatAsk o))
-    ∷ row L2I L2I (λ o. Alone (Pure o))
+    ∷ one_row L2I (Alone (Pure L2I))
     ∷ row L2F D2F (λ o. Alone (FloatAsk o))
     ∷ row I2B LCMP (λ o. Alone (Pure o))
     ∷ row FCMPL DCMPG (λ o. Alone (FloatAsk o))
     ∷ row IFEQ IFLE (λ o. Jump2 (If o))
     ∷ row IF_ICMPEQ IF_ICMPLE (λ o. Jump2 (If2 o))
     ∷ row IF_ACMPEQ IF_ACMPNE (λ o. Jump2 (IfSame o))
-    ∷ row GOTO GOTO (λ o. Jump2 Goto)
-    ∷ row TABLESWITCH TABLESWITCH (λ o. TableSwitch)
-    ∷ row LOOKUPSWITCH LOOKUPSWITCH (λ o. LookupSwitch)
+    ∷ one_row GOTO (Jump2 Goto)
+    ∷ one_row TABLESWITCH TableSwitch
+    ∷ one_row LOOKUPSWITCH LookupSwitch
     ∷ row IRETURN ARETURN (λ o. Alone (Return (Some (kind_at (o - IRETURN)))))
-    ∷ row RETURN RETURN (λ o. Alone (Return None))
-    ∷ row GETSTATIC GETSTATIC (λ o. U2 GetStatic)
-    ∷ row PUTSTATIC PUTSTATIC (λ o. U2 PutStatic)
-    ∷ row GETFIELD GETFIELD (λ o. U2 GetField)
-    ∷ row PUTFIELD PUTFIELD (λ o. U2 PutField)
+    ∷ one_row RETURN (Alone (Return None))
+    ∷ one_row GETSTATIC (U2 GetStatic)
+    ∷ one_row PUTSTATIC (U2 PutStatic)
+    ∷ one_row GETFIELD (U2 GetField)
+    ∷ one_row PUTFIELD (U2 PutField)
     ∷ row INVOKEVIRTUAL INVOKESTATIC (λ o. U2 (λ method. Invoke o method 0))
-    ∷ row INVOKEINTERFACE INVOKEINTERFACE (λ o. U2U1Zero (Invoke o))
-    ∷ row INVOKEDYNAMIC INVOKEDYNAMIC (λ o. U2ZeroZero Dynamic)
-    ∷ row NEW NEW (λ o. U2 New)
-    ∷ row NEWARRAY NEWARRAY (λ o. U1 NewArray)
-    ∷ row ANEWARRAY ANEWARRAY (λ o. U2 NewRefArray)
-    ∷ row ARRAYLENGTH ARRAYLENGTH (λ o. Alone Length)
-    ∷ row ATHROW ATHROW (λ o. Alone Throw)
-    ∷ row CHECKCAST CHECKCAST (λ o. U2 Cast)
-    ∷ row INSTANCEOF INSTANCEOF (λ o. U2 InstanceOf)
-    ∷ row MONITORENTER MONITORENTER (λ o. Alone Enter)
-    ∷ row MONITOREXIT MONITOREXIT (λ o. Alone Leave)
-    ∷ row WIDE WIDE (λ o. Wide)
-    ∷ row MULTIANEWARRAY MULTIANEWARRAY (λ o. U2U1 NewMulti)
+    ∷ one_row INVOKEINTERFACE (U2U1Zero (Invoke INVOKEINTERFACE))
+    ∷ one_row INVOKEDYNAMIC (U2ZeroZero Dynamic)
+    ∷ one_row NEW (U2 New)
+    ∷ one_row NEWARRAY ArrayCode
+    ∷ one_row ANEWARRAY (U2 NewRefArray)
+    ∷ one_row ARRAYLENGTH (Alone Length)
+    ∷ one_row ATHROW (Alone Throw)
+    ∷ one_row CHECKCAST (U2 Cast)
+    ∷ one_row INSTANCEOF (U2 InstanceOf)
+    ∷ one_row MONITORENTER (Alone Enter)
+    ∷ one_row MONITOREXIT (Alone Leave)
+    ∷ one_row WIDE Wide
+    ∷ one_row MULTIANEWARRAY Dimensions
     ∷ row IFNULL IFNONNULL (λ o. Jump2 (IfNull o))
-    ∷ row GOTO_W GOTO_W (λ o. Jump4 Goto)
+    ∷ one_row GOTO_W (Jump4 Goto)
     ∷ []
 
 -- what stands behind an opcode in rows, if it has a form there
-abbrev pub operands_in : List OpcodeRow → ℕ → Option Operands
-operands_in [] opcode = None
-operands_in (r ∷ others) opcode = if nat_le r.low opcode && nat_le opcode r.high then Some (r.operands opcode) else operands_in others opcode
+abbrev pub operands_in : List (Row Operands) → ℕ → Option Operands
+operands_in table opcode = given_in table opcode
 
 -- behind a wide: the loads and stores with two bytes, and iinc with two and two (6.5.wide)
-abbrev pub wide_rows : List OpcodeRow
+abbrev pub wide_rows : List (Row Operands)
 wide_rows =
     row ILOAD ALOAD (λ o. U2 (Load (kind_at (o - ILOAD))))
     ∷ row ISTORE ASTORE (λ o. U2 (Store (kind_at (o - ISTORE))))
@@ -180,11 +175,14 @@ target_of at offset = (at + cast_unsigned w32 offset) % 2 ^ 32
 
 -- an instruction of so many bytes, where there are so many
 abbrev pub sized : ℕ → List ℕ → ℕ → Instr → Read
-sized at bytes len instr = if nat_lt (length bytes) len then Err (fault at rules.Operand) else Ok (instr, len)
+sized at bytes len instr =
+    if nat_lt (length bytes) len then Err (fault at rules.Operand) else Ok (instr, len)
 
 -- the same, where its operands are allowed
 abbrev pub sized_if : Bool → ℕ → List ℕ → ℕ → Instr → Read
-sized_if allowed at bytes len instr = if nat_lt (length bytes) len then Err (fault at rules.Operand) else (if allowed then Ok (instr, len) else Err (fault at rules.Operand))
+sized_if allowed at bytes len instr =
+    if nat_lt (length bytes) len then Err (fault at rules.Operand)
+    else (if allowed then Ok (instr, len) else Err (fault at rules.Operand))
 
 -- the pad bytes behind the opcode of a switch: the operands begin at a multiple of four
 abbrev pub pad_of : ℕ → ℕ
@@ -193,12 +191,16 @@ pad_of at = 3 - at % 4
 -- so many targets of four bytes each, from a place of the bytes on
 abbrev pub targets_in : ℕ → List ℕ → ℕ → ℕ → List ℕ
 targets_in at bytes from zero = []
-targets_in at bytes from (suc count) = target_of at (s4_in bytes from) ∷ targets_in at bytes (from + 4) count
+targets_in at bytes from (suc count) =
+    target_of at (s4_in bytes from) ∷ targets_in at bytes (from + 4) count
 
 -- so many pairs of a key and a target
 abbrev pub pairs_in : ℕ → List ℕ → ℕ → ℕ → List Pair
 pairs_in at bytes from zero = []
-pairs_in at bytes from (suc count) = record { key = s4_in bytes from; to = target_of at (s4_in bytes (from + 4)) } ∷ pairs_in at bytes (from + 8) count
+pairs_in at bytes from (suc count) = record {
+  key = s4_in bytes from;
+  to = target_of at (s4_in bytes (from + 4));
+} ∷ pairs_in at bytes (from + 8) count
 
 -- the keys increase
 abbrev pub keys_increase : List Pair → Bool
@@ -220,7 +222,11 @@ table_switch_at at bytes =
     else (if int_lt high low then Err (fault at rules.Operand)
     else (let count = span low high in
     if nat_lt (length bytes) (start + 12 + 4 * count) then Err (fault at rules.Operand)
-    else Ok (Table low (target_of at (s4_in bytes start)) (targets_in at bytes (start + 12) count), start + 12 + 4 * count)))
+    else Ok (
+      Table low (target_of at (s4_in bytes start))
+          (targets_in at bytes (start + 12) count),
+      start + 12 + 4 * count,
+    )))
 
 -- lookupswitch (6.5.lookupswitch): pad, default, a count that is not negative, and keys that increase
 abbrev pub lookup_switch_at : ℕ → List ℕ → Read
@@ -231,41 +237,53 @@ lookup_switch_at at bytes =
     else (if nat_le (2 ^ 31) count then Err (fault at rules.Operand)
     else (if nat_lt (length bytes) (start + 8 + 8 * count) then Err (fault at rules.Operand)
     else (let pairs = pairs_in at bytes (start + 8) count in
-    if keys_increase pairs then Ok (Lookup (target_of at (s4_in bytes start)) pairs, start + 8 + 8 * count) else Err (fault at rules.Operand))))
+    if keys_increase pairs then Ok
+    (Lookup (target_of at (s4_in bytes start)) pairs, start + 8 + 8 * count)
+    else Err (fault at rules.Operand))))
 
 -- wide (6.5.wide), whose opcode is the second byte
 abbrev pub wide_operands : ℕ → List ℕ → Option Operands → Read
 wide_operands at bytes (Some (U2 makes)) = sized at bytes 4 (makes (u2_in bytes 2))
-wide_operands at bytes other = if u1_in bytes 1 == IINC then sized at bytes 6 (Iinc (u2_in bytes 2) (s2_in bytes 4)) else Err (fault at rules.Opcode)
+wide_operands at bytes other =
+    if u1_in bytes 1 == IINC then sized at bytes 6 (Iinc (u2_in bytes 2) (s2_in bytes 4))
+    else Err (fault at rules.Opcode)
 
 -- an instruction behind a wide, with the wide
 abbrev pub wide_at : ℕ → List ℕ → Read
-wide_at at bytes = if nat_lt (length bytes) 2 then Err (fault at rules.Operand) else wide_operands at bytes (operands_in wide_rows (u1_in bytes 1))
+wide_at at bytes =
+    if nat_lt (length bytes) 2 then Err (fault at rules.Operand)
+    else wide_operands at bytes (operands_in wide_rows (u1_in bytes 1))
 
--- the codes of the primitive types that newarray makes arrays of (6.5.newarray)
-abbrev pub is_array_code : Instr → Bool
-is_array_code (NewArray code) = nat_le 4 code && nat_le code 11
-is_array_code other = true
+-- the code of a primitive type that newarray makes arrays of (table 6.5.newarray-A)
+abbrev pub is_array_code : ℕ → Bool
+is_array_code code = nat_le T_BOOLEAN code && nat_le code T_LONG
 
 -- multianewarray makes at least one dimension (6.5.multianewarray)
-abbrev pub has_dimensions : Instr → Bool
-has_dimensions (NewMulti class dimensions) = nat_lt 0 dimensions
-has_dimensions other = true
+abbrev pub has_dimensions : ℕ → Bool
+has_dimensions dimensions = nat_lt 0 dimensions
 
 -- the instruction of an opcode with these operands, whose bytes begin with the opcode
 abbrev pub with_operands : ℕ → List ℕ → Option Operands → Read
 with_operands at bytes None = Err (fault at rules.Opcode)
 with_operands at bytes (Some (Alone instr)) = Ok (instr, 1)
-with_operands at bytes (Some (U1 makes)) = sized_if (is_array_code (makes (u1_in bytes 1))) at bytes 2 (makes (u1_in bytes 1))
+with_operands at bytes (Some (U1 makes)) = sized at bytes 2 (makes (u1_in bytes 1))
 with_operands at bytes (Some (U2 makes)) = sized at bytes 3 (makes (u2_in bytes 1))
 with_operands at bytes (Some (S1 makes)) = sized at bytes 2 (makes (s1_in bytes 1))
 with_operands at bytes (Some (S2 makes)) = sized at bytes 3 (makes (s2_in bytes 1))
-with_operands at bytes (Some (U1S1 makes)) = sized at bytes 3 (makes (u1_in bytes 1) (s1_in bytes 2))
-with_operands at bytes (Some (U2U1 makes)) = sized_if (has_dimensions (makes (u2_in bytes 1) (u1_in bytes 3))) at bytes 4 (makes (u2_in bytes 1) (u1_in bytes 3))
-with_operands at bytes (Some (U2U1Zero makes)) = sized_if (u1_in bytes 4 == 0) at bytes 5 (makes (u2_in bytes 1) (u1_in bytes 3))
-with_operands at bytes (Some (U2ZeroZero makes)) = sized_if (u2_in bytes 3 == 0) at bytes 5 (makes (u2_in bytes 1))
-with_operands at bytes (Some (Jump2 makes)) = sized at bytes 3 (makes (target_of at (s2_in bytes 1)))
-with_operands at bytes (Some (Jump4 makes)) = sized at bytes 5 (makes (target_of at (s4_in bytes 1)))
+with_operands at bytes (Some (U1S1 makes)) =
+    sized at bytes 3 (makes (u1_in bytes 1) (s1_in bytes 2))
+with_operands at bytes (Some ArrayCode) =
+    sized_if (is_array_code (u1_in bytes 1)) at bytes 2 (NewArray (u1_in bytes 1))
+with_operands at bytes (Some Dimensions) =
+    sized_if (has_dimensions (u1_in bytes 3)) at bytes 4 (NewMulti (u2_in bytes 1) (u1_in bytes 3))
+with_operands at bytes (Some (U2U1Zero makes)) =
+    sized_if (u1_in bytes 4 == 0) at bytes 5 (makes (u2_in bytes 1) (u1_in bytes 3))
+with_operands at bytes (Some (U2ZeroZero makes)) =
+    sized_if (u2_in bytes 3 == 0) at bytes 5 (makes (u2_in bytes 1))
+with_operands at bytes (Some (Jump2 makes)) =
+    sized at bytes 3 (makes (target_of at (s2_in bytes 1)))
+with_operands at bytes (Some (Jump4 makes)) =
+    sized at bytes 5 (makes (target_of at (s4_in bytes 1)))
 with_operands at bytes (Some TableSwitch) = table_switch_at at bytes
 with_operands at bytes (Some LookupSwitch) = lookup_switch_at at bytes
 with_operands at bytes (Some Wide) = wide_at at bytes
@@ -314,4 +332,5 @@ pub record CodeOf (code : List ℕ) (instrs : List Placed) : Type 0 where
   pub some : 0 < length code
   pub few : length code ≤ 65535
   pub covers : decoded code ≡ Ok instrs
-  pub starts : AllByRecursion (λ p. AllByRecursion (λ to. IsTrue (is_start instrs to)) (targets p.instr)) instrs
+  pub starts : AllByRecursion
+      (λ p. AllByRecursion (λ to. IsTrue (is_start instrs to)) (targets p.instr)) instrs

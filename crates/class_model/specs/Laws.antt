@@ -12,3 +12,4 @@ pub mod Frames
 pub mod Lists
 pub mod Pools
 pub mod Texts
+pub mod Decisions

@@ -1,3 +1,5 @@
+pub mod Characters
+pub mod Tables
 pub mod ModifiedUtf8
 pub mod Names
 pub mod Descriptors

@@ -48,7 +48,9 @@ ABSTRACT = 0x0400
 
 -- not two of public, private and protected
 abbrev pub one_visibility : ℕ → Bool
-one_visibility flags = not ((has flags PUBLIC && has flags PRIVATE) || ((has flags PUBLIC && has flags PROTECTED) || (has flags PRIVATE && has flags PROTECTED)))
+one_visibility flags =
+    not ((has flags PUBLIC && has flags PRIVATE)
+    || ((has flags PUBLIC && has flags PROTECTED) || (has flags PRIVATE && has flags PROTECTED)))
 
 -- an interface is abstract and not final
 abbrev pub fits_class : ℕ → Bool
@@ -56,7 +58,8 @@ fits_class flags = not (has flags INTERFACE) || (has flags ABSTRACT && not (has 
 
 -- the fields of an interface are static
 abbrev pub fits_field : ℕ → ℕ → Bool
-fits_field class_flags flags = one_visibility flags && (not (has class_flags INTERFACE) || has flags STATIC)
+fits_field class_flags flags =
+    one_visibility flags && (not (has class_flags INTERFACE) || has flags STATIC)
 
 -- ---- names of members and attributes
 
@@ -90,7 +93,8 @@ pub record Signature : Type 0 where
 -- two members of one name and descriptor
 abbrev pub same_signature : Constants → Signature → Signature → Bool
 same_signature pool one other =
-    same_text (utf8_at pool one.name) (utf8_at pool other.name) && same_text (utf8_at pool one.desc) (utf8_at pool other.desc)
+    same_text (utf8_at pool one.name) (utf8_at pool other.name)
+    && same_text (utf8_at pool one.desc) (utf8_at pool other.desc)
 
 -- a member of the same name and descriptor stands before
 abbrev pub stands_before : Constants → List Signature → Signature → Bool
@@ -99,10 +103,12 @@ stands_before pool before member = list_any (same_signature pool member) before
 -- ---- attributes
 
 -- Attributes one after the other, from the place of the first on; each is asked with those before it.
-abbrev pub attrs_checks : (List Attr → ℕ → Attr → List (Check Fault)) → List Attr → ℕ → List Attr → List (Check Fault)
+abbrev pub attrs_checks : (List Attr → ℕ → Attr → List (Check Fault)) → List Attr → ℕ
+    → List Attr → List (Check Fault)
 attrs_checks asks before at [] = []
 attrs_checks asks before at (attr ∷ attrs) =
-    asks before at attr ++ attrs_checks asks (before ++ attr ∷ []) (at + length (attr_bytes attr)) attrs
+    asks before at attr
+    ++ attrs_checks asks (before ++ attr ∷ []) (at + length (attr_bytes attr)) attrs
 
 -- the name of an attribute is a text
 abbrev pub attr_name_check : Constants → ℕ → Attr → Check Fault
@@ -113,7 +119,9 @@ attr_name_check pool at attr = check at rules.Index (IsSome (utf8_at pool (attr_
 -- the index names a class by a class name; at a place
 abbrev pub class_name_checks : Constants → ℕ → ℕ → List (Check Fault)
 class_name_checks pool at index =
-    check at rules.Index (IsSome (class_at pool index)) ∷ check at rules.Name (IfSome (class_at pool index) IsClassName) ∷ []
+    check at rules.Index (IsSome (class_at pool index))
+    ∷ check at rules.Name (IfSome (class_at pool index) IsClassName)
+    ∷ []
 
 -- a superclass, or none
 abbrev pub super_checks : Constants → ℕ → ℕ → List (Check Fault)
@@ -122,7 +130,8 @@ super_checks pool at index = asked_if (not (index == 0)) (class_name_checks pool
 -- the direct superinterfaces, from the place of the first on
 abbrev pub interfaces_checks : Constants → ℕ → List ℕ → List (Check Fault)
 interfaces_checks pool at [] = []
-interfaces_checks pool at (index ∷ indices) = class_name_checks pool at index ++ interfaces_checks pool (at + 2) indices
+interfaces_checks pool at (index ∷ indices) =
+    class_name_checks pool at index ++ interfaces_checks pool (at + 2) indices
 
 -- ---- fields (4.5, 4.7.2)
 
@@ -132,7 +141,9 @@ constant_value = codes "ConstantValue"
 
 -- a constant that a static field of a descriptor may begin with
 abbrev pub IsConstantOf : List ℕ → Option Const → Type 0
-IsConstantOf descriptor (Some (consts.Integer number)) = IsTrue (list_any (bytes_eq descriptor) (codes "I" ∷ codes "S" ∷ codes "C" ∷ codes "B" ∷ codes "Z" ∷ []))
+IsConstantOf descriptor (Some (consts.Integer number)) =
+    IsTrue (list_any (bytes_eq descriptor)
+    (codes "I" ∷ codes "S" ∷ codes "C" ∷ codes "B" ∷ codes "Z" ∷ []))
 IsConstantOf descriptor (Some (consts.Long number)) = descriptor ≡ codes "J"
 IsConstantOf descriptor (Some (consts.Float bits)) = descriptor ≡ codes "F"
 IsConstantOf descriptor (Some (consts.Double bits)) = descriptor ≡ codes "D"
@@ -140,7 +151,8 @@ IsConstantOf descriptor (Some (consts.String text)) = descriptor ≡ codes "Ljav
 IsConstantOf descriptor other = ⊥
 
 -- two bytes that name such a constant
-pub record IsConstantValue (pool : Constants) (descriptor : Option (List ℕ)) (content : List ℕ) : Type 0 where
+pub record IsConstantValue (pool : Constants) (descriptor : Option (List ℕ))
+    (content : List ℕ) : Type 0 where
   pub two_bytes : length content ≡ 2
   pub constant : IfSome descriptor (λ text. IsConstantOf text (constant_at pool (u2_in content 0)))
 
@@ -155,7 +167,9 @@ field_attr_checks pool field before at attr =
     attr_name_check pool at attr
     ∷ asked_if (has field.flags STATIC && is_named pool constant_value attr)
     (check at rules.Twice (IsFalse (has_named pool constant_value before))
-    ∷ check at rules.Constant (IsConstantValue pool (utf8_at pool field.desc) (raw_content attr)) ∷ [])
+    ∷ check at rules.Constant
+    (IsConstantValue pool (utf8_at pool field.desc) (raw_content attr))
+    ∷ [])
 
 -- the indices of a field's name and descriptor
 abbrev pub field_signature : Field → Signature

@@ -31,7 +31,12 @@ pub record Home : Type 0 where
 
 -- what the methods of a class file stand in
 abbrev pub home_of : ClassFile → Home
-home_of c = record { pool = c.pool; major = c.major; flags = c.flags; name = class_at c.pool c.this_class }
+home_of c = record {
+  pool = c.pool;
+  major = c.major;
+  flags = c.flags;
+  name = class_at c.pool c.this_class;
+}
 
 -- the name of the attribute (4.7.3)
 abbrev pub code : List ℕ
@@ -44,17 +49,23 @@ has_code home method = has_named home.pool code method.attrs
 
 -- A class initialiser is static, and its descriptor is ()V; this is this project's profile.
 abbrev fits_clinit : Home → Method → Bool
-fits_clinit home method = has method.flags STATIC && is_text (codes "()V") (utf8_at home.pool method.desc)
+fits_clinit home method =
+    has method.flags STATIC && is_text (codes "()V") (utf8_at home.pool method.desc)
 
 -- an instance initialiser is not static, abstract or native, and does not stand in an interface
 abbrev fits_init : Home → Method → Bool
-fits_init home method = not (has method.flags STATIC) && not (has method.flags ABSTRACT) && not (has method.flags NATIVE) && not (has home.flags INTERFACE)
+fits_init home method =
+    not (has method.flags STATIC)
+    && not (has method.flags ABSTRACT)
+    && not (has method.flags NATIVE)
+    && not (has home.flags INTERFACE)
 
 -- below version 52 no method of an interface has code, and no method is both static and abstract; a class
 -- initialiser is asked neither
 abbrev fits_other : Home → Method → Bool
 fits_other home method =
-    not (nat_lt home.major 52 && has home.flags INTERFACE && has_code home method) && not (has method.flags STATIC && has method.flags ABSTRACT)
+    not (nat_lt home.major 52 && has home.flags INTERFACE && has_code home method)
+    && not (has method.flags STATIC && has method.flags ABSTRACT)
 
 -- the flags of a method: what is asked of each, and of an initialiser (2.9)
 abbrev pub fits_method : Home → Method → Bool
@@ -99,7 +110,12 @@ instructions_checks home method at part instrs =
     let start = at + 14 in
     let table = start + length part.code + 2 in
     let inners = table + 8 * length part.handlers + 2 in
-    let setting : Setting = record { pool = home.pool; max_locals = part.max_locals; max_stack = part.max_stack; code = instrs } in
+    let setting : Setting = record {
+      pool = home.pool;
+      max_locals = part.max_locals;
+      max_stack = part.max_stack;
+      code = instrs;
+    } in
     jump_checks start instrs instrs
     ++ operand_checks start home.pool home.major part.max_locals instrs
     ++ handlers_checks home.pool instrs (length part.code) table part.handlers
@@ -108,8 +124,10 @@ instructions_checks home method at part instrs =
 -- what is asked of the parts of a Code attribute at a place
 abbrev pub part_checks : Home → Method → ℕ → CodePart → List (Check Fault)
 part_checks home method at part =
-    check (at + 10) rules.CodeLength (IsTrue (nat_lt 0 (length part.code) && nat_lt (length part.code) 65536))
-    ∷ check (at + 8) rules.Locals (IfSome (utf8_at home.pool method.desc) (λ text. units_at_call method.flags text ≤ part.max_locals))
+    check (at + 10) rules.CodeLength (IsTrue
+    (nat_lt 0 (length part.code) && nat_lt (length part.code) 65536))
+    ∷ check (at + 8) rules.Locals (IfSome (utf8_at home.pool method.desc)
+    (λ text. units_at_call method.flags text ≤ part.max_locals))
     ∷ asked_of (placed_at (at + 14) (decoded part.code)) (instructions_checks home method at part)
 
 -- what is asked of the content of a Code attribute: that its structure fills it, and then of its parts
@@ -127,7 +145,8 @@ abbrev pub method_attr_checks : Home → Method → List Attr → ℕ → Attr �
 method_attr_checks home method before at attr =
     attr_name_check home.pool at attr
     ∷ asked_if (is_named home.pool code attr)
-    (check at rules.Twice (IsFalse (has_named home.pool code before)) ∷ content_checks home method at (code_content attr))
+    (check at rules.Twice (IsFalse (has_named home.pool code before))
+    ∷ content_checks home method at (code_content attr))
 
 -- ---- methods
 
@@ -147,9 +166,11 @@ method_checks home before at method =
     ∷ check at rules.NoCode (IsTrue (lacks_code method || has_code home method))
     ∷ check at rules.HasCode (IsTrue (not (lacks_code method) || not (has_code home method)))
     ∷ check (at + 2) rules.Index (IsSome (utf8_at home.pool method.name))
-    ∷ check (at + 2) rules.Name (IfSome (utf8_at home.pool method.name) (λ name. IsMethodName name × InitIsVoid name (utf8_at home.pool method.desc)))
+    ∷ check (at + 2) rules.Name (IfSome (utf8_at home.pool method.name)
+    (λ name. IsMethodName name × InitIsVoid name (utf8_at home.pool method.desc)))
     ∷ check (at + 4) rules.Index (IsSome (utf8_at home.pool method.desc))
-    ∷ check (at + 4) rules.Descriptor (IfSome (utf8_at home.pool method.desc) (IsDescriptorOf method.flags))
+    ∷ check (at + 4) rules.Descriptor
+    (IfSome (utf8_at home.pool method.desc) (IsDescriptorOf method.flags))
     ∷ attrs_checks (method_attr_checks home method) [] (at + 8) method.attrs
 
 -- ---- the attributes of the class (4.7.23)
@@ -190,7 +211,9 @@ IsArgument other = ⊥
 -- the arguments of a bootstrap method, from the place of the first on
 abbrev pub arguments_checks : Constants → ℕ → List ℕ → List (Check Fault)
 arguments_checks pool at [] = []
-arguments_checks pool at (index ∷ indices) = check at rules.Index (IsArgument (constant_at pool index)) ∷ arguments_checks pool (at + 2) indices
+arguments_checks pool at (index ∷ indices) =
+    check at rules.Index (IsArgument (constant_at pool index))
+    ∷ arguments_checks pool (at + 2) indices
 
 -- bootstrap methods, from the place of the first on
 abbrev pub bootstraps_checks : Constants → ℕ → List Bootstrap → List (Check Fault)
@@ -214,12 +237,15 @@ abbrev pub class_attr_checks : Constants → List Attr → ℕ → Attr → List
 class_attr_checks pool before at attr =
     attr_name_check pool at attr
     ∷ asked_if (is_named pool bootstrap_methods attr)
-    (check at rules.Twice (IsFalse (has_named pool bootstrap_methods before)) ∷ bootstrap_table_checks pool at (bootstraps (raw_content attr)))
+    (check at rules.Twice (IsFalse (has_named pool bootstrap_methods before))
+    ∷ bootstrap_table_checks pool at (bootstraps (raw_content attr)))
 
 -- how many bootstrap methods the attributes of a class have
 abbrev pub bootstrap_count : Constants → List Attr → ℕ
 bootstrap_count pool [] = 0
-bootstrap_count pool (attr ∷ attrs) = if is_named pool bootstrap_methods attr then counted (bootstraps (raw_content attr)) else bootstrap_count pool attrs where
-  counted : Option (List Bootstrap) → ℕ
-  counted None = 0
-  counted (Some methods) = length methods
+bootstrap_count pool (attr ∷ attrs) =
+    if is_named pool bootstrap_methods attr then counted (bootstraps (raw_content attr))
+    else bootstrap_count pool attrs where
+      counted : Option (List Bootstrap) → ℕ
+      counted None = 0
+      counted (Some methods) = length methods

@@ -1,13 +1,14 @@
 -- Names of classes, fields and methods (JVM Specification SE 8, 4.2.1 and 4.2.2), over the bytes of a text.
 use Rattle.std.specs.Prelude.{◌≡◌, ◌≢◌, ◌⊎◌, ℕ, List, [], ◌∷◌, codes}
 use Rattle.std.specs.List.{AllByRecursion, join_with_byte}
+use Rattle.class_model.specs.Characters.{dot, slash, semicolon, less_sign, greater_sign, left_bracket}
 
 -- A byte of an unqualified name is none of . ; [ and /
 pub record IsNameByte (byte : ℕ) : Type 0 where
-  pub no_dot : byte ≢ 46
-  pub no_slash : byte ≢ 47
-  pub no_semicolon : byte ≢ 59
-  pub no_bracket : byte ≢ 91
+  pub no_dot : byte ≢ dot
+  pub no_slash : byte ≢ slash
+  pub no_semicolon : byte ≢ semicolon
+  pub no_bracket : byte ≢ left_bracket
 
 -- An unqualified name is one such byte or more.
 pub record IsUnqualifiedName (name : List ℕ) : Type 0 where
@@ -19,12 +20,12 @@ pub record IsClassName (name : List ℕ) : Type 0 where
   pub parts : List (List ℕ)
   pub some : parts ≢ []
   pub unqualified : AllByRecursion IsUnqualifiedName parts
-  pub joined : name ≡ join_with_byte 47 parts
+  pub joined : name ≡ join_with_byte slash parts
 
 -- a byte is neither < nor >
 pub record IsNoAngle (byte : ℕ) : Type 0 where
-  pub no_less : byte ≢ 60
-  pub no_greater : byte ≢ 62
+  pub no_less : byte ≢ less_sign
+  pub no_greater : byte ≢ greater_sign
 
 -- the names of instance and of class initialisers (2.9)
 abbrev pub init : List ℕ
@@ -45,7 +46,7 @@ IsMethodName name = (name ≡ init) ⊎ ((name ≡ clinit) ⊎ IsPlainMethodName
 -- the first byte is not <
 abbrev pub BeginsOtherwise : List ℕ → Type 0
 BeginsOtherwise [] = Unit {0}
-BeginsOtherwise (first ∷ rest) = first ≢ 60
+BeginsOtherwise (first ∷ rest) = first ≢ less_sign
 
 -- A field's name; this project's profile refuses one that begins with <.
 pub record IsFieldName (name : List ℕ) : Type 0 where

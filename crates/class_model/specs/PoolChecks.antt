@@ -43,7 +43,8 @@ IsClassAt pool index = IsSome (option_and_then class_name_of (constant_at pool i
 
 -- the name of the class of the Class constant at an index
 abbrev pub class_at : Constants → ℕ → Option (List ℕ)
-class_at pool index = option_and_then (utf8_at pool) (option_and_then class_name_of (constant_at pool index))
+class_at pool index =
+    option_and_then (utf8_at pool) (option_and_then class_name_of (constant_at pool index))
 
 -- the indices of the name and of the descriptor of the NameAndType constant at an index
 abbrev pub name_and_type_at : Constants → ℕ → Option (ℕ × ℕ)
@@ -55,10 +56,14 @@ IsNameAndTypeAt pool index = IsSome (option_and_then name_and_type_of (constant_
 
 -- its name, and its descriptor
 abbrev pub name_at : Constants → ℕ → Option (List ℕ)
-name_at pool index = option_and_then (λ n. utf8_at pool n.0) (option_and_then name_and_type_of (constant_at pool index))
+name_at pool index =
+    option_and_then (λ n. utf8_at pool n.0)
+    (option_and_then name_and_type_of (constant_at pool index))
 
 abbrev pub descriptor_at : Constants → ℕ → Option (List ℕ)
-descriptor_at pool index = option_and_then (λ n. utf8_at pool n.1) (option_and_then name_and_type_of (constant_at pool index))
+descriptor_at pool index =
+    option_and_then (λ n. utf8_at pool n.1)
+    (option_and_then name_and_type_of (constant_at pool index))
 
 -- a text, empty where an index names none
 abbrev pub text_or_empty : Option (List ℕ) → List ℕ
@@ -97,13 +102,17 @@ pub record ReturnsVoid (text : List ℕ) : Type 0 where
 
 -- An instance initialiser has no result. It is asked of method descriptors alone.
 abbrev pub InitIsVoid : List ℕ → Option (List ℕ) → Type 0
-InitIsVoid name descriptor = IfSome descriptor (λ text. name ≡ init → IsMethodDescriptor text → ReturnsVoid text)
+InitIsVoid name descriptor =
+    IfSome descriptor (λ text. name ≡ init → IsMethodDescriptor text → ReturnsVoid text)
 
 -- ---- the checks
 
 -- a name by itself: with a method descriptor it is that of a method
 abbrev pub FitsDescriptor : Option (List ℕ) → List ℕ → Type 0
-FitsDescriptor descriptor name = IsUnqualifiedName name × IfSome descriptor (λ text. IsMethodDescriptor text → IsMethodName name) × InitIsVoid name descriptor
+FitsDescriptor descriptor name =
+    IsUnqualifiedName name
+    × IfSome descriptor (λ text. IsMethodDescriptor text → IsMethodName name)
+    × InitIsVoid name descriptor
 
 -- the name of a method that is called: a class initialiser is not
 abbrev pub IsCalledName : Option (List ℕ) → List ℕ → Type 0
@@ -112,7 +121,9 @@ IsCalledName descriptor name = IsMethodName name × (name ≢ clinit) × InitIsV
 -- the name of a class or an array's descriptor (4.4.1)
 abbrev pub class_checks : ℕ → Constants → ℕ → List (Check Fault)
 class_checks at pool name =
-    check at rules.Index (IsSome (utf8_at pool name)) ∷ check at rules.Name (IfSome (utf8_at pool name) IsReferenceName) ∷ []
+    check at rules.Index (IsSome (utf8_at pool name))
+    ∷ check at rules.Name (IfSome (utf8_at pool name) IsReferenceName)
+    ∷ []
 
 -- the text of a string (4.4.3)
 abbrev pub string_checks : ℕ → Constants → ℕ → List (Check Fault)
@@ -139,19 +150,23 @@ abbrev pub name_and_type_checks : ℕ → Constants → ℕ → ℕ → List (Ch
 name_and_type_checks at pool name descriptor =
     check at rules.Index (IsSome (utf8_at pool name) × IsSome (utf8_at pool descriptor))
     ∷ check at rules.Name (IfSome (utf8_at pool name) (FitsDescriptor (utf8_at pool descriptor)))
-    ∷ check at rules.Descriptor (IfSome (utf8_at pool descriptor) (λ text. IsFieldDescriptor text ⊎ IsMethodDescriptor text))
+    ∷ check at rules.Descriptor (IfSome (utf8_at pool descriptor)
+    (λ text. IsFieldDescriptor text ⊎ IsMethodDescriptor text))
     ∷ []
 
 -- a method's descriptor (4.4.9)
 abbrev pub method_type_checks : ℕ → Constants → ℕ → List (Check Fault)
 method_type_checks at pool descriptor =
-    check at rules.Index (IsSome (utf8_at pool descriptor)) ∷ check at rules.Descriptor (IfSome (utf8_at pool descriptor) IsMethodDescriptor) ∷ []
+    check at rules.Index (IsSome (utf8_at pool descriptor))
+    ∷ check at rules.Descriptor (IfSome (utf8_at pool descriptor) IsMethodDescriptor)
+    ∷ []
 
 -- the name and the descriptor of a dynamic call (4.4.10)
 abbrev pub dynamic_checks : ℕ → Constants → ℕ → List (Check Fault)
 dynamic_checks at pool member =
     check at rules.Index (IsNameAndTypeAt pool member)
-    ∷ check at rules.Name (IfSome (name_at pool member) (λ name. IsMethodName name × InitIsVoid name (descriptor_at pool member)))
+    ∷ check at rules.Name (IfSome (name_at pool member)
+    (λ name. IsMethodName name × InitIsVoid name (descriptor_at pool member)))
     ∷ check at rules.Descriptor (IfSome (descriptor_at pool member) IsMethodDescriptor)
     ∷ []
 
@@ -177,11 +192,13 @@ member_of other = None
 
 -- the name of the member that a reference at an index names
 abbrev pub referred_name : Constants → ℕ → Option (List ℕ)
-referred_name pool index = option_and_then (name_at pool) (option_and_then member_of (constant_at pool index))
+referred_name pool index =
+    option_and_then (name_at pool) (option_and_then member_of (constant_at pool index))
 
 -- a method that a static or special call names, in a class file of this major version
 abbrev pub IsMethodConstantOf : ℕ → Option Const → Type 0
-IsMethodConstantOf major constant = IsMethodConstant constant ⊎ ((major ≡ 52) × IsInterfaceConstant constant)
+IsMethodConstantOf major constant =
+    IsMethodConstant constant ⊎ ((major ≡ 52) × IsInterfaceConstant constant)
 
 -- What a method handle of a kind refers to (4.4.8): kinds 1 to 4 name a field, 5 and 8 a method, 6 and 7 a method
 -- that in version 52 may be an interface's, and 9 an interface's method. Kind 8 names an instance initialiser, and 5, 6, 7 and 9 do not.
@@ -197,7 +214,8 @@ RefersWell major pool kind reference =
 
 -- a method handle (4.4.8)
 abbrev pub handle_checks : ℕ → ℕ → Constants → ℕ → ℕ → List (Check Fault)
-handle_checks major at pool kind reference = check at rules.Index (RefersWell major pool kind reference) ∷ []
+handle_checks major at pool kind reference =
+    check at rules.Index (RefersWell major pool kind reference) ∷ []
 
 -- a constant at a place, in a class file of this major version
 abbrev pub constant_checks : ℕ → Constants → ℕ → Const → List (Check Fault)
@@ -210,9 +228,12 @@ constant_checks major pool at (Class name) = class_checks at pool name
 constant_checks major pool at (String text) = string_checks at pool text
 constant_checks major pool at (Fieldref class member) = fieldref_checks at pool class member
 constant_checks major pool at (Methodref class member) = methodref_checks at pool class member
-constant_checks major pool at (InterfaceMethodref class member) = methodref_checks at pool class member
-constant_checks major pool at (NameAndType name descriptor) = name_and_type_checks at pool name descriptor
-constant_checks major pool at (MethodHandle kind reference) = handle_checks major at pool kind reference
+constant_checks major pool at (InterfaceMethodref class member) =
+    methodref_checks at pool class member
+constant_checks major pool at (NameAndType name descriptor) =
+    name_and_type_checks at pool name descriptor
+constant_checks major pool at (MethodHandle kind reference) =
+    handle_checks major at pool kind reference
 constant_checks major pool at (MethodType descriptor) = method_type_checks at pool descriptor
 constant_checks major pool at (InvokeDynamic bootstrap member) = dynamic_checks at pool member
 
@@ -221,4 +242,5 @@ abbrev pub entries_checks : ℕ → Constants → ℕ → Constants → List (Ch
 entries_checks major pool at [] = []
 entries_checks major pool at (None ∷ entries) = entries_checks major pool at entries
 entries_checks major pool at (Some constant ∷ entries) =
-    constant_checks major pool at constant ++ entries_checks major pool (at + length (constant_bytes constant)) entries
+    constant_checks major pool at constant
+    ++ entries_checks major pool (at + length (constant_bytes constant)) entries

@@ -4,6 +4,7 @@ use Rattle.std.specs.Prelude.{ℕ, List, [], ◌∷◌, ◌++◌, length, Option
 use Rattle.std.specs.Int.{w16, w32, w64, to_be_bytes, cast_unsigned}
 use Rattle.std.specs.List.{flat_map}
 use Rattle.class_model.specs.Pool.{Constants}
+use Rattle.class_model.specs.declared.constant_tags.TheConstants.{UTF8_TAG, INTEGER_TAG, FLOAT_TAG, LONG_TAG, DOUBLE_TAG, CLASS_TAG, STRING_TAG, FIELDREF_TAG, METHODREF_TAG, INTERFACE_METHODREF_TAG, NAME_AND_TYPE_TAG, METHOD_HANDLE_TAG, METHOD_TYPE_TAG, INVOKE_DYNAMIC_TAG}
 use Rattle.class_model.specs.declared.pool.Const.{Const}
 use Rattle.class_model.specs.declared.pool.Const.TheVariants.{Utf8, Integer, Float, Long, Double, Class, String, Fieldref, Methodref, InterfaceMethodref, NameAndType, MethodHandle, MethodType, InvokeDynamic}
 use Rattle.class_model.specs.declared.class_file.ClassFile.{ClassFile}
@@ -29,20 +30,20 @@ u2s numbers = flat_map u2 numbers
 
 -- a constant: its tag, and then its fields (4.4.1 to 4.4.10)
 abbrev pub constant_bytes : Const → List ℕ
-constant_bytes (Utf8 text) = 1 ∷ (u2 (length text) ++ text)
-constant_bytes (Integer number) = 3 ∷ u4 (cast_unsigned w32 number)
-constant_bytes (Float bits) = 4 ∷ u4 bits
-constant_bytes (Long number) = 5 ∷ to_be_bytes w64 (cast_unsigned w64 number)
-constant_bytes (Double bits) = 6 ∷ to_be_bytes w64 bits
-constant_bytes (Class name) = 7 ∷ u2 name
-constant_bytes (String text) = 8 ∷ u2 text
-constant_bytes (Fieldref class member) = 9 ∷ (u2 class ++ u2 member)
-constant_bytes (Methodref class member) = 10 ∷ (u2 class ++ u2 member)
-constant_bytes (InterfaceMethodref class member) = 11 ∷ (u2 class ++ u2 member)
-constant_bytes (NameAndType name descriptor) = 12 ∷ (u2 name ++ u2 descriptor)
-constant_bytes (MethodHandle kind reference) = 15 ∷ kind ∷ u2 reference
-constant_bytes (MethodType descriptor) = 16 ∷ u2 descriptor
-constant_bytes (InvokeDynamic bootstrap member) = 18 ∷ (u2 bootstrap ++ u2 member)
+constant_bytes (Utf8 text) = UTF8_TAG ∷ (u2 (length text) ++ text)
+constant_bytes (Integer number) = INTEGER_TAG ∷ u4 (cast_unsigned w32 number)
+constant_bytes (Float bits) = FLOAT_TAG ∷ u4 bits
+constant_bytes (Long number) = LONG_TAG ∷ to_be_bytes w64 (cast_unsigned w64 number)
+constant_bytes (Double bits) = DOUBLE_TAG ∷ to_be_bytes w64 bits
+constant_bytes (Class name) = CLASS_TAG ∷ u2 name
+constant_bytes (String text) = STRING_TAG ∷ u2 text
+constant_bytes (Fieldref class member) = FIELDREF_TAG ∷ (u2 class ++ u2 member)
+constant_bytes (Methodref class member) = METHODREF_TAG ∷ (u2 class ++ u2 member)
+constant_bytes (InterfaceMethodref class member) = INTERFACE_METHODREF_TAG ∷ (u2 class ++ u2 member)
+constant_bytes (NameAndType name descriptor) = NAME_AND_TYPE_TAG ∷ (u2 name ++ u2 descriptor)
+constant_bytes (MethodHandle kind reference) = METHOD_HANDLE_TAG ∷ kind ∷ u2 reference
+constant_bytes (MethodType descriptor) = METHOD_TYPE_TAG ∷ u2 descriptor
+constant_bytes (InvokeDynamic bootstrap member) = INVOKE_DYNAMIC_TAG ∷ (u2 bootstrap ++ u2 member)
 
 -- an index with no constant has no bytes
 abbrev pub entry_bytes : Option Const → List ℕ
@@ -63,7 +64,8 @@ inner_bytes attr = raw_bytes attr.name attr.bytes
 
 -- an entry of an exception table (4.7.3)
 abbrev pub handler_bytes : Handler → List ℕ
-handler_bytes handler = u2 handler.start ++ (u2 handler.end ++ (u2 handler.at ++ u2 handler.catch_type))
+handler_bytes handler =
+    u2 handler.start ++ (u2 handler.end ++ (u2 handler.at ++ u2 handler.catch_type))
 
 -- the content of a Code attribute (4.7.3)
 abbrev pub code_part_bytes : CodePart → List ℕ
@@ -86,7 +88,8 @@ field_bytes field = u2 field.flags ++ u2 field.name ++ u2 field.desc ++ attrs_by
 
 -- a method (4.6)
 abbrev pub method_bytes : Method → List ℕ
-method_bytes method = u2 method.flags ++ u2 method.name ++ u2 method.desc ++ attrs_bytes method.attrs
+method_bytes method =
+    u2 method.flags ++ u2 method.name ++ u2 method.desc ++ attrs_bytes method.attrs
 
 -- the first four bytes of each class file
 abbrev pub magic : ℕ

@@ -13,8 +13,15 @@ use Rattle.class_model.specs.declared.frame.PlacedFrame.{PlacedFrame}
 use Rattle.class_model.specs.declared.instr.Placed.{Placed}
 
 -- those that an attribute of the code of these instructions states
-abbrev pub stated_frames : Home → Method → CodePart → Result (List Placed) Fault → InnerAttr → Result (List PlacedFrame) Fault
-stated_frames home method part (Ok instrs) attr = stack_map_table_at (record { pool = home.pool; max_locals = part.max_locals; max_stack = part.max_stack; code = instrs }) (entry_of home method part) attr.bytes
+abbrev pub stated_frames : Home → Method → CodePart → Result (List Placed) Fault → InnerAttr
+    → Result (List PlacedFrame) Fault
+stated_frames home method part (Ok instrs) attr =
+    stack_map_table_at (record {
+      pool = home.pool;
+      max_locals = part.max_locals;
+      max_stack = part.max_stack;
+      code = instrs;
+    }) (entry_of home method part) attr.bytes
 stated_frames home method part (Err fault) attr = Ok []
 
 -- what cannot be read states no frames
@@ -26,7 +33,9 @@ read_or_none (Err fault) = []
 abbrev pub stated_in : Home → Method → CodePart → List InnerAttr → List PlacedFrame
 stated_in home method part [] = []
 stated_in home method part (attr ∷ attrs) =
-    if inner_is_named home.pool stack_map_table attr then read_or_none (stated_frames home method part (decoded part.code) attr) else stated_in home method part attrs
+    if inner_is_named home.pool stack_map_table attr then read_or_none
+    (stated_frames home method part (decoded part.code) attr)
+    else stated_in home method part attrs
 
 -- the frame for an offset among these
 abbrev pub frame_for : List PlacedFrame → ℕ → Option Frame

@@ -1,5 +1,6 @@
 //! Descriptors: field types and method descriptors (JVM Specification SE 8, 4.3).
 ghost use Rattle.std.specs.Prelude.{◌≡◌, ◌≢◌, ◌<◌, ◌↔◌, ◌∷◌, ℕ, List, length, slice_index, EachIndex, Option, IfOk, OnOk, IsErrOf, IfSome, IfNone, IsTrue};
+ghost use Rattle.class_model.specs.Characters.{class_letter, semicolon};
 ghost use Rattle.class_model.specs.ModifiedUtf8.{IsText};
 ghost use Rattle.class_model.specs.Descriptors.{IsArrayType, SpellsFieldType, SpellsDescriptor, kind_of, units_of};
 ghost use Rattle.class_model.specs.Inner.DescriptorParts.{base_type_of, ClassNameAt, ElementAt, BracketsAt, ArrayAt, FieldTypeAt, ParametersAt, SpellsResult};
@@ -118,7 +119,9 @@ impl<T: Drop> From<AllocFailed<T>> for NameFault {
 /// `BadName` exactly where it spells none. `NoMemory`, where memory runs out.
 pub fn parse_field_type(alloc: Global, text: &Text) -> Result<FieldType, NameFault>
     ensures read { IfOk result (SpellsFieldType text.now) }
-    ensures bad_name { IsErrOf result NameFault.BadName → (type : FieldType) → ¬ SpellsFieldType text.now type }
+    ensures bad_name { IsErrOf result NameFault.BadName
+        → (type : FieldType)
+        → ¬ SpellsFieldType text.now type }
 {
     whole_field_type(alloc, text.bytes())
 }
@@ -130,7 +133,9 @@ pub fn parse_field_type(alloc: Global, text: &Text) -> Result<FieldType, NameFau
 /// `BadName` exactly where it spells none. `NoMemory`, where memory runs out.
 pub fn parse_descriptor(alloc: Global, text: &Text) -> Result<Descriptor, NameFault>
     ensures read { IfOk result (SpellsDescriptor text.now) }
-    ensures bad_name { IsErrOf result NameFault.BadName → (descriptor : Descriptor) → ¬ SpellsDescriptor text.now descriptor }
+    ensures bad_name { IsErrOf result NameFault.BadName
+        → (descriptor : Descriptor)
+        → ¬ SpellsDescriptor text.now descriptor }
 {
     let Some(after) = after_byte(text.bytes(), b'(') else {
         return Err(NameFault::BadName);
@@ -159,7 +164,9 @@ const MAX_DIMENSIONS: usize = 255;
 // The parameters at the front, up to and with their closing parenthesis, and the bytes after it.
 fn parameters_at(alloc: Global, bytes: &[u8]) -> Result<(FieldTypeList, &[u8]), NameFault>
     ensures read { IfOk result (λ found. ParametersAt 255 bytes.now found.0 found.1.now) }
-    ensures bad_name { IsErrOf result NameFault.BadName → (types : List FieldType) (rest : List ℕ) → ¬ ParametersAt 255 bytes.now types rest }
+    ensures bad_name { IsErrOf result NameFault.BadName
+        → (types : List FieldType) (rest : List ℕ)
+        → ¬ ParametersAt 255 bytes.now types rest }
 {
     let mut params = ListOf::new(alloc);
     let mut units = 0;
@@ -181,7 +188,9 @@ fn parameters_at(alloc: Global, bytes: &[u8]) -> Result<(FieldTypeList, &[u8]), 
 // The result that all of the bytes spell.
 fn whole_result(alloc: Global, bytes: &[u8]) -> Result<Option<FieldType>, NameFault>
     ensures read { IfOk result (SpellsResult bytes.now) }
-    ensures bad_name { IsErrOf result NameFault.BadName → (type : Option FieldType) → ¬ SpellsResult bytes.now type }
+    ensures bad_name { IsErrOf result NameFault.BadName
+        → (type : Option FieldType)
+        → ¬ SpellsResult bytes.now type }
 {
     if let [b'V'] = bytes {
         return Ok(None);
@@ -193,7 +202,9 @@ fn whole_result(alloc: Global, bytes: &[u8]) -> Result<Option<FieldType>, NameFa
 // The field type that all of the bytes spell.
 fn whole_field_type(alloc: Global, bytes: &[u8]) -> Result<FieldType, NameFault>
     ensures read { IfOk result (SpellsFieldType bytes.now) }
-    ensures bad_name { IsErrOf result NameFault.BadName → (type : FieldType) → ¬ SpellsFieldType bytes.now type }
+    ensures bad_name { IsErrOf result NameFault.BadName
+        → (type : FieldType)
+        → ¬ SpellsFieldType bytes.now type }
 {
     let (field_type, rest) = field_type_at(alloc, bytes)?;
     if rest.is_empty() {
@@ -206,7 +217,9 @@ fn whole_field_type(alloc: Global, bytes: &[u8]) -> Result<FieldType, NameFault>
 // The field type at the front, and the bytes after it.
 fn field_type_at(alloc: Global, bytes: &[u8]) -> Result<(FieldType, &[u8]), NameFault>
     ensures read { IfOk result (λ found. FieldTypeAt bytes.now found.0 found.1.now) }
-    ensures bad_name { IsErrOf result NameFault.BadName → (type : FieldType) (rest : List ℕ) → ¬ FieldTypeAt bytes.now type rest }
+    ensures bad_name { IsErrOf result NameFault.BadName
+        → (type : FieldType) (rest : List ℕ)
+        → ¬ FieldTypeAt bytes.now type rest }
 {
     let Some((first, after)) = bytes.split_first() else {
         return Err(NameFault::BadName);
@@ -224,7 +237,10 @@ fn field_type_at(alloc: Global, bytes: &[u8]) -> Result<(FieldType, &[u8]), Name
 // The array type at the front, and the bytes after it.
 fn array_type_at(alloc: Global, bytes: &[u8]) -> Result<(FieldType, &[u8]), NameFault>
     ensures read { IfOk result (λ found. FieldTypeAt bytes.now found.0 found.1.now) }
-    ensures bad_name { IsErrOf result NameFault.BadName → (text rest : List ℕ) → IsText text → ¬ ArrayAt bytes.now text rest }
+    ensures bad_name { IsErrOf result NameFault.BadName
+        → (text rest : List ℕ)
+        → IsText text
+        → ¬ ArrayAt bytes.now text rest }
 {
     let Some(rest) = after_array(bytes) else {
         return Err(NameFault::BadName);
@@ -236,8 +252,11 @@ fn array_type_at(alloc: Global, bytes: &[u8]) -> Result<(FieldType, &[u8]), Name
 
 // The class type whose name, after its L, is at the front, and the bytes after its semicolon.
 fn class_type_at(alloc: Global, bytes: &[u8]) -> Result<(FieldType, &[u8]), NameFault>
-    ensures read { IfOk result (λ found. FieldTypeAt (76 ∷ bytes.now) found.0 found.1.now) }
-    ensures bad_name { IsErrOf result NameFault.BadName → (name rest : List ℕ) → IsText name → ¬ ClassNameAt bytes.now name rest }
+    ensures read { IfOk result (λ found. FieldTypeAt (class_letter ∷ bytes.now) found.0 found.1.now) }
+    ensures bad_name { IsErrOf result NameFault.BadName
+        → (name rest : List ℕ)
+        → IsText name
+        → ¬ ClassNameAt bytes.now name rest }
 {
     let Some((name, rest)) = class_name_at(bytes) else {
         return Err(NameFault::BadName);
@@ -344,9 +363,9 @@ fn class_name_at(bytes: &[u8]) -> Option<(&[u8], &[u8])>
 // The index of the first semicolon.
 fn first_semicolon(bytes: &[u8]) -> Option<usize>
     ensures within { IfSome result (λ end. end < length bytes.now) }
-    ensures found { IfSome result (λ end. slice_index bytes.now end ≡ 59) }
-    ensures before { IfSome result (λ end. (k : ℕ) → k < end → slice_index bytes.now k ≢ 59) }
-    ensures none { IfNone result (EachIndex bytes.now (λ k. slice_index bytes.now k ≢ 59)) }
+    ensures found { IfSome result (λ end. slice_index bytes.now end ≡ semicolon) }
+    ensures before { IfSome result (λ end. (k : ℕ) → k < end → slice_index bytes.now k ≢ semicolon) }
+    ensures none { IfNone result (EachIndex bytes.now (λ k. slice_index bytes.now k ≢ semicolon)) }
 {
     bytes.iter().position(|byte| *byte == b';')
 }

@@ -34,7 +34,8 @@ pub fn is_field_descriptor(bytes: &[u8]) -> bool
 /// How many dimensions bytes have that are the descriptor of an array, or 0 for another field type; none where
 /// they are no field type with brackets before it (JVM Specification SE 8, 4.3.2). There may be more than 255.
 pub fn dimensions(bytes: &[u8]) -> Option<usize>
-    ensures some { IfSome result (λ most. (least : ℕ) → HasDimensions bytes.now least ↔ (least ≤ most)) }
+    ensures some { IfSome result
+        (λ most. (least : ℕ) → HasDimensions bytes.now least ↔ (least ≤ most)) }
     ensures none { IfNone result ((least : ℕ) → ¬ HasDimensions bytes.now least) }
 {
     let element = after_brackets(bytes);
@@ -56,7 +57,9 @@ pub struct MethodShape {
 /// The shape of the method descriptor that bytes are, or none where they are no method descriptor. It takes no memory.
 pub fn method_shape(bytes: &[u8]) -> Option<MethodShape>
     ensures descriptor { IsSome result ↔ IsMethodDescriptor bytes.now }
-    ensures units { IfSome result (λ shape. (d : Descriptor) → BytesSpell bytes.now d → shape.units ≡ parameter_units d.params) }
+    ensures units { IfSome result (λ shape. (d : Descriptor)
+        → BytesSpell bytes.now d
+        → shape.units ≡ parameter_units d.params) }
     ensures void { IfSome result (λ shape. IsTrue shape.is_void ↔ ReturnsVoid bytes.now) }
 {
     let after = after_byte(bytes, b'(')?;
@@ -100,7 +103,8 @@ fn parameter_units_at(bytes: &[u8]) -> Option<(u16, &[u8])>
 // The local units of a value of the field type at the front, and the bytes after that.
 fn type_units_at(bytes: &[u8]) -> Option<(u16, &[u8])>
     ensures some { IfSome result (λ found. TypeUnitsAt bytes.now found.0 found.1.now) }
-    ensures none { IfNone result ((type : FieldType) (rest : List ℕ) → ¬ TypeAt bytes.now type rest) }
+    ensures none { IfNone result
+        ((type : FieldType) (rest : List ℕ) → ¬ TypeAt bytes.now type rest) }
 {
     let (first, after) = bytes.split_first()?;
     match *first {

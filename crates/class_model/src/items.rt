@@ -70,7 +70,8 @@ impl<'a> Cursor<'a> {
     pub fn bytes(&mut self, count: usize) -> Result<&'a [u8], ClassFault>
         ensures taken { TakesBytes (bytes_at count self.old) self.new result }
         ensures err { OnErr result (self.new ≡ self.old) }
-        ensures short { IfErr result (λ fault. fault ≡ ClassFault.Malformed self.old.at FileRule.Short) }
+        ensures short { IfErr result
+            (λ fault. fault ≡ ClassFault.Malformed self.old.at FileRule.Short) }
     {
         if self.rest.len() < count {
             return Err(ClassFault::Malformed {
@@ -88,7 +89,8 @@ impl<'a> Cursor<'a> {
     pub fn u1(&mut self) -> Result<u8, ClassFault>
         ensures taken { Takes (u1_at self.old) self.new result }
         ensures err { OnErr result (self.new ≡ self.old) }
-        ensures short { IfErr result (λ fault. fault ≡ ClassFault.Malformed self.old.at FileRule.Short) }
+        ensures short { IfErr result
+            (λ fault. fault ≡ ClassFault.Malformed self.old.at FileRule.Short) }
     {
         let bytes = self.bytes(1)?;
         Ok(bytes[0])
@@ -98,7 +100,8 @@ impl<'a> Cursor<'a> {
     pub fn u2(&mut self) -> Result<u16, ClassFault>
         ensures taken { Takes (u2_at self.old) self.new result }
         ensures err { OnErr result (self.new ≡ self.old) }
-        ensures short { IfErr result (λ fault. fault ≡ ClassFault.Malformed self.old.at FileRule.Short) }
+        ensures short { IfErr result
+            (λ fault. fault ≡ ClassFault.Malformed self.old.at FileRule.Short) }
     {
         let bytes = self.bytes(2)?;
         Ok(u16::from_be_bytes([bytes[0], bytes[1]]))
@@ -108,7 +111,8 @@ impl<'a> Cursor<'a> {
     pub fn u4(&mut self) -> Result<u32, ClassFault>
         ensures taken { Takes (u4_at self.old) self.new result }
         ensures err { OnErr result (self.new ≡ self.old) }
-        ensures short { IfErr result (λ fault. fault ≡ ClassFault.Malformed self.old.at FileRule.Short) }
+        ensures short { IfErr result
+            (λ fault. fault ≡ ClassFault.Malformed self.old.at FileRule.Short) }
     {
         let bytes = self.bytes(4)?;
         Ok(u32::from_be_bytes([bytes[0], bytes[1], bytes[2], bytes[3]]))
@@ -118,7 +122,8 @@ impl<'a> Cursor<'a> {
     pub fn eight_bytes(&mut self) -> Result<u64, ClassFault>
         ensures taken { Takes (number_at w64 self.old) self.new result }
         ensures err { OnErr result (self.new ≡ self.old) }
-        ensures short { IfErr result (λ fault. fault ≡ ClassFault.Malformed self.old.at FileRule.Short) }
+        ensures short { IfErr result
+            (λ fault. fault ≡ ClassFault.Malformed self.old.at FileRule.Short) }
     {
         let bytes = self.bytes(8)?;
         Ok(u64::from_be_bytes([

@@ -2,13 +2,16 @@
 //! (JVM Specification SE 8, chapter 4), below every other crate of the optimiser.
 #![tactic(auto)]
 
+pub mod array_codes;
 mod class_file;
+pub mod constant_tags;
 mod copies;
 mod descriptor;
 mod descriptor_bytes;
 mod fault;
 mod flags;
 mod frame;
+pub mod frame_tags;
 mod header;
 mod instr;
 mod items;

@@ -145,8 +145,10 @@ pub fn is_modified_utf8(bytes: &[u8]) -> bool
 
 // The bytes after the first code unit, if one is spelled there.
 fn after_unit(bytes: &[u8]) -> Option<&[u8]>
-    ensures some { IfSome result (λ rest. (unit : ℕ) × IsCodeUnit unit × (bytes.now ≡ unit_bytes unit ++ rest.now)) }
-    ensures none { IfNone result ((unit : ℕ) (rest : List ℕ) → IsCodeUnit unit → bytes.now ≡ unit_bytes unit ++ rest → ⊥) }
+    ensures some { IfSome result
+        (λ rest. (unit : ℕ) × IsCodeUnit unit × (bytes.now ≡ unit_bytes unit ++ rest.now)) }
+    ensures none { IfNone result
+        ((unit : ℕ) (rest : List ℕ) → IsCodeUnit unit → bytes.now ≡ unit_bytes unit ++ rest → ⊥) }
 {
     match bytes {
         [first, rest @ ..] if is_one_byte_unit(*first) => Some(rest),
@@ -167,7 +169,8 @@ fn is_one_byte_unit(byte: u8) -> bool
 
 // Whether two bytes spell a code unit: 0, or one from 80 to 7FF.
 fn is_two_byte_unit(first: u8, second: u8) -> bool
-    ensures { IsTrue result ↔ ((unit : ℕ) × IsCodeUnit unit × (unit_bytes unit ≡ first ∷ second ∷ [])) }
+    ensures { IsTrue result
+        ↔ ((unit : ℕ) × IsCodeUnit unit × (unit_bytes unit ≡ first ∷ second ∷ [])) }
 {
     match first {
         0xC0 => second == 0x80,

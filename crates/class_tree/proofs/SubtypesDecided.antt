@@ -5,7 +5,8 @@ use Rattle.class_tree.specs.Headers.{Name, Headers}
 use Rattle.class_tree.specs.Hierarchy.{IsHierarchy}
 use Rattle.class_tree.specs.Laws.Above.{hierarchy_is_sound}
 use Rattle.class_tree.specs.Laws.Arrays.{component_forms}
-use Rattle.class_tree.specs.Laws.Decided.{Decision, mapped, either, same_bytes, array_decided, below_decided}
+use Rattle.class_model.specs.Laws.Decisions.{Decision, mapped, either}
+use Rattle.class_tree.specs.Laws.Decided.{same_bytes, array_decided, below_decided}
 use Rattle.class_tree.specs.Names.{object, cloneable, serializable}
 use Rattle.class_tree.specs.Subtype.{IsArray, IsReferenceComponent, array, class, IsSubtype, itself}
 use Rattle.class_tree.proofs.Components.{component_is_shorter}

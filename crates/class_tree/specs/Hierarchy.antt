@@ -11,7 +11,8 @@ use Rattle.class_tree.specs.Subtype.{IsArray, IsBelow}
 use Rattle.class_tree.specs.declared.place.Place.{Place}
 
 -- A class and its place: the class is found under its name, and stands there.
-pub record StandsAt (headers : Headers) (name : Name) (place : Place) (header : Header) : Type 0 where
+pub record StandsAt (headers : Headers) (name : Name) (place : Place)
+    (header : Header) : Type 0 where
   pub found : class_named headers name ≡ Some header
   pub is_place : place_of headers name ≡ Some place
   pub at : header_at headers place ≡ Some header
@@ -20,7 +21,8 @@ pub record StandsAt (headers : Headers) (name : Name) (place : Place) (header : 
 -- the place of the superclass of the class at a place
 abbrev pub superclass_of : Headers → Place → Option Place
 superclass_of headers place =
-    option_and_then (λ header. option_and_then (place_of headers) header.super_name) (header_at headers place)
+    option_and_then (λ header. option_and_then (place_of headers) header.super_name)
+    (header_at headers place)
 
 -- How many classes there are from a place upwards, as far as the fuel goes: a measure of loops that go up.
 unfoldable pub climb : Headers → ℕ → Option Place → ℕ
@@ -61,7 +63,9 @@ pub record IsHierarchy (headers : Headers) : Type 0 where
       → (walk : List Name) × IsInterfaceWalk headers name walk
   pub interfaces : (class : Name) (names : List Name)
       → AreSuperinterfaces headers class names
-      → AllByRecursion (λ name. (header : Header) × (class_named headers name ≡ Some header) × IsTrue (is_interface header)) names
+      → AllByRecursion (λ name. (header : Header)
+      × (class_named headers name ≡ Some header)
+      × IsTrue (is_interface header)) names
   pub superinterfaces : (class name : Name) (header : Header) (names : List Name)
       → AreSuperinterfaces headers class names
       → class_named headers name ≡ Some header

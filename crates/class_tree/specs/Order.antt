@@ -23,10 +23,12 @@ header_at headers (Library place) = slice_get headers.library place
 
 -- the place of the class of a name: in the folder, else in the library
 abbrev pub place_of : Headers → Name → Option Place
-place_of headers name = in_folder (first_place (λ header. bytes_eq name header.name) headers.folder) where
-  in_folder : Option ℕ → Option Place
-  in_folder (Some place) = Some (Folder place)
-  in_folder None = option_map Library (first_place (λ header. bytes_eq name header.name) headers.library)
+place_of headers name =
+    in_folder (first_place (λ header. bytes_eq name header.name) headers.folder) where
+      in_folder : Option ℕ → Option Place
+      in_folder (Some place) = Some (Folder place)
+      in_folder None =
+          option_map Library (first_place (λ header. bytes_eq name header.name) headers.library)
 
 -- the fields or the methods of a class
 abbrev pub members_of : MemberKind → Header → List Member

@@ -29,13 +29,17 @@ supers header = with_super header.super_name header.interfaces where
 -- the superclass is there and is no final class
 abbrev pub IsExtensible : Headers → Header → Type 0
 IsExtensible headers header =
-    IfSome header.super_name (λ name. IfSome (class_named headers name) (λ above. IsFalse (has above.flags FINAL)))
+    IfSome header.super_name
+    (λ name. IfSome (class_named headers name) (λ above. IsFalse (has above.flags FINAL)))
 
 -- The superclass is no interface and each interface is one; the superclass of an interface is java/lang/Object; and
 -- java/lang/Object alone has none.
 pub record FitsKinds (headers : Headers) (header : Header) : Type 0 where
-  pub superclass : IfSome header.super_name (λ name. IfSome (class_named headers name) (λ above. IsFalse (is_interface above)))
-  pub interfaces : AllByRecursion (λ name. IfSome (class_named headers name) (λ above. IsTrue (is_interface above))) header.interfaces
+  pub superclass : IfSome header.super_name
+      (λ name. IfSome (class_named headers name) (λ above. IsFalse (is_interface above)))
+  pub interfaces : AllByRecursion
+      (λ name. IfSome (class_named headers name)
+      (λ above. IsTrue (is_interface above))) header.interfaces
   pub of_interface : IsTrue (is_interface header) → header.super_name ≡ Some object
   pub root : header.super_name ≡ None → header.name ≡ object
 
@@ -98,15 +102,20 @@ is_method_type other = false
 -- where a constant of the folder passes the test, a class is there
 abbrev pub needed_class_checks : (Const → Bool) → Name → Classes → List (Check Problem)
 needed_class_checks test name classes =
-    asked_if (list_any (has_constant test) classes.folder) (check name rules.Missing (IsThere (headers_of classes) name) ∷ [])
+    asked_if (list_any (has_constant test) classes.folder)
+    (check name rules.Missing (IsThere (headers_of classes) name) ∷ [])
 
 abbrev pub base_checks : Classes → List (Check Problem)
 base_checks classes =
     let headers = headers_of classes in
     asked_each (λ name. check name rules.Missing (IsSome (named name classes.library)) ∷ []) base_names
-    ++ (check object rules.NoMember (IfSome (class_named headers object) HasOneConstructor) ∷ [])
-    ++ asked_each (λ name. check name rules.KindOfSuper (IsBelow headers name throwable) ∷ []) machine_throwables
-    ++ asked_each (λ name. check name rules.KindOfSuper (IfSome (class_named headers name) (λ header. IsTrue (is_interface header))) ∷ []) (serializable ∷ cloneable ∷ [])
+    ++ asked_each
+    (λ name. check name rules.KindOfSuper (IsBelow headers name throwable) ∷ [])
+    machine_throwables
+    ++ asked_each
+    (λ name. check name rules.KindOfSuper
+    (IfSome (class_named headers name) (λ header. IsTrue (is_interface header))) ∷ [])
+    (serializable ∷ cloneable ∷ [])
     ++ needed_class_checks is_method_handle method_handle classes
     ++ needed_class_checks is_method_type method_type classes
 

@@ -2,6 +2,7 @@
 -- 4.10.1.2): each the least relation by its rules. Classes are names, and arrays descriptors.
 use Rattle.std.specs.Prelude.{◌≡◌, ◌⊎◌, List, [], ◌∷◌, ◌++◌, bytes_eq, Some, None, IsTrue}
 use Rattle.std.specs.List.{list_any}
+use Rattle.class_model.specs.Characters.{semicolon, left_bracket, class_letter}
 use Rattle.class_model.specs.declared.header.Header.{Header}
 use Rattle.class_tree.specs.Headers.{Name, Headers, class_named}
 use Rattle.class_tree.specs.Names.{object, cloneable, serializable}
@@ -27,12 +28,15 @@ pub data IsBelow (headers : Headers) : Name → Name → Type 0 where
 
 -- an array, as its descriptor
 abbrev pub IsArray : Name → Type 0
-IsArray name = (rest : Name) × (name ≡ 91 ∷ rest)
+IsArray name = (rest : Name) × (name ≡ left_bracket ∷ rest)
 
 -- the component of an array of references: an array, or a class between L and ;
 pub data IsReferenceComponent : Name → Name → Type 0 where
-  array : (component : Name) → IsArray component → IsReferenceComponent (91 ∷ component) component
-  class : (component : Name) → IsReferenceComponent (91 ∷ 76 ∷ component ++ 59 ∷ []) component
+  array : (component : Name)
+      → IsArray component
+      → IsReferenceComponent (left_bracket ∷ component) component
+  class : (component : Name)
+      → IsReferenceComponent (left_bracket ∷ class_letter ∷ component ++ semicolon ∷ []) component
 
 -- two names, and what they are where a component was taken of both, any number of times
 pub data AreComponents (low high : Name) : Name → Name → Type 0 where

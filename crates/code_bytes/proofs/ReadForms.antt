@@ -7,9 +7,9 @@ use Rattle.class_model.specs.Checks.{fault}
 use Rattle.class_model.specs.declared.fault.FileRule.TheVariants as rules
 use Rattle.class_model.specs.Cutting.{IsBytes}
 use Rattle.class_model.specs.Spelling.{u2}
-use Rattle.class_model.specs.Instructions.{Operands, Alone, U1, U2, S1, S2, U1S1, U2U1, U2U1Zero, U2ZeroZero, Jump2, Jump4, TableSwitch, LookupSwitch, Wide, operands_in, wide_rows, u1_in, u2_in, u4_in, sized, wide_operands, with_operands, is_array_code, has_dimensions, target_of}
+use Rattle.class_model.specs.Instructions.{Operands, Alone, U1, U2, S1, S2, U1S1, ArrayCode, Dimensions, U2U1Zero, U2ZeroZero, Jump2, Jump4, TableSwitch, LookupSwitch, Wide, operands_in, wide_rows, u1_in, u2_in, u4_in, sized, wide_operands, with_operands, is_array_code, has_dimensions, target_of}
 use Rattle.class_model.specs.declared.instr.Instr.{Instr}
-use Rattle.class_model.specs.declared.instr.Instr.TheVariants.{Iinc}
+use Rattle.class_model.specs.declared.instr.Instr.TheVariants.{Iinc, NewArray, NewMulti}
 use Rattle.code_bytes.proofs.Cutoffs.{Cuts, cut_u1, cut_u2, cut_u4, no_more}
 use Rattle.code_bytes.specs.Spellings.{ReadsWide, ReadsWideIinc, Reads, to_of}
 use Rattle.code_bytes.proofs.ReadSwitches.{reads_table, reads_lookup}
@@ -32,7 +32,15 @@ reads_alone at opcode made tail instr small e =
 reads_u1 : (at opcode : ℕ) (makes : ℕ → Instr) (tail : List ℕ) (instr : Instr) → IsBytes tail → IsWhole at opcode (U1 makes) tail instr → Reads at (U1 makes) tail instr
 reads_u1 at opcode makes tail instr small e =
     let number = u1_in tail 0 in
-    let read = sized_if_is (is_array_code (makes number)) at (opcode ∷ tail) 2 (makes number) instr _ e in
+    let read = sized_is at (opcode ∷ tail) 2 (makes number) instr _ e in
+    let long : length tail ≡ 1 = omega (arith, read.count_is) in
+    let cut = cut_u1 tail (omega arith) small in
+    record { number = number; fits = cut.fits; tail_is = one_number tail _ _ number 1 long cut; instr_is = read.made_is }
+
+reads_array_code : (at opcode : ℕ) (tail : List ℕ) (instr : Instr) → IsBytes tail → IsWhole at opcode ArrayCode tail instr → Reads at ArrayCode tail instr
+reads_array_code at opcode tail instr small e =
+    let number = u1_in tail 0 in
+    let read = sized_if_is (is_array_code number) at (opcode ∷ tail) 2 (NewArray number) instr _ e in
     let long : length tail ≡ 1 = omega (arith, read.1.count_is) in
     let cut = cut_u1 tail (omega arith) small in
     record { number = number; fits = (cut.fits, read.0); tail_is = one_number tail _ _ number 1 long cut; instr_is = read.1.made_is }
@@ -94,11 +102,11 @@ reads_u1s1 at opcode makes tail instr small e =
       instr_is = read.made_is;
     }
 
-reads_u2u1 : (at opcode : ℕ) (makes : ℕ → ℕ → Instr) (tail : List ℕ) (instr : Instr) → IsBytes tail → IsWhole at opcode (U2U1 makes) tail instr → Reads at (U2U1 makes) tail instr
-reads_u2u1 at opcode makes tail instr small e =
+reads_dimensions : (at opcode : ℕ) (tail : List ℕ) (instr : Instr) → IsBytes tail → IsWhole at opcode Dimensions tail instr → Reads at Dimensions tail instr
+reads_dimensions at opcode tail instr small e =
     let first = u2_in tail 0 in
     let second = u1_in (drop 2 tail) 0 in
-    let read = sized_if_is (has_dimensions (makes first second)) at (opcode ∷ tail) 4 (makes first second) instr _ e in
+    let read = sized_if_is (has_dimensions second) at (opcode ∷ tail) 4 (NewMulti first second) instr _ e in
     let long : length tail ≡ 3 = omega (arith, read.1.count_is) in
     let cut = cut_u2 tail (omega arith) small in
     let rest : length (drop 2 tail) ≡ 1 = omega (arith, length-drop 2 tail) in
@@ -207,7 +215,8 @@ reads_all at opcode (U2 makes) tail instr small e = reads_u2 at opcode makes tai
 reads_all at opcode (S1 makes) tail instr small e = reads_s1 at opcode makes tail instr small e
 reads_all at opcode (S2 makes) tail instr small e = reads_s2 at opcode makes tail instr small e
 reads_all at opcode (U1S1 makes) tail instr small e = reads_u1s1 at opcode makes tail instr small e
-reads_all at opcode (U2U1 makes) tail instr small e = reads_u2u1 at opcode makes tail instr small e
+reads_all at opcode ArrayCode tail instr small e = reads_array_code at opcode tail instr small e
+reads_all at opcode Dimensions tail instr small e = reads_dimensions at opcode tail instr small e
 reads_all at opcode (U2U1Zero makes) tail instr small e = reads_u2u1_zero at opcode makes tail instr small e
 reads_all at opcode (U2ZeroZero makes) tail instr small e = reads_u2_zero_zero at opcode makes tail instr small e
 reads_all at opcode (Jump2 makes) tail instr small e = reads_jump2 at opcode makes tail instr small e

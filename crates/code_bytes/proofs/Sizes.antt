@@ -4,7 +4,7 @@ use Rattle.std.specs.Prelude.{int_lt}
 use Rattle.std.proofs.lemmas.Bool.{ltb-false}
 use Rattle.class_model.specs.Answers.{Gives}
 use Rattle.class_model.specs.Checks.{Fault, fault}
-use Rattle.class_model.specs.Instructions.{Read, Operands, Alone, U1, U2, S1, S2, U1S1, U2U1, U2U1Zero, U2ZeroZero, Jump2, Jump4, TableSwitch, LookupSwitch, Wide, rows, wide_rows, operands_in, with_operands, wide_operands, table_switch_at, lookup_switch_at, instr_at, sized, sized_if, u1_in, u4_in, s4_in, pad_of, span, keys_increase, pairs_in}
+use Rattle.class_model.specs.Instructions.{Read, Operands, Alone, U1, U2, S1, S2, U1S1, ArrayCode, Dimensions, U2U1Zero, U2ZeroZero, Jump2, Jump4, TableSwitch, LookupSwitch, Wide, rows, wide_rows, operands_in, with_operands, wide_operands, table_switch_at, lookup_switch_at, instr_at, sized, sized_if, u1_in, u4_in, s4_in, pad_of, span, keys_increase, pairs_in}
 use Rattle.class_model.specs.declared.fault.FileRule.TheVariants as rules
 use Rattle.class_model.specs.declared.fault.ClassFault.{ClassFault}
 use Rattle.class_model.specs.declared.instr.Instr.{Instr}
@@ -65,12 +65,13 @@ wide_operands_fit at bytes other = increment_fits at bytes _ _
 operands_fit : (at : ℕ) (bytes : List ℕ) → 0 < length bytes → (operands : Option Operands) → IfRead bytes (with_operands at bytes operands)
 operands_fit at bytes some None = refused bytes _
 operands_fit at bytes some (Some (Alone instr)) = here bytes instr 1 (omega arith) (omega (arith, some))
-operands_fit at bytes some (Some (U1 makes)) = sized_if_fits _ at bytes 2 _ (omega arith)
+operands_fit at bytes some (Some (U1 makes)) = sized_fits at bytes 2 _ (omega arith)
 operands_fit at bytes some (Some (U2 makes)) = sized_fits at bytes 3 _ (omega arith)
 operands_fit at bytes some (Some (S1 makes)) = sized_fits at bytes 2 _ (omega arith)
 operands_fit at bytes some (Some (S2 makes)) = sized_fits at bytes 3 _ (omega arith)
 operands_fit at bytes some (Some (U1S1 makes)) = sized_fits at bytes 3 _ (omega arith)
-operands_fit at bytes some (Some (U2U1 makes)) = sized_if_fits _ at bytes 4 _ (omega arith)
+operands_fit at bytes some (Some ArrayCode) = sized_if_fits _ at bytes 2 _ (omega arith)
+operands_fit at bytes some (Some Dimensions) = sized_if_fits _ at bytes 4 _ (omega arith)
 operands_fit at bytes some (Some (U2U1Zero makes)) = sized_if_fits _ at bytes 5 _ (omega arith)
 operands_fit at bytes some (Some (U2ZeroZero makes)) = sized_if_fits _ at bytes 5 _ (omega arith)
 operands_fit at bytes some (Some (Jump2 makes)) = sized_fits at bytes 3 _ (omega arith)

@@ -5,7 +5,7 @@ use Rattle.std.specs.Int.{cast_unsigned}
 use Rattle.std.proofs.lemmas.Int.{ints, to_z-of_z}
 use Rattle.std.proofs.lemmas.Bool.{cond_both, ltb-true, leb-true, and_parts}
 use Rattle.class_model.specs.Spelling.{u2, u4}
-use Rattle.class_model.specs.Instructions.{Alone, U1, U2, S1, S2, U1S1, Jump2, Jump4, Wide, rows, wide_rows, operands_in, is_array_code, IsSpelling}
+use Rattle.class_model.specs.Instructions.{Alone, U1, U2, S1, S2, U1S1, Jump2, Jump4, Wide, rows, wide_rows, operands_in, IsSpelling}
 use Rattle.class_model.specs.declared.descriptor.Kind.{Kind}
 use Rattle.class_model.specs.declared.descriptor.Kind.TheVariants as kinds
 use Rattle.class_model.specs.declared.instr.Imm.{Imm}
@@ -82,7 +82,7 @@ spells_pushed at (imms.Double bits) (inr e) = rw e (spells_read at 15 _ [] _ ref
 pub spells_ldc : (at index : ℕ) → IsU2 index → IsSpelling at (Ldc index) (ldc_bytes index)
 spells_ldc at index fits =
     cond_both (ltb index 256) _ _ (IsSpelling at (Ldc index))
-    (λ small. spells_read at 18 (U1 Ldc) _ _ refl (record { number = index; fits = (ltb-true index 256 small, refl); tail_is = refl; instr_is = refl }))
+    (λ small. spells_read at 18 (U1 Ldc) _ _ refl (record { number = index; fits = ltb-true index 256 small; tail_is = refl; instr_is = refl }))
     (λ _. spells_read at 19 (U2 Ldc) _ _ refl (record { number = index; fits = fits; tail_is = refl; instr_is = refl }))
 
 -- ---- locals
@@ -92,7 +92,6 @@ pub record HasLocalRows (short general : ℕ) (makes : Kind → ℕ → Instr) :
   pub alone : (kind : Kind) (index : ℕ) → index < 4 → operands_in rows (short + 4 * kind_index kind + index) ≡ Some (Alone (makes kind index))
   pub indexed : (kind : Kind) → operands_in rows (general + kind_index kind) ≡ Some (U1 (makes kind))
   pub widened : (kind : Kind) → operands_in wide_rows (general + kind_index kind) ≡ Some (U2 (makes kind))
-  pub no_array : (kind : Kind) (index : ℕ) → is_array_code (makes kind index) ≡ true
 
 each_below_4 : (P : ℕ → Type 0) → P 0 → P 1 → P 2 → P 3 → (index : ℕ) → index < 4 → P index
 each_below_4 P a b c d zero h = a
@@ -127,7 +126,6 @@ load_rows = record {
   alone = load_alone;
   indexed = each_kind (λ kind. operands_in rows (21 + kind_index kind) ≡ Some (U1 (Load kind))) refl refl refl refl refl;
   widened = each_kind (λ kind. operands_in wide_rows (21 + kind_index kind) ≡ Some (U2 (Load kind))) refl refl refl refl refl;
-  no_array = λ _ _. refl;
 }
 
 pub store_rows : HasLocalRows 59 54 Store
@@ -135,7 +133,6 @@ store_rows = record {
   alone = store_alone;
   indexed = each_kind (λ kind. operands_in rows (54 + kind_index kind) ≡ Some (U1 (Store kind))) refl refl refl refl refl;
   widened = each_kind (λ kind. operands_in wide_rows (54 + kind_index kind) ≡ Some (U2 (Store kind))) refl refl refl refl refl;
-  no_array = λ _ _. refl;
 }
 
 pub spells_local : (at short general : ℕ) (makes : Kind → ℕ → Instr) (kind : Kind) (index : ℕ) → HasLocalRows short general makes → IsU2 index → IsSpelling at (makes kind index) (local_bytes short general kind index)
@@ -144,7 +141,7 @@ spells_local at short general makes kind index found fits =
     cond_both (ltb index 4) _ _ Spells
     (λ small. spells_read at (short + 4 * kind_index kind + index) _ [] _ (found.alone kind index (ltb-true index 4 small)) (refl, refl))
     (λ _. cond_both (ltb index 256) _ _ Spells
-    (λ small. spells_read at (general + kind_index kind) (U1 (makes kind)) _ _ (found.indexed kind) (record { number = index; fits = (ltb-true index 256 small, found.no_array kind index); tail_is = refl; instr_is = refl }))
+    (λ small. spells_read at (general + kind_index kind) (U1 (makes kind)) _ _ (found.indexed kind) (record { number = index; fits = ltb-true index 256 small; tail_is = refl; instr_is = refl }))
     (λ _. spells_read at 196 Wide _ _ refl (inl (record { opcode = general + kind_index kind; makes = makes kind; index = index; found = found.widened kind; index_fits = fits; tail_is = refl; instr_is = refl }))))
 
 pub spells_iinc : (at index : ℕ) (number : ℤ) → IsU2 index → FitsSigned w16 number → IsSpelling at (Iinc index number) (iinc_bytes index number)

@@ -2,7 +2,7 @@
 use Rattle.std.proofs.Common.{◌≡◌, ℕ, eqb, Bool, true, false, [], ◌∷◌, Some, None, inl, inr, ◌⊎◌, refl, sym, ap, ◌∙◌, arith}
 use Rattle.std.proofs.lemmas.Bool.{eqb-true, ne_eqb, le-leb, lt-ltb, and_from}
 use Rattle.class_model.specs.Spelling.{u2}
-use Rattle.class_model.specs.Instructions.{Operands, Alone, U1, U2, U2U1, U2U1Zero, U2ZeroZero, Jump2, rows, operands_in, IsSpelling}
+use Rattle.class_model.specs.Instructions.{Operands, Alone, U2, ArrayCode, Dimensions, U2U1Zero, U2ZeroZero, Jump2, rows, operands_in, IsSpelling}
 use Rattle.class_model.specs.declared.descriptor.Kind.{Kind}
 use Rattle.class_model.specs.declared.descriptor.Kind.TheVariants as kinds
 use Rattle.class_model.specs.declared.instr.Instr.{Instr}
@@ -81,9 +81,9 @@ spells_instr at (PutField field) has fits = indexed at 181 PutField field refl f
 spells_instr at (Invoke opcode method count) has fits = invoked at opcode method count has.form fits.0 fits.1
 spells_instr at (Dynamic site) has fits = spells_read at 186 (U2ZeroZero Dynamic) _ _ refl (record { number = site; fits = fits; tail_is = refl; instr_is = refl })
 spells_instr at (New class) has fits = indexed at 187 New class refl fits
-spells_instr at (NewArray code) has fits = spells_read at 188 (U1 NewArray) _ _ refl (record { number = code; fits = (omega (arith, has.form.1), and_from _ _ (le-leb 4 code has.form.0) (le-leb code 11 has.form.1)); tail_is = refl; instr_is = refl })
+spells_instr at (NewArray code) has fits = spells_read at 188 ArrayCode _ _ refl (record { number = code; fits = (omega (arith, has.form.1), and_from _ _ (le-leb 4 code has.form.0) (le-leb code 11 has.form.1)); tail_is = refl; instr_is = refl })
 spells_instr at (NewRefArray class) has fits = indexed at 189 NewRefArray class refl fits
-spells_instr at (NewMulti class dimensions) has fits = spells_read at 197 (U2U1 NewMulti) _ _ refl (record { first = class; second = dimensions; fits = (fits.0, fits.1, lt-ltb 0 dimensions (omega (arith, has.form))); tail_is = refl; instr_is = refl })
+spells_instr at (NewMulti class dimensions) has fits = spells_read at 197 Dimensions _ _ refl (record { first = class; second = dimensions; fits = (fits.0, fits.1, lt-ltb 0 dimensions (omega (arith, has.form))); tail_is = refl; instr_is = refl })
 spells_instr at Length has fits = alone at 190 _ refl
 spells_instr at Throw has fits = alone at 191 _ refl
 spells_instr at (Cast class) has fits = indexed at 192 Cast class refl fits

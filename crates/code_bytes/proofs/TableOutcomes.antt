@@ -5,7 +5,7 @@ use Rattle.std.specs.List.{AllByRecursion}
 use Rattle.std.proofs.lemmas.Bool.{eqb-true, ne_eqb}
 use Rattle.class_model.specs.Laws.Checks.{◌▸◌}
 use Rattle.class_model.specs.Spelling.{u2}
-use Rattle.class_model.specs.Instructions.{Operands, Alone, U1, U2, S1, S2, U1S1, U2U1, U2U1Zero, U2ZeroZero, Jump2, Jump4, TableSwitch, LookupSwitch, Wide, rows, wide_rows, operands_in, kind_at, target_of}
+use Rattle.class_model.specs.Instructions.{Operands, Alone, U1, U2, S1, S2, U1S1, ArrayCode, Dimensions, U2U1Zero, U2ZeroZero, Jump2, Jump4, TableSwitch, LookupSwitch, Wide, rows, wide_rows, operands_in, kind_at, target_of}
 use Rattle.class_model.specs.declared.instr.Imm.TheVariants as imms
 use Rattle.class_model.specs.declared.instr.Instr.{Instr}
 use Rattle.class_model.specs.declared.instr.Instr.TheVariants.{Const, Ldc, Ldc2, Load, Store, Iinc, If, If2, IfSame, IfNull, Goto, GetStatic, PutStatic, GetField, PutField, Invoke, Dynamic, New, NewArray, NewRefArray, NewMulti, Cast, InstanceOf}
@@ -74,13 +74,13 @@ load_byte : (at opcode : ℕ) → 21 ≤ opcode → opcode ≤ 25 → Rule at op
 unfolding instr_bytes
 load_byte at opcode least most = by_one at opcode _ _ (Load (kind_at (opcode - 21))) (λ n fits.
     subst (λ o. Written at (Load (kind_at (opcode - 21)) n) (o ∷ n ∷ [])) (kind_opcode 21 opcode least most)
-    (local_byte at 26 21 Load load_rows (omega arith) (omega arith) (kind_at (opcode - 21)) n fits.0))
+    (local_byte at 26 21 Load load_rows (omega arith) (omega arith) (kind_at (opcode - 21)) n fits))
 
 store_byte : (at opcode : ℕ) → 54 ≤ opcode → opcode ≤ 58 → Rule at opcode (U1 (Store (kind_at (opcode - 54))))
 unfolding instr_bytes
 store_byte at opcode least most = by_one at opcode _ _ (Store (kind_at (opcode - 54))) (λ n fits.
     subst (λ o. Written at (Store (kind_at (opcode - 54)) n) (o ∷ n ∷ [])) (kind_opcode 54 opcode least most)
-    (local_byte at 59 54 Store store_rows (omega arith) (omega arith) (kind_at (opcode - 54)) n fits.0))
+    (local_byte at 59 54 Store store_rows (omega arith) (omega arith) (kind_at (opcode - 54)) n fits))
 
 invoke_word : (at opcode : ℕ) → 182 ≤ opcode → opcode ≤ 184 → Rule at opcode (U2 (λ method. Invoke opcode method 0))
 unfolding instr_bytes
@@ -130,7 +130,7 @@ all_rules at =
     ▸ skip
     ▸ only (λ o. Rule at o (S1 (λ n. Const (imms.Int n)))) 16 (by_one at 16 _ _ _ (int_byte at))
     ▸ only (λ o. Rule at o (S2 (λ n. Const (imms.Int n)))) 17 (by_one at 17 _ _ _ (int_word at))
-    ▸ only (λ o. Rule at o (U1 Ldc)) 18 (by_one at 18 _ _ Ldc (λ n fits. ldc_byte at n fits.0))
+    ▸ only (λ o. Rule at o (U1 Ldc)) 18 (by_one at 18 _ _ Ldc (ldc_byte at))
     ▸ only (λ o. Rule at o (U2 Ldc)) 19 (by_one at 19 _ _ Ldc (ldc_word at))
     ▸ only (λ o. Rule at o (U2 Ldc2)) 20 (same_u2 at 20 Ldc2 (λ _. refl))
     ▸ load_byte at
@@ -173,10 +173,10 @@ all_rules at =
     ▸ only (λ o. Rule at o (U2 GetField)) 180 (same_u2 at 180 GetField (λ _. refl))
     ▸ only (λ o. Rule at o (U2 PutField)) 181 (same_u2 at 181 PutField (λ _. refl))
     ▸ invoke_word at
-    ▸ only (λ o. Rule at o (U2U1Zero (Invoke o))) 185 (by_two at 185 _ _ (Invoke 185) (λ n m _. exact at (Invoke 185 n m) _ _ refl))
+    ▸ only (λ o. Rule at o (U2U1Zero (Invoke 185))) 185 (by_two at 185 _ _ (Invoke 185) (λ n m _. exact at (Invoke 185 n m) _ _ refl))
     ▸ only (λ o. Rule at o (U2ZeroZero Dynamic)) 186 (by_one at 186 _ _ Dynamic (λ n _. exact at (Dynamic n) _ _ refl))
     ▸ only (λ o. Rule at o (U2 New)) 187 (same_u2 at 187 New (λ _. refl))
-    ▸ only (λ o. Rule at o (U1 NewArray)) 188 (by_one at 188 _ _ NewArray (λ n _. exact at (NewArray n) _ _ refl))
+    ▸ only (λ o. Rule at o ArrayCode) 188 (by_one at 188 _ _ NewArray (λ n _. exact at (NewArray n) _ _ refl))
     ▸ only (λ o. Rule at o (U2 NewRefArray)) 189 (same_u2 at 189 NewRefArray (λ _. refl))
     ▸ skip
     ▸ skip
@@ -185,7 +185,7 @@ all_rules at =
     ▸ skip
     ▸ skip
     ▸ only (λ o. Rule at o Wide) 196 (wide_rule at)
-    ▸ only (λ o. Rule at o (U2U1 NewMulti)) 197 (by_two at 197 _ _ NewMulti (λ n m _. exact at (NewMulti n m) _ _ refl))
+    ▸ only (λ o. Rule at o Dimensions) 197 (by_two at 197 _ _ NewMulti (λ n m _. exact at (NewMulti n m) _ _ refl))
     ▸ (λ o _ _. same_jump at o (IfNull o) (λ _. refl))
     ▸ only (λ o. Rule at o (Jump4 Goto)) 200 (by_one at 200 _ _ _ (goto_far at))
     ▸ tt

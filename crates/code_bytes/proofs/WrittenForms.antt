@@ -7,9 +7,9 @@ use Rattle.class_model.specs.Checks.{fault}
 use Rattle.class_model.specs.Laws.Cuts.{u1_front, u2_front}
 use Rattle.class_model.specs.declared.fault.FileRule.TheVariants as rules
 use Rattle.class_model.specs.Spelling.{u2, u4}
-use Rattle.class_model.specs.Instructions.{Operands, Alone, U1, U2, S1, S2, U1S1, U2U1, U2U1Zero, U2ZeroZero, Jump2, Jump4, TableSwitch, LookupSwitch, Wide, rows, operands_in, wide_rows, u1_in, u2_in, wide_operands, with_operands, IsSpelling, instr_at, is_array_code, has_dimensions, target_of}
+use Rattle.class_model.specs.Instructions.{Operands, Alone, U1, U2, S1, S2, U1S1, ArrayCode, Dimensions, U2U1Zero, U2ZeroZero, Jump2, Jump4, TableSwitch, LookupSwitch, Wide, rows, operands_in, wide_rows, u1_in, u2_in, wide_operands, with_operands, IsSpelling, instr_at, is_array_code, has_dimensions, target_of}
 use Rattle.class_model.specs.declared.instr.Instr.{Instr}
-use Rattle.class_model.specs.declared.instr.Instr.TheVariants.{Iinc}
+use Rattle.class_model.specs.declared.instr.Instr.TheVariants.{Iinc, NewArray, NewMulti}
 use Rattle.code_bytes.proofs.Sized.{no_fault, sized_long, sized_if_long}
 use Rattle.code_bytes.proofs.Fronts.{u4_front, GivesBack}
 use Rattle.code_bytes.proofs.WrittenSwitches.{gives_table, gives_lookup}
@@ -25,9 +25,13 @@ gives_alone at made tail instr r opcode rest = rw (r.0, r.1)
 
 gives_u1 : (at : ℕ) (makes : ℕ → Instr) (tail : List ℕ) (instr : Instr) → Reads at (U1 makes) tail instr → GivesBack at (U1 makes) tail instr
 gives_u1 at makes tail instr r opcode rest =
+    rw (r.tail_is, r.instr_is) (sized_long at (opcode ∷ r.number ∷ rest) 2 _ (omega arith) ∙ ap (λ n. Ok (makes n, 2)) (u1_front r.number rest))
+
+gives_array_code : (at : ℕ) (tail : List ℕ) (instr : Instr) → Reads at ArrayCode tail instr → GivesBack at ArrayCode tail instr
+gives_array_code at tail instr r opcode rest =
     let number = u1_front r.number rest in
-    let allowed = ap (λ n. is_array_code (makes n)) number ∙ r.fits.1 in
-    rw (r.tail_is, r.instr_is) (sized_if_long _ at (opcode ∷ r.number ∷ rest) 2 _ allowed (omega arith) ∙ ap (λ n. Ok (makes n, 2)) number)
+    let allowed = ap is_array_code number ∙ r.fits.1 in
+    rw (r.tail_is, r.instr_is) (sized_if_long _ at (opcode ∷ r.number ∷ rest) 2 _ allowed (omega arith) ∙ ap (λ n. Ok (NewArray n, 2)) number)
 
 gives_u2 : (at : ℕ) (makes : ℕ → Instr) (tail : List ℕ) (instr : Instr) → Reads at (U2 makes) tail instr → GivesBack at (U2 makes) tail instr
 gives_u2 at makes tail instr r opcode rest =
@@ -49,12 +53,12 @@ gives_u1s1 at makes tail instr r opcode rest =
     ∙ ap (λ n. Ok (makes n (cast_signed w8 (u1_in (r.second ∷ rest) 0)), 3)) first
     ∙ ap (λ m. Ok (makes r.first (cast_signed w8 m), 3)) second)
 
-gives_u2u1 : (at : ℕ) (makes : ℕ → ℕ → Instr) (tail : List ℕ) (instr : Instr) → Reads at (U2U1 makes) tail instr → GivesBack at (U2U1 makes) tail instr
-gives_u2u1 at makes tail instr r opcode rest =
+gives_dimensions : (at : ℕ) (tail : List ℕ) (instr : Instr) → Reads at Dimensions tail instr → GivesBack at Dimensions tail instr
+gives_dimensions at tail instr r opcode rest =
     let first = u2_front r.first (r.second ∷ rest) r.fits.0 in
     let second = u1_front r.second rest in
-    let made = ap (λ n. makes n (u1_in (r.second ∷ rest) 0)) first ∙ ap (makes r.first) second in
-    rw (r.tail_is, r.instr_is) (sized_if_long _ at (opcode ∷ (u2 r.first ++ r.second ∷ rest)) 4 _ (ap has_dimensions made ∙ r.fits.2) (omega arith) ∙ ap (λ i. Ok (i, 4)) made)
+    let made = ap (λ n. NewMulti n (u1_in (r.second ∷ rest) 0)) first ∙ ap (NewMulti r.first) second in
+    rw (r.tail_is, r.instr_is) (sized_if_long _ at (opcode ∷ (u2 r.first ++ r.second ∷ rest)) 4 _ (ap has_dimensions second ∙ r.fits.2) (omega arith) ∙ ap (λ i. Ok (i, 4)) made)
 
 gives_u2u1_zero : (at : ℕ) (makes : ℕ → ℕ → Instr) (tail : List ℕ) (instr : Instr) → Reads at (U2U1Zero makes) tail instr → GivesBack at (U2U1Zero makes) tail instr
 gives_u2u1_zero at makes tail instr r opcode rest =
@@ -98,7 +102,8 @@ gives_back at (U2 makes) tail instr r = gives_u2 at makes tail instr r
 gives_back at (S1 makes) tail instr r = gives_s1 at makes tail instr r
 gives_back at (S2 makes) tail instr r = gives_s2 at makes tail instr r
 gives_back at (U1S1 makes) tail instr r = gives_u1s1 at makes tail instr r
-gives_back at (U2U1 makes) tail instr r = gives_u2u1 at makes tail instr r
+gives_back at ArrayCode tail instr r = gives_array_code at tail instr r
+gives_back at Dimensions tail instr r = gives_dimensions at tail instr r
 gives_back at (U2U1Zero makes) tail instr r = gives_u2u1_zero at makes tail instr r
 gives_back at (U2ZeroZero makes) tail instr r = gives_u2_zero_zero at makes tail instr r
 gives_back at (Jump2 makes) tail instr r = gives_jump2 at makes tail instr r

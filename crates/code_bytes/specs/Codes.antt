@@ -32,22 +32,30 @@ HasReadMethods class = AllByRecursion (IsReadMethod class.pool) class.methods
 
 -- the constants that instructions name are of the kinds that they may name
 abbrev pub HaveOperands : Constants → ℕ → ℕ → Result (List Placed) Fault → Type 0
-HaveOperands pool major max_locals (Ok instrs) = AllByRecursion (λ placed. OperandFits pool major max_locals placed.instr) instrs
+HaveOperands pool major max_locals (Ok instrs) =
+    AllByRecursion (λ placed. OperandFits pool major max_locals placed.instr) instrs
 HaveOperands pool major max_locals (Err fault) = Unit {0}
 
 abbrev pub HasOperands : Constants → ℕ → Attr → Type 0
-HasOperands pool major (Code name part) = HaveOperands pool major part.max_locals (decoded part.code)
+HasOperands pool major (Code name part) =
+    HaveOperands pool major part.max_locals (decoded part.code)
 HasOperands pool major (Raw name bytes) = Unit {0}
 
 -- those of each code of a class file
 abbrev pub HasReadOperands : ClassFile → Type 0
-HasReadOperands class = AllByRecursion (λ method. AllByRecursion (HasOperands class.pool class.major) method.attrs) class.methods
+HasReadOperands class =
+    AllByRecursion (λ method. AllByRecursion
+    (HasOperands class.pool class.major) method.attrs) class.methods
 
 -- each StackMapTable of a code can be read
 abbrev pub HaveFrames : Home → Method → Attr → Type 0
 HaveFrames home method (Code name part) =
-    AllByRecursion (λ attr. IsTrue (inner_is_named home.pool stack_map_table attr) → ((frames : List PlacedFrame) × (stated_frames home method part (decoded part.code) attr ≡ Ok frames))) part.attrs
+    AllByRecursion (λ attr. IsTrue (inner_is_named home.pool stack_map_table attr) →
+    ((frames : List PlacedFrame) ×
+    (stated_frames home method part (decoded part.code) attr ≡ Ok frames))) part.attrs
 HaveFrames home method (Raw name bytes) = Unit {0}
 
 abbrev pub HasReadFrames : ClassFile → Type 0
-HasReadFrames class = AllByRecursion (λ method. AllByRecursion (HaveFrames (home_of class) method) method.attrs) class.methods
+HasReadFrames class =
+    AllByRecursion (λ method. AllByRecursion
+    (HaveFrames (home_of class) method) method.attrs) class.methods

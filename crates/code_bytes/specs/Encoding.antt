@@ -4,6 +4,7 @@ use Rattle.std.specs.Int.{w16, w32}
 use Rattle.std.specs.List.{AllByRecursion}
 use Rattle.class_model.specs.Cutting.{IsBytes}
 use Rattle.class_model.specs.Instructions.{IsSpelling, Operands, Alone, U2, U2U1Zero, Jump2, rows, operands_in, keys_increase, pad_of, targets}
+use Rattle.class_model.specs.declared.array_codes.TheConstants.{T_BOOLEAN, T_LONG}
 use Rattle.class_model.specs.declared.instr.Imm.{Imm}
 use Rattle.class_model.specs.declared.instr.Imm.TheVariants as imms
 use Rattle.class_model.specs.declared.instr.Instr.{Instr}
@@ -44,11 +45,13 @@ FitsForm at (If opcode to) = OpcodeTakes opcode (Jump2 (If opcode)) × Reaches a
 FitsForm at (If2 opcode to) = OpcodeTakes opcode (Jump2 (If2 opcode)) × Reaches at to
 FitsForm at (IfSame opcode to) = OpcodeTakes opcode (Jump2 (IfSame opcode)) × Reaches at to
 FitsForm at (IfNull opcode to) = OpcodeTakes opcode (Jump2 (IfNull opcode)) × Reaches at to
-FitsForm at (Table low other to) = (1 ≤ length to) × (length to ≤ 65535) × FitsSigned w32 (low +ℤ pos (length to - 1))
+FitsForm at (Table low other to) =
+    (1 ≤ length to) × (length to ≤ 65535) × FitsSigned w32 (low +ℤ pos (length to - 1))
 FitsForm at (Lookup other pairs) = (length pairs ≤ 65535) × IsTrue (keys_increase pairs)
 FitsForm at (Invoke opcode method count) =
-    (OpcodeTakes opcode (U2 (λ m. Invoke opcode m 0)) × (count ≡ 0)) ⊎ OpcodeTakes opcode (U2U1Zero (Invoke opcode))
-FitsForm at (NewArray code) = (4 ≤ code) × (code ≤ 11)
+    (OpcodeTakes opcode (U2 (λ m. Invoke opcode m 0)) × (count ≡ 0))
+    ⊎ OpcodeTakes opcode (U2U1Zero (Invoke opcode))
+FitsForm at (NewArray code) = (T_BOOLEAN ≤ code) × (code ≤ T_LONG)
 FitsForm at (NewMulti class dimensions) = 1 ≤ dimensions
 FitsForm at instr = Unit {0}
 
@@ -63,7 +66,10 @@ pub record HasSpelling (at : ℕ) (instr : Instr) : Type 0 where
 -- no bytes that spell it are fewer
 pub record IsShortest (at : ℕ) (instr : Instr) (bytes : List ℕ) : Type 0 where
   pub spells : IsSpelling at instr bytes
-  pub least : (other : List ℕ) → IsBytes other → IsSpelling at instr other → length bytes ≤ length other
+  pub least : (other : List ℕ)
+      → IsBytes other
+      → IsSpelling at instr other
+      → length bytes ≤ length other
 
 -- the pad bytes of a switch are zero
 abbrev pub HasZeroPad : ℕ → Instr → List ℕ → Type 0

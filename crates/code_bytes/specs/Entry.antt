@@ -12,4 +12,6 @@ class_entry None = types.Top
 
 -- the entry of this in a method of these flags and this name, if it has one
 abbrev pub this_entries : ℕ → Option (List ℕ) → Option (List ℕ) → List VType
-this_entries flags name class = if has flags STATIC then [] else ((if is_text init name then types.UninitThis else class_entry class) ∷ [])
+this_entries flags name class =
+    if has flags STATIC then []
+    else ((if is_text init name then types.UninitThis else class_entry class) ∷ [])

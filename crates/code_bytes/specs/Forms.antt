@@ -38,7 +38,8 @@ abbrev pub pushed_bytes : Imm → List ℕ
 pushed_bytes imms.Null = ACONST_NULL ∷ []
 pushed_bytes (imms.Int number) = int_bytes number
 pushed_bytes (imms.Long number) = (LCONST_0 + unsigned_abs number) ∷ []
-pushed_bytes (imms.Float bits) = (if bits == 0 then FCONST_0 else (if bits == 0x3F800000 then FCONST_1 else FCONST_2)) ∷ []
+pushed_bytes (imms.Float bits) =
+    (if bits == 0 then FCONST_0 else (if bits == 0x3F800000 then FCONST_1 else FCONST_2)) ∷ []
 pushed_bytes (imms.Double bits) = (if bits == 0 then DCONST_0 else DCONST_1) ∷ []
 
 -- ldc or ldc_w
@@ -72,7 +73,8 @@ jump_bytes opcode at to = opcode ∷ u2 (offset_of at to % 2 ^ 16)
 
 -- goto or goto_w
 abbrev pub goto_bytes : ℕ → ℕ → List ℕ
-goto_bytes at to = if is_near (offset_of at to) then jump_bytes GOTO at to else GOTO_W ∷ u4 (offset_of at to)
+goto_bytes at to =
+    if is_near (offset_of at to) then jump_bytes GOTO at to else GOTO_W ∷ u4 (offset_of at to)
 
 -- the opcode of a switch and its pad bytes, before its other operands
 abbrev pub switch_bytes : ℕ → ℕ → List ℕ → List ℕ
@@ -85,7 +87,9 @@ target_bytes at to = u4 (offset_of at to)
 -- tableswitch
 abbrev pub table_bytes : ℕ → ℤ → ℕ → List ℕ → List ℕ
 table_bytes at low other to =
-    switch_bytes TABLESWITCH at (target_bytes at other ++ (u4 (cast_unsigned w32 low) ++ (u4 (cast_unsigned w32 (low +ℤ pos (length to - 1))) ++ flat_map (target_bytes at) to)))
+    switch_bytes TABLESWITCH at (target_bytes at other
+    ++ (u4 (cast_unsigned w32 low)
+    ++ (u4 (cast_unsigned w32 (low +ℤ pos (length to - 1))) ++ flat_map (target_bytes at) to)))
 
 -- a key and its target
 abbrev pub pair_bytes : ℕ → Pair → List ℕ
@@ -94,7 +98,8 @@ pair_bytes at pair = u4 (cast_unsigned w32 pair.key) ++ target_bytes at pair.to
 -- lookupswitch
 abbrev pub lookup_bytes : ℕ → ℕ → List Pair → List ℕ
 lookup_bytes at other pairs =
-    switch_bytes LOOKUPSWITCH at (target_bytes at other ++ (u4 (length pairs) ++ flat_map (pair_bytes at) pairs))
+    switch_bytes LOOKUPSWITCH at
+    (target_bytes at other ++ (u4 (length pairs) ++ flat_map (pair_bytes at) pairs))
 
 -- the return of a value, or of none
 abbrev pub return_bytes : Option Kind → List ℕ
@@ -103,7 +108,9 @@ return_bytes (Some kind) = (IRETURN + kind_index kind) ∷ []
 
 -- a call: of an interface, with the count and a byte that is zero
 abbrev pub invoke_bytes : ℕ → ℕ → ℕ → List ℕ
-invoke_bytes opcode method count = if opcode == INVOKEINTERFACE then INVOKEINTERFACE ∷ (u2 method ++ count ∷ 0 ∷ []) else opcode ∷ u2 method
+invoke_bytes opcode method count =
+    if opcode == INVOKEINTERFACE then INVOKEINTERFACE ∷ (u2 method ++ count ∷ 0 ∷ [])
+    else opcode ∷ u2 method
 
 -- an instruction at an offset
 unfoldable pub instr_bytes : ℕ → Instr → List ℕ

@@ -4,7 +4,8 @@ use Rattle.std.specs.Prelude.{◌≡◌, ◌==◌, ℕ, zero, suc, List, [], ◌
 -- the number of the first of these offsets that is this one
 abbrev pub first_at : List ℕ → ℕ → Option ℕ
 first_at [] at = None
-first_at (offset ∷ offsets) at = if offset == at then Some 0 else option_map suc (first_at offsets at)
+first_at (offset ∷ offsets) at =
+    if offset == at then Some 0 else option_map suc (first_at offsets at)
 
 -- what a table says of an offset: a number counted from 1, or 0 for none
 abbrev pub number_in : List ℕ → ℕ → Option ℕ

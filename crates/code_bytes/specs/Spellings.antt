@@ -4,10 +4,10 @@ use Rattle.std.specs.Prelude.{◌≡◌, ◌⊎◌, ℕ, ◌^◌, ◌<◌, ℤ, 
 use Rattle.std.specs.Int.{w8, w16, w32, cast_signed}
 use Rattle.std.specs.List.{flat_map, AllByRecursion}
 use Rattle.class_model.specs.Spelling.{u2, u4}
-use Rattle.class_model.specs.Instructions.{Operands, Alone, U1, U2, S1, S2, U1S1, U2U1, U2U1Zero, U2ZeroZero, Jump2, Jump4, TableSwitch, LookupSwitch, Wide, operands_in, rows, wide_rows, is_array_code, has_dimensions, target_of, pad_of, span, keys_increase}
+use Rattle.class_model.specs.Instructions.{Operands, Alone, U1, U2, S1, S2, U1S1, ArrayCode, Dimensions, U2U1Zero, U2ZeroZero, Jump2, Jump4, TableSwitch, LookupSwitch, Wide, operands_in, rows, wide_rows, is_array_code, has_dimensions, target_of, pad_of, span, keys_increase}
 use Rattle.class_model.specs.declared.instr.Pair.{Pair}
 use Rattle.class_model.specs.declared.instr.Instr.{Instr}
-use Rattle.class_model.specs.declared.instr.Instr.TheVariants.{Iinc, Table, Lookup}
+use Rattle.class_model.specs.declared.instr.Instr.TheVariants.{Iinc, NewArray, NewMulti, Table, Lookup}
 use Rattle.class_model.specs.declared.opcodes.TheConstants.{IINC}
 use Rattle.code_bytes.specs.Numbers.{IsU1, IsU2}
 
@@ -81,14 +81,16 @@ pub record ReadsWideIinc (tail : List ℕ) (instr : Instr) : Type 0 where
   pub instr_is : instr ≡ Iinc index (cast_signed w16 bits)
 
 -- one number, of which the bytes and the instruction are made
-pub record ReadsOne (Fits : ℕ → Type 0) (bytes : ℕ → List ℕ) (makes : ℕ → Instr) (tail : List ℕ) (instr : Instr) : Type 0 where
+pub record ReadsOne (Fits : ℕ → Type 0) (bytes : ℕ → List ℕ) (makes : ℕ → Instr)
+    (tail : List ℕ) (instr : Instr) : Type 0 where
   pub number : ℕ
   pub fits : Fits number
   pub tail_is : tail ≡ bytes number
   pub instr_is : instr ≡ makes number
 
 -- two numbers
-pub record ReadsTwo (Fits : ℕ → ℕ → Type 0) (bytes : ℕ → ℕ → List ℕ) (makes : ℕ → ℕ → Instr) (tail : List ℕ) (instr : Instr) : Type 0 where
+pub record ReadsTwo (Fits : ℕ → ℕ → Type 0) (bytes : ℕ → ℕ → List ℕ) (makes : ℕ → ℕ → Instr)
+    (tail : List ℕ) (instr : Instr) : Type 0 where
   pub first : ℕ
   pub second : ℕ
   pub fits : Fits first second
@@ -101,15 +103,27 @@ u1 number = number ∷ []
 -- These operands, which are the tail, make this instruction.
 abbrev pub Reads : ℕ → Operands → List ℕ → Instr → Type 0
 Reads at (Alone made) tail instr = (tail ≡ []) × (instr ≡ made)
-Reads at (U1 makes) tail instr = ReadsOne (λ n. IsU1 n × (is_array_code (makes n) ≡ true)) u1 makes tail instr
+Reads at (U1 makes) tail instr = ReadsOne IsU1 u1 makes tail instr
 Reads at (U2 makes) tail instr = ReadsOne IsU2 u2 makes tail instr
 Reads at (S1 makes) tail instr = ReadsOne IsU1 u1 (λ n. makes (cast_signed w8 n)) tail instr
 Reads at (S2 makes) tail instr = ReadsOne IsU2 u2 (λ n. makes (cast_signed w16 n)) tail instr
-Reads at (U1S1 makes) tail instr = ReadsTwo (λ n m. IsU1 n × IsU1 m) (λ n m. n ∷ m ∷ []) (λ n m. makes n (cast_signed w8 m)) tail instr
-Reads at (U2U1 makes) tail instr = ReadsTwo (λ n m. IsU2 n × IsU1 m × (has_dimensions (makes n m) ≡ true)) (λ n m. u2 n ++ m ∷ []) makes tail instr
-Reads at (U2U1Zero makes) tail instr = ReadsTwo (λ n m. IsU2 n × IsU1 m) (λ n m. u2 n ++ m ∷ 0 ∷ []) makes tail instr
+Reads at (U1S1 makes) tail instr =
+    ReadsTwo
+    (λ n m. IsU1 n × IsU1 m)
+    (λ n m. n ∷ m ∷ [])
+    (λ n m. makes n (cast_signed w8 m)) tail instr
+Reads at ArrayCode tail instr =
+    ReadsOne (λ n. IsU1 n × (is_array_code n ≡ true)) u1 NewArray tail instr
+Reads at Dimensions tail instr =
+    ReadsTwo
+    (λ n m. IsU2 n × IsU1 m × (has_dimensions m ≡ true))
+    (λ n m. u2 n ++ m ∷ [])
+    NewMulti tail instr
+Reads at (U2U1Zero makes) tail instr =
+    ReadsTwo (λ n m. IsU2 n × IsU1 m) (λ n m. u2 n ++ m ∷ 0 ∷ []) makes tail instr
 Reads at (U2ZeroZero makes) tail instr = ReadsOne IsU2 (λ n. u2 n ++ 0 ∷ 0 ∷ []) makes tail instr
-Reads at (Jump2 makes) tail instr = ReadsOne IsU2 u2 (λ n. makes (target_of at (cast_signed w16 n))) tail instr
+Reads at (Jump2 makes) tail instr =
+    ReadsOne IsU2 u2 (λ n. makes (target_of at (cast_signed w16 n))) tail instr
 Reads at (Jump4 makes) tail instr = ReadsOne IsU4 u4 (λ n. makes (to_of at n)) tail instr
 Reads at TableSwitch tail instr = ReadsTable at tail instr
 Reads at LookupSwitch tail instr = ReadsLookup at tail instr

@@ -20,7 +20,8 @@ const MAX_LENGTH: usize = 65_535;
 /// `Malformed` at an offset with the first fault: `CodeLength` at 0; then, by offset, `Opcode` and `Operand`;
 /// then, by offset, `Jump`. `NoMemory`, where memory runs out.
 pub fn decode(alloc: Global, code: &[u8]) -> Result<PlacedList, ClassFault>
-    ensures told { Tells (decoding_checks code.now) (λ instrs. decoded code.now ≡ Ok instrs) result }
+    ensures told { Tells (decoding_checks code.now)
+        (λ instrs. decoded code.now ≡ Ok instrs) result }
     ensures code { IfOk result (CodeOf code.now) }
 {
     if code.is_empty() || code.len() > MAX_LENGTH {

@@ -40,7 +40,10 @@ pub fn code_len(instr: &Instr, at: u32) -> u32
     requires { HasSpelling at instr.now }
     ensures chosen { (bytes : List ℕ) × IsChosen at instr.now bytes × (result ≡ length bytes) }
     ensures written { result ≡ length (instr_bytes at instr.now) }
-    ensures each { (bytes : List ℕ) → IsBytes bytes → IsChosen at instr.now bytes → result ≡ length bytes }
+    ensures each { (bytes : List ℕ)
+        → IsBytes bytes
+        → IsChosen at instr.now bytes
+        → result ≡ length bytes }
 {
     form_of(instr, at).len()
 }

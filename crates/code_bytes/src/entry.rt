@@ -48,7 +48,9 @@ pub fn entry_locals(
     desc: &Text,
 ) -> Result<LocalTypeList, NoMemory>
     requires { IsDescriptorOf flags desc.now }
-    ensures { IfOk result (λ locals. locals ≡ this_entries flags (utf8_at pool.now name) (option_copied class.entry) ++ units_of_entries (map verification_type (parameters_of desc.now))) }
+    ensures { IfOk result
+        (λ locals. locals ≡ this_entries flags (utf8_at pool.now name) (option_copied class.entry)
+        ++ units_of_entries (map verification_type (parameters_of desc.now))) }
 {
     let descriptor = method_descriptor(alloc, desc, flags)?;
     locals_of(
@@ -70,7 +72,9 @@ fn locals_of(
     name: u16,
     params: &[FieldType],
 ) -> Result<LocalTypeList, NoMemory>
-    ensures { IfOk result (λ locals. locals ≡ this_entries flags (utf8_at pool.now name) (option_copied class.entry) ++ units_of_entries (map verification_type params.now)) }
+    ensures { IfOk result
+        (λ locals. locals ≡ this_entries flags (utf8_at pool.now name) (option_copied class.entry)
+        ++ units_of_entries (map verification_type params.now)) }
 {
     let mut locals = LocalTypeList::new(alloc);
     push_this(&mut locals, pool, class, flags, name)?;
@@ -88,7 +92,8 @@ fn push_this(
     flags: u16,
     name: u16,
 ) -> Result<(), NoMemory>
-    ensures { OnOk result (locals.new ≡ locals.old ++ this_entries flags (utf8_at pool.now name) (option_copied class.entry)) }
+    ensures { OnOk result (locals.new ≡ locals.old
+        ++ this_entries flags (utf8_at pool.now name) (option_copied class.entry)) }
 {
     if is_static(flags) {
         return Ok(());

@@ -143,7 +143,8 @@ fn push_s4(out: &mut Vec<u8>, number: i32) -> Result<(), NoMemory>
 #[tactic(auto, using(crate::proofs::Pads::taken_pad))]
 fn push_switch(out: &mut Vec<u8>, opcode: u8, at: u32, other: u32) -> Result<(), NoMemory>
     ensures { OnOk result
-        (out.new.items ≡ out.old.items ++ (opcode ∷ (replicate (pad_of at) 0 ++ target_bytes at other))) }
+        (out.new.items ≡ out.old.items
+        ++ (opcode ∷ (replicate (pad_of at) 0 ++ target_bytes at other))) }
 {
     push_all(out, &[opcode])?;
     push_all(out, &[0; 3][..pad_len(at) as usize])?;

@@ -1,13 +1,14 @@
 //! One instruction read from bytes (JVM Specification SE 8, 6.5).
 ghost use Rattle.std.specs.Prelude.{◌≡◌, ◌<◌, ◌≤◌, length, Some, Err, IfOk};
 ghost use Rattle.class_model.specs.Answers.{Gives};
-ghost use Rattle.class_model.specs.Instructions.{instr_at, with_operands, wide_at, U1, U1S1, U2U1, U2U1Zero, U2ZeroZero};
+ghost use Rattle.class_model.specs.Instructions.{instr_at, with_operands, wide_at, U1S1, ArrayCode as array_code_form, Dimensions as dimensions_form, U2U1Zero, U2ZeroZero};
 ghost use Rattle.code_bytes.specs.Inner.Opcodes.{operands_of};
-ghost use Rattle.class_model.specs.declared.instr.Instr.TheVariants.{NewArray as new_array_form, NewMulti as new_multi_form, Dynamic as dynamic_form, Invoke as invoke_form, Iinc as iinc_form};
+ghost use Rattle.class_model.specs.declared.instr.Instr.TheVariants.{Dynamic as dynamic_form, Invoke as invoke_form, Iinc as iinc_form};
 
 use crate::layouts::{Layout, alone, layout_of, with_target, with_u1, with_u2};
 use crate::source::Source;
 use crate::switches::{lookup_switch, table_switch};
+use class_model::array_codes::{T_BOOLEAN, T_LONG};
 use class_model::opcodes::{ALOAD, ASTORE, IINC, ILOAD, ISTORE};
 use class_model::{ClassFault, Imm, Instr};
 use std::alloc::Global;
@@ -35,7 +36,8 @@ fn with_layout(
     opcode: u8,
     source: &Source,
 ) -> Result<Form, ClassFault>
-    ensures { Gives (with_operands source.now.at source.now.bytes.now (operands_of (Some layout) opcode)) result }
+    ensures { Gives (with_operands source.now.at source.now.bytes.now
+        (operands_of (Some layout) opcode)) result }
 {
     match layout {
         Layout::Alone => Ok((alone(opcode), 1)),
@@ -58,26 +60,29 @@ fn with_layout(
 
 // iinc: a local and what is added to it (6.5.iinc).
 fn increment(source: &Source) -> Result<Form, ClassFault>
-    ensures { Gives (with_operands source.now.at source.now.bytes.now (Some (U1S1 iinc_form))) result }
+    ensures { Gives (with_operands source.now.at source.now.bytes.now
+        (Some (U1S1 iinc_form))) result }
 {
     let local = source.u1(1)?;
     let by = source.s1(2)?;
     Ok((Instr::Iinc(u16::from(local), i16::from(by)), 3))
 }
 
-// newarray: the code of a primitive type, 4 to 11 (6.5.newarray).
+// newarray: the code of a primitive type (6.5.newarray).
 fn new_array(source: &Source) -> Result<Form, ClassFault>
-    ensures { Gives (with_operands source.now.at source.now.bytes.now (Some (U1 new_array_form))) result }
+    ensures { Gives (with_operands source.now.at source.now.bytes.now
+        (Some array_code_form)) result }
 {
     match source.u1(1)? {
-        code @ 4..=11 => Ok((Instr::NewArray(code), 2)),
+        code @ T_BOOLEAN..=T_LONG => Ok((Instr::NewArray(code), 2)),
         _ => Err(source.bad_operand()),
     }
 }
 
 // multianewarray: an array class, and at least one dimension (6.5.multianewarray).
 fn new_multi(source: &Source) -> Result<Form, ClassFault>
-    ensures { Gives (with_operands source.now.at source.now.bytes.now (Some (U2U1 new_multi_form))) result }
+    ensures { Gives (with_operands source.now.at source.now.bytes.now
+        (Some dimensions_form)) result }
 {
     let class = source.u2(1)?;
     match source.u1(3)? {
@@ -88,7 +93,8 @@ fn new_multi(source: &Source) -> Result<Form, ClassFault>
 
 // invokeinterface: a method, a count and a byte that is zero (6.5.invokeinterface).
 fn interface_call(opcode: u8, source: &Source) -> Result<Form, ClassFault>
-    ensures { Gives (with_operands source.now.at source.now.bytes.now (Some (U2U1Zero (invoke_form opcode)))) result }
+    ensures { Gives (with_operands source.now.at source.now.bytes.now
+        (Some (U2U1Zero (invoke_form opcode)))) result }
 {
     let method = source.u2(1)?;
     let count = source.u1(3)?;
@@ -100,7 +106,8 @@ fn interface_call(opcode: u8, source: &Source) -> Result<Form, ClassFault>
 
 // invokedynamic: a call site and two bytes that are zero (6.5.invokedynamic).
 fn dynamic_call(source: &Source) -> Result<Form, ClassFault>
-    ensures { Gives (with_operands source.now.at source.now.bytes.now (Some (U2ZeroZero dynamic_form))) result }
+    ensures { Gives (with_operands source.now.at source.now.bytes.now
+        (Some (U2ZeroZero dynamic_form))) result }
 {
     let site = source.u2(1)?;
     if source.u2(3)? != 0 {

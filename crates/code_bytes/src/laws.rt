@@ -9,12 +9,23 @@ ghost use Rattle.code_bytes.specs.Encoding.{IsChosen};
 
 /// The spelling that is written is one: bytes that are it are what writing gives again.
 pub fn one_chosen_spelling()
-    ensures { (at : ℕ) (instr : Instr) (one other : List ℕ) → IsBytes one → IsBytes other → IsChosen at instr one → IsChosen at instr other → one ≡ other }
+    ensures { (at : ℕ) (instr : Instr) (one other : List ℕ)
+        → IsBytes one
+        → IsBytes other
+        → IsChosen at instr one
+        → IsChosen at instr other
+        → one ≡ other }
 {}
 
 /// The methods of a class file are as reading asked of them.
 pub fn a_class_file_has_read_methods()
-    ensures methods { (bytes : List ℕ) (class : ClassFile) → ClassOf bytes class → HasReadMethods class }
-    ensures operands { (bytes : List ℕ) (class : ClassFile) → ClassOf bytes class → HasReadOperands class }
-    ensures frames { (bytes : List ℕ) (class : ClassFile) → ClassOf bytes class → HasReadFrames class }
+    ensures methods { (bytes : List ℕ) (class : ClassFile)
+        → ClassOf bytes class
+        → HasReadMethods class }
+    ensures operands { (bytes : List ℕ) (class : ClassFile)
+        → ClassOf bytes class
+        → HasReadOperands class }
+    ensures frames { (bytes : List ℕ) (class : ClassFile)
+        → ClassOf bytes class
+        → HasReadFrames class }
 {}

@@ -39,7 +39,8 @@ impl Source<'_> {
 
     /// The unsigned number of one byte at a place of the bytes.
     pub(crate) fn u1(&self, from: usize) -> Result<u8, ClassFault>
-        ensures { Gives (before self.now.at self.now.bytes.now (from + 1) (u1_in self.now.bytes.now from)) result }
+        ensures { Gives (before self.now.at self.now.bytes.now (from + 1)
+            (u1_in self.now.bytes.now from)) result }
     {
         match self.bytes.get(from) {
             Some(byte) => Ok(*byte),
@@ -49,7 +50,8 @@ impl Source<'_> {
 
     /// The unsigned number of two bytes from a place of the bytes on.
     pub(crate) fn u2(&self, from: usize) -> Result<u16, ClassFault>
-        ensures { Gives (before self.now.at self.now.bytes.now (from + 2) (u2_in self.now.bytes.now from)) result }
+        ensures { Gives (before self.now.at self.now.bytes.now (from + 2)
+            (u2_in self.now.bytes.now from)) result }
     {
         match self.bytes.get(from..) {
             Some([high, low, ..]) => Ok(u16::from_be_bytes([*high, *low])),
@@ -59,7 +61,8 @@ impl Source<'_> {
 
     /// The unsigned number of four bytes from a place of the bytes on.
     pub(crate) fn u4(&self, from: usize) -> Result<u32, ClassFault>
-        ensures { Gives (before self.now.at self.now.bytes.now (from + 4) (u4_in self.now.bytes.now from)) result }
+        ensures { Gives (before self.now.at self.now.bytes.now (from + 4)
+            (u4_in self.now.bytes.now from)) result }
     {
         match self.bytes.get(from..) {
             Some([a, b, c, d, ..]) => Ok(u32::from_be_bytes([*a, *b, *c, *d])),
@@ -69,21 +72,24 @@ impl Source<'_> {
 
     /// The signed number of one byte at a place of the bytes.
     pub(crate) fn s1(&self, from: usize) -> Result<i8, ClassFault>
-        ensures { Gives (before self.now.at self.now.bytes.now (from + 1) (s1_in self.now.bytes.now from)) result }
+        ensures { Gives (before self.now.at self.now.bytes.now (from + 1)
+            (s1_in self.now.bytes.now from)) result }
     {
         Ok(self.u1(from)?.cast_signed())
     }
 
     /// The signed number of two bytes from a place of the bytes on.
     pub(crate) fn s2(&self, from: usize) -> Result<i16, ClassFault>
-        ensures { Gives (before self.now.at self.now.bytes.now (from + 2) (s2_in self.now.bytes.now from)) result }
+        ensures { Gives (before self.now.at self.now.bytes.now (from + 2)
+            (s2_in self.now.bytes.now from)) result }
     {
         Ok(self.u2(from)?.cast_signed())
     }
 
     /// The signed number of four bytes from a place of the bytes on.
     pub(crate) fn s4(&self, from: usize) -> Result<i32, ClassFault>
-        ensures { Gives (before self.now.at self.now.bytes.now (from + 4) (s4_in self.now.bytes.now from)) result }
+        ensures { Gives (before self.now.at self.now.bytes.now (from + 4)
+            (s4_in self.now.bytes.now from)) result }
     {
         Ok(self.u4(from)?.cast_signed())
     }
@@ -91,14 +97,16 @@ impl Source<'_> {
     /// The target of a jump whose offset is a signed number of two bytes, in 32 bits: one before the code's
     /// start is then no offset of a code.
     pub(crate) fn target2(&self, from: usize) -> Result<u32, ClassFault>
-        ensures { Gives (before self.now.at self.now.bytes.now (from + 2) (target_of self.now.at (s2_in self.now.bytes.now from))) result }
+        ensures { Gives (before self.now.at self.now.bytes.now (from + 2)
+            (target_of self.now.at (s2_in self.now.bytes.now from))) result }
     {
         Ok(self.at.wrapping_add_signed(i32::from(self.s2(from)?)))
     }
 
     /// The target of a jump whose offset is a signed number of four bytes.
     pub(crate) fn target4(&self, from: usize) -> Result<u32, ClassFault>
-        ensures { Gives (before self.now.at self.now.bytes.now (from + 4) (target_of self.now.at (s4_in self.now.bytes.now from))) result }
+        ensures { Gives (before self.now.at self.now.bytes.now (from + 4)
+            (target_of self.now.at (s4_in self.now.bytes.now from))) result }
     {
         Ok(self.at.wrapping_add_signed(self.s4(from)?))
     }
@@ -111,8 +119,10 @@ impl Source<'_> {
     ) -> Result<&[[u8; N]], ClassFault>
         requires { 0 < N }
         ensures { MatchResult result
-            (λ parts. (from + N * count ≤ length self.now.bytes.now) × (parts.now ≡ first_chunks N count (drop from self.now.bytes.now)))
-            (λ fault. (length self.now.bytes.now < from + N * count) × (fault ≡ malformed self.now.at operand)) }
+            (λ parts. (from + N * count ≤ length self.now.bytes.now)
+            × (parts.now ≡ first_chunks N count (drop from self.now.bytes.now)))
+            (λ fault. (length self.now.bytes.now < from + N * count)
+            × (fault ≡ malformed self.now.at operand)) }
     {
         let Some(rest) = self.bytes.get(from..) else {
             return Err(self.bad_operand());

@@ -14,14 +14,23 @@ ghost use Rattle.code_bytes.specs.Spellings.{SpellingOf};
 
 /// The spelling that is chosen, the shortest with zeros for pad bytes, is the one that the table of forms gives.
 pub fn the_chosen_spelling_is_of_the_table()
-    ensures table { (at : ℕ) (instr : Instr) (bytes : List ℕ) → IsBytes bytes → IsChosen at instr bytes → bytes ≡ instr_bytes at instr }
-    ensures chosen { (at : ℕ) (instr : Instr) → HasSpelling at instr → HasNumbers instr → IsChosen at instr (instr_bytes at instr) }
+    ensures table { (at : ℕ) (instr : Instr) (bytes : List ℕ)
+        → IsBytes bytes
+        → IsChosen at instr bytes
+        → bytes ≡ instr_bytes at instr }
+    ensures chosen { (at : ℕ) (instr : Instr)
+        → HasSpelling at instr
+        → HasNumbers instr
+        → IsChosen at instr (instr_bytes at instr) }
 {}
 
 /// Two instructions that are equal but for their targets are spelled by as many bytes at offsets that are equal modulo 4,
 /// where neither or both are a goto that needs `goto_w`.
 pub fn a_length_does_not_depend_on_targets()
-    ensures { (at place : ℕ) (one other : Instr) → at % 4 ≡ place % 4 → without_targets one ≡ without_targets other → is_far at one ≡ is_far place other
+    ensures { (at place : ℕ) (one other : Instr)
+        → at % 4 ≡ place % 4
+        → without_targets one ≡ without_targets other
+        → is_far at one ≡ is_far place other
         → length (instr_bytes at one) ≡ length (instr_bytes place other) }
 {}
 
@@ -32,6 +41,11 @@ pub fn a_wide_goto_spells_a_goto()
 
 /// The spellings of an instruction are an opcode of the table and operands that make it: no other bytes spell it.
 pub fn each_spelling_is_of_the_table()
-    ensures spells { (at : ℕ) (instr : Instr) (bytes : List ℕ) → SpellingOf at instr bytes → IsSpelling at instr bytes }
-    ensures all { (at : ℕ) (instr : Instr) (bytes : List ℕ) → IsBytes bytes → IsSpelling at instr bytes → SpellingOf at instr bytes }
+    ensures spells { (at : ℕ) (instr : Instr) (bytes : List ℕ)
+        → SpellingOf at instr bytes
+        → IsSpelling at instr bytes }
+    ensures all { (at : ℕ) (instr : Instr) (bytes : List ℕ)
+        → IsBytes bytes
+        → IsSpelling at instr bytes
+        → SpellingOf at instr bytes }
 {}

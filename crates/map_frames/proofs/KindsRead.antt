@@ -1,60 +1,26 @@
 -- A frame that is written in a kind that fits is read back.
-use Rattle.std.proofs.Common.{◌≡◌, ◌==◌, ℕ, suc, ◌+◌, ◌-◌, ◌≤◌, cond, leb, ltb, List, [], ◌∷◌, ◌++◌, length, take, drop, Ok, Err, refl, ap, subst, ◌∙◌, append_assoc, arith}
+use Rattle.std.proofs.Common.{◌≡◌, ℕ, suc, ◌+◌, ◌-◌, ◌≤◌, cond, ltb, List, [], ◌∷◌, ◌++◌, length, take, drop, Option, Some, Ok, Err, refl, ap, subst, ◌∙◌, arith}
 use Rattle.std.specs.List.{AllByRecursion}
 use Rattle.std.proofs.Math.Seq.{take-append_seam, drop-append_seam}
 use Rattle.std.proofs.lemmas.Bool.Decides.{nat_tests}
 use Rattle.std.proofs.lemmas.List.{append-nil, length-append}
-use Rattle.class_model.specs.Checks.{fault, ◌>>=◌}
+use Rattle.class_model.specs.Checks.{◌>>=◌}
 use Rattle.class_model.specs.Cutting.{Rest, Cut}
-use Rattle.class_model.specs.Frames.{Setting, Stated, stated_frame, chopped, verification_type_at, verification_types_at, table_u2_at, full_at, frame_at, missing}
+use Rattle.class_model.specs.Frames.{Setting, Stated, FrameForm, SameFrame, frame_rows, frame_behind, stated_frame, chopped, chop_at, append_at, counted_types_at, item_frame_at, verification_type_at, verification_types_at, table_u2_at, full_at, frame_at, missing}
 use Rattle.class_model.specs.Instructions.{u1_in}
 use Rattle.class_model.specs.Laws.Cuts.{u1_front}
 use Rattle.class_model.specs.Spelling.{u2}
-use Rattle.class_model.specs.declared.fault.FileRule.TheVariants as rules
+use Rattle.class_model.specs.Tables.{given_in}
 use Rattle.class_model.specs.declared.frame.VType.{VType}
 use Rattle.map_frames.specs.Inner.Indices.{AreShort}
 use Rattle.map_frames.specs.Writing.{FitsType, HasType, Listed, FrameKind, Same, SameItem, SameItemExtended, Chop, SameExtended, Append, Full, FitsFrameKind, type_bytes, types_bytes, kind_bytes}
 use Rattle.map_frames.specs.declared.writing.NamedIndex.{NamedIndex}
+use Rattle.map_frames.proofs.KindRows.{same_row, item_row, chop_row, append_row}
 use Rattle.map_frames.proofs.TypesRead.{Reads, then_read, made_read, number_read, type_read, types_read}
-
--- ---- the kinds apart
-
--- one of the forms, by the first byte
-abbrev by_kind : {A : Type 0} → ℕ → A → A → A → A → A → A → A → A → A
-by_kind kind same item unknown extended chop same_extended append full =
-    cond (leb kind 63) same
-    (cond (leb kind 127) item
-    (cond (leb kind 246) unknown
-    (cond (kind == 247) extended
-    (cond (leb kind 250) chop
-    (cond (kind == 251) same_extended
-    (cond (leb kind 254) append full))))))
-
-module _ {A : Type 0} (kind : ℕ) (same item unknown extended chop same_extended append full : A) where
-  by_same : kind ≤ 63 → by_kind kind same item unknown extended chop same_extended append full ≡ same
-  by_same h = grind (arith, nat_tests)
-
-  by_item : 64 ≤ kind → kind ≤ 127 → by_kind kind same item unknown extended chop same_extended append full ≡ item
-  by_item h k = grind (arith, nat_tests)
-
-  by_chop : 248 ≤ kind → kind ≤ 250 → by_kind kind same item unknown extended chop same_extended append full ≡ chop
-  by_chop h k = grind (arith, nat_tests)
-
-  by_append : 252 ≤ kind → kind ≤ 254 → by_kind kind same item unknown extended chop same_extended append full ≡ append
-  by_append h k = grind (arith, nat_tests)
 
 -- the frame at a place behind its first byte
 abbrev of_kind : Setting → List VType → ℕ → ℕ → Rest → Cut Stated
-of_kind s locals at kind rest =
-    by_kind kind (Ok (stated_frame kind locals [], rest))
-    (verification_type_at s at rest >>= λ item. Ok (stated_frame (kind - 64) locals (item.0 ∷ []), item.1))
-    (Err (fault at rules.FrameKind))
-    (table_u2_at rest >>= λ delta. verification_type_at s at delta.1 >>= λ item. Ok (stated_frame delta.0 locals (item.0 ∷ []), item.1))
-    (cond (ltb (length locals) (251 - kind)) (Err (fault at rules.FrameKind))
-    (table_u2_at rest >>= λ delta. Ok (stated_frame delta.0 (chopped (251 - kind) locals) [], delta.1)))
-    (table_u2_at rest >>= λ delta. Ok (stated_frame delta.0 locals [], delta.1))
-    (table_u2_at rest >>= λ delta. verification_types_at s at (kind - 251) delta.1 >>= λ more. Ok (stated_frame delta.0 (locals ++ more.0) [], more.1))
-    (full_at s at rest)
+of_kind s locals at kind rest = frame_behind s locals at (given_in frame_rows kind) rest
 
 some_byte : {A : Type 0} (n : ℕ) (x y : A) → cond (ltb (suc n) 1) x y ≡ y
 some_byte n x y = grind (arith, nat_tests)
@@ -66,10 +32,8 @@ at_kind s locals at kind bytes =
     ∙ ap (λ (k : ℕ). of_kind s locals at k behind_kind) (u1_front kind bytes)
 
 -- so many locals can go
-chop_form : {A : Type 0} (count have : ℕ) (x : A) (form : ℕ → A) → count ≤ have → count ≤ 3 → cond (ltb have (251 - (251 - count))) x (form (251 - (251 - count))) ≡ form count
-chop_form count have x form fits few =
-    let same : 251 - (251 - count) ≡ count = omega arith in
-    rw same (grind (arith, nat_tests))
+chop_form : {A : Type 0} (count have : ℕ) (x y : A) → count ≤ have → cond (ltb have count) x y ≡ y
+chop_form count have x y fits = grind (arith, nat_tests)
 
 -- ---- each kind
 
@@ -82,43 +46,54 @@ module _ (s : Setting) (before : List VType) where
         (inside.0, at_kind s before at kind (bytes ++ rest) ∙ same at _ ∙ inside.1);
   }
 
+  -- the form of the row of a first byte
+  by_row : (kind : ℕ) (form : FrameForm) → given_in frame_rows kind ≡ Some form → (at : ℕ) (rest : Rest) → of_kind s before at kind rest ≡ frame_behind s before at (Some form) rest
+  by_row kind form e at rest = ap (λ (found : Option FrameForm). frame_behind s before at found rest) e
+
   same_read : (delta : ℕ) → delta ≤ 63 → Reads (frame_at s before) (delta ∷ []) (stated_frame delta before [])
   same_read delta h =
       behind_kind delta [] (stated_frame delta before []) (λ at rest. Ok (stated_frame delta before [], rest))
-      (λ at rest. by_same delta _ _ _ _ _ _ _ _ h) (λ at. record { read = λ at rest. (at, refl) })
+      (by_row delta (SameFrame delta) (same_row delta h)) (λ at. record { read = λ at rest. (at, refl) })
 
   same_extended_read : (delta : ℕ) → delta ≤ 65535 → Reads (frame_at s before) (251 ∷ u2 delta) (stated_frame delta before [])
   same_extended_read delta h =
       behind_kind 251 (u2 delta) (stated_frame delta before []) (λ at rest. table_u2_at rest >>= λ delta. Ok (stated_frame delta.0 before [], delta.1))
       (λ at rest. refl) (λ at. made_read (number_read delta h) (λ n. stated_frame n before []))
 
+  one_read : (delta frame : ℕ) (bytes : List ℕ) (type : VType) → Reads (verification_type_at s frame) bytes type → Reads (item_frame_at s delta before frame) bytes (stated_frame delta before (type ∷ []))
+  one_read delta frame bytes type reads = made_read (made_read reads (λ item. item ∷ [])) (λ (stack : List VType). stated_frame delta before stack)
+
   item_read : (delta : ℕ) (bytes : List ℕ) (type : VType) → delta ≤ 63 → ((frame : ℕ) → Reads (verification_type_at s frame) bytes type) → Reads (frame_at s before) ((64 + delta) ∷ bytes) (stated_frame delta before (type ∷ []))
   item_read delta bytes type h reads =
-      behind_kind (64 + delta) bytes (stated_frame delta before (type ∷ []))
-      (λ at rest. verification_type_at s at rest >>= λ item. Ok (stated_frame delta before (item.0 ∷ []), item.1))
-      (λ at rest. by_item (64 + delta) _ _ _ _ _ _ _ _ (omega arith) (omega arith) ∙ ap (λ (n : ℕ). verification_type_at s at rest >>= λ item. Ok (stated_frame n before (item.0 ∷ []), item.1)) (omega arith))
-      (λ at. made_read (reads at) (λ item. stated_frame delta before (item ∷ [])))
+      behind_kind (64 + delta) bytes (stated_frame delta before (type ∷ [])) (λ at rest. item_frame_at s delta before at rest)
+      (λ at rest. by_row (64 + delta) _ (item_row (64 + delta) (omega arith) (omega arith)) at rest ∙ ap (λ (n : ℕ). item_frame_at s n before at rest) (omega arith))
+      (λ at. one_read delta at bytes type (reads at))
 
   item_extended_read : (delta : ℕ) (bytes : List ℕ) (type : VType) → delta ≤ 65535 → ((frame : ℕ) → Reads (verification_type_at s frame) bytes type) → Reads (frame_at s before) (247 ∷ (u2 delta ++ bytes)) (stated_frame delta before (type ∷ []))
   item_extended_read delta bytes type h reads =
       behind_kind 247 (u2 delta ++ bytes) (stated_frame delta before (type ∷ []))
-      (λ at rest. table_u2_at rest >>= λ delta. verification_type_at s at delta.1 >>= λ item. Ok (stated_frame delta.0 before (item.0 ∷ []), item.1))
+      (λ at rest. table_u2_at rest >>= λ delta. item_frame_at s delta.0 before at delta.1)
       (λ at rest. refl)
-      (λ at. then_read (number_read delta h) _ bytes (stated_frame delta before (type ∷ [])) (made_read (reads at) (λ item. stated_frame delta before (item ∷ []))))
+      (λ at. then_read (number_read delta h) _ bytes (stated_frame delta before (type ∷ [])) (one_read delta at bytes type (reads at)))
 
   chop_read : (delta count : ℕ) → delta ≤ 65535 → 1 ≤ count → count ≤ 3 → count ≤ length before → Reads (frame_at s before) ((251 - count) ∷ u2 delta) (stated_frame delta (chopped count before) [])
   chop_read delta count h some few fits =
       behind_kind (251 - count) (u2 delta) (stated_frame delta (chopped count before) [])
       (λ at rest. table_u2_at rest >>= λ delta. Ok (stated_frame delta.0 (chopped count before) [], delta.1))
-      (λ at rest. by_chop (251 - count) _ _ _ _ _ _ _ _ (omega arith) (omega arith) ∙ chop_form count (length before) _ (λ (n : ℕ). table_u2_at rest >>= λ delta. Ok (stated_frame delta.0 (chopped n before) [], delta.1)) fits few)
+      (λ at rest.
+      by_row (251 - count) _ (chop_row (251 - count) (omega arith) (omega arith)) at rest
+      ∙ ap (λ (n : ℕ). chop_at n before at rest) (omega arith)
+      ∙ chop_form count (length before) _ _ fits)
       (λ at. made_read (number_read delta h) (λ n. stated_frame n (chopped count before) []))
 
   append_read : (delta : ℕ) (bytes : List ℕ) (more : List VType) → delta ≤ 65535 → 1 ≤ length more → length more ≤ 3 → ((frame : ℕ) → Reads (verification_types_at s frame (length more)) bytes more) → Reads (frame_at s before) ((251 + length more) ∷ (u2 delta ++ bytes)) (stated_frame delta (before ++ more) [])
   append_read delta bytes more h some few reads =
-      behind_kind (251 + length more) (u2 delta ++ bytes) (stated_frame delta (before ++ more) [])
-      (λ at rest. table_u2_at rest >>= λ delta. verification_types_at s at (length more) delta.1 >>= λ more. Ok (stated_frame delta.0 (before ++ more.0) [], more.1))
-      (λ at rest. by_append (251 + length more) _ _ _ _ _ _ _ _ (omega arith) (omega arith) ∙ ap (λ (n : ℕ). table_u2_at rest >>= λ delta. verification_types_at s at n delta.1 >>= λ more. Ok (stated_frame delta.0 (before ++ more.0) [], more.1)) (omega arith))
+      behind_kind (251 + length more) (u2 delta ++ bytes) (stated_frame delta (before ++ more) []) (λ at rest. append_at s (length more) before at rest)
+      (λ at rest. by_row (251 + length more) _ (append_row (251 + length more) (omega arith) (omega arith)) at rest ∙ ap (λ (n : ℕ). append_at s n before at rest) (omega arith))
       (λ at. then_read (number_read delta h) _ bytes (stated_frame delta (before ++ more) []) (made_read (reads at) (λ (types : List VType). stated_frame delta (before ++ types) [])))
+
+  counted_read : (frame : ℕ) (types : List VType) (bytes : List ℕ) → length types ≤ 65535 → Reads (verification_types_at s frame (length types)) bytes types → Reads (counted_types_at s frame) (u2 (length types) ++ bytes) types
+  counted_read frame types bytes few reads = then_read (number_read (length types) few) _ bytes types reads
 
   full_read : (delta : ℕ) (locals stack : List VType) (locals_bytes stack_bytes : List ℕ) → delta ≤ 65535 → length locals ≤ 65535 → length stack ≤ 65535
       → ((frame : ℕ) → Reads (verification_types_at s frame (length locals)) locals_bytes locals) → ((frame : ℕ) → Reads (verification_types_at s frame (length stack)) stack_bytes stack)
@@ -126,12 +101,9 @@ module _ (s : Setting) (before : List VType) where
   full_read delta locals stack locals_bytes stack_bytes h few_locals few_stack locals_reads stack_reads =
       behind_kind 255 _ (stated_frame delta locals stack) (λ at rest. full_at s at rest)
       (λ at rest. refl)
-      (λ at. rw (append_assoc (u2 (length locals)) locals_bytes)
-      (then_read (number_read delta h) _ _ _
-      (then_read (number_read (length locals) few_locals) _ _ _
-      (then_read (locals_reads at) _ _ _
-      (then_read (number_read (length stack) few_stack) _ _ _
-      (made_read (stack_reads at) (λ (types : List VType). stated_frame delta locals types)))))))
+      (λ at. then_read (number_read delta h) _ _ _
+      (then_read (counted_read at locals locals_bytes few_locals (locals_reads at)) _ _ _
+      (made_read (counted_read at stack stack_bytes few_stack (stack_reads at)) (λ (types : List VType). stated_frame delta locals types))))
 
 -- ---- the kinds that fit
 

@@ -3,6 +3,7 @@ pub mod Offsets
 pub mod Faults
 pub mod Counts
 pub mod EntriesRead
+pub mod KindRows
 pub mod FrameForms
 pub mod FramesRead
 pub mod TypesRead

@@ -2,11 +2,9 @@
 use Rattle.std.proofs.Common.{◌≡◌, ℕ, ◌+◌, ◌≤◌, List, [], ◌∷◌, ◌++◌, length, Some, Ok, true, refl, append_assoc, arith, rules}
 use Rattle.std.specs.List.{AllByRecursion}
 use Rattle.std.proofs.lemmas.Bool.Decides.{nat_tests}
-use Rattle.std.proofs.lemmas.Nat.{from_be_bytes-to_be_bytes_2}
 use Rattle.class_model.specs.Checks.{◌>>=◌}
 use Rattle.class_model.specs.Cutting.{Rest, Cut}
 use Rattle.class_model.specs.Frames.{Setting, is_new_at, verification_type_at, verification_types_at, table_u2_at}
-use Rattle.class_model.specs.Instructions.{u2_in}
 use Rattle.class_model.specs.Laws.Cuts.{u2_front}
 use Rattle.class_model.specs.PoolChecks.{class_at}
 use Rattle.class_model.specs.Spelling.{u2}
@@ -15,9 +13,6 @@ use Rattle.class_model.specs.declared.frame.VType.TheVariants.{Top, Int, Float, 
 use Rattle.map_frames.specs.Inner.Indices.{AreShort}
 use Rattle.map_frames.specs.Writing.{FitsType, HasType, type_bytes, types_bytes, index_of, or_zero}
 use Rattle.map_frames.specs.declared.writing.NamedIndex.{NamedIndex}
-
-pub u2_second : (byte n : ℕ) (rest : List ℕ) → n ≤ 65535 → u2_in (byte ∷ (u2 n ++ rest)) 1 ≡ n
-u2_second byte n rest h = from_be_bytes-to_be_bytes_2 n (omega arith)
 
 -- These bytes, wherever they stand and whatever follows, are read as a value.
 pub record Reads {X : Type 0} (part : Rest → Cut X) (bytes : List ℕ) (x : X) : Type 0 where
@@ -45,12 +40,12 @@ number_read n h = record { read = λ at rest. (at + 2, grind (arith, nat_tests, 
 
 object_read : (s : Setting) (frame index : ℕ) (name : List ℕ) → index ≤ 65535 → class_at s.pool index ≡ Some name → Reads (verification_type_at s frame) (7 ∷ u2 index) (Object name)
 object_read s frame index name fits has = record {
-  read = λ at rest. (at + 3, grind (arith, nat_tests, u2_second 7 index rest fits));
+  read = λ at rest. (at + 3, grind (arith, nat_tests, u2_front index rest (omega arith)));
 }
 
 uninit_read : (s : Setting) (frame at : ℕ) → at ≤ 65535 → is_new_at s.code at ≡ true → Reads (verification_type_at s frame) (8 ∷ u2 at) (Uninit at)
 uninit_read s frame new fits has = record {
-  read = λ at rest. (at + 3, grind (arith, nat_tests, u2_second 8 new rest fits));
+  read = λ at rest. (at + 3, grind (arith, nat_tests, u2_front new rest (omega arith)));
 }
 
 module _ (s : Setting) (classes : List NamedIndex) (short : AreShort classes) (frame : ℕ) where

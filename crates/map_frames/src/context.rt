@@ -2,14 +2,18 @@
 ghost use Rattle.std.specs.Prelude.{◌≡◌};
 ghost use Rattle.std.specs.Option.{option_copied};
 ghost use Rattle.class_model.specs.Answers.{Takes};
-ghost use Rattle.class_model.specs.Frames.{verification_type_at, verification_types_at, stated_frame};
+ghost use Rattle.class_model.specs.Frames.{verification_type_at, verification_types_at, stated_frame, item_at, counted_types_at, object_at, uninit_at};
 ghost use Rattle.class_model.specs.PoolChecks.{class_at};
 ghost use Rattle.map_frames.specs.Inner.Settings.{setting_of};
-ghost use Rattle.map_frames.specs.Inner.Steps.{Appends, IsPlaced, item_at, counted_types_at, object_at, uninit_at};
+ghost use Rattle.map_frames.specs.Inner.Steps.{Appends, IsPlaced};
 
 use crate::code_index::CodeIndex;
 use crate::cursor::Cursor;
 use crate::entries::Entries;
+use class_model::frame_tags::{
+    ITEM_DOUBLE, ITEM_FLOAT, ITEM_INTEGER, ITEM_LONG, ITEM_NULL, ITEM_OBJECT, ITEM_TOP,
+    ITEM_UNINITIALIZED, ITEM_UNINITIALIZED_THIS,
+};
 use class_model::{ClassFault, Const, FileRule, Pool, Text, VType};
 use std::alloc::Global;
 
@@ -37,7 +41,8 @@ impl Context<'_> {
         rest: &mut Cursor,
         entries: &mut Entries,
     ) -> Result<(), ClassFault>
-        ensures { Appends (verification_types_at (setting_of self.now) frame count rest.old) entries.old entries.new rest.new result }
+        ensures { Appends (verification_types_at
+            (setting_of self.now) frame count rest.old) entries.old entries.new rest.new result }
     {
         for _ in 0..count {
             entries.push(self.entry(frame, rest)?)?;
@@ -81,7 +86,8 @@ impl Context<'_> {
         locals: &Entries,
         stack: &Entries,
     ) -> Result<u32, ClassFault>
-        ensures { IsPlaced (setting_of self.now) frame (stated_frame 0 locals.now stack.now) at result }
+        ensures { IsPlaced (setting_of self.now) frame
+            (stated_frame 0 locals.now stack.now) at result }
     {
         let max_locals = usize::from(self.max_locals);
         let max_stack = usize::from(self.max_stack);
@@ -96,18 +102,19 @@ impl Context<'_> {
 
     // The next entry of the frame at a place.
     fn entry(&self, frame: u64, rest: &mut Cursor) -> Result<VType, ClassFault>
-        ensures { Takes (verification_type_at (setting_of self.now) frame rest.old) rest.new result }
+        ensures { Takes (verification_type_at
+            (setting_of self.now) frame rest.old) rest.new result }
     {
         match rest.u1()? {
-            0 => Ok(VType::Top),
-            1 => Ok(VType::Int),
-            2 => Ok(VType::Float),
-            3 => Ok(VType::Double),
-            4 => Ok(VType::Long),
-            5 => Ok(VType::Null),
-            6 => Ok(VType::UninitThis),
-            7 => self.object(frame, rest),
-            8 => self.uninit(frame, rest),
+            ITEM_TOP => Ok(VType::Top),
+            ITEM_INTEGER => Ok(VType::Int),
+            ITEM_FLOAT => Ok(VType::Float),
+            ITEM_DOUBLE => Ok(VType::Double),
+            ITEM_LONG => Ok(VType::Long),
+            ITEM_NULL => Ok(VType::Null),
+            ITEM_UNINITIALIZED_THIS => Ok(VType::UninitThis),
+            ITEM_OBJECT => self.object(frame, rest),
+            ITEM_UNINITIALIZED => self.uninit(frame, rest),
             _ => Err(fault(frame, FileRule::FrameType)),
         }
     }

@@ -151,7 +151,9 @@ fn units_of_entries(alloc: Global, entries: &[VType]) -> Result<LocalTypeList, N
 fn overwrite(units: &mut LocalTypeList, from: usize, others: &LocalTypeList) -> Result<(), NoMemory>
     requires within { from + length others.now ≤ length units.old }
     requires short { length units.old ≤ 65535 }
-    ensures { OnOk result (units.new ≡ take from units.old ++ others.now ++ drop (from + length others.now) units.old) }
+    ensures { OnOk result (units.new ≡ take from units.old
+        ++ others.now
+        ++ drop (from + length others.now) units.old) }
 {
     let mut at = 0;
     while let Some(unit) = others.get(at) {

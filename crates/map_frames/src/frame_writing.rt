@@ -12,16 +12,11 @@ use crate::class_indices::ClassIndices;
 use crate::kinds::{Change, Kind};
 use crate::local_units::{behind_common, count_entries};
 use crate::type_writing::{push_entries, push_types};
+use class_model::frame_tags::{
+    FULL_FRAME, SAME_FRAME_EXTENDED, SAME_LOCALS_1_STACK_ITEM_FRAME,
+    SAME_LOCALS_1_STACK_ITEM_FRAME_EXTENDED,
+};
 use class_model::{NoMemory, VType, push_u2};
-
-// The first bytes of frames, for those kinds that have more than one the one that the others count from.
-const SAME_ITEM: u8 = 64;
-
-const SAME_ITEM_EXTENDED: u8 = 247;
-
-const SAME_EXTENDED: u8 = 251;
-
-const FULL: u8 = 255;
 
 /// A frame as it is written: its offset delta, the units of its locals up to the last that is not `Top`,
 /// and its stack.
@@ -40,7 +35,9 @@ pub(crate) fn push_frame(
     frame: &ListedFrame,
 ) -> Result<(), NoMemory>
     requires { FitsListed classes.now (listed_of frame.now) }
-    ensures { OnOk result ((bytes : List ℕ) × (out.new.items ≡ out.old.items ++ bytes) × IsFrame classes.now (entries_of_units before.now) (listed_of frame.now) bytes) }
+    ensures { OnOk result ((bytes : List ℕ)
+        × (out.new.items ≡ out.old.items ++ bytes)
+        × IsFrame classes.now (entries_of_units before.now) (listed_of frame.now) bytes) }
 {
     let ListedFrame {
         delta,
@@ -56,17 +53,17 @@ pub(crate) fn push_frame(
     match change.kind(delta) {
         Kind::Same => push_byte(out, delta as u8),
         Kind::SameItem => {
-            push_byte(out, SAME_ITEM + delta as u8)?;
+            push_byte(out, SAME_LOCALS_1_STACK_ITEM_FRAME + delta as u8)?;
             push_types(out, classes, stack)
         }
         Kind::SameItemExtended => {
-            push_front(out, SAME_ITEM_EXTENDED, delta)?;
+            push_front(out, SAME_LOCALS_1_STACK_ITEM_FRAME_EXTENDED, delta)?;
             push_types(out, classes, stack)
         }
-        Kind::Chop => push_front(out, SAME_EXTENDED - change.gone as u8, delta),
-        Kind::SameExtended => push_front(out, SAME_EXTENDED, delta),
+        Kind::Chop => push_front(out, SAME_FRAME_EXTENDED - change.gone as u8, delta),
+        Kind::SameExtended => push_front(out, SAME_FRAME_EXTENDED, delta),
         Kind::Append => {
-            push_front(out, SAME_EXTENDED + change.more as u8, delta)?;
+            push_front(out, SAME_FRAME_EXTENDED + change.more as u8, delta)?;
             push_entries(out, classes, more)
         }
         Kind::Full => push_full(out, classes, frame),
@@ -91,9 +88,10 @@ fn push_front(out: &mut Vec<u8>, kind: u8, delta: u16) -> Result<(), NoMemory>
 // Appends a full frame.
 fn push_full(out: &mut Vec<u8>, classes: &ClassIndices, frame: &ListedFrame) -> Result<(), NoMemory>
     requires { FitsListed classes.now (listed_of frame.now) }
-    ensures { OnOk result (out.new.items ≡ out.old.items ++ kind_bytes classes.now [] (listed_of frame.now) Full) }
+    ensures { OnOk result
+        (out.new.items ≡ out.old.items ++ kind_bytes classes.now [] (listed_of frame.now) Full) }
 {
-    push_front(out, FULL, frame.delta)?;
+    push_front(out, FULL_FRAME, frame.delta)?;
     push_u2(out, count_entries(frame.locals) as u16)?;
     push_entries(out, classes, frame.locals)?;
     push_u2(out, frame.stack.len() as u16)?;

@@ -7,5 +7,9 @@ ghost use Rattle.map_frames.specs.declared.writing.NamedIndex.{NamedIndex};
 
 /// The table that is written of frames is one: bytes that are it are what writing gives again.
 pub fn one_written_table()
-    ensures { (classes : List NamedIndex) (entry : Frame) (frames : List PlacedFrame) (one other : List ℕ) → IsTable classes entry frames one → IsTable classes entry frames other → one ≡ other }
+    ensures { (classes : List NamedIndex) (entry : Frame) (frames : List PlacedFrame)
+        (one other : List ℕ)
+        → IsTable classes entry frames one
+        → IsTable classes entry frames other
+        → one ≡ other }
 {}

@@ -44,7 +44,8 @@ pub(crate) fn listed_units(alloc: Global, locals: &LocalTypeList) -> Result<Vec<
 
 /// The first entry, and the units behind it.
 pub(crate) fn first_entry(units: &[VType]) -> Option<(&VType, &[VType])>
-    ensures some { IfSome result (λ first. entries_of_units units.now ≡ first.0.now ∷ entries_of_units first.1.now) }
+    ensures some { IfSome result
+        (λ first. entries_of_units units.now ≡ first.0.now ∷ entries_of_units first.1.now) }
     ensures shorter { IfSome result (λ first. length first.1.now < length units.now) }
     ensures none { IfNone result (units.now ≡ []) }
 {
@@ -89,7 +90,8 @@ pub(crate) fn behind_common<'a>(
     before: &'a [VType],
     locals: &'a [VType],
 ) -> (&'a [VType], &'a [VType])
-    ensures { IsChange (entries_of_units before.now) (entries_of_units locals.now) (entries_of_units result.0.now) (entries_of_units result.1.now) }
+    ensures { IsChange (entries_of_units before.now) (entries_of_units locals.now)
+        (entries_of_units result.0.now) (entries_of_units result.1.now) }
 {
     let mut gone = before;
     let mut more = locals;
@@ -102,9 +104,12 @@ pub(crate) fn behind_common<'a>(
 
 // The units of both behind their first entries, if those are the same.
 fn behind_same<'a>(units: &'a [VType], others: &'a [VType]) -> Option<(&'a [VType], &'a [VType])>
-    ensures some { IfSome result (λ behind. BeginSame (entries_of_units units.now) (entries_of_units others.now) (entries_of_units behind.0.now) (entries_of_units behind.1.now)) }
+    ensures some { IfSome result
+        (λ behind. BeginSame (entries_of_units units.now) (entries_of_units others.now)
+        (entries_of_units behind.0.now) (entries_of_units behind.1.now)) }
     ensures shorter { IfSome result (λ behind. length behind.0.now < length units.now) }
-    ensures none { IfNone result (AreApart (entries_of_units units.now) (entries_of_units others.now)) }
+    ensures none { IfNone result
+        (AreApart (entries_of_units units.now) (entries_of_units others.now)) }
 {
     let (first, behind_first) = first_entry(units)?;
     let (other, behind_other) = first_entry(others)?;

@@ -27,7 +27,12 @@ pub fn read_frames(
     code: &PlacedList,
     bytes: &[u8],
 ) -> Result<PlacedFrameList, ClassFault>
-    ensures { let s : Setting = record { pool = pool.now; max_locals = max_locals; max_stack = max_stack; code = code.now } in
+    ensures { let s : Setting = record {
+      pool = pool.now;
+      max_locals = max_locals;
+      max_stack = max_stack;
+      code = code.now;
+    } in
         Gives (stack_map_table_at s entry.now bytes.now) result }
 {
     let code = CodeIndex::new(code.as_slice());
@@ -67,7 +72,12 @@ pub fn check_frames(
     code: &PlacedList,
     bytes: &[u8],
 ) -> Result<(), ClassFault>
-    ensures { let s : Setting = record { pool = pool.now; max_locals = max_locals; max_stack = max_stack; code = code.now } in
+    ensures { let s : Setting = record {
+      pool = pool.now;
+      max_locals = max_locals;
+      max_stack = max_stack;
+      code = code.now;
+    } in
         Accepts (stack_map_table_at s entry.now bytes.now) result }
 {
     let code = CodeIndex::new(code.as_slice());

@@ -7,26 +7,11 @@ ghost use Rattle.map_frames.specs.Writing.{FitsType, type_bytes, types_bytes};
 
 use crate::class_indices::ClassIndices;
 use crate::local_units::first_entry;
+use class_model::frame_tags::{
+    ITEM_DOUBLE, ITEM_FLOAT, ITEM_INTEGER, ITEM_LONG, ITEM_NULL, ITEM_OBJECT, ITEM_TOP,
+    ITEM_UNINITIALIZED, ITEM_UNINITIALIZED_THIS,
+};
 use class_model::{NoMemory, VType, push_u2};
-
-// The tags of verification types.
-const TOP_TAG: u8 = 0;
-
-const INTEGER_TAG: u8 = 1;
-
-const FLOAT_TAG: u8 = 2;
-
-const DOUBLE_TAG: u8 = 3;
-
-const LONG_TAG: u8 = 4;
-
-const NULL_TAG: u8 = 5;
-
-const UNINITIALIZED_THIS_TAG: u8 = 6;
-
-const OBJECT_TAG: u8 = 7;
-
-const UNINITIALIZED_TAG: u8 = 8;
 
 /// Appends types, each as an entry.
 pub(crate) fn push_types(
@@ -50,7 +35,8 @@ pub(crate) fn push_entries(
     units: &[VType],
 ) -> Result<(), NoMemory>
     requires { AllByRecursion (FitsType classes.now) (entries_of_units units.now) }
-    ensures { OnOk result (out.new.items ≡ out.old.items ++ types_bytes classes.now (entries_of_units units.now)) }
+    ensures { OnOk result
+        (out.new.items ≡ out.old.items ++ types_bytes classes.now (entries_of_units units.now)) }
 {
     let mut rest = units;
     while let Some((entry, others)) = first_entry(rest) {
@@ -77,14 +63,14 @@ fn tag_of(kind: &VType) -> u8
     ensures { result ≡ tag_of kind.now }
 {
     match kind {
-        VType::Top => TOP_TAG,
-        VType::Int => INTEGER_TAG,
-        VType::Float => FLOAT_TAG,
-        VType::Double => DOUBLE_TAG,
-        VType::Long => LONG_TAG,
-        VType::Null => NULL_TAG,
-        VType::UninitThis => UNINITIALIZED_THIS_TAG,
-        VType::Object(_) => OBJECT_TAG,
-        VType::Uninit(_) => UNINITIALIZED_TAG,
+        VType::Top => ITEM_TOP,
+        VType::Int => ITEM_INTEGER,
+        VType::Float => ITEM_FLOAT,
+        VType::Double => ITEM_DOUBLE,
+        VType::Long => ITEM_LONG,
+        VType::Null => ITEM_NULL,
+        VType::UninitThis => ITEM_UNINITIALIZED_THIS,
+        VType::Object(_) => ITEM_OBJECT,
+        VType::Uninit(_) => ITEM_UNINITIALIZED,
     }
 }

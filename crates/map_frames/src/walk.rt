@@ -4,6 +4,12 @@ ghost use Rattle.std.specs.Prelude.{◌≤◌, ◌^◌};
 use crate::context::{Context, fault};
 use crate::cursor::{Cursor, MISSING};
 use crate::entries::{Entries, listed_entries};
+use class_model::frame_tags::{
+    APPEND_FRAME, APPEND_FRAME_LAST, CHOP_FRAME, CHOP_FRAME_LAST, FULL_FRAME, RESERVED,
+    RESERVED_LAST, SAME_FRAME, SAME_FRAME_EXTENDED, SAME_FRAME_LAST,
+    SAME_LOCALS_1_STACK_ITEM_FRAME, SAME_LOCALS_1_STACK_ITEM_FRAME_EXTENDED,
+    SAME_LOCALS_1_STACK_ITEM_FRAME_LAST,
+};
 use class_model::{ClassFault, FileRule, Frame, LocalTypeList, NoMemory};
 use std::alloc::Global;
 
@@ -23,14 +29,15 @@ impl<'a> Walk<'a> {
     ghost use Rattle.std.specs.Prelude.{◌≡◌, IfOk, OnOk};
     ghost use Rattle.class_model.specs.Answers.{Gives, Takes};
     ghost use Rattle.class_model.specs.Cutting.{uncut};
-    ghost use Rattle.class_model.specs.Frames.{frame_at, filled, listed, table_u2_at};
+    ghost use Rattle.class_model.specs.Frames.{frame_at, filled, listed, table_u2_at, chop_at, append_at, full_at};
     ghost use Rattle.map_frames.specs.Inner.Settings.{setting_of, standing_of};
     ghost use Rattle.map_frames.specs.Inner.Units.{Keeps};
-    ghost use Rattle.map_frames.specs.Inner.Steps.{States, Steps, end_at, chop_at, append_at, full_frame_at};
+    ghost use Rattle.map_frames.specs.Inner.Steps.{States, Steps, end_at};
 
     /// At the first byte of a table, behind an entry frame.
     pub(crate) fn new(alloc: Global, entry: &Frame, bytes: &'a [u8]) -> Result<Self, NoMemory>
-        ensures { IfOk result (λ walk. standing_of walk ≡ record { from = 0; locals = listed entry.now; rest = uncut bytes.now }) }
+        ensures { IfOk result (λ walk. standing_of walk
+            ≡ record { from = 0; locals = listed entry.now; rest = uncut bytes.now }) }
     {
         Ok(Walk {
             rest: Cursor::new(bytes),
@@ -83,7 +90,8 @@ impl<'a> Walk<'a> {
         units: &mut LocalTypeList,
     ) -> Result<(u32, Entries), ClassFault>
         requires { units.old ≡ filled context.now.max_locals self.old.locals }
-        ensures steps { Steps (setting_of context.now) (standing_of self.old) (standing_of self.new) result }
+        ensures steps { Steps (setting_of context.now) (standing_of self.old)
+            (standing_of self.new) result }
         ensures units { OnOk result (units.new ≡ filled context.now.max_locals self.new.locals) }
     {
         let before = self.locals.units();
@@ -97,7 +105,8 @@ impl<'a> Walk<'a> {
     /// # Errors
     /// `FrameKind`, `FrameType`, `FrameSize` or `FramePlace` at the frame, or `Attribute` for missing bytes.
     pub(crate) fn frame(&mut self, context: &Context) -> Result<(u32, Entries), ClassFault>
-        ensures steps { Steps (setting_of context.now) (standing_of self.old) (standing_of self.new) result }
+        ensures steps { Steps (setting_of context.now) (standing_of self.old)
+            (standing_of self.new) result }
         ensures kept { OnOk result (Keeps self.new.kept self.old.locals self.new.locals) }
     {
         let place = self.rest.place();
@@ -110,28 +119,34 @@ impl<'a> Walk<'a> {
     // The offset delta and the stack of the frame at a place.
     fn stated(&mut self, context: &Context, place: u64) -> Result<(u16, Entries), ClassFault>
         requires { place ≡ self.old.rest.at }
-        ensures stated { States (frame_at (setting_of context.now) self.old.locals self.old.rest) self.new.locals self.new.rest result }
+        ensures stated { States
+            (frame_at (setting_of context.now) self.old.locals self.old.rest)
+            self.new.locals self.new.rest result }
         ensures kept { OnOk result (Keeps self.new.kept self.old.locals self.new.locals) }
         ensures from { self.new.from ≡ self.old.from }
     {
         self.kept = self.locals.len();
         let kind = self.rest.u1()?;
         match kind {
-            0..=63 => Ok((u16::from(kind), Entries::new(context.alloc))),
-            64..=127 => {
+            SAME_FRAME..=SAME_FRAME_LAST => Ok((u16::from(kind), Entries::new(context.alloc))),
+            SAME_LOCALS_1_STACK_ITEM_FRAME..=SAME_LOCALS_1_STACK_ITEM_FRAME_LAST => {
                 let stack = context.item(place, &mut self.rest)?;
-                Ok((u16::from(kind) - 64, stack))
+                Ok((u16::from(kind - SAME_LOCALS_1_STACK_ITEM_FRAME), stack))
             }
-            128..=246 => Err(fault(place, FileRule::FrameKind)),
-            247 => {
+            RESERVED..=RESERVED_LAST => Err(fault(place, FileRule::FrameKind)),
+            SAME_LOCALS_1_STACK_ITEM_FRAME_EXTENDED => {
                 let delta = self.rest.u2()?;
                 let stack = context.item(place, &mut self.rest)?;
                 Ok((delta, stack))
             }
-            248..=250 => self.chop(context, place, 251 - kind),
-            251 => Ok((self.rest.u2()?, Entries::new(context.alloc))),
-            252..=254 => self.append(context, place, kind - 251),
-            255 => self.full(context, place),
+            CHOP_FRAME..=CHOP_FRAME_LAST => self.chop(context, place, SAME_FRAME_EXTENDED - kind),
+            SAME_FRAME_EXTENDED => Ok((self.rest.u2()?, Entries::new(context.alloc))),
+            APPEND_FRAME..=APPEND_FRAME_LAST => self.append(
+                context,
+                place,
+                kind - SAME_FRAME_EXTENDED,
+            ),
+            FULL_FRAME => self.full(context, place),
         }
     }
 
@@ -142,7 +157,9 @@ impl<'a> Walk<'a> {
         place: u64,
         count: u8,
     ) -> Result<(u16, Entries), ClassFault>
-        ensures stated { States (chop_at count self.old.locals place self.old.rest) self.new.locals self.new.rest result }
+        ensures stated { States
+            (chop_at count self.old.locals place self.old.rest)
+            self.new.locals self.new.rest result }
         ensures kept { OnOk result (Keeps self.new.kept self.old.locals self.new.locals) }
         ensures from { self.new.from ≡ self.old.from }
     {
@@ -163,7 +180,9 @@ impl<'a> Walk<'a> {
         place: u64,
         count: u8,
     ) -> Result<(u16, Entries), ClassFault>
-        ensures stated { States (append_at (setting_of context.now) count self.old.locals place self.old.rest) self.new.locals self.new.rest result }
+        ensures stated { States
+            (append_at (setting_of context.now) count self.old.locals place self.old.rest)
+            self.new.locals self.new.rest result }
         ensures kept { OnOk result (Keeps self.new.kept self.old.locals self.new.locals) }
         ensures from { self.new.from ≡ self.old.from }
     {
@@ -175,7 +194,9 @@ impl<'a> Walk<'a> {
 
     // All locals, and the stack, each behind their number.
     fn full(&mut self, context: &Context, place: u64) -> Result<(u16, Entries), ClassFault>
-        ensures stated { States (full_frame_at (setting_of context.now) place self.old.rest) self.new.locals self.new.rest result }
+        ensures stated { States
+            (full_at (setting_of context.now) place self.old.rest)
+            self.new.locals self.new.rest result }
         ensures kept { OnOk result (Keeps self.new.kept self.old.locals self.new.locals) }
         ensures from { self.new.from ≡ self.old.from }
     {

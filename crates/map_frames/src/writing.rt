@@ -36,7 +36,9 @@ pub fn frame_bytes(
 ) -> Result<ByteList, NoMemory>
     requires { FitsTable class_index.now frames.now }
     ensures chosen { IfOk result (IsTable class_index.now entry.now frames.now) }
-    ensures read { IfOk result (λ bytes. (s : Setting) → HasFrames s class_index.now frames.now → stack_map_table_at s entry.now bytes ≡ Ok frames.now) }
+    ensures read { IfOk result (λ bytes. (s : Setting)
+        → HasFrames s class_index.now frames.now
+        → stack_map_table_at s entry.now bytes ≡ Ok frames.now) }
 {
     let classes = ClassIndices::new(alloc, class_index.as_slice())?;
     let frames = frames.as_slice();
@@ -56,7 +58,9 @@ fn push_frames(
     frames: &[PlacedFrame],
 ) -> Result<(), NoMemory>
     requires { FitsTable classes.now frames.now }
-    ensures { OnOk result ((bytes : List ℕ) × (out.new.items ≡ out.old.items ++ bytes) × AreFrames classes.now 0 (entries_of_units locals.items) frames.now bytes) }
+    ensures { OnOk result ((bytes : List ℕ)
+        × (out.new.items ≡ out.old.items ++ bytes)
+        × AreFrames classes.now 0 (entries_of_units locals.items) frames.now bytes) }
 {
     let mut before = locals;
     let mut from = 0;

@@ -9,7 +9,8 @@ use Rattle.class_model.specs.declared.header.Header.{Header}
 use Rattle.class_model.specs.declared.header.Member.{Member}
 use Rattle.class_tree.specs.Headers.{Name, Headers, all_headers, named, class_named}
 use Rattle.class_tree.specs.Hierarchy.{IsHierarchy}
-use Rattle.class_tree.specs.Laws.Decided.{Decision, mapped, both, either, denied, implied, is_true, is_false, same_bytes, below_decided}
+use Rattle.class_model.specs.Laws.Decisions.{Decision, mapped, both, either, denied, implied, is_true, is_false}
+use Rattle.class_tree.specs.Laws.Decided.{same_bytes, below_decided}
 use Rattle.class_tree.specs.Laws.Names.{IsOneName, none_of_none, one_name_first, one_of_first}
 use Rattle.class_tree.specs.Names.{object, is_interface}
 use Rattle.class_tree.specs.Subtype.{IsBelow}

@@ -9,7 +9,8 @@ use Rattle.class_model.specs.declared.header.Member.{Member}
 use Rattle.class_tree.specs.Headers.{Name, Headers, class_named}
 use Rattle.class_tree.specs.Hierarchy.{IsHierarchy}
 use Rattle.class_tree.specs.Interfaces.{IsInterfaceWalk, of_root, below, each_once}
-use Rattle.class_tree.specs.Laws.Decided.{Decision, mapped, both, either, same_bytes, is_false, array_decided}
+use Rattle.class_model.specs.Laws.Decisions.{Decision, mapped, both, either, is_false}
+use Rattle.class_tree.specs.Laws.Decided.{same_bytes, array_decided}
 use Rattle.class_tree.specs.Names.{object, method_handle}
 use Rattle.class_tree.specs.Order.{place_of}
 use Rattle.class_tree.specs.declared.place.Place.{Place}

@@ -6,7 +6,8 @@ use Rattle.class_tree.specs.Headers.{Name, Headers, class_named}
 use Rattle.class_tree.specs.Hierarchy.{IsHierarchy}
 use Rattle.class_tree.specs.Laws.Above.{low_is_there, class_is_climbed, hierarchy_is_sound, hierarchy_is_rooted}
 use Rattle.class_tree.specs.Laws.Alike.{shapes, twin, below_alike}
-use Rattle.class_tree.specs.Laws.Decided.{Decision, mapped, both, is_false, below_decided}
+use Rattle.class_model.specs.Laws.Decisions.{Decision, mapped, both, is_false}
+use Rattle.class_tree.specs.Laws.Decided.{below_decided}
 use Rattle.class_tree.specs.Laws.Headers.{class_there}
 use Rattle.class_tree.specs.Names.{is_interface}
 use Rattle.member_link.specs.SpecialStart.{IsSuperclassNamed, StartsSpecial, at_superclass, at_named}

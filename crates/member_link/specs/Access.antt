@@ -20,8 +20,18 @@ IsAtOrBelow headers low high = (low ≡ high) ⊎ IsBelow headers low high
 -- A member that a reference names through a class or array is accessible from a class.
 pub data IsAccessible (headers : Headers) (from named : Name) (declared : Declared) : Type 0 where
   is_public : IsTrue (has declared.member.flags PUBLIC) → IsAccessible headers from named declared
-  is_own_private : IsTrue (has declared.member.flags PRIVATE) → declared.class ≡ from → IsAccessible headers from named declared
-  in_package : IsTrue (is_package_access declared.member || has declared.member.flags PROTECTED) → package_of from ≡ package_of declared.class → IsAccessible headers from named declared
-  is_protected : IsTrue (has declared.member.flags PROTECTED) → IsAtOrBelow headers from declared.class → (IsFalse (has declared.member.flags STATIC) → IsAtOrBelow headers named from ⊎ IsAtOrBelow headers from named) → IsAccessible headers from named declared
+  is_own_private : IsTrue (has declared.member.flags PRIVATE)
+      → declared.class ≡ from
+      → IsAccessible headers from named declared
+  in_package : IsTrue (is_package_access declared.member || has declared.member.flags PROTECTED)
+      → package_of from ≡ package_of declared.class
+      → IsAccessible headers from named declared
+  is_protected : IsTrue (has declared.member.flags PROTECTED)
+      → IsAtOrBelow headers from declared.class
+      → (IsFalse (has declared.member.flags STATIC)
+      → IsAtOrBelow headers named from ⊎ IsAtOrBelow headers from named)
+      → IsAccessible headers from named declared
   -- the clone of an array counts as public
-  is_clone_of_array : IsArray named → declared.member.name ≡ codes "clone" → IsAccessible headers from named declared
+  is_clone_of_array : IsArray named
+      → declared.member.name ≡ codes "clone"
+      → IsAccessible headers from named declared

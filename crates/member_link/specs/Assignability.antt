@@ -16,13 +16,26 @@ int_array = codes "[I"
 -- of classes by their names, and arrays by their descriptors
 pub data IsNameAssignable (headers : Headers) : Name → Name → Type 0 where
   to_itself : (name : Name) → IsNameAssignable headers name name
-  to_interface : (low high : Name) (header : Header) → ¬ IsArray low → class_named headers high ≡ Some header → IsTrue (is_interface header) → IsNameAssignable headers low high
+  to_interface : (low high : Name) (header : Header)
+      → ¬ IsArray low
+      → class_named headers high ≡ Some header
+      → IsTrue (is_interface header)
+      → IsNameAssignable headers low high
   to_class_above : (low high : Name) → IsBelow headers low high → IsNameAssignable headers low high
-  from_array : (low high : Name) → IsArray low → IsAboveArrays high → IsNameAssignable headers low high
-  of_components : (low high low_component high_component : Name) → IsReferenceComponent low low_component → IsReferenceComponent high high_component → IsNameAssignable headers low_component high_component → IsNameAssignable headers low high
+  from_array : (low high : Name)
+      → IsArray low
+      → IsAboveArrays high
+      → IsNameAssignable headers low high
+  of_components : (low high low_component high_component : Name)
+      → IsReferenceComponent low low_component
+      → IsReferenceComponent high high_component
+      → IsNameAssignable headers low_component high_component
+      → IsNameAssignable headers low high
 
 pub data IsAssignable (headers : Headers) : VType → VType → Type 0 where
   to_same : (type : VType) → IsAssignable headers type type
   to_top : (type : VType) → IsAssignable headers type Top
   from_null : (name : Name) → IsAssignable headers Null (Object name)
-  of_names : (low high : Name) → IsNameAssignable headers low high → IsAssignable headers (Object low) (Object high)
+  of_names : (low high : Name)
+      → IsNameAssignable headers low high
+      → IsAssignable headers (Object low) (Object high)

@@ -36,7 +36,8 @@ MayGoTo s frame stated = ⊥
 -- ---- frames by place
 
 abbrev pub frame_among : List BodyPoint → List Frame → ℕ → Option Frame
-frame_among (point ∷ points) (frame ∷ frames) place = if point.place == place then Some frame else frame_among points frames place
+frame_among (point ∷ points) (frame ∷ frames) place =
+    if point.place == place then Some frame else frame_among points frames place
 frame_among points frames place = None
 
 -- the frame at a place
@@ -50,8 +51,12 @@ Reaches s flows frame None = flows ≡ frame
 
 -- what flows into a place reaches the frame there; where nothing does, the frame there is a stated one
 abbrev pub FlowsInto : Body → List Frame → ℕ → Option Frame → Type 0
-FlowsInto b frames place (Some flows) = (frame : Frame) × (frame_at b frames place ≡ Some frame) × Reaches b.scope flows frame (b.stated place)
-FlowsInto b frames place None = (frame : Frame) → frame_at b frames place ≡ Some frame → IsSome (b.stated place)
+FlowsInto b frames place (Some flows) =
+    (frame : Frame)
+    × (frame_at b frames place ≡ Some frame)
+    × Reaches b.scope flows frame (b.stated place)
+FlowsInto b frames place None =
+    (frame : Frame) → frame_at b frames place ≡ Some frame → IsSome (b.stated place)
 
 -- ---- a point, and a body
 
@@ -61,8 +66,12 @@ pub record PointFits (b : Body) (frames : List Frame) (point : BodyPoint) : Type
   pub is_at : frame_at b frames point.place ≡ Some frame
   pub row : RowHolds point.scope frame (point_row point frame)
   pub next : FlowsInto b frames point.next (flows_on point frame)
-  pub targets : AllByRecursion (λ target. MayGoTo b.scope (frame_behind point frame) (b.stated target)) (item_targets point.item)
-  pub handlers : AllByRecursion (λ catch. MayGoTo b.scope (Some (catch_frame frame catch.class)) (b.stated catch.to)) point.catches
+  pub targets : AllByRecursion
+      (λ target. MayGoTo b.scope (frame_behind point frame) (b.stated target))
+      (item_targets point.item)
+  pub handlers : AllByRecursion
+      (λ catch. MayGoTo b.scope (Some (catch_frame frame catch.class))
+      (b.stated catch.to)) point.catches
 
 -- the place of the first of these points, or this one
 abbrev pub begins_at : List BodyPoint → ℕ → ℕ
@@ -73,7 +82,10 @@ begins_at (point ∷ points) end = point.place
 pub record HasFrames (b : Body) (frames : List Frame) : Type 0 where
   pub one_each : length frames ≡ length b.points
   pub catch_types : AllByRecursion (λ caught. IsThrowable b.scope.headers caught.class) b.table
-  pub stated : (place : ℕ) (frame stated : Frame) → frame_at b frames place ≡ Some frame → b.stated place ≡ Some stated → frame ≡ stated
+  pub stated : (place : ℕ) (frame stated : Frame)
+      → frame_at b frames place ≡ Some frame
+      → b.stated place ≡ Some stated
+      → frame ≡ stated
   pub entry : FlowsInto b frames (begins_at b.points b.end) (Some b.entry)
   pub points : AllByRecursion (PointFits b frames) b.points
 
@@ -87,4 +99,5 @@ BeginAt place (point ∷ points) = point.place ≡ place
 -- each point stands behind the one before it
 abbrev pub AreInOrder : List BodyPoint → Type 0
 AreInOrder [] = Unit {0}
-AreInOrder (point ∷ points) = (point.place < point.next) × BeginAt point.next points × AreInOrder points
+AreInOrder (point ∷ points) =
+    (point.place < point.next) × BeginAt point.next points × AreInOrder points

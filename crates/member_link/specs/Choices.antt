@@ -7,7 +7,8 @@ use Rattle.member_link.specs.DeclaredMembers.{Declared, IsMethod}
 
 -- The method that a call runs: neither abstract nor static, of a class or interface at or above the receiver's class, with
 -- the name and descriptor of the method that was found.
-pub record IsRunnable (headers : Headers) (receiver : Name) (resolved method : Declared) : Type 0 where
+pub record IsRunnable (headers : Headers) (receiver : Name)
+    (resolved method : Declared) : Type 0 where
   pub concrete : IsFalse (has method.member.flags ABSTRACT)
   pub of_instance : IsFalse (has method.member.flags STATIC)
   pub above : IsSubtype headers receiver method.class

@@ -23,7 +23,10 @@ pub record Site : Type 0 where
 
 -- what is asked of a member
 abbrev pub asked : Site → LinkRule → Type 0 → Check Problem
-asked site rule holds = record { fault = record { class = site.class; member = site.member; rule = rule }; holds = holds }
+asked site rule holds = record {
+  fault = record { class = site.class; member = site.member; rule = rule };
+  holds = holds;
+}
 
 -- the method is one of a class of the folder
 pub record IsFolderMethod (headers : Headers) (method : Declared) : Type 0 where
@@ -32,24 +35,31 @@ pub record IsFolderMethod (headers : Headers) (method : Declared) : Type 0 where
   pub declares : declared method.member.name method.member.desc header.methods ≡ Some method.member
 
 abbrev pub OverridesNoFinal : Headers → Declared → Type 0
-OverridesNoFinal headers method = (high : Declared) → IsFolderMethod headers high → IsTrue (has high.member.flags FINAL) → ¬ Overrides headers method high
+OverridesNoFinal headers method =
+    (high : Declared)
+    → IsFolderMethod headers high
+    → IsTrue (has high.member.flags FINAL)
+    → ¬ Overrides headers method high
 
 abbrev pub site_of : Header → Member → Site
 site_of header member = record { class = header.name; member = member }
 
 abbrev pub declared_field_checks : Headers → Header → Member → List (Check Problem)
-declared_field_checks headers header field = asked (site_of header field) rules.Missing (FieldTypeNames (IsThere headers) field.desc) ∷ []
+declared_field_checks headers header field =
+    asked (site_of header field) rules.Missing (FieldTypeNames (IsThere headers) field.desc) ∷ []
 
 abbrev pub declared_method_checks : Headers → Header → Member → List (Check Problem)
 declared_method_checks headers header method =
     asked (site_of header method) rules.Missing (DescriptorNames (IsThere headers) method.desc)
-    ∷ asked (site_of header method) rules.FinalOverridden (OverridesNoFinal headers (declared_by header.name method))
+    ∷ asked (site_of header method) rules.FinalOverridden
+    (OverridesNoFinal headers (declared_by header.name method))
     ∷ []
 
 -- the superclass and the interfaces are accessible; the classes that descriptors name are there; no final method of the
 -- folder is overridden
 abbrev pub declaration_checks : Headers → Header → List (Check Problem)
 declaration_checks headers header =
-    check header.name rules.NoAccess (AllByRecursion (IsClassAccessible headers header.name) (supers header))
+    check header.name rules.NoAccess
+    (AllByRecursion (IsClassAccessible headers header.name) (supers header))
     ∷ asked_each (declared_field_checks headers header) header.fields
     ++ asked_each (declared_method_checks headers header) header.methods

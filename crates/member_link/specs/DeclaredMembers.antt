@@ -17,11 +17,14 @@ declared_by class member = record { class = class; member = member }
 -- the member of a name and descriptor
 abbrev pub declared : List ℕ → List ℕ → List Member → Option Member
 declared name desc [] = None
-declared name desc (member ∷ members) = if is_member name desc member then Some member else declared name desc members
+declared name desc (member ∷ members) =
+    if is_member name desc member then Some member else declared name desc members
 
 -- the method of a name and descriptor that the class of a name declares itself
 abbrev pub own_method : Headers → Name → List ℕ → List ℕ → Option Declared
-own_method headers class name desc = option_and_then (λ header. option_map (declared_by class) (declared name desc header.methods)) (class_named headers class)
+own_method headers class name desc =
+    option_and_then (λ header. option_map (declared_by class) (declared name desc header.methods))
+    (class_named headers class)
 
 -- the method is the one of its name and descriptor in its class
 pub record IsMethod (headers : Headers) (method : Declared) : Type 0 where
@@ -35,7 +38,10 @@ is_inherited member = not (has member.flags PRIVATE) && not (has member.flags ST
 
 -- none of public, protected and private
 abbrev pub is_package_access : Member → Bool
-is_package_access member = not (has member.flags PUBLIC) && not (has member.flags PROTECTED) && not (has member.flags PRIVATE)
+is_package_access member =
+    not (has member.flags PUBLIC)
+    && not (has member.flags PROTECTED)
+    && not (has member.flags PRIVATE)
 
 -- public or protected
 abbrev pub is_open : Member → Bool

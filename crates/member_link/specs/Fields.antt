@@ -14,12 +14,30 @@ interfaces_and_super header = header.interfaces ++ of_super header.super_name wh
   of_super (Some name) = name ∷ []
 
 -- what the look-up finds in the first of these classes in which it finds a field
-pub data FindsFirst (headers : Headers) (name desc : List ℕ) : List Name → Option Declared → Type 0 where
+pub data FindsFirst (headers : Headers) (name desc : List ℕ) : List Name
+    → Option Declared
+    → Type 0 where
   in_no_class : FindsFirst headers name desc [] None
-  in_class : (class : Name) (classes : List Name) (header : Header) (member : Member) → class_named headers class ≡ Some header → declared name desc header.fields ≡ Some member → FindsFirst headers name desc (class ∷ classes) (Some (declared_by class member))
-  above_class : (class : Name) (classes : List Name) (header : Header) (field : Declared) → class_named headers class ≡ Some header → declared name desc header.fields ≡ None → FindsFirst headers name desc (interfaces_and_super header) (Some field) → FindsFirst headers name desc (class ∷ classes) (Some field)
-  in_other_class : (class : Name) (classes : List Name) (header : Header) (found : Option Declared) → class_named headers class ≡ Some header → declared name desc header.fields ≡ None → FindsFirst headers name desc (interfaces_and_super header) None → FindsFirst headers name desc classes found → FindsFirst headers name desc (class ∷ classes) found
-  absent_class : (class : Name) (classes : List Name) (found : Option Declared) → class_named headers class ≡ None → FindsFirst headers name desc classes found → FindsFirst headers name desc (class ∷ classes) found
+  in_class : (class : Name) (classes : List Name) (header : Header) (member : Member)
+      → class_named headers class ≡ Some header
+      → declared name desc header.fields ≡ Some member
+      → FindsFirst headers name desc (class ∷ classes) (Some (declared_by class member))
+  above_class : (class : Name) (classes : List Name) (header : Header) (field : Declared)
+      → class_named headers class ≡ Some header
+      → declared name desc header.fields ≡ None
+      → FindsFirst headers name desc (interfaces_and_super header) (Some field)
+      → FindsFirst headers name desc (class ∷ classes) (Some field)
+  in_other_class : (class : Name) (classes : List Name) (header : Header)
+      (found : Option Declared)
+      → class_named headers class ≡ Some header
+      → declared name desc header.fields ≡ None
+      → FindsFirst headers name desc (interfaces_and_super header) None
+      → FindsFirst headers name desc classes found
+      → FindsFirst headers name desc (class ∷ classes) found
+  absent_class : (class : Name) (classes : List Name) (found : Option Declared)
+      → class_named headers class ≡ None
+      → FindsFirst headers name desc classes found
+      → FindsFirst headers name desc (class ∷ classes) found
 
 -- what the look-up of a field finds in a class; in an array nothing
 abbrev pub FindsField : Headers → Name → List ℕ → List ℕ → Option Declared → Type 0

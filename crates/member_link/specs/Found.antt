@@ -20,12 +20,14 @@ abbrev pub methods_of : Header → List Member
 methods_of header = header.methods
 
 -- the place of a declared member: that of its class, and the first of its name and descriptor there
-pub record IsFoundIn (members_of : Header → List Member) (headers : Headers) (found : Found) (declared : Declared) : Type 0 where
+pub record IsFoundIn (members_of : Header → List Member) (headers : Headers)
+    (found : Found) (declared : Declared) : Type 0 where
   pub header : Header
   pub at : header_at headers found.place ≡ Some header
   pub own_class : header.name ≡ declared.class
   pub stands : slice_get (members_of header) found.member ≡ Some declared.member
-  pub first : member_place declared.member.name declared.member.desc (members_of header) ≡ Some found.member
+  pub first : member_place declared.member.name declared.member.desc (members_of header)
+      ≡ Some found.member
   pub same_flags : found.flags ≡ declared.member.flags
 
 abbrev pub IsFieldFound : Headers → Found → Declared → Type 0
@@ -41,20 +43,23 @@ AreSame Is None None = Unit {0}
 AreSame Is found declared = ⊥
 
 -- what the look-up of a field answers
-pub record IsField (headers : Headers) (class : Name) (name desc : List ℕ) (result : Option Found) : Type 0 where
+pub record IsField (headers : Headers) (class : Name) (name desc : List ℕ)
+    (result : Option Found) : Type 0 where
   pub field : Option Declared
   pub finds : FindsField headers class name desc field
   pub same : AreSame (IsFieldFound headers) result field
 
 -- what the look-up of a method answers
-pub record IsMethodOf (headers : Headers) (class : Name) (name desc : List ℕ) (result : Option Found) : Type 0 where
+pub record IsMethodOf (headers : Headers) (class : Name) (name desc : List ℕ)
+    (result : Option Found) : Type 0 where
   pub method : Option Declared
   pub finds : FindsMethod headers class name desc method
   pub same : AreSame (IsMethodFound headers) result method
 
 -- A member that a reference through a class or array finds; through an array it is a method.
 abbrev pub IsMemberFound : Headers → Name → Found → Declared → Type 0
-IsMemberFound headers named found declared = IsMethodFound headers found declared ⊎ ((¬ IsArray named) × IsFieldFound headers found declared)
+IsMemberFound headers named found declared =
+    IsMethodFound headers found declared ⊎ ((¬ IsArray named) × IsFieldFound headers found declared)
 
 -- what a selection answers
 abbrev pub IsChoice : Headers → Selected → Choice → Type 0

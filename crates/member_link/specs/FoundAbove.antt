@@ -7,7 +7,8 @@ use Rattle.member_link.specs.DeclaredMembers.{Declared, IsMethod, declared}
 use Rattle.member_link.specs.Methods.{IsPolymorphic}
 
 -- a field of a class or interface at or above the named class, of the name and descriptor
-pub record IsFieldAbove (headers : Headers) (class : Name) (name desc : List ℕ) (field : Declared) : Type 0 where
+pub record IsFieldAbove (headers : Headers) (class : Name) (name desc : List ℕ)
+    (field : Declared) : Type 0 where
   pub header : Header
   pub found : class_named headers field.class ≡ Some header
   pub declares : declared name desc header.fields ≡ Some field.member
@@ -15,7 +16,8 @@ pub record IsFieldAbove (headers : Headers) (class : Name) (name desc : List ℕ
 
 -- A method of a class or interface at or above the named class or array, of the name, and of the descriptor unless it is
 -- found under every one.
-pub record IsMethodAbove (headers : Headers) (class : Name) (name desc : List ℕ) (method : Declared) : Type 0 where
+pub record IsMethodAbove (headers : Headers) (class : Name) (name desc : List ℕ)
+    (method : Declared) : Type 0 where
   pub declares : IsMethod headers method
   pub above : IsSubtype headers class method.class
   pub same_name : method.member.name ≡ name

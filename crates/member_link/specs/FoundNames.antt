@@ -7,10 +7,15 @@ use Rattle.member_link.specs.References.{Reference}
 
 -- the declaring class, the name and the descriptor of a member
 abbrev pub named_by : Declared → Reference
-named_by declared = record { class = declared.class; name = declared.member.name; desc = declared.member.desc }
+named_by declared = record {
+  class = declared.class;
+  name = declared.member.name;
+  desc = declared.member.desc;
+}
 
 -- the field that a look-up finds, whatever its flags
-pub record FindsFieldNamed (headers : Headers) (class : Name) (name desc : List ℕ) (answer : Option Reference) : Type 0 where
+pub record FindsFieldNamed (headers : Headers) (class : Name) (name desc : List ℕ)
+    (answer : Option Reference) : Type 0 where
   pub field : Option Declared
   pub finds : FindsField headers class name desc field
   pub is : answer ≡ option_map named_by field

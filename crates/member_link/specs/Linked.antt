@@ -10,7 +10,8 @@ use Rattle.member_link.specs.Uses.{use_checks}
 abbrev pub link_checks : Classes → List (Check Problem)
 link_checks classes =
     let headers = headers_of classes in
-    asked_each (declaration_checks headers) headers.folder ++ asked_each (use_checks headers) classes.folder
+    asked_each (declaration_checks headers) headers.folder
+    ++ asked_each (use_checks headers) classes.folder
 
 -- A linked folder. Its classes are those of a hierarchy.
 abbrev pub IsLinked : Classes → Type 0

@@ -38,20 +38,39 @@ pub record CodeAt (classes : Classes) (class_number method_number : ℕ) : Type 
   pub code_is : slice_get method.attrs attr_number ≡ Some (Code name part)
 
 -- where its references stand
-abbrev pub use_scope : (classes : Classes) (class_number method_number : ℕ) → CodeAt classes class_number method_number → UseScope
-use_scope classes class_number method_number at = record { headers = headers_of classes; pool = at.class.pool; site = site_of (header_of at.class) at.member }
+abbrev pub use_scope : (classes : Classes) (class_number method_number : ℕ)
+    → CodeAt classes class_number method_number → UseScope
+use_scope classes class_number method_number at = record {
+  headers = headers_of classes;
+  pool = at.class.pool;
+  site = site_of (header_of at.class) at.member;
+}
 
 -- the frames that the code states
-abbrev pub frames_stated : (classes : Classes) (class_number method_number : ℕ) → CodeAt classes class_number method_number → List PlacedFrame
-frames_stated classes class_number method_number at = stated_in (home_of at.class) at.method at.part at.part.attrs
+abbrev pub frames_stated : (classes : Classes) (class_number method_number : ℕ)
+    → CodeAt classes class_number method_number → List PlacedFrame
+frames_stated classes class_number method_number at =
+    stated_in (home_of at.class) at.method at.part at.part.attrs
 
 -- Each class declares what passes, and in each method with code each instruction, entry of the exception table and stated
 -- frame names what passes.
 pub record IsLinkedByPlace (classes : Classes) : Type 0 where
-  pub declarations : (number : ℕ) (header : Header) → slice_get (headers_of classes).folder number ≡ Some header → AllHold (declaration_checks (headers_of classes) header)
-  pub instructions : (class method number : ℕ) (at : CodeAt classes class method) (instrs : List Placed) (placed : Placed) → decoded at.part.code ≡ Ok instrs → slice_get instrs number ≡ Some placed → AllHold (instr_use_checks (use_scope classes class method at) placed.instr)
-  pub handlers : (class method number : ℕ) (at : CodeAt classes class method) (handler : Handler) → slice_get at.part.handlers number ≡ Some handler → AllHold (handler_use_checks (use_scope classes class method at) handler)
-  pub frames : (class method number : ℕ) (at : CodeAt classes class method) (frame : PlacedFrame) → slice_get (frames_stated classes class method at) number ≡ Some frame → AllHold (frame_checks (use_scope classes class method at) frame)
+  pub declarations : (number : ℕ) (header : Header)
+      → slice_get (headers_of classes).folder number ≡ Some header
+      → AllHold (declaration_checks (headers_of classes) header)
+  pub instructions : (class method number : ℕ) (at : CodeAt classes class method)
+      (instrs : List Placed) (placed : Placed)
+      → decoded at.part.code ≡ Ok instrs
+      → slice_get instrs number ≡ Some placed
+      → AllHold (instr_use_checks (use_scope classes class method at) placed.instr)
+  pub handlers : (class method number : ℕ) (at : CodeAt classes class method)
+      (handler : Handler)
+      → slice_get at.part.handlers number ≡ Some handler
+      → AllHold (handler_use_checks (use_scope classes class method at) handler)
+  pub frames : (class method number : ℕ) (at : CodeAt classes class method)
+      (frame : PlacedFrame)
+      → slice_get (frames_stated classes class method at) number ≡ Some frame
+      → AllHold (frame_checks (use_scope classes class method at) frame)
 
 -- ---- what passes, fact by fact
 
@@ -62,7 +81,8 @@ pub record ClassPasses (s : UseScope) (name : Name) : Type 0 where
 
 -- A member that is named: the named class and the classes of the descriptor are there, the named class is accessible, the
 -- member is found, it is of the form, and it is accessible.
-pub record MemberPasses (s : UseScope) (reference : Reference) (OthersAreThere : Type 0) (Finds : Option Declared → Type 0) (HasForm : Declared → Type 0) : Type 0 where
+pub record MemberPasses (s : UseScope) (reference : Reference) (OthersAreThere : Type 0)
+    (Finds : Option Declared → Type 0) (HasForm : Declared → Type 0) : Type 0 where
   pub there : IsNamedThere s.headers reference.class
   pub others_there : OthersAreThere
   pub class_accessible : IsNamedAccessible s.headers s.site.class reference.class
@@ -74,9 +94,11 @@ pub record MemberPasses (s : UseScope) (reference : Reference) (OthersAreThere :
 -- a field that is named
 abbrev pub FieldPasses : UseScope → (Declared → Type 0) → Reference → Type 0
 FieldPasses s HasForm reference =
-    MemberPasses s reference (FieldTypeNames (IsThere s.headers) reference.desc) (FindsField s.headers reference.class reference.name reference.desc) HasForm
+    MemberPasses s reference (FieldTypeNames (IsThere s.headers) reference.desc)
+    (FindsField s.headers reference.class reference.name reference.desc) HasForm
 
 -- a method that is named
 abbrev pub MethodPasses : UseScope → (Reference → Declared → Type 0) → Reference → Type 0
 MethodPasses s HasForm reference =
-    MemberPasses s reference (DescriptorNames (IsThere s.headers) reference.desc) (FindsMethod s.headers reference.class reference.name reference.desc) (HasForm reference)
+    MemberPasses s reference (DescriptorNames (IsThere s.headers) reference.desc)
+    (FindsMethod s.headers reference.class reference.name reference.desc) (HasForm reference)

@@ -1,6 +1,7 @@
 -- What the constants of a class file refer to (JVM Specification SE 8, 4.4), and the classes that descriptors name (4.3).
 use Rattle.std.specs.Prelude.{◌==◌, ◌-◌, ℕ, List, [], ◌∷◌, length, take, drop, Option, Some, None, IfSome, if◌then◌else◌}
 use Rattle.std.specs.List.{AllByRecursion}
+use Rattle.class_model.specs.Characters.{class_letter}
 use Rattle.class_model.specs.Descriptors.{SpellsFieldType, SpellsDescriptor, brackets}
 use Rattle.class_model.specs.Pool.{Constants}
 use Rattle.class_model.specs.PoolChecks.{class_at, name_at, descriptor_at}
@@ -18,21 +19,25 @@ pub record Reference : Type 0 where
 
 -- the reference of a class index and a NameAndType index
 abbrev pub reference_at : Constants → ℕ → ℕ → Option Reference
-reference_at pool class member = of_parts (class_at pool class) (name_at pool member) (descriptor_at pool member) where
-  of_parts : Option Name → Option (List ℕ) → Option (List ℕ) → Option Reference
-  of_parts (Some class) (Some name) (Some desc) = Some (record { class = class; name = name; desc = desc })
-  of_parts class name desc = None
+reference_at pool class member =
+    of_parts (class_at pool class) (name_at pool member) (descriptor_at pool member) where
+      of_parts : Option Name → Option (List ℕ) → Option (List ℕ) → Option Reference
+      of_parts (Some class) (Some name) (Some desc) =
+          Some (record { class = class; name = name; desc = desc })
+      of_parts class name desc = None
 
 -- ---- classes that names and types name
 
 -- the class of an array's element, behind its brackets
 abbrev class_of_element : List ℕ → Option Name
 class_of_element [] = None
-class_of_element (first ∷ rest) = if first == 76 then Some (take (length rest - 1) rest) else None
+class_of_element (first ∷ rest) =
+    if first == class_letter then Some (take (length rest - 1) rest) else None
 
 -- the class that a class name or an array type names, if its element is of no base type
 abbrev pub element_class : Name → Option Name
-element_class name = if brackets name == 0 then Some name else class_of_element (drop (brackets name) name)
+element_class name =
+    if brackets name == 0 then Some name else class_of_element (drop (brackets name) name)
 
 -- what is asked of the class that a name or a type names
 abbrev pub NamesElementClass : (Name → Type 0) → Name → Type 0
@@ -55,7 +60,11 @@ FieldTypeNames Asked text = (type : FieldType) → SpellsFieldType text type →
 
 -- what is asked of the classes that a method's descriptor names
 abbrev pub DescriptorNames : (Name → Type 0) → List ℕ → Type 0
-DescriptorNames Asked text = (descriptor : Descriptor) → SpellsDescriptor text descriptor → AllByRecursion (TypeNames Asked) descriptor.params × IfSome descriptor.result (TypeNames Asked)
+DescriptorNames Asked text =
+    (descriptor : Descriptor)
+    → SpellsDescriptor text descriptor
+    → AllByRecursion (TypeNames Asked) descriptor.params
+    × IfSome descriptor.result (TypeNames Asked)
 
 -- the class that is named is there
 abbrev pub IsNamedThere : Headers → Name → Type 0

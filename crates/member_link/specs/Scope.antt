@@ -28,12 +28,19 @@ pub record Scope : Type 0 where
 -- ---- where a method stands
 
 abbrev pub scope_of : Headers → ClassFile → Method → Option Scope
-scope_of headers class method = option_map (λ part. record { headers = headers; class = class; method = method; part = part }) (code_of method.attrs)
+scope_of headers class method =
+    option_map (λ part. record {
+      headers = headers;
+      class = class;
+      method = method;
+      part = part;
+    }) (code_of method.attrs)
 
 -- the method at its numbers, where it is there and has code
 abbrev pub scope_at : Classes → MethodAt → Option Scope
 scope_at classes at =
-    option_and_then (λ class. option_and_then (scope_of (headers_of classes) class) (slice_get class.methods at.method)) (slice_get classes.folder at.class)
+    option_and_then (λ class. option_and_then (scope_of (headers_of classes) class)
+    (slice_get class.methods at.method)) (slice_get classes.folder at.class)
 
 -- ---- what is said of it
 

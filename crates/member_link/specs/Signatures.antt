@@ -23,6 +23,7 @@ field_type desc = verification_type (type_of desc)
 
 -- the result of a method descriptor: what stands behind its parameters, which is V for none
 abbrev pub result_of : List ℕ → Option FieldType
-result_of desc = of_text (drop (length (flat_map field_type_text (parameters_of desc)) + 2) desc) where
-  of_text : List ℕ → Option FieldType
-  of_text text = if bytes_eq text (codes "V") then None else Some (type_of text)
+result_of desc =
+    of_text (drop (length (flat_map field_type_text (parameters_of desc)) + 2) desc) where
+      of_text : List ℕ → Option FieldType
+      of_text text = if bytes_eq text (codes "V") then None else Some (type_of text)

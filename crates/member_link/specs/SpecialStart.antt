@@ -14,5 +14,9 @@ pub record IsSuperclassNamed (headers : Headers) (current named : Name) : Type 0
 
 -- where a superclass is named, the superclass of the current class; else the named class
 pub data StartsSpecial (headers : Headers) (current named : Name) : Name → Type 0 where
-  at_superclass : (header : Header) (start : Name) → IsSuperclassNamed headers current named → class_named headers current ≡ Some header → header.super_name ≡ Some start → StartsSpecial headers current named start
+  at_superclass : (header : Header) (start : Name)
+      → IsSuperclassNamed headers current named
+      → class_named headers current ≡ Some header
+      → header.super_name ≡ Some start
+      → StartsSpecial headers current named start
   at_named : ¬ IsSuperclassNamed headers current named → StartsSpecial headers current named named

@@ -21,8 +21,11 @@ const CLONE: &[u8] = b"clone";
 /// Whether a member that a reference through a class or array finds is accessible from a class (JVM Specification SE 8, 5.4.4).
 /// Through an array it is a method. It takes no memory.
 pub fn accessible(tree: &Tree, from: &Text, named: &Text, found: Found) -> bool
-    requires { (declared : Declared) × IsMemberFound (headers_of tree.now) named.now found declared }
-    ensures { (declared : Declared) → IsMemberFound (headers_of tree.now) named.now found declared → IsTrue result ↔ IsAccessible (headers_of tree.now) from.now named.now declared }
+    requires { (declared : Declared)
+        × IsMemberFound (headers_of tree.now) named.now found declared }
+    ensures { (declared : Declared)
+        → IsMemberFound (headers_of tree.now) named.now found declared
+        → IsTrue result ↔ IsAccessible (headers_of tree.now) from.now named.now declared }
 {
     let Some(header) = tree.header(found.place) else {
         return false;
@@ -35,7 +38,9 @@ pub fn accessible(tree: &Tree, from: &Text, named: &Text, found: Found) -> bool
 
 // Whether a method of a class is named as the clone of an array.
 fn is_clone(header: &Header, method: usize) -> bool
-    ensures { (member : Member) → slice_get header.now.methods method ≡ Some member → IsTrue result ↔ (member.name ≡ codes "clone") }
+    ensures { (member : Member)
+        → slice_get header.now.methods method ≡ Some member
+        → IsTrue result ↔ (member.name ≡ codes "clone") }
 {
     match header.methods.get(method) {
         Some(member) => member.name.bytes() == CLONE,
@@ -45,7 +50,11 @@ fn is_clone(header: &Header, method: usize) -> bool
 
 // Whether a member that is no clone of an array is accessible, by its class and its flags.
 fn is_visible(tree: &Tree, from: &Text, named: &Text, class: &Text, flags: u16) -> bool
-    ensures { (declared : Declared) → declared.class ≡ class.now → declared.member.flags ≡ flags → (IsArray named.now → declared.member.name ≢ codes "clone") → IsTrue result ↔ IsAccessible (headers_of tree.now) from.now named.now declared }
+    ensures { (declared : Declared)
+        → declared.class ≡ class.now
+        → declared.member.flags ≡ flags
+        → (IsArray named.now → declared.member.name ≢ codes "clone")
+        → IsTrue result ↔ IsAccessible (headers_of tree.now) from.now named.now declared }
 {
     if has(flags, ACC_PUBLIC) {
         return true;
@@ -63,7 +72,11 @@ fn is_visible(tree: &Tree, from: &Text, named: &Text, class: &Text, flags: u16) 
 // Whether a protected member is accessible from a class that inherits it: one of an instance, only through a class that
 // is at or below that class, or at or above it.
 fn is_visible_below(tree: &Tree, from: &Text, named: &Text, class: &Text, is_static: bool) -> bool
-    ensures { IsTrue result ↔ (IsAtOrBelow (headers_of tree.now) from.now class.now × (IsFalse is_static → IsAtOrBelow (headers_of tree.now) named.now from.now ⊎ IsAtOrBelow (headers_of tree.now) from.now named.now)) }
+    ensures { IsTrue result
+        ↔ (IsAtOrBelow (headers_of tree.now) from.now class.now
+        × (IsFalse is_static
+        → IsAtOrBelow (headers_of tree.now) named.now from.now
+        ⊎ IsAtOrBelow (headers_of tree.now) from.now named.now)) }
 {
     if !is_at_or_below(tree, from, class) {
         return false;

@@ -15,7 +15,11 @@ pub(crate) fn ask_at(
     member: &Member,
     rule: LinkRule,
 ) -> Result<(), LinkFault>
-    ensures { Answers (asked (record { class = class.now; member = member.now }) rule (IsTrue holds) ∷ []) result }
+    ensures { Answers (asked (record {
+      class = class.now;
+      member = member.now;
+    }) rule (IsTrue holds)
+        ∷ []) result }
 {
     if holds {
         return Ok(());

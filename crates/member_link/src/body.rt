@@ -56,7 +56,8 @@ impl<'a> MethodBody<'a> {
     ) -> Result<Self, NoMemory>
         requires method { IsReadMethod class.now.pool method.now }
         requires code { AllHold (decoding_checks part.now.code) }
-        ensures { IfOk result (λ body. body ≡ record { class = class.now; method = method.now; part = part.now }) }
+        ensures { IfOk result
+            (λ body. body ≡ record { class = class.now; method = method.now; part = part.now }) }
     {
         let Some(text) = class.pool.utf8(method.desc) else {
             unreachable!()
@@ -122,7 +123,9 @@ impl<'a> MethodBody<'a> {
 
     /// The instruction at an offset, in bytes, if one starts there.
     pub fn instruction_at(&self, at: u32) -> Option<&Placed>
-        ensures { (instrs : List Placed) × (decoded self.now.part.code ≡ Ok instrs) × (option_copied result ≡ placed_at instrs at) }
+        ensures { (instrs : List Placed)
+            × (decoded self.now.part.code ≡ Ok instrs)
+            × (option_copied result ≡ placed_at instrs at) }
     {
         self.instrs.get(self.index.find(at)?)
     }

@@ -32,7 +32,9 @@ pub(crate) fn check_code(
     requires method { IsReadMethod class.now.pool method.now }
     requires code { AllHold (decoding_checks part.now.code) }
     ensures same { resolver.new ≡ resolver.old }
-    ensures told { Answers (code_use_checks (resolved_scope resolver.old member.now) (home_of class.now) method.now part.now) result }
+    ensures told { Answers
+        (code_use_checks (resolved_scope resolver.old member.now)
+        (home_of class.now) method.now part.now) result }
 {
     let body = MethodBody::new(alloc, class, method, part)?;
     check_instrs(alloc, resolver, member, body.instructions().as_slice())?;
@@ -48,7 +50,9 @@ fn check_instrs(
     instrs: &[Placed],
 ) -> Result<(), LinkFault>
     ensures same { resolver.new ≡ resolver.old }
-    ensures told { Answers (asked_each (λ placed. instr_use_checks (resolved_scope resolver.old member.now) placed.instr) instrs.now) result }
+    ensures told { Answers
+        (asked_each (λ placed. instr_use_checks
+        (resolved_scope resolver.old member.now) placed.instr) instrs.now) result }
 {
     for placed in instrs {
         check_instr(alloc, resolver, member, &placed.instr)?;
@@ -64,7 +68,9 @@ fn check_handlers(
     handlers: &[Handler],
 ) -> Result<(), LinkFault>
     ensures same { resolver.new ≡ resolver.old }
-    ensures told { Answers (asked_each (handler_use_checks (resolved_scope resolver.old member.now)) handlers.now) result }
+    ensures told { Answers
+        (asked_each (handler_use_checks
+        (resolved_scope resolver.old member.now)) handlers.now) result }
 {
     for handler in handlers {
         check_handler(alloc, resolver, member, *handler)?;
@@ -80,7 +86,8 @@ fn check_handler(
     handler: Handler,
 ) -> Result<(), LinkFault>
     ensures same { resolver.new ≡ resolver.old }
-    ensures told { Answers (handler_use_checks (resolved_scope resolver.old member.now) handler) result }
+    ensures told { Answers
+        (handler_use_checks (resolved_scope resolver.old member.now) handler) result }
 {
     if handler.catch_type == 0 {
         return Ok(());

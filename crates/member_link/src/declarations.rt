@@ -27,7 +27,8 @@ use std::alloc::Global;
 /// Asks of each class of the folder that those above it are accessible, that the classes in descriptors are there, and that
 /// no final method of the folder is overridden.
 pub(crate) fn check_declarations(alloc: Global, tree: &Tree) -> Result<(), LinkFault>
-    ensures { Answers (asked_each (declaration_checks (headers_of tree.now)) (headers_of tree.now).folder) result }
+    ensures { Answers (asked_each (declaration_checks (headers_of tree.now))
+        (headers_of tree.now).folder) result }
 {
     for index in 0..tree.folder().len() {
         check_class(alloc, tree, Place::Folder(index))?;
@@ -37,7 +38,9 @@ pub(crate) fn check_declarations(alloc: Global, tree: &Tree) -> Result<(), LinkF
 
 // Asks the class at a place.
 fn check_class(alloc: Global, tree: &Tree, place: Place) -> Result<(), LinkFault>
-    ensures { (header : Header) → header_at (headers_of tree.now) place ≡ Some header → Answers (declaration_checks (headers_of tree.now) header) result }
+    ensures { (header : Header)
+        → header_at (headers_of tree.now) place ≡ Some header
+        → Answers (declaration_checks (headers_of tree.now) header) result }
 {
     a_tree_is_a_hierarchy(tree);
     let Some(header) = tree.header(place) else {
@@ -55,14 +58,17 @@ fn check_class(alloc: Global, tree: &Tree, place: Place) -> Result<(), LinkFault
 
 // Whether the superclass and the interfaces of a class are accessible from it.
 fn are_supers_accessible(tree: &Tree, header: &Header) -> bool
-    ensures { IsTrue result ↔ AllByRecursion (IsClassAccessible (headers_of tree.now) header.now.name) (supers header.now) }
+    ensures { IsTrue result
+        ↔ AllByRecursion (IsClassAccessible (headers_of tree.now) header.now.name)
+        (supers header.now) }
 {
     is_super_accessible(tree, header) && are_interfaces_accessible(tree, header)
 }
 
 // Whether the superclass of a class, if there is one, is accessible from it.
 fn is_super_accessible(tree: &Tree, header: &Header) -> bool
-    ensures { IsTrue result ↔ IfSome header.now.super_name (IsClassAccessible (headers_of tree.now) header.now.name) }
+    ensures { IsTrue result
+        ↔ IfSome header.now.super_name (IsClassAccessible (headers_of tree.now) header.now.name) }
 {
     match &header.super_name {
         Some(name) => is_class_accessible(tree, header.name.bytes(), name.bytes()),
@@ -72,7 +78,9 @@ fn is_super_accessible(tree: &Tree, header: &Header) -> bool
 
 // Whether the interfaces that a class names are accessible from it.
 fn are_interfaces_accessible(tree: &Tree, header: &Header) -> bool
-    ensures { IsTrue result ↔ AllByRecursion (IsClassAccessible (headers_of tree.now) header.now.name) header.now.interfaces }
+    ensures { IsTrue result
+        ↔ AllByRecursion (IsClassAccessible
+        (headers_of tree.now) header.now.name) header.now.interfaces }
 {
     for name in header.interfaces.as_slice() {
         if !is_class_accessible(tree, header.name.bytes(), name.bytes()) {
@@ -84,7 +92,8 @@ fn are_interfaces_accessible(tree: &Tree, header: &Header) -> bool
 
 // Asks that the classes that the fields of a class are of are there.
 fn check_fields(alloc: Global, tree: &Tree, header: &Header) -> Result<(), LinkFault>
-    ensures { Answers (asked_each (declared_field_checks (headers_of tree.now) header.now) header.now.fields) result }
+    ensures { Answers (asked_each
+        (declared_field_checks (headers_of tree.now) header.now) header.now.fields) result }
 {
     for field in header.fields.as_slice() {
         let is_there = is_field_type_there(alloc, tree, &field.desc)?;
@@ -97,7 +106,8 @@ fn check_fields(alloc: Global, tree: &Tree, header: &Header) -> Result<(), LinkF
 // no final method of the folder.
 fn check_methods(alloc: Global, tree: &Tree, place: Place, header: &Header) -> Result<(), LinkFault>
     requires { StandsAt (headers_of tree.now) header.now.name place header.now }
-    ensures { Answers (asked_each (declared_method_checks (headers_of tree.now) header.now) header.now.methods) result }
+    ensures { Answers (asked_each
+        (declared_method_checks (headers_of tree.now) header.now) header.now.methods) result }
 {
     for member in header.methods.as_slice() {
         let is_there = is_descriptor_there(alloc, tree, &member.desc)?;
@@ -121,7 +131,9 @@ fn check_methods(alloc: Global, tree: &Tree, place: Place, header: &Header) -> R
 // Whether a method overrides no final method of the folder.
 fn overrides_no_final(tree: &Tree, low: Method<'_>) -> bool
     requires { StandsAt (headers_of tree.now) low.header.now.name low.place low.header.now }
-    ensures { IsTrue result ↔ OverridesNoFinal (headers_of tree.now) (declared_by low.entry.header.now.name low.entry.member.now) }
+    ensures { IsTrue result
+        ↔ OverridesNoFinal (headers_of tree.now)
+        (declared_by low.entry.header.now.name low.entry.member.now) }
 {
     !is_inherited(low.member.flags)
         || !any_above(tree, low, |high| overrides_final(tree, low, high))
@@ -131,7 +143,11 @@ fn overrides_no_final(tree: &Tree, low: Method<'_>) -> bool
 fn overrides_final(tree: &Tree, low: Method<'_>, high: Found) -> bool
     requires low { StandsAt (headers_of tree.now) low.header.now.name low.place low.header.now }
     requires high { (method : Declared) × IsMethodFound (headers_of tree.now) high method }
-    ensures { (method : Declared) → IsMethodFound (headers_of tree.now) high method → IsTrue result ↔ IsOverriddenFinal (headers_of tree.now) (declared_by low.entry.header.now.name low.entry.member.now) method }
+    ensures { (method : Declared)
+        → IsMethodFound (headers_of tree.now) high method
+        → IsTrue result
+        ↔ IsOverriddenFinal (headers_of tree.now)
+        (declared_by low.entry.header.now.name low.entry.member.now) method }
 {
     a_tree_is_a_hierarchy(tree);
     has(high.flags, ACC_FINAL)

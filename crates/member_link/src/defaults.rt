@@ -29,7 +29,9 @@ pub(crate) enum DefaultMethods {
 /// abstract.
 pub(crate) fn defaults(tree: &Tree, class: Place, name: &Text, desc: &Text) -> DefaultMethods
     requires { IsSome (header_at (headers_of tree.now) class) }
-    ensures { (header : Header) → header_at (headers_of tree.now) class ≡ Some header → AreDefaults (headers_of tree.now) header.name name.now desc.now result }
+    ensures { (header : Header)
+        → header_at (headers_of tree.now) class ≡ Some header
+        → AreDefaults (headers_of tree.now) header.name name.now desc.now result }
 {
     a_tree_is_a_hierarchy(tree);
     let mut only = None;
@@ -56,8 +58,13 @@ fn default_of(
     desc: &Text,
 ) -> Option<Found>
     requires class { IsSome (header_at (headers_of tree.now) class) }
-    requires interface { (header : Header) → header_at (headers_of tree.now) class ≡ Some header → IsSuperinterfaceAt (headers_of tree.now) header.name interface }
-    ensures { (low high : Header) → header_at (headers_of tree.now) class ≡ Some low → header_at (headers_of tree.now) interface ≡ Some high → IsDefaultOf (headers_of tree.now) low.name name.now desc.now high.name result }
+    requires interface { (header : Header)
+        → header_at (headers_of tree.now) class ≡ Some header
+        → IsSuperinterfaceAt (headers_of tree.now) header.name interface }
+    ensures { (low high : Header)
+        → header_at (headers_of tree.now) class ≡ Some low
+        → header_at (headers_of tree.now) interface ≡ Some high
+        → IsDefaultOf (headers_of tree.now) low.name name.now desc.now high.name result }
 {
     a_tree_is_a_hierarchy(tree);
     let found = inherited_method(tree, interface, name, desc)?;
@@ -71,7 +78,10 @@ fn default_of(
 fn is_hidden(tree: &Tree, class: Place, interface: Place, name: &Text, desc: &Text) -> bool
     requires class { IsSome (header_at (headers_of tree.now) class) }
     requires interface { IsInterfaceAt (headers_of tree.now) interface }
-    ensures { (low high : Header) → header_at (headers_of tree.now) class ≡ Some low → header_at (headers_of tree.now) interface ≡ Some high → IsTrue result ↔ IsHidden (headers_of tree.now) low.name name.now desc.now high.name }
+    ensures { (low high : Header)
+        → header_at (headers_of tree.now) class ≡ Some low
+        → header_at (headers_of tree.now) interface ≡ Some high
+        → IsTrue result ↔ IsHidden (headers_of tree.now) low.name name.now desc.now high.name }
 {
     a_tree_is_a_hierarchy(tree);
     for below in tree.superinterfaces(class) {
@@ -86,7 +96,12 @@ fn is_hidden(tree: &Tree, class: Place, interface: Place, name: &Text, desc: &Te
 fn hides(tree: &Tree, below: Place, interface: Place, name: &Text, desc: &Text) -> bool
     requires below { IsSome (header_at (headers_of tree.now) below) }
     requires interface { IsInterfaceAt (headers_of tree.now) interface }
-    ensures { (low high : Header) → header_at (headers_of tree.now) below ≡ Some low → header_at (headers_of tree.now) interface ≡ Some high → IsTrue result ↔ (IsSome (inherited_of name.now desc.now low) × IsBelow (headers_of tree.now) low.name high.name) }
+    ensures { (low high : Header)
+        → header_at (headers_of tree.now) below ≡ Some low
+        → header_at (headers_of tree.now) interface ≡ Some high
+        → IsTrue result
+        ↔ (IsSome (inherited_of name.now desc.now low)
+        × IsBelow (headers_of tree.now) low.name high.name) }
 {
     a_tree_is_a_hierarchy(tree);
     inherited_method(tree, below, name, desc).is_some()
@@ -97,7 +112,12 @@ fn hides(tree: &Tree, below: Place, interface: Place, name: &Text, desc: &Text) 
 /// class at a place.
 pub(crate) fn first_inherited(tree: &Tree, class: Place, name: &Text, desc: &Text) -> Option<Found>
     requires { IsSome (header_at (headers_of tree.now) class) }
-    ensures { (header : Header) → header_at (headers_of tree.now) class ≡ Some header → (names : List Name) × AreSuperinterfaces (headers_of tree.now) header.name names × AreSame (IsMethodFound (headers_of tree.now)) result (first_inherited (headers_of tree.now) name.now desc.now names) }
+    ensures { (header : Header)
+        → header_at (headers_of tree.now) class ≡ Some header
+        → (names : List Name)
+        × AreSuperinterfaces (headers_of tree.now) header.name names
+        × AreSame (IsMethodFound (headers_of tree.now)) result
+        (first_inherited (headers_of tree.now) name.now desc.now names) }
 {
     a_tree_is_a_hierarchy(tree);
     for interface in tree.superinterfaces(class) {
@@ -111,7 +131,10 @@ pub(crate) fn first_inherited(tree: &Tree, class: Place, name: &Text, desc: &Tex
 
 // The method of a name and descriptor that the class at a place declares, if it is neither private nor static.
 fn inherited_method(tree: &Tree, class: Place, name: &Text, desc: &Text) -> Option<Found>
-    ensures { (header : Header) → header_at (headers_of tree.now) class ≡ Some header → AreSame (IsMethodFound (headers_of tree.now)) result (inherited_of name.now desc.now header) }
+    ensures { (header : Header)
+        → header_at (headers_of tree.now) class ≡ Some header
+        → AreSame (IsMethodFound (headers_of tree.now)) result
+        (inherited_of name.now desc.now header) }
 {
     let found = own_method(tree, class, name, desc)?;
     is_inherited(found.flags).then_some(found)

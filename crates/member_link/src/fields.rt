@@ -57,7 +57,11 @@ fn find_below_super(
     top: Option<Found>,
 ) -> Option<Found>
     requires top { IsField (headers_of tree.now) object name.now desc.now top }
-    ensures { (header : Header) → header_at (headers_of tree.now) class ≡ Some header → (field : Option Declared) × FindsOrLeaves (headers_of tree.now) name.now desc.now header field × AreSame (IsFieldFound (headers_of tree.now)) result field }
+    ensures { (header : Header)
+        → header_at (headers_of tree.now) class ≡ Some header
+        → (field : Option Declared)
+        × FindsOrLeaves (headers_of tree.now) name.now desc.now header field
+        × AreSame (IsFieldFound (headers_of tree.now)) result field }
 {
     a_tree_is_a_hierarchy(tree);
     if let Some(found) = own_field(tree, class, name, desc) {
@@ -79,7 +83,9 @@ fn find_in_interfaces(
 ) -> Option<Found>
     requires kinds { AllByRecursion (IsInterfaceIfThere (headers_of tree.now)) interfaces.now }
     requires top { IsField (headers_of tree.now) object name.now desc.now top }
-    ensures { (field : Option Declared) × FindsFirst (headers_of tree.now) name.now desc.now interfaces.now field × AreSame (IsFieldFound (headers_of tree.now)) result field }
+    ensures { (field : Option Declared)
+        × FindsFirst (headers_of tree.now) name.now desc.now interfaces.now field
+        × AreSame (IsFieldFound (headers_of tree.now)) result field }
 {
     for interface in interfaces {
         if let Some(found) = find_in_interface(tree, interface, name, desc, top) {
@@ -118,7 +124,10 @@ fn find_above(
 ) -> Option<Found>
     requires interface { IsSome (header_at (headers_of tree.now) interface) }
     requires top { IsField (headers_of tree.now) object name.now desc.now top }
-    ensures { (header : Header) → header_at (headers_of tree.now) interface ≡ Some header → IsTrue (is_interface header) → IsField (headers_of tree.now) header.name name.now desc.now result }
+    ensures { (header : Header)
+        → header_at (headers_of tree.now) interface ≡ Some header
+        → IsTrue (is_interface header)
+        → IsField (headers_of tree.now) header.name name.now desc.now result }
 {
     a_tree_is_a_hierarchy(tree);
     if let Some(found) = met(tree, interface, name, desc, top) {
@@ -135,7 +144,10 @@ fn first_met(
     desc: &Text,
     top: Option<Found>,
 ) -> Option<Found>
-    ensures { (field : Option Declared) → AreSame (IsFieldFound (headers_of tree.now)) top field → AreSame (IsFieldFound (headers_of tree.now)) result (first_met (headers_of tree.now) field name.now desc.now interfaces.now) }
+    ensures { (field : Option Declared)
+        → AreSame (IsFieldFound (headers_of tree.now)) top field
+        → AreSame (IsFieldFound (headers_of tree.now)) result
+        (first_met (headers_of tree.now) field name.now desc.now interfaces.now) }
 {
     for interface in interfaces {
         if let Some(found) = met(tree, *interface, name, desc, top) {
@@ -147,7 +159,11 @@ fn first_met(
 
 // The field that is met in the interface at a place.
 fn met(tree: &Tree, interface: Place, name: &Text, desc: &Text, top: Option<Found>) -> Option<Found>
-    ensures { (field : Option Declared) → AreSame (IsFieldFound (headers_of tree.now)) top field → AreSame (IsFieldFound (headers_of tree.now)) result (option_and_then (met field name.now desc.now) (header_at (headers_of tree.now) interface)) }
+    ensures { (field : Option Declared)
+        → AreSame (IsFieldFound (headers_of tree.now)) top field
+        → AreSame (IsFieldFound (headers_of tree.now)) result
+        (option_and_then (met field name.now desc.now)
+        (header_at (headers_of tree.now) interface)) }
 {
     let Some(header) = tree.header(interface) else {
         return None;

@@ -15,7 +15,9 @@ pub(crate) fn is_inherited(flags: u16) -> bool
 
 /// Whether a member is none of public, protected and private.
 pub(crate) fn is_package_access(flags: u16) -> bool
-    ensures { (member : Member) → member.flags ≡ flags → result ≡ declared.is_package_access member }
+    ensures { (member : Member)
+        → member.flags ≡ flags
+        → result ≡ declared.is_package_access member }
 {
     !has(flags, ACC_PUBLIC) && !has(flags, ACC_PROTECTED) && !has(flags, ACC_PRIVATE)
 }

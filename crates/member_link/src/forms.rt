@@ -10,15 +10,9 @@ ghost use Rattle.member_link.specs.References.{Reference};
 ghost use Rattle.member_link.specs.Inner.Resolutions.{IsCallee};
 
 use crate::resolution::{Callee, Referent};
+use class_model::opcodes::{INVOKEINTERFACE, INVOKESPECIAL, INVOKESTATIC};
 use class_model::{ACC_ABSTRACT, ACC_INTERFACE, ACC_PRIVATE, ACC_STATIC, Const, Header, Text, has};
 use class_tree::{Tree, a_tree_is_a_hierarchy};
-
-// The opcodes of the calls that need a form of their own.
-const INVOKESPECIAL: u8 = 183;
-
-const INVOKESTATIC: u8 = 184;
-
-const INVOKEINTERFACE: u8 = 185;
 
 /// The form that is needed of a field.
 #[derive(Clone, Copy)]
@@ -37,7 +31,9 @@ pub(crate) enum MethodForm {
 
 /// Whether a field that is found has a form.
 pub(crate) fn fits_field(form: FieldForm, field: Referent) -> bool
-    ensures { (declared : Declared) → field.flags ≡ declared.member.flags → IsTrue result ↔ IsFieldForm form declared }
+    ensures { (declared : Declared)
+        → field.flags ≡ declared.member.flags
+        → IsTrue result ↔ IsFieldForm form declared }
 {
     match form {
         FieldForm::Any => true,
@@ -48,7 +44,11 @@ pub(crate) fn fits_field(form: FieldForm, field: Referent) -> bool
 
 /// Whether a method that a reference finds has a form.
 pub(crate) fn fits_method(form: MethodForm, method: Referent, callee: Callee) -> bool
-    ensures { (headers : Headers) (constant : Option Const) (reference : Reference) (declared : Declared) → IsCallee headers constant reference callee → method.flags ≡ declared.member.flags → IsTrue result ↔ IsMethodForm headers form constant reference declared }
+    ensures { (headers : Headers) (constant : Option Const) (reference : Reference)
+        (declared : Declared)
+        → IsCallee headers constant reference callee
+        → method.flags ≡ declared.member.flags
+        → IsTrue result ↔ IsMethodForm headers form constant reference declared }
 {
     match form {
         MethodForm::Any => true,
@@ -58,7 +58,11 @@ pub(crate) fn fits_method(form: MethodForm, method: Referent, callee: Callee) ->
 
 // Whether a call by an opcode may name a method of these flags.
 fn fits_call(opcode: u8, flags: u16, callee: Callee) -> bool
-    ensures { (headers : Headers) (constant : Option Const) (reference : Reference) (declared : Declared) → IsCallee headers constant reference callee → flags ≡ declared.member.flags → IsTrue result ↔ FitsCall headers opcode constant reference declared }
+    ensures { (headers : Headers) (constant : Option Const) (reference : Reference)
+        (declared : Declared)
+        → IsCallee headers constant reference callee
+        → flags ≡ declared.member.flags
+        → IsTrue result ↔ FitsCall headers opcode constant reference declared }
 {
     has(flags, ACC_STATIC) == (opcode == INVOKESTATIC)
         && callee.fits_kind

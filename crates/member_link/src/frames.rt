@@ -17,7 +17,8 @@ pub(crate) fn check_frames(
     member: &Member,
     frames: &[PlacedFrame],
 ) -> Result<(), LinkFault>
-    ensures { Answers (asked_each (frame_checks (resolved_scope resolver.now member.now)) frames.now) result }
+    ensures { Answers (asked_each
+        (frame_checks (resolved_scope resolver.now member.now)) frames.now) result }
 {
     for placed in frames {
         check_frame(alloc, resolver, member, placed)?;
@@ -45,7 +46,8 @@ fn check_locals(
     member: &Member,
     locals: &LocalTypeList,
 ) -> Result<(), LinkFault>
-    ensures { Answers (asked_each (type_checks (resolved_scope resolver.now member.now)) locals.now) result }
+    ensures { Answers (asked_each
+        (type_checks (resolved_scope resolver.now member.now)) locals.now) result }
 {
     for at in 0..locals.listed() {
         let Some(one) = locals.get(at) else {
@@ -63,7 +65,8 @@ fn check_types(
     member: &Member,
     types: &[VType],
 ) -> Result<(), LinkFault>
-    ensures { Answers (asked_each (type_checks (resolved_scope resolver.now member.now)) types.now) result }
+    ensures { Answers (asked_each
+        (type_checks (resolved_scope resolver.now member.now)) types.now) result }
 {
     for one in types {
         check_type(alloc, resolver, member, one)?;

@@ -21,7 +21,8 @@ pub(crate) fn check_instr(
     instr: &Instr,
 ) -> Result<(), LinkFault>
     ensures same { resolver.new ≡ resolver.old }
-    ensures told { Answers (instr_use_checks (resolved_scope resolver.old member.now) instr.now) result }
+    ensures told { Answers
+        (instr_use_checks (resolved_scope resolver.old member.now) instr.now) result }
 {
     match instr {
         Instr::Ldc(index) => check_loaded(alloc, resolver, member, *index),
@@ -52,7 +53,9 @@ fn check_loaded(
     index: u16,
 ) -> Result<(), LinkFault>
     ensures same { resolver.new ≡ resolver.old }
-    ensures told { Answers (loaded_checks (resolved_scope resolver.old member.now) index (constant_at resolver.old.pool index)) result }
+    ensures told { Answers
+        (loaded_checks (resolved_scope resolver.old member.now) index
+        (constant_at resolver.old.pool index)) result }
 {
     match resolver.constant(index) {
         Some(Const::Class(_)) => check_class(alloc, resolver, member, index),
@@ -76,7 +79,9 @@ fn check_dynamic(
     index: u16,
 ) -> Result<(), LinkFault>
     ensures same { resolver.new ≡ resolver.old }
-    ensures told { Answers (dynamic_use_checks (resolved_scope resolver.old member.now) (constant_at resolver.old.pool index)) result }
+    ensures told { Answers
+        (dynamic_use_checks (resolved_scope resolver.old member.now)
+        (constant_at resolver.old.pool index)) result }
 {
     let Some(Const::InvokeDynamic(..)) = resolver.constant(index) else {
         return Ok(());

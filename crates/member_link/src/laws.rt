@@ -14,22 +14,40 @@ ghost use Rattle.member_link.specs.declared.selection.CallForm.{CallForm};
 
 /// The look-up of a field in a class finds one field, or always none.
 pub fn a_look_up_finds_one_field()
-    ensures { (headers : Headers) (class : Name) (name desc : List ℕ) (one other : Option Declared) → FindsField headers class name desc one → FindsField headers class name desc other → one ≡ other }
+    ensures { (headers : Headers) (class : Name) (name desc : List ℕ)
+        (one other : Option Declared)
+        → FindsField headers class name desc one
+        → FindsField headers class name desc other
+        → one ≡ other }
 {}
 
 /// The look-up of a method in a class finds one method, or always none.
 pub fn a_look_up_finds_one_method()
-    ensures { (headers : Headers) (class : Name) (name desc : List ℕ) (one other : Option Declared) → FindsMethod headers class name desc one → FindsMethod headers class name desc other → one ≡ other }
+    ensures { (headers : Headers) (class : Name) (name desc : List ℕ)
+        (one other : Option Declared)
+        → FindsMethod headers class name desc one
+        → FindsMethod headers class name desc other
+        → one ≡ other }
 {}
 
 /// A selection chooses one method, or always none for one reason.
 pub fn a_selection_chooses_one()
-    ensures { (headers : Headers) (receiver : Name) (resolved : Declared) (form : CallForm) (one other : Choice) → Selects headers receiver resolved form one → Selects headers receiver resolved form other → one ≡ other }
+    ensures { (headers : Headers) (receiver : Name) (resolved : Declared) (form : CallForm)
+        (one other : Choice)
+        → Selects headers receiver resolved form one
+        → Selects headers receiver resolved form other
+        → one ≡ other }
 {}
 
 /// Assignability of verification types is not transitive, where no class has the name of an array: an int[] is assignable
 /// to java/lang/Object, and that to each interface, but the int[] to none that is not above all arrays.
 pub fn assignability_is_not_transitive()
-    ensures { (headers : Headers) (interface : Name) (header : Header) → ((name : Name) → IsArray name → class_named headers name ≡ None) → class_named headers interface ≡ Some header → IsTrue (is_interface header) → ¬ IsAboveArrays interface
-        → IsAssignable headers (Object int_array) (Object object) × IsAssignable headers (Object object) (Object interface) × ¬ IsAssignable headers (Object int_array) (Object interface) }
+    ensures { (headers : Headers) (interface : Name) (header : Header)
+        → ((name : Name) → IsArray name → class_named headers name ≡ None)
+        → class_named headers interface ≡ Some header
+        → IsTrue (is_interface header)
+        → ¬ IsAboveArrays interface
+        → IsAssignable headers (Object int_array) (Object object)
+        × IsAssignable headers (Object object) (Object interface)
+        × ¬ IsAssignable headers (Object int_array) (Object interface) }
 {}

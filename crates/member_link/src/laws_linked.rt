@@ -17,20 +17,31 @@ pub fn a_linked_folder_passes_by_place()
 
 /// A class that is named passes exactly where it is there and accessible.
 pub fn a_named_class_passes()
-    ensures { (s : UseScope) (name : Name) → AllHold (named_class_checks s name) ↔ ClassPasses s name }
+    ensures { (s : UseScope) (name : Name)
+        → AllHold (named_class_checks s name) ↔ ClassPasses s name }
 {}
 
 /// A reference to a field passes exactly where its classes are there, the named class is accessible, and the one field that
 /// it finds is of the form and accessible.
 pub fn a_field_reference_passes()
-    ensures of_static { (s : UseScope) (reference : Reference) → AllHold (field_use_checks s IsStaticForm reference) ↔ FieldPasses s IsStaticForm reference }
-    ensures of_instance { (s : UseScope) (reference : Reference) → AllHold (field_use_checks s IsInstanceForm reference) ↔ FieldPasses s IsInstanceForm reference }
-    ensures of_handle { (s : UseScope) (reference : Reference) → AllHold (field_use_checks s HasAnyForm reference) ↔ FieldPasses s HasAnyForm reference }
+    ensures of_static { (s : UseScope) (reference : Reference)
+        → AllHold (field_use_checks s IsStaticForm reference)
+        ↔ FieldPasses s IsStaticForm reference }
+    ensures of_instance { (s : UseScope) (reference : Reference)
+        → AllHold (field_use_checks s IsInstanceForm reference)
+        ↔ FieldPasses s IsInstanceForm reference }
+    ensures of_handle { (s : UseScope) (reference : Reference)
+        → AllHold (field_use_checks s HasAnyForm reference) ↔ FieldPasses s HasAnyForm reference }
 {}
 
 /// A reference to a method passes exactly where its classes are there, the named class is accessible, and the one method
 /// that it finds is of the form and accessible.
 pub fn a_method_reference_passes()
-    ensures of_call { (s : UseScope) (opcode : ℕ) (constant : Option Const) (reference : Reference) → AllHold (method_use_checks s (FitsCall s.headers opcode constant) reference) ↔ MethodPasses s (FitsCall s.headers opcode constant) reference }
-    ensures of_handle { (s : UseScope) (reference : Reference) → AllHold (method_use_checks s (λ reference. HasAnyForm) reference) ↔ MethodPasses s (λ reference. HasAnyForm) reference }
+    ensures of_call { (s : UseScope) (opcode : ℕ) (constant : Option Const)
+        (reference : Reference)
+        → AllHold (method_use_checks s (FitsCall s.headers opcode constant) reference)
+        ↔ MethodPasses s (FitsCall s.headers opcode constant) reference }
+    ensures of_handle { (s : UseScope) (reference : Reference)
+        → AllHold (method_use_checks s (λ reference. HasAnyForm) reference)
+        ↔ MethodPasses s (λ reference. HasAnyForm) reference }
 {}

@@ -14,11 +14,29 @@ ghost use Rattle.member_link.specs.declared.selection.CallForm.{CallForm};
 /// Every hierarchy has its links: functions that tell of any two types whether the one is a subtype of the other, which
 /// field and which method a reference finds, if any, what a selection chooses, and where that of a special call starts.
 pub fn a_hierarchy_has_links()
-    ensures subtypes { (headers : Headers) → IsHierarchy headers → (sub : Name → Name → Bool) × ((low high : Name) → IsTrue (sub low high) ↔ IsSubtype headers low high) }
-    ensures fields { (headers : Headers) → IsHierarchy headers → (field : Reference → Option Declared) × ((reference : Reference) → FindsField headers reference.class reference.name reference.desc (field reference)) }
-    ensures methods { (headers : Headers) → IsHierarchy headers → (method : Reference → Option Declared) × ((reference : Reference) → FindsMethod headers reference.class reference.name reference.desc (method reference)) }
-    ensures selections { (headers : Headers) → IsHierarchy headers → (select : Name → Declared → CallForm → Choice) × ((receiver : Name) (resolved : Declared) (form : CallForm) → Selects headers receiver resolved form (select receiver resolved form)) }
-    ensures starts { (headers : Headers) → IsHierarchy headers → (start : Name → Name → Name) × ((current named : Name) → StartsSpecial headers current named (start current named)) }
+    ensures subtypes { (headers : Headers)
+        → IsHierarchy headers
+        → (sub : Name → Name → Bool)
+        × ((low high : Name) → IsTrue (sub low high) ↔ IsSubtype headers low high) }
+    ensures fields { (headers : Headers)
+        → IsHierarchy headers
+        → (field : Reference → Option Declared)
+        × ((reference : Reference)
+        → FindsField headers reference.class reference.name reference.desc (field reference)) }
+    ensures methods { (headers : Headers)
+        → IsHierarchy headers
+        → (method : Reference → Option Declared)
+        × ((reference : Reference)
+        → FindsMethod headers reference.class reference.name reference.desc (method reference)) }
+    ensures selections { (headers : Headers)
+        → IsHierarchy headers
+        → (select : Name → Declared → CallForm → Choice)
+        × ((receiver : Name) (resolved : Declared) (form : CallForm)
+        → Selects headers receiver resolved form (select receiver resolved form)) }
+    ensures starts { (headers : Headers)
+        → IsHierarchy headers
+        → (start : Name → Name → Name)
+        × ((current named : Name) → StartsSpecial headers current named (start current named)) }
 {
     class_tree::a_hierarchy_decides_subtypes();
 }

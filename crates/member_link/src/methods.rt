@@ -60,7 +60,10 @@ fn is_in_library(tree: &Tree, class: &Text) -> bool
 
 // The first method of a name that the class at a place declares.
 fn first_named(tree: &Tree, class: Place, name: &Text) -> Option<Found>
-    ensures { (header : Header) → header_at (headers_of tree.now) class ≡ Some header → AreSame (IsMethodFound (headers_of tree.now)) result (option_map (declared_by header.name) (methods.first_named name.now header.methods)) }
+    ensures { (header : Header)
+        → header_at (headers_of tree.now) class ≡ Some header
+        → AreSame (IsMethodFound (headers_of tree.now)) result
+        (option_map (declared_by header.name) (methods.first_named name.now header.methods)) }
 {
     let methods = tree.header(class)?.methods.as_slice();
     let member = place_of_name(methods, name)?;
@@ -83,7 +86,9 @@ fn place_of_name(methods: &[Member], name: &Text) -> Option<usize>
 
 // The method that is found in the class of a name, its superclasses and then its superinterfaces.
 fn find_in_class(tree: &Tree, class: &[u8], name: &Text, desc: &Text) -> Option<Found>
-    ensures { (method : Option Declared) × FindsInClass (headers_of tree.now) class.now name.now desc.now method × AreSame (IsMethodFound (headers_of tree.now)) result method }
+    ensures { (method : Option Declared)
+        × FindsInClass (headers_of tree.now) class.now name.now desc.now method
+        × AreSame (IsMethodFound (headers_of tree.now)) result method }
 {
     class_tree::a_tree_is_a_hierarchy(tree);
     let class = tree.find(class)?;
@@ -97,7 +102,10 @@ fn find_in_class(tree: &Tree, class: &[u8], name: &Text, desc: &Text) -> Option<
 fn counted_for(tree: &Tree, class: Place) -> Counted
     requires { IsSome (header_at (headers_of tree.now) class) }
     ensures valid { IsValid (headers_of tree.now) result }
-    ensures same { (header : Header) → header_at (headers_of tree.now) class ≡ Some header → (method : Declared) → Counts (headers_of tree.now) result method ↔ CountsFor header method }
+    ensures same { (header : Header)
+        → header_at (headers_of tree.now) class ≡ Some header
+        → (method : Declared)
+        → Counts (headers_of tree.now) result method ↔ CountsFor header method }
 {
     match tree.header(class) {
         Some(header) if has(header.flags, ACC_INTERFACE) => Counted::OfInterface(class),
@@ -108,7 +116,11 @@ fn counted_for(tree: &Tree, class: Place) -> Counted
 // The method that is found among the superinterfaces of the class at a place.
 fn find_in_interfaces(tree: &Tree, class: Place, name: &Text, desc: &Text) -> Option<Found>
     requires { IsSome (header_at (headers_of tree.now) class) }
-    ensures { (header : Header) → header_at (headers_of tree.now) class ≡ Some header → (method : Option Declared) × FindsInInterfaces (headers_of tree.now) header.name name.now desc.now method × AreSame (IsMethodFound (headers_of tree.now)) result method }
+    ensures { (header : Header)
+        → header_at (headers_of tree.now) class ≡ Some header
+        → (method : Option Declared)
+        × FindsInInterfaces (headers_of tree.now) header.name name.now desc.now method
+        × AreSame (IsMethodFound (headers_of tree.now)) result method }
 {
     match defaults(tree, class, name, desc) {
         DefaultMethods::One(found) => Some(found),

@@ -45,7 +45,8 @@ pub(crate) fn is_named_accessible(tree: &Tree, from: &[u8], name: &[u8]) -> bool
 
 /// Whether the class that a field's descriptor names is there.
 pub(crate) fn is_field_type_there(alloc: Global, tree: &Tree, desc: &Text) -> Result<bool, NoMemory>
-    ensures { IfOk result (λ there. IsTrue there ↔ FieldTypeNames (IsThere (headers_of tree.now)) desc.now) }
+    ensures { IfOk result
+        (λ there. IsTrue there ↔ FieldTypeNames (IsThere (headers_of tree.now)) desc.now) }
 {
     a_text_spells_one_field_type();
     match parse_field_type(alloc, desc) {
@@ -57,7 +58,8 @@ pub(crate) fn is_field_type_there(alloc: Global, tree: &Tree, desc: &Text) -> Re
 
 /// Whether the classes that a method's descriptor names are there.
 pub(crate) fn is_descriptor_there(alloc: Global, tree: &Tree, desc: &Text) -> Result<bool, NoMemory>
-    ensures { IfOk result (λ there. IsTrue there ↔ DescriptorNames (IsThere (headers_of tree.now)) desc.now) }
+    ensures { IfOk result
+        (λ there. IsTrue there ↔ DescriptorNames (IsThere (headers_of tree.now)) desc.now) }
 {
     a_text_spells_one_descriptor();
     match parse_descriptor(alloc, desc) {
@@ -74,7 +76,8 @@ pub(crate) fn is_descriptor_accessible(
     from: &[u8],
     desc: &Text,
 ) -> Result<bool, NoMemory>
-    ensures { IfOk result (λ accessible. IsTrue accessible ↔ DescriptorNames (IsClassAccessible (headers_of tree.now) from.now) desc.now) }
+    ensures { IfOk result (λ accessible. IsTrue accessible
+        ↔ DescriptorNames (IsClassAccessible (headers_of tree.now) from.now) desc.now) }
 {
     a_text_spells_one_descriptor();
     match parse_descriptor(alloc, desc) {
@@ -86,7 +89,9 @@ pub(crate) fn is_descriptor_accessible(
 
 // Whether the classes that the types of a method name are there.
 fn are_types_there(tree: &Tree, descriptor: &Descriptor) -> bool
-    ensures { IsTrue result ↔ (AllByRecursion (TypeNames (IsThere (headers_of tree.now))) descriptor.now.params × IfSome descriptor.now.result (TypeNames (IsThere (headers_of tree.now)))) }
+    ensures { IsTrue result
+        ↔ (AllByRecursion (TypeNames (IsThere (headers_of tree.now))) descriptor.now.params
+        × IfSome descriptor.now.result (TypeNames (IsThere (headers_of tree.now)))) }
 {
     for param in descriptor.params.as_slice() {
         if !is_type_there(tree, param) {
@@ -101,7 +106,11 @@ fn are_types_there(tree: &Tree, descriptor: &Descriptor) -> bool
 
 // Whether the classes that the types of a method name are there and accessible from a class.
 fn are_types_accessible(tree: &Tree, from: &[u8], descriptor: &Descriptor) -> bool
-    ensures { IsTrue result ↔ (AllByRecursion (TypeNames (IsClassAccessible (headers_of tree.now) from.now)) descriptor.now.params × IfSome descriptor.now.result (TypeNames (IsClassAccessible (headers_of tree.now) from.now))) }
+    ensures { IsTrue result
+        ↔ (AllByRecursion (TypeNames
+        (IsClassAccessible (headers_of tree.now) from.now)) descriptor.now.params
+        × IfSome descriptor.now.result
+        (TypeNames (IsClassAccessible (headers_of tree.now) from.now))) }
 {
     for param in descriptor.params.as_slice() {
         if !is_type_accessible(tree, from, param) {
@@ -126,7 +135,8 @@ fn is_type_there(tree: &Tree, field_type: &FieldType) -> bool
 
 // Whether the class that a field type names is there and accessible from a class.
 fn is_type_accessible(tree: &Tree, from: &[u8], field_type: &FieldType) -> bool
-    ensures { IsTrue result ↔ TypeNames (IsClassAccessible (headers_of tree.now) from.now) field_type.now }
+    ensures { IsTrue result
+        ↔ TypeNames (IsClassAccessible (headers_of tree.now) from.now) field_type.now }
 {
     match field_type {
         FieldType::Named(name) => is_named_accessible(tree, from, name.bytes()),

@@ -22,7 +22,10 @@ use class_tree::{Place, Tree, a_tree_is_a_hierarchy, is_sub};
 pub fn overrides(tree: &Tree, low: Found, high: Found) -> bool
     requires low { (method : Declared) × IsMethodFound (headers_of tree.now) low method }
     requires high { (method : Declared) × IsMethodFound (headers_of tree.now) high method }
-    ensures { (low_method high_method : Declared) → IsMethodFound (headers_of tree.now) low low_method → IsMethodFound (headers_of tree.now) high high_method → IsTrue result ↔ Overrides (headers_of tree.now) low_method high_method }
+    ensures { (low_method high_method : Declared)
+        → IsMethodFound (headers_of tree.now) low low_method
+        → IsMethodFound (headers_of tree.now) high high_method
+        → IsTrue result ↔ Overrides (headers_of tree.now) low_method high_method }
 {
     overrides_method(tree, method_at(tree, low), method_at(tree, high))
 }
@@ -38,8 +41,11 @@ pub(crate) struct Method<'a> {
 /// The method that is found.
 pub(crate) fn method_at<'a>(tree: &'a Tree, found: Found) -> Method<'a>
     requires { (method : Declared) × IsMethodFound (headers_of tree.now) found method }
-    ensures at { StandsAt (headers_of tree.now) result.header.now.name result.place result.header.now }
-    ensures same { (method : Declared) → IsMethodFound (headers_of tree.now) found method → method ≡ declared_by result.header.now.name result.member.now }
+    ensures at { StandsAt
+        (headers_of tree.now) result.header.now.name result.place result.header.now }
+    ensures same { (method : Declared)
+        → IsMethodFound (headers_of tree.now) found method
+        → method ≡ declared_by result.header.now.name result.member.now }
 {
     a_tree_is_a_hierarchy(tree);
     let Some(header) = tree.header(found.place) else {
@@ -55,7 +61,10 @@ pub(crate) fn method_at<'a>(tree: &'a Tree, found: Found) -> Method<'a>
 /// Whether a method overrides another. Neither need be the first of its name and descriptor in its class.
 pub(crate) fn overrides_method(tree: &Tree, low: Method<'_>, high: Method<'_>) -> bool
     requires { StandsAt (headers_of tree.now) low.header.now.name low.place low.header.now }
-    ensures { IsTrue result ↔ Overrides (headers_of tree.now) (declared_by low.entry.header.now.name low.entry.member.now) (declared_by high.entry.header.now.name high.entry.member.now) }
+    ensures { IsTrue result
+        ↔ Overrides (headers_of tree.now)
+        (declared_by low.entry.header.now.name low.entry.member.now)
+        (declared_by high.entry.header.now.name high.entry.member.now) }
 {
     may_override(tree, low, high)
         && (is_open(high.member.flags)
@@ -67,7 +76,10 @@ pub(crate) fn overrides_method(tree: &Tree, low: Method<'_>, high: Method<'_>) -
 // initialiser.
 fn may_override(tree: &Tree, low: Method<'_>, high: Method<'_>) -> bool
     requires { StandsAt (headers_of tree.now) low.header.now.name low.place low.header.now }
-    ensures { IsTrue result ↔ MayOverride (headers_of tree.now) (declared_by low.entry.header.now.name low.entry.member.now) (declared_by high.entry.header.now.name high.entry.member.now) }
+    ensures { IsTrue result
+        ↔ MayOverride (headers_of tree.now)
+        (declared_by low.entry.header.now.name low.entry.member.now)
+        (declared_by high.entry.header.now.name high.entry.member.now) }
 {
     is_inherited(low.member.flags)
         && is_inherited(high.member.flags)
@@ -102,7 +114,11 @@ fn is_below(tree: &Tree, low: &Text, high: &Text) -> bool
 // Whether a method that is found is public or protected, and may override another of its package.
 fn opens_package(tree: &Tree, middle: Found, high: Method<'_>) -> bool
     requires { (method : Declared) × IsMethodFound (headers_of tree.now) middle method }
-    ensures { (method : Declared) → IsMethodFound (headers_of tree.now) middle method → IsTrue result ↔ OpensPackage (headers_of tree.now) method (declared_by high.entry.header.now.name high.entry.member.now) }
+    ensures { (method : Declared)
+        → IsMethodFound (headers_of tree.now) middle method
+        → IsTrue result
+        ↔ OpensPackage (headers_of tree.now) method
+        (declared_by high.entry.header.now.name high.entry.member.now) }
 {
     let middle = method_at(tree, middle);
     is_open(middle.member.flags)
@@ -113,8 +129,12 @@ fn opens_package(tree: &Tree, middle: Found, high: Method<'_>) -> bool
 /// Whether one of the methods of the classes above that have the name and descriptor of a method passes a test.
 pub(crate) fn any_above<F: Fn(Found) -> bool>(tree: &Tree, low: Method<'_>, test: F) -> bool
     requires at { StandsAt (headers_of tree.now) low.header.now.name low.place low.header.now }
-    requires test { (found : Found) (high : Declared) → IsMethodFound (headers_of tree.now) found high → F.pre test found }
-    ensures { IsAnyOf (headers_of tree.now) (IsAbove (headers_of tree.now) (declared_by low.entry.header.now.name low.entry.member.now)) (F.post test) result }
+    requires test { (found : Found) (high : Declared)
+        → IsMethodFound (headers_of tree.now) found high
+        → F.pre test found }
+    ensures { IsAnyOf (headers_of tree.now)
+        (IsAbove (headers_of tree.now)
+        (declared_by low.entry.header.now.name low.entry.member.now)) (F.post test) result }
 {
     any_superclass(tree, low, &test) || any_superinterface(tree, low, &test)
 }
@@ -122,8 +142,12 @@ pub(crate) fn any_above<F: Fn(Found) -> bool>(tree: &Tree, low: Method<'_>, test
 // Whether one of those of superclasses does.
 fn any_superclass<F: Fn(Found) -> bool>(tree: &Tree, low: Method<'_>, test: &F) -> bool
     requires at { StandsAt (headers_of tree.now) low.header.now.name low.place low.header.now }
-    requires test { (found : Found) (high : Declared) → IsMethodFound (headers_of tree.now) found high → F.pre test.now found }
-    ensures { IsAnyOf (headers_of tree.now) (IsAboveOfKind (headers_of tree.now) false (declared_by low.entry.header.now.name low.entry.member.now)) (F.post test.now) result }
+    requires test { (found : Found) (high : Declared)
+        → IsMethodFound (headers_of tree.now) found high
+        → F.pre test.now found }
+    ensures { IsAnyOf (headers_of tree.now)
+        (IsAboveOfKind (headers_of tree.now) false
+        (declared_by low.entry.header.now.name low.entry.member.now)) (F.post test.now) result }
 {
     a_tree_is_a_hierarchy(tree);
     let mut next = tree.superclass(low.place);
@@ -139,8 +163,12 @@ fn any_superclass<F: Fn(Found) -> bool>(tree: &Tree, low: Method<'_>, test: &F) 
 // Whether one of those of superinterfaces does.
 fn any_superinterface<F: Fn(Found) -> bool>(tree: &Tree, low: Method<'_>, test: &F) -> bool
     requires at { StandsAt (headers_of tree.now) low.header.now.name low.place low.header.now }
-    requires test { (found : Found) (high : Declared) → IsMethodFound (headers_of tree.now) found high → F.pre test.now found }
-    ensures { IsAnyOf (headers_of tree.now) (IsAboveOfKind (headers_of tree.now) true (declared_by low.entry.header.now.name low.entry.member.now)) (F.post test.now) result }
+    requires test { (found : Found) (high : Declared)
+        → IsMethodFound (headers_of tree.now) found high
+        → F.pre test.now found }
+    ensures { IsAnyOf (headers_of tree.now)
+        (IsAboveOfKind (headers_of tree.now) true
+        (declared_by low.entry.header.now.name low.entry.member.now)) (F.post test.now) result }
 {
     a_tree_is_a_hierarchy(tree);
     for place in tree.superinterfaces(low.place) {
@@ -154,8 +182,13 @@ fn any_superinterface<F: Fn(Found) -> bool>(tree: &Tree, low: Method<'_>, test: 
 // Whether the method of the class at a place that has the name and descriptor of a member passes a test.
 fn own_passes<F: Fn(Found) -> bool>(tree: &Tree, place: Place, member: &Member, test: &F) -> bool
     requires place { IsSome (header_at (headers_of tree.now) place) }
-    requires test { (found : Found) (high : Declared) → IsMethodFound (headers_of tree.now) found high → F.pre test.now found }
-    ensures { (header : Header) → header_at (headers_of tree.now) place ≡ Some header → IsAnyOf (headers_of tree.now) (IsSameOf (headers_of tree.now) header.name member.now) (F.post test.now) result }
+    requires test { (found : Found) (high : Declared)
+        → IsMethodFound (headers_of tree.now) found high
+        → F.pre test.now found }
+    ensures { (header : Header)
+        → header_at (headers_of tree.now) place ≡ Some header
+        → IsAnyOf (headers_of tree.now) (IsSameOf (headers_of tree.now) header.name member.now)
+        (F.post test.now) result }
 {
     a_tree_is_a_hierarchy(tree);
     match own_method(tree, place, &member.name, &member.desc) {

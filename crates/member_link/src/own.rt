@@ -12,7 +12,10 @@ use class_tree::{Place, Tree};
 
 /// The field of a name and descriptor that the class at a place declares.
 pub(crate) fn own_field(tree: &Tree, class: Place, name: &Text, desc: &Text) -> Option<Found>
-    ensures { (header : Header) → header_at (headers_of tree.now) class ≡ Some header → AreSame (IsFieldFound (headers_of tree.now)) result (option_map (declared_by header.name) (declared name.now desc.now header.fields)) }
+    ensures { (header : Header)
+        → header_at (headers_of tree.now) class ≡ Some header
+        → AreSame (IsFieldFound (headers_of tree.now)) result
+        (option_map (declared_by header.name) (declared name.now desc.now header.fields)) }
 {
     let member = tree.field(class, name, desc)?;
     let field = tree.header(class)?.fields.get(member)?;
@@ -25,7 +28,10 @@ pub(crate) fn own_field(tree: &Tree, class: Place, name: &Text, desc: &Text) -> 
 
 /// The method of a name and descriptor that the class at a place declares.
 pub(crate) fn own_method(tree: &Tree, class: Place, name: &Text, desc: &Text) -> Option<Found>
-    ensures { (header : Header) → header_at (headers_of tree.now) class ≡ Some header → AreSame (IsMethodFound (headers_of tree.now)) result (option_map (declared_by header.name) (declared name.now desc.now header.methods)) }
+    ensures { (header : Header)
+        → header_at (headers_of tree.now) class ≡ Some header
+        → AreSame (IsMethodFound (headers_of tree.now)) result
+        (option_map (declared_by header.name) (declared name.now desc.now header.methods)) }
 {
     let member = tree.method(class, name, desc)?;
     let method = tree.header(class)?.methods.get(member)?;

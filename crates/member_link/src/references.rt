@@ -25,7 +25,9 @@ pub(crate) fn check_field(
     form: FieldForm,
 ) -> Result<(), LinkFault>
     ensures same { resolver.new ≡ resolver.old }
-    ensures told { Answers (fieldref_use_checks (resolved_scope resolver.old member.now) (IsFieldForm form) (constant_at resolver.old.pool index)) result }
+    ensures told { Answers
+        (fieldref_use_checks (resolved_scope resolver.old member.now) (IsFieldForm form)
+        (constant_at resolver.old.pool index)) result }
 {
     if !is_field(resolver.constant(index)) {
         return Ok(());
@@ -49,7 +51,10 @@ pub(crate) fn check_method(
     form: MethodForm,
 ) -> Result<(), LinkFault>
     ensures same { resolver.new ≡ resolver.old }
-    ensures told { Answers (methodref_use_checks (resolved_scope resolver.old member.now) (IsMethodForm resolver.old.headers form (constant_at resolver.old.pool index)) (constant_at resolver.old.pool index)) result }
+    ensures told { Answers
+        (methodref_use_checks (resolved_scope resolver.old member.now)
+        (IsMethodForm resolver.old.headers form (constant_at resolver.old.pool index))
+        (constant_at resolver.old.pool index)) result }
 {
     if !is_method(resolver.constant(index)) {
         return Ok(());
@@ -72,7 +77,9 @@ pub(crate) fn check_handle(
     index: u16,
 ) -> Result<(), LinkFault>
     ensures same { resolver.new ≡ resolver.old }
-    ensures told { Answers (handle_use_checks (resolved_scope resolver.old member.now) (constant_at resolver.old.pool index)) result }
+    ensures told { Answers
+        (handle_use_checks (resolved_scope resolver.old member.now)
+        (constant_at resolver.old.pool index)) result }
 {
     check_field(alloc, resolver, member, index, FieldForm::Any)?;
     check_method(alloc, resolver, member, index, MethodForm::Any)
@@ -86,7 +93,10 @@ fn ask_found(
     has_form: bool,
     is_accessible: bool,
 ) -> Result<(), LinkFault>
-    ensures { Answers (asked (resolved_scope resolver.now member.now).site rules.WrongForm (IsTrue has_form) ∷ asked (resolved_scope resolver.now member.now).site rules.NoAccess (IsTrue is_accessible) ∷ []) result }
+    ensures { Answers (asked (resolved_scope resolver.now member.now).site rules.WrongForm
+        (IsTrue has_form)
+        ∷ asked (resolved_scope resolver.now member.now).site rules.NoAccess (IsTrue is_accessible)
+        ∷ []) result }
 {
     resolver.ask(alloc, has_form, member, LinkRule::WrongForm)?;
     resolver.ask(alloc, is_accessible, member, LinkRule::NoAccess)

@@ -48,7 +48,8 @@ impl<'a> Resolver<'a> {
         class: &'a ClassFile,
         name: &'a Text,
     ) -> Result<Self, NoMemory>
-        ensures { IfOk result (λ resolver. resolver ≡ record { headers = headers_of tree.now; pool = class.now.pool; from = name.now }) }
+        ensures { IfOk result (λ resolver. resolver
+            ≡ record { headers = headers_of tree.now; pool = class.now.pool; from = name.now }) }
     {
         let resolutions = vec![in alloc; None; usize::from(class.pool.count())]?;
         Ok(Resolver {
@@ -67,7 +68,8 @@ impl<'a> Resolver<'a> {
         method: &Member,
         rule: LinkRule,
     ) -> Result<(), LinkFault>
-        ensures { Answers (asked (resolved_scope self.now method.now).site rule (IsTrue holds) ∷ []) result }
+        ensures { Answers (asked (resolved_scope self.now method.now).site rule (IsTrue holds)
+            ∷ []) result }
     {
         ask_at(alloc, holds, self.name, method, rule)
     }
@@ -119,7 +121,8 @@ pub(crate) fn check_class(
     index: u16,
 ) -> Result<(), LinkFault>
     ensures same { resolver.new ≡ resolver.old }
-    ensures told { Answers (class_use_checks (resolved_scope resolver.old member.now) index) result }
+    ensures told { Answers
+        (class_use_checks (resolved_scope resolver.old member.now) index) result }
 {
     let Some(Const::Class(_)) = resolver.constant(index) else {
         return Ok(());

@@ -28,7 +28,11 @@ pub(crate) fn resolve(
     from: &Text,
     index: u16,
 ) -> Result<Resolution, NoMemory>
-    ensures { IfOk result (Resolves (record { headers = headers_of tree.now; pool = pool.now; from = from.now }) index) }
+    ensures { IfOk result (Resolves (record {
+      headers = headers_of tree.now;
+      pool = pool.now;
+      from = from.now;
+    }) index) }
 {
     let Some(constant) = pool.get(index) else {
         return Ok(Resolution::Settled);
@@ -52,7 +56,8 @@ pub(crate) fn resolve(
 
 // What a class that is named resolves to.
 fn resolve_class(tree: &Tree, from: &Text, name: Option<&Text>) -> Resolution
-    ensures { IfHad (ClassResolves (headers_of tree.now) from.now) (option_copied name.entry) result }
+    ensures { IfHad (ClassResolves (headers_of tree.now) from.now)
+        (option_copied name.entry) result }
 {
     let Some(name) = name else {
         return Resolution::Settled;
@@ -102,7 +107,9 @@ fn resolve_method(
     constant: &Const,
     reference: Option<Reference<'_>>,
 ) -> Result<Resolution, NoMemory>
-    ensures { IfOk result (IfHad (MethodResolves (headers_of tree.now) from.now (Some constant.now)) reference.entry) }
+    ensures { IfOk result
+        (IfHad (MethodResolves (headers_of tree.now) from.now
+        (Some constant.now)) reference.entry) }
 {
     let Some(Reference { class, name, desc }) = reference else {
         return Ok(Resolution::Settled);
@@ -126,7 +133,10 @@ fn resolve_method(
 
 // What is kept of a class and a name that calls name by this constant.
 fn callee_of(tree: &Tree, constant: &Const, class: &Text, name: &Text) -> Callee
-    ensures { (reference : Named) → reference.class ≡ class.now → reference.name ≡ name.now → IsCallee (headers_of tree.now) (Some constant.now) reference result }
+    ensures { (reference : Named)
+        → reference.class ≡ class.now
+        → reference.name ≡ name.now
+        → IsCallee (headers_of tree.now) (Some constant.now) reference result }
 {
     Callee {
         fits_kind: fits_kind(tree, constant, class),
@@ -141,7 +151,10 @@ fn resolve_method_type(
     from: &Text,
     desc: Option<&Text>,
 ) -> Result<Resolution, NoMemory>
-    ensures { IfOk result (IfHad (λ text. TypesResolve (DescriptorNames (IsThere (headers_of tree.now)) text) (DescriptorNames (IsClassAccessible (headers_of tree.now) from.now) text)) (option_copied desc.entry)) }
+    ensures { IfOk result
+        (IfHad (λ text. TypesResolve (DescriptorNames (IsThere (headers_of tree.now)) text)
+        (DescriptorNames (IsClassAccessible (headers_of tree.now) from.now) text))
+        (option_copied desc.entry)) }
 {
     let Some(desc) = desc else {
         return Ok(Resolution::Settled);
@@ -157,7 +170,9 @@ fn resolve_method_type(
 
 // What the classes of a dynamic call's descriptor resolve to.
 fn resolve_dynamic(alloc: Global, tree: &Tree, desc: Option<&Text>) -> Result<Resolution, NoMemory>
-    ensures { IfOk result (IfHad (λ text. TypesResolve (DescriptorNames (IsThere (headers_of tree.now)) text) (Unit {0})) (option_copied desc.entry)) }
+    ensures { IfOk result
+        (IfHad (λ text. TypesResolve (DescriptorNames (IsThere (headers_of tree.now)) text)
+        (Unit {0})) (option_copied desc.entry)) }
 {
     let Some(desc) = desc else {
         return Ok(Resolution::Settled);

@@ -41,8 +41,14 @@ pub enum Selected {
 /// class at which the selection starts. Selection for an array starts at java/lang/Object (JVM Specification SE 8, 6.5). It takes no
 /// memory.
 pub fn select(tree: &Tree, receiver: &Text, resolved: Found, form: CallForm) -> Selected
-    requires { (method : Declared) × IsMethodFound (headers_of tree.now) resolved method × IsFalse (has method.member.flags STATIC) }
-    ensures { (method : Declared) → IsMethodFound (headers_of tree.now) resolved method → (choice : Choice) × Selects (headers_of tree.now) receiver.now method form choice × IsChoice (headers_of tree.now) result choice }
+    requires { (method : Declared)
+        × IsMethodFound (headers_of tree.now) resolved method
+        × IsFalse (has method.member.flags STATIC) }
+    ensures { (method : Declared)
+        → IsMethodFound (headers_of tree.now) resolved method
+        → (choice : Choice)
+        × Selects (headers_of tree.now) receiver.now method form choice
+        × IsChoice (headers_of tree.now) result choice }
 {
     a_tree_is_a_hierarchy(tree);
     let Some(method) = method_of(tree, resolved) else {
@@ -59,14 +65,19 @@ pub fn select(tree: &Tree, receiver: &Text, resolved: Found, form: CallForm) -> 
 
 // The method that is found.
 fn method_of(tree: &Tree, found: Found) -> Option<&Member>
-    ensures { (method : Declared) → IsMethodFound (headers_of tree.now) found method → option_copied result ≡ Some method.member }
+    ensures { (method : Declared)
+        → IsMethodFound (headers_of tree.now) found method
+        → option_copied result ≡ Some method.member }
 {
     tree.header(found.place)?.methods.get(found.member)
 }
 
 // Whether the resolved method itself is chosen.
 fn is_fixed(resolved: Found, name: &Text, form: CallForm) -> bool
-    ensures { (method : Declared) → resolved.flags ≡ method.member.flags → method.member.name ≡ name.now → IsTrue result ↔ IsFixed form method }
+    ensures { (method : Declared)
+        → resolved.flags ≡ method.member.flags
+        → method.member.name ≡ name.now
+        → IsTrue result ↔ IsFixed form method }
 {
     match form {
         CallForm::Virtual => has(resolved.flags, ACC_PRIVATE),
@@ -90,7 +101,13 @@ fn start(tree: &Tree, receiver: &Text) -> Option<Place>
 fn choose(tree: &Tree, start: Place, resolved: Found, method: &Member, form: CallForm) -> Selected
     requires start { IsSome (header_at (headers_of tree.now) start) }
     requires resolved { (method : Declared) × IsMethodFound (headers_of tree.now) resolved method }
-    ensures { (header : Header) (found : Declared) → header_at (headers_of tree.now) start ≡ Some header → IsMethodFound (headers_of tree.now) resolved found → (choice : Choice) × Chooses (headers_of tree.now) (CountsFrom (headers_of tree.now) header.name found form) (choice_by form) header.name method.now.name method.now.desc choice × IsChoice (headers_of tree.now) result choice }
+    ensures { (header : Header) (found : Declared)
+        → header_at (headers_of tree.now) start ≡ Some header
+        → IsMethodFound (headers_of tree.now) resolved found
+        → (choice : Choice)
+        × Chooses (headers_of tree.now) (CountsFrom (headers_of tree.now) header.name found form)
+        (choice_by form) header.name method.now.name method.now.desc choice
+        × IsChoice (headers_of tree.now) result choice }
 {
     let counted = counted_for(tree, start, resolved, form);
     match first_upwards(tree, start, &method.name, &method.desc, counted) {
@@ -104,7 +121,11 @@ fn counted_for(tree: &Tree, start: Place, resolved: Found, form: CallForm) -> Co
     requires start { IsSome (header_at (headers_of tree.now) start) }
     requires resolved { (method : Declared) × IsMethodFound (headers_of tree.now) resolved method }
     ensures valid { IsValid (headers_of tree.now) result }
-    ensures same { (header : Header) (found method : Declared) → header_at (headers_of tree.now) start ≡ Some header → IsMethodFound (headers_of tree.now) resolved found → Counts (headers_of tree.now) result method ↔ CountsFrom (headers_of tree.now) header.name found form method }
+    ensures same { (header : Header) (found method : Declared)
+        → header_at (headers_of tree.now) start ≡ Some header
+        → IsMethodFound (headers_of tree.now) resolved found
+        → Counts (headers_of tree.now) result method
+        ↔ CountsFrom (headers_of tree.now) header.name found form method }
 {
     a_tree_is_a_hierarchy(tree);
     match form {
@@ -117,7 +138,9 @@ fn counted_for(tree: &Tree, start: Place, resolved: Found, form: CallForm) -> Co
 
 // Whether the class at a place is an interface.
 fn is_interface(tree: &Tree, class: Place) -> bool
-    ensures { (header : Header) → header_at (headers_of tree.now) class ≡ Some header → result ≡ names.is_interface header }
+    ensures { (header : Header)
+        → header_at (headers_of tree.now) class ≡ Some header
+        → result ≡ names.is_interface header }
 {
     match tree.header(class) {
         Some(header) => has(header.flags, ACC_INTERFACE),
@@ -127,7 +150,9 @@ fn is_interface(tree: &Tree, class: Place) -> bool
 
 // What becomes of the first method that counts.
 fn chosen_by(found: Found, form: CallForm) -> Selected
-    ensures { (headers : Headers) (method : Declared) → IsMethodFound headers found method → IsChoice headers result (choice_by form method) }
+    ensures { (headers : Headers) (method : Declared)
+        → IsMethodFound headers found method
+        → IsChoice headers result (choice_by form method) }
 {
     match form {
         CallForm::Interface => chosen_public(found),
@@ -137,7 +162,9 @@ fn chosen_by(found: Found, form: CallForm) -> Selected
 
 // The method, if it is not abstract.
 fn chosen(found: Found) -> Selected
-    ensures { (headers : Headers) (method : Declared) → IsMethodFound headers found method → IsChoice headers result (choice_of method) }
+    ensures { (headers : Headers) (method : Declared)
+        → IsMethodFound headers found method
+        → IsChoice headers result (choice_of method) }
 {
     if has(found.flags, ACC_ABSTRACT) {
         Selected::Abstract
@@ -148,7 +175,9 @@ fn chosen(found: Found) -> Selected
 
 // The method, if it is public and not abstract.
 fn chosen_public(found: Found) -> Selected
-    ensures { (headers : Headers) (method : Declared) → IsMethodFound headers found method → IsChoice headers result (public_choice_of method) }
+    ensures { (headers : Headers) (method : Declared)
+        → IsMethodFound headers found method
+        → IsChoice headers result (public_choice_of method) }
 {
     if has(found.flags, ACC_PUBLIC) {
         chosen(found)
@@ -160,7 +189,11 @@ fn chosen_public(found: Found) -> Selected
 // The one default among the superinterfaces of the class at a place.
 fn by_default(tree: &Tree, class: Place, name: &Text, desc: &Text) -> Selected
     requires { IsSome (header_at (headers_of tree.now) class) }
-    ensures { (header : Header) → header_at (headers_of tree.now) class ≡ Some header → (choice : Choice) × ChoosesDefault (headers_of tree.now) header.name name.now desc.now choice × IsChoice (headers_of tree.now) result choice }
+    ensures { (header : Header)
+        → header_at (headers_of tree.now) class ≡ Some header
+        → (choice : Choice)
+        × ChoosesDefault (headers_of tree.now) header.name name.now desc.now choice
+        × IsChoice (headers_of tree.now) result choice }
 {
     match defaults(tree, class, name, desc) {
         DefaultMethods::Nothing => Selected::Abstract,

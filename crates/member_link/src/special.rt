@@ -38,7 +38,9 @@ fn is_superclass_named(tree: &Tree, current: &Text, named: &Text) -> bool
 
 // The superclass of the class of a name.
 fn superclass_of<'a>(tree: &'a Tree, name: &Text) -> Option<&'a Text>
-    ensures { option_copied result ≡ option_and_then (λ header. header.super_name) (class_named (headers_of tree.now) name.now) }
+    ensures { option_copied result
+        ≡ option_and_then (λ header. header.super_name)
+        (class_named (headers_of tree.now) name.now) }
 {
     match class_named(tree, name.bytes()) {
         Some(header) => header.super_name.as_ref(),

@@ -51,8 +51,10 @@ impl StatedFrames {
     /// Those of a method's code.
     pub(crate) fn of(alloc: Global, code: &Decoded<'_>) -> Result<Self, NoMemory>
         requires instrs { decoded code.now.part.now.code ≡ Ok code.now.instrs.now }
-        requires entry { code.now.entry.now ≡ entry_of (home_of code.now.class.now) code.now.method.now code.now.part.now }
-        ensures { IfOk result (λ frames. frames ≡ stated_in (home_of code.now.class.now) code.now.method.now code.now.part.now code.now.part.now.attrs) }
+        requires entry { code.now.entry.now
+            ≡ entry_of (home_of code.now.class.now) code.now.method.now code.now.part.now }
+        ensures { IfOk result (λ frames. frames
+            ≡ stated_in (home_of code.now.class.now) code.now.method.now code.now.part.now code.now.part.now.attrs) }
     {
         let frames = frames_in(alloc, code, code.part.attrs.as_slice())?;
         let index = OffsetIndex::of_frames(alloc, frames.as_slice())?;
@@ -82,8 +84,10 @@ fn frames_in(
     attrs: &[InnerAttr],
 ) -> Result<PlacedFrameList, NoMemory>
     requires instrs { decoded code.now.part.now.code ≡ Ok code.now.instrs.now }
-    requires entry { code.now.entry.now ≡ entry_of (home_of code.now.class.now) code.now.method.now code.now.part.now }
-    ensures { IfOk result (λ frames. frames ≡ stated_in (home_of code.now.class.now) code.now.method.now code.now.part.now attrs.now) }
+    requires entry { code.now.entry.now
+        ≡ entry_of (home_of code.now.class.now) code.now.method.now code.now.part.now }
+    ensures { IfOk result (λ frames. frames
+        ≡ stated_in (home_of code.now.class.now) code.now.method.now code.now.part.now attrs.now) }
 {
     for attr in attrs {
         if is_text(&code.class.pool, STACK_MAP_TABLE, attr.name) {
@@ -100,8 +104,12 @@ fn table_of(
     attr: &InnerAttr,
 ) -> Result<PlacedFrameList, NoMemory>
     requires instrs { decoded code.now.part.now.code ≡ Ok code.now.instrs.now }
-    requires entry { code.now.entry.now ≡ entry_of (home_of code.now.class.now) code.now.method.now code.now.part.now }
-    ensures { IfOk result (λ frames. frames ≡ read_or_none (stated_frames (home_of code.now.class.now) code.now.method.now code.now.part.now (decoded code.now.part.now.code) attr.now)) }
+    requires entry { code.now.entry.now
+        ≡ entry_of (home_of code.now.class.now) code.now.method.now code.now.part.now }
+    ensures { IfOk result (λ frames. frames
+        ≡ read_or_none (stated_frames
+        (home_of code.now.class.now) code.now.method.now code.now.part.now
+        (decoded code.now.part.now.code) attr.now)) }
 {
     match read_frames(
         alloc,

@@ -36,7 +36,9 @@ impl Counted {
     fn counts(self, tree: &Tree, found: Found) -> bool
         requires valid { IsValid (headers_of tree.now) self }
         requires found { (method : Declared) × IsMethodFound (headers_of tree.now) found method }
-        ensures { (method : Declared) → IsMethodFound (headers_of tree.now) found method → IsTrue result ↔ Counts (headers_of tree.now) self method }
+        ensures { (method : Declared)
+            → IsMethodFound (headers_of tree.now) found method
+            → IsTrue result ↔ Counts (headers_of tree.now) self method }
     {
         class_tree::a_tree_is_a_hierarchy(tree);
         match self {
@@ -54,14 +56,17 @@ impl Counted {
 
 // Whether a method is public and not static.
 fn is_public_instance(flags: u16) -> bool
-    ensures { result ≡ (members.has flags members.PUBLIC && not (members.has flags members.STATIC)) }
+    ensures { result
+        ≡ (members.has flags members.PUBLIC && not (members.has flags members.STATIC)) }
 {
     has(flags, ACC_PUBLIC) && !has(flags, ACC_STATIC)
 }
 
 // Whether java/lang/Object declares a method.
 fn is_of_object(tree: &Tree, found: Found) -> bool
-    ensures { (method : Declared) → IsMethodFound (headers_of tree.now) found method → IsTrue result ↔ (method.class ≡ names.object) }
+    ensures { (method : Declared)
+        → IsMethodFound (headers_of tree.now) found method
+        → IsTrue result ↔ (method.class ≡ names.object) }
 {
     match tree.header(found.place) {
         Some(header) => header.name.bytes() == OBJECT,
@@ -79,7 +84,12 @@ pub(crate) fn first_upwards(
 ) -> Option<Found>
     requires start { IsSome (header_at (headers_of tree.now) start) }
     requires counted { IsValid (headers_of tree.now) counted }
-    ensures { (header : Header) → header_at (headers_of tree.now) start ≡ Some header → (found : Option Declared) × FirstUpwards (headers_of tree.now) (Counts (headers_of tree.now) counted) name.now desc.now header.name found × AreSame (IsMethodFound (headers_of tree.now)) result found }
+    ensures { (header : Header)
+        → header_at (headers_of tree.now) start ≡ Some header
+        → (found : Option Declared)
+        × FirstUpwards (headers_of tree.now)
+        (Counts (headers_of tree.now) counted) name.now desc.now header.name found
+        × AreSame (IsMethodFound (headers_of tree.now)) result found }
 {
     class_tree::a_tree_is_a_hierarchy(tree);
     let mut next = Some(start);

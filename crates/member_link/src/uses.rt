@@ -61,7 +61,9 @@ fn check_method(
     requires pool { resolver.old.pool ≡ class.now.pool }
     requires method { IsReadMethod class.now.pool method.now }
     ensures same { resolver.new ≡ resolver.old }
-    ensures told { Answers (asked_each (attr_checks (resolved_scope resolver.old member.now) (home_of class.now) method.now) method.now.attrs) result }
+    ensures told { Answers
+        (asked_each (attr_checks (resolved_scope resolver.old member.now)
+        (home_of class.now) method.now) method.now.attrs) result }
 {
     for attr in method.attrs.as_slice() {
         check_attr(alloc, resolver, class, method, member, attr)?;
@@ -82,7 +84,9 @@ fn check_attr(
     requires method { IsReadMethod class.now.pool method.now }
     requires instrs { HasInstrs attr.now }
     ensures same { resolver.new ≡ resolver.old }
-    ensures told { Answers (attr_checks (resolved_scope resolver.old member.now) (home_of class.now) method.now attr.now) result }
+    ensures told { Answers
+        (attr_checks (resolved_scope resolver.old member.now)
+        (home_of class.now) method.now attr.now) result }
 {
     match attr {
         Attr::Code { part, .. } => check_code(alloc, resolver, class, method, member, part),

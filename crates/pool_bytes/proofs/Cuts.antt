@@ -4,14 +4,14 @@ use Rattle.std.proofs.lemmas.Bool.{lt-leb, le-leb, ne_eqb}
 use Rattle.std.proofs.lemmas.List.{append-nil}
 use Rattle.class_model.specs.Answers.{Takes}
 use Rattle.class_model.specs.Checks.{Fault, fault, ◌>>=◌}
-use Rattle.class_model.specs.Cutting.{Rest, Cut, u1_at, u2_at, fields_at, entries_at, pool_at}
+use Rattle.class_model.specs.Cutting.{Rest, Cut, u1_at, u2_at, fields_at, entries_at, pool_at, may_stand}
 use Rattle.class_model.specs.Laws.Cuts.{bind_assoc, bind_same}
 use Rattle.class_model.specs.Pool.{Constants, entries_of}
 use Rattle.class_model.specs.declared.fault.ClassFault.{ClassFault}
 use Rattle.class_model.specs.declared.fault.ClassFault.TheVariants.{Malformed, Version, NoMemory}
 use Rattle.class_model.specs.declared.fault.FileRule.TheVariants as rules
 use Rattle.class_model.specs.declared.pool.Const.{Const}
-use Rattle.pool_bytes.specs.Inner.Entries.{may_stand, entry_at}
+use Rattle.pool_bytes.specs.Inner.Entries.{entry_at}
 use Rattle.class_model.specs.Laws.CutBack.{next, on_true}
 use Rattle.pool_bytes.proofs.CutBack.{some_entries}
 

@@ -9,7 +9,8 @@ use Rattle.class_model.specs.Spelling.{pool_bytes}
 abbrev pub IsReadBackIn : ℕ → Constants → Type 0
 IsReadBackIn major pool =
     (at : ℕ) (others : List ℕ)
-    → pool_at major (record { at = at; bytes = pool_bytes pool ++ others }) ≡ Ok (pool, record { at = at + length (pool_bytes pool); bytes = others })
+    → pool_at major (record { at = at; bytes = pool_bytes pool ++ others })
+    ≡ Ok (pool, record { at = at + length (pool_bytes pool); bytes = others })
 
 -- the same of version 52, which has all tags
 abbrev pub IsReadBack : Constants → Type 0

@@ -12,7 +12,8 @@ rest_at bytes at = record { at = at; bytes = drop at bytes }
 -- What is asked of the pool at the front, in a class file of this major version: that it can be cut out, and then
 -- of its constants, the first of which stands behind the count.
 abbrev pub pool_checks : ℕ → Rest → List (Check Fault)
-pool_checks major rest = asked_of (pool_at major rest) (λ cut. entries_checks major cut.0 (rest.at + 2) cut.0)
+pool_checks major rest =
+    asked_of (pool_at major rest) (λ cut. entries_checks major cut.0 (rest.at + 2) cut.0)
 
 -- The pool of a class file of this major version stands at a place of bytes, up to an end.
 abbrev pub Stands : ℕ → List ℕ → ℕ → Constants → ℕ → Type 0

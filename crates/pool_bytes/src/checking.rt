@@ -233,7 +233,8 @@ impl RawPool<'_> {
 
     // The name is that of a method that is called.
     fn has_called_name(&self, member: u16) -> bool
-        ensures { IsTrue result ↔ IfSome (name_at self.now member) (IsCalledName (descriptor_at self.now member)) }
+        ensures { IsTrue result
+            ↔ IfSome (name_at self.now member) (IsCalledName (descriptor_at self.now member)) }
     {
         match self.name(member) {
             Some(name) => is_called_name(name, self.descriptor(member)),
@@ -244,7 +245,8 @@ impl RawPool<'_> {
     // The name is that of a method; of a class initialiser, too.
     fn has_method_name(&self, member: u16) -> bool
         ensures { IsTrue result
-            ↔ IfSome (name_at self.now member) (λ name. IsMethodName name × InitIsVoid name (descriptor_at self.now member)) }
+            ↔ IfSome (name_at self.now member)
+            (λ name. IsMethodName name × InitIsVoid name (descriptor_at self.now member)) }
     {
         match self.name(member) {
             Some(name) => is_method_name(name) && init_is_void(name, self.descriptor(member)),

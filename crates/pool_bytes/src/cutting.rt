@@ -6,10 +6,9 @@ ghost use Rattle.class_model.specs.Cutting as cutting;
 ghost use Rattle.class_model.specs.Pool.{entries_of};
 ghost use Rattle.pool_bytes.specs.Behind.{IsBehind};
 ghost use Rattle.pool_bytes.specs.Inner.Entries.{indices_of, is_number_tag, entry_at};
-ghost use Rattle.pool_bytes.specs.Inner.Entries as entries;
 
 use crate::raw::{RawConst, RawForm, RawPool};
-use crate::tags::{
+use class_model::constant_tags::{
     CLASS_TAG, DOUBLE_TAG, FIELDREF_TAG, FLOAT_TAG, INTEGER_TAG, INTERFACE_METHODREF_TAG,
     INVOKE_DYNAMIC_TAG, LONG_TAG, METHOD_HANDLE_TAG, METHOD_TYPE_TAG, METHODREF_TAG,
     NAME_AND_TYPE_TAG, STRING_TAG, UTF8_TAG,
@@ -76,7 +75,7 @@ fn entry<'a>(
 // Whether a tag is known, and is not that of a long or double at the last index.
 fn may_stand(major: u16, index: u16, count: u16, tag: u8) -> bool
     requires { index < count }
-    ensures { result ≡ entries.may_stand major index count tag }
+    ensures { result ≡ cutting.may_stand major index count tag }
 {
     is_tag(major, tag) && !(matches!(tag, LONG_TAG | DOUBLE_TAG) && index + 1 == count)
 }

@@ -12,13 +12,19 @@ use class_model::each_pool_is_decided;
 
 /// A pool whose constants fit their items is read from its bytes, in a class file of any version that has their tags.
 pub fn a_pool_is_read_back()
-    ensures { (major : ℕ) (pool : Constants) → IsPool pool → PoolFits pool → TagsStand major pool → IsReadBackIn major pool }
+    ensures { (major : ℕ) (pool : Constants)
+        → IsPool pool
+        → PoolFits pool
+        → TagsStand major pool
+        → IsReadBackIn major pool }
 {}
 
 /// A pool stands at the front of bytes and its checks hold, or they have a first fault.
 pub fn each_pool_is_told()
     ensures { (major : ℕ) (rest : Rest)
-        → (AllHold (pool_checks major rest) × ((pool : Constants) × (after : Rest) × (pool_at major rest ≡ Ok (pool, after)))) ⊎ ((f : Fault) × IsFirstFault (pool_checks major rest) f) }
+        → (AllHold (pool_checks major rest)
+        × ((pool : Constants) × (after : Rest) × (pool_at major rest ≡ Ok (pool, after))))
+        ⊎ ((f : Fault) × IsFirstFault (pool_checks major rest) f) }
 {
     each_pool_is_decided();
 }

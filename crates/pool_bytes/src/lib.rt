@@ -8,7 +8,6 @@ mod laws;
 mod lookups;
 mod raw;
 mod reading;
-mod tags;
 mod texts;
 mod writing;
 

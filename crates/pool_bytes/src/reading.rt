@@ -15,8 +15,10 @@ use std::alloc::Global;
 /// `Malformed` at a place of `bytes` with the first fault: `Short` and `Tag`, and then by index `Text`,
 /// `Index`, `Name` and `Descriptor`. `NoMemory`, where memory runs out.
 pub fn read_pool(alloc: Global, bytes: &[u8], at: usize) -> Result<(Pool, usize), ClassFault>
-    ensures told { Tells (pool_checks 52 (rest_at bytes.now at)) (λ read. Stands 52 bytes.now at read.0 read.1) result }
-    ensures spelled { IfOk result (λ read. drop at bytes.now ≡ pool_bytes read.0 ++ drop read.1 bytes.now) }
+    ensures told { Tells (pool_checks 52 (rest_at bytes.now at))
+        (λ read. Stands 52 bytes.now at read.0 read.1) result }
+    ensures spelled { IfOk result
+        (λ read. drop at bytes.now ≡ pool_bytes read.0 ++ drop read.1 bytes.now) }
 {
     let mut cursor = Cursor::new(bytes, at);
     let raw = cut_pool(alloc, VERSION, &mut cursor)?;

@@ -8,7 +8,7 @@ ghost use Rattle.pool_bytes.specs.Items.{FitsItems, EntryFits};
 ghost use Rattle.pool_bytes.specs.ReadBack.{IsReadBack, IsReadBackIn};
 ghost use Rattle.pool_bytes.specs.Reading.{Stands};
 
-use crate::tags::{
+use class_model::constant_tags::{
     CLASS_TAG, DOUBLE_TAG, FIELDREF_TAG, FLOAT_TAG, INTEGER_TAG, INTERFACE_METHODREF_TAG,
     INVOKE_DYNAMIC_TAG, LONG_TAG, METHOD_HANDLE_TAG, METHOD_TYPE_TAG, METHODREF_TAG,
     NAME_AND_TYPE_TAG, STRING_TAG, UTF8_TAG,
@@ -37,7 +37,8 @@ pub fn write_pool(alloc: Global, pool: &Pool) -> Result<ByteList, NoMemory>
 pub fn push_pool(out: &mut Vec<u8>, pool: &Pool) -> Result<(), NoMemory>
     ensures same { OnOk result (out.new.items ≡ out.old.items ++ pool_bytes pool.now) }
     ensures read { OnOk result (IsReadBack pool.now) }
-    ensures read_in { OnOk result ((major : ℕ) → TagsStand major pool.now → IsReadBackIn major pool.now) }
+    ensures read_in { OnOk result
+        ((major : ℕ) → TagsStand major pool.now → IsReadBackIn major pool.now) }
     ensures err { OnErr result (Grows out.old.items out.new.items) }
 {
     push_u2(out, pool.count())?;
@@ -49,7 +50,8 @@ pub fn push_pool(out: &mut Vec<u8>, pool: &Pool) -> Result<(), NoMemory>
 
 // Appends the constant at an index, if one is there.
 fn push_entry(out: &mut Vec<u8>, pool: &Pool, index: u16) -> Result<(), NoMemory>
-    ensures same { OnOk result (out.new.items ≡ out.old.items ++ entry_bytes (constant_at pool.now index)) }
+    ensures same { OnOk result
+        (out.new.items ≡ out.old.items ++ entry_bytes (constant_at pool.now index)) }
     ensures fits { OnOk result (EntryFits (constant_at pool.now index)) }
     ensures err { OnErr result (Grows out.old.items out.new.items) }
 {
@@ -93,7 +95,8 @@ fn push_constant(out: &mut Vec<u8>, constant: &Const) -> Result<(), NoMemory>
 
 // Appends a Utf8 constant: its tag, and the length and bytes of its text.
 fn push_text(out: &mut Vec<u8>, text: &Text) -> Result<(), NoMemory>
-    ensures same { OnOk result (out.new.items ≡ out.old.items ++ 1 ∷ (u2 (length text.now) ++ text.now)) }
+    ensures same { OnOk result
+        (out.new.items ≡ out.old.items ++ 1 ∷ (u2 (length text.now) ++ text.now)) }
     ensures fits { length text.now ≤ 65535 }
     ensures err { OnErr result (Grows out.old.items out.new.items) }
 {

@@ -7,6 +7,12 @@ use crate::fault::RuleFault;
 use crate::need::Need;
 use crate::ruled::Ruled;
 use crate::step::Step;
+use class_model::opcodes::{
+    D2F, D2I, D2L, DADD, DCMPG, DCMPL, DDIV, DMUL, DNEG, DREM, DSUB, F2D, F2I, F2L, FADD, FCMPG,
+    FCMPL, FDIV, FMUL, FNEG, FREM, FSUB, I2B, I2C, I2D, I2F, I2L, I2S, IADD, IAND, IDIV, IMUL,
+    INEG, IOR, IREM, ISHL, ISHR, ISUB, IUSHR, IXOR, L2D, L2F, L2I, LADD, LAND, LCMP, LDIV, LMUL,
+    LNEG, LOR, LREM, LSHL, LSHR, LSUB, LUSHR, LXOR,
+};
 use class_model::{Kind, VType};
 
 const INT: Need<'static> = Need::OfKind(Kind::Int);
@@ -22,22 +28,16 @@ pub(crate) fn pure(step: &Step<'_>, opcode: u8) -> Result<Ruled, RuleFault>
     ensures { RowRules (row_scope step.now.rules.now) step.now.before.now (operation_row step.now.before.now (operation_in pure_operations opcode)) result }
 {
     match opcode {
-        // iadd, isub, imul, ishl, ishr, iushr, iand, ior, ixor
-        96 | 100 | 104 | 120 | 122 | 124 | 126 | 128 | 130 => {
+        IADD | ISUB | IMUL | ISHL | ISHR | IUSHR | IAND | IOR | IXOR => {
             step.plain(&[INT, INT], Some(VType::Int))
         }
-        // ladd, lsub, lmul, land, lor, lxor
-        97 | 101 | 105 | 127 | 129 | 131 => step.plain(&[LONG, LONG], Some(VType::Long)),
-        // lshl, lshr, lushr
-        121 | 123 | 125 => step.plain(&[LONG, INT], Some(VType::Long)),
-        // ineg, i2b, i2c, i2s
-        116 | 145..=147 => step.plain(&[INT], Some(VType::Int)),
-        // lneg
-        117 => step.plain(&[LONG], Some(VType::Long)),
-        // i2l, l2i, lcmp
-        133 => step.plain(&[INT], Some(VType::Long)),
-        136 => step.plain(&[LONG], Some(VType::Int)),
-        148 => step.plain(&[LONG, LONG], Some(VType::Int)),
+        LADD | LSUB | LMUL | LAND | LOR | LXOR => step.plain(&[LONG, LONG], Some(VType::Long)),
+        LSHL | LSHR | LUSHR => step.plain(&[LONG, INT], Some(VType::Long)),
+        INEG | I2B | I2C | I2S => step.plain(&[INT], Some(VType::Int)),
+        LNEG => step.plain(&[LONG], Some(VType::Long)),
+        I2L => step.plain(&[INT], Some(VType::Long)),
+        L2I => step.plain(&[LONG], Some(VType::Int)),
+        LCMP => step.plain(&[LONG, LONG], Some(VType::Int)),
         _ => step.no_row(),
     }
 }
@@ -47,10 +47,8 @@ pub(crate) fn divide(step: &Step<'_>, opcode: u8) -> Result<Ruled, RuleFault>
     ensures { RowRules (row_scope step.now.rules.now) step.now.before.now (operation_row step.now.before.now (operation_in divide_operations opcode)) result }
 {
     match opcode {
-        // idiv, irem
-        108 | 112 => step.plain(&[INT, INT], Some(VType::Int)),
-        // ldiv, lrem
-        109 | 113 => step.plain(&[LONG, LONG], Some(VType::Long)),
+        IDIV | IREM => step.plain(&[INT, INT], Some(VType::Int)),
+        LDIV | LREM => step.plain(&[LONG, LONG], Some(VType::Long)),
         _ => step.no_row(),
     }
 }
@@ -60,30 +58,22 @@ pub(crate) fn float(step: &Step<'_>, opcode: u8) -> Result<Ruled, RuleFault>
     ensures { RowRules (row_scope step.now.rules.now) step.now.before.now (operation_row step.now.before.now (operation_in float_operations opcode)) result }
 {
     match opcode {
-        // fadd, fsub, fmul, fdiv, frem
-        98 | 102 | 106 | 110 | 114 => step.plain(&[FLOAT, FLOAT], Some(VType::Float)),
-        // dadd, dsub, dmul, ddiv, drem
-        99 | 103 | 107 | 111 | 115 => step.plain(&[DOUBLE, DOUBLE], Some(VType::Double)),
-        // fneg, dneg
-        118 => step.plain(&[FLOAT], Some(VType::Float)),
-        119 => step.plain(&[DOUBLE], Some(VType::Double)),
-        // i2f, i2d, l2f, l2d
-        134 => step.plain(&[INT], Some(VType::Float)),
-        135 => step.plain(&[INT], Some(VType::Double)),
-        137 => step.plain(&[LONG], Some(VType::Float)),
-        138 => step.plain(&[LONG], Some(VType::Double)),
-        // f2i, f2l, f2d
-        139 => step.plain(&[FLOAT], Some(VType::Int)),
-        140 => step.plain(&[FLOAT], Some(VType::Long)),
-        141 => step.plain(&[FLOAT], Some(VType::Double)),
-        // d2i, d2l, d2f
-        142 => step.plain(&[DOUBLE], Some(VType::Int)),
-        143 => step.plain(&[DOUBLE], Some(VType::Long)),
-        144 => step.plain(&[DOUBLE], Some(VType::Float)),
-        // fcmpl, fcmpg
-        149 | 150 => step.plain(&[FLOAT, FLOAT], Some(VType::Int)),
-        // dcmpl, dcmpg
-        151 | 152 => step.plain(&[DOUBLE, DOUBLE], Some(VType::Int)),
+        FADD | FSUB | FMUL | FDIV | FREM => step.plain(&[FLOAT, FLOAT], Some(VType::Float)),
+        DADD | DSUB | DMUL | DDIV | DREM => step.plain(&[DOUBLE, DOUBLE], Some(VType::Double)),
+        FNEG => step.plain(&[FLOAT], Some(VType::Float)),
+        DNEG => step.plain(&[DOUBLE], Some(VType::Double)),
+        I2F => step.plain(&[INT], Some(VType::Float)),
+        I2D => step.plain(&[INT], Some(VType::Double)),
+        L2F => step.plain(&[LONG], Some(VType::Float)),
+        L2D => step.plain(&[LONG], Some(VType::Double)),
+        F2I => step.plain(&[FLOAT], Some(VType::Int)),
+        F2L => step.plain(&[FLOAT], Some(VType::Long)),
+        F2D => step.plain(&[FLOAT], Some(VType::Double)),
+        D2I => step.plain(&[DOUBLE], Some(VType::Int)),
+        D2L => step.plain(&[DOUBLE], Some(VType::Long)),
+        D2F => step.plain(&[DOUBLE], Some(VType::Float)),
+        FCMPL | FCMPG => step.plain(&[FLOAT, FLOAT], Some(VType::Int)),
+        DCMPL | DCMPG => step.plain(&[DOUBLE, DOUBLE], Some(VType::Int)),
         _ => step.no_row(),
     }
 }

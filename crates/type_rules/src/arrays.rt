@@ -1,10 +1,12 @@
 //! The rules of instructions on arrays (JVM Specification SE 8, 6.5).
 ghost use Rattle.std.specs.Prelude.{◌≡◌, [], ◌∷◌, map, replicate, Some, IfOk, IfSome};
+ghost use Rattle.class_model.specs.Characters.{left_bracket};
 ghost use Rattle.class_model.specs.Code.{FitsArray};
 ghost use Rattle.class_model.specs.Descriptors.{named_text};
 ghost use Rattle.class_model.specs.ModifiedUtf8.{IsText};
 ghost use Rattle.class_model.specs.PoolChecks.{class_at};
 ghost use Rattle.class_model.specs.declared.descriptor.Kind.TheVariants as kinds;
+ghost use Rattle.class_model.specs.declared.opcodes.TheConstants.{AALOAD};
 ghost use Rattle.class_tree.specs.Headers.{Name};
 ghost use Rattle.class_tree.specs.Subtype.{IsReferenceComponent};
 ghost use Rattle.member_link.specs.Rows.ArrayRows as rows;
@@ -18,6 +20,10 @@ use crate::fault::RuleFault;
 use crate::need::{Need, topmost};
 use crate::ruled::Ruled;
 use crate::step::Step;
+use class_model::array_codes::{
+    T_BOOLEAN, T_BYTE, T_CHAR, T_DOUBLE, T_FLOAT, T_INT, T_LONG, T_SHORT,
+};
+use class_model::opcodes::{IALOAD, IASTORE};
 use class_model::{Kind, NoMemory, Text, VType};
 use class_tree::{component, is_array};
 use std::alloc::Global;
@@ -29,11 +35,6 @@ const LONG: Need<'static> = Need::OfKind(Kind::Long);
 const FLOAT: Need<'static> = Need::OfKind(Kind::Float);
 
 const DOUBLE: Need<'static> = Need::OfKind(Kind::Double);
-
-// The first opcodes of the loads and of the stores, which follow in one order.
-const IALOAD: u8 = 46;
-
-const IASTORE: u8 = 79;
 
 /// Pushes an element.
 pub(crate) fn load(step: &Step<'_>, opcode: u8) -> Result<Ruled, RuleFault>
@@ -89,7 +90,7 @@ fn store_into(
 
 // Pops an array of references and an index, and pushes an element.
 fn load_reference(step: &Step<'_>) -> Result<Ruled, RuleFault>
-    ensures { RowRules (row_scope step.now.rules.now) step.now.before.now (rows.array_load_row step.now.before.now 50) result }
+    ensures { RowRules (row_scope step.now.rules.now) step.now.before.now (rows.array_load_row step.now.before.now AALOAD) result }
 {
     let element = element(step)?;
     step.plain(&[Need::ArrayOfReferences, INT], Some(element))
@@ -125,14 +126,14 @@ pub(crate) fn new_array(step: &Step<'_>, code: u8) -> Result<Ruled, RuleFault>
     ensures { RowRules (row_scope step.now.rules.now) step.now.before.now (rows.new_array_row step.now.before.now code) result }
 {
     match code {
-        4 => made(step, b"[Z"),
-        5 => made(step, b"[C"),
-        6 => made(step, b"[F"),
-        7 => made(step, b"[D"),
-        8 => made(step, b"[B"),
-        9 => made(step, b"[S"),
-        10 => made(step, b"[I"),
-        11 => made(step, b"[J"),
+        T_BOOLEAN => made(step, b"[Z"),
+        T_CHAR => made(step, b"[C"),
+        T_FLOAT => made(step, b"[F"),
+        T_DOUBLE => made(step, b"[D"),
+        T_BYTE => made(step, b"[B"),
+        T_SHORT => made(step, b"[S"),
+        T_INT => made(step, b"[I"),
+        T_LONG => made(step, b"[J"),
         _ => step.no_row(),
     }
 }
@@ -161,7 +162,7 @@ fn made(step: &Step<'_>, array: &[u8]) -> Result<Ruled, RuleFault>
 
 // The name of the array of a class or array.
 fn array_of(alloc: Global, name: &[u8]) -> Result<Vec<u8>, NoMemory>
-    ensures { IfOk result (λ array. array.items ≡ 91 ∷ named_text name.now) }
+    ensures { IfOk result (λ array. array.items ≡ left_bracket ∷ named_text name.now) }
 {
     let mut array = Vec::with_capacity(alloc, name.len() + 3)?;
     array.push(b'[')?;

@@ -11,7 +11,7 @@ use crate::need::topmost;
 use crate::ruled::Ruled;
 use crate::step::Step;
 use Width::{One, Two};
-use class_model::{NoMemory, VType, VTypeList};
+use class_model::{NoMemory, VType, VTypeList, opcodes};
 
 /// Moves, copies or drops the topmost entries.
 pub(crate) fn shuffle(step: &Step<'_>, opcode: u8) -> Result<Ruled, RuleFault>
@@ -143,15 +143,15 @@ fn forms_of(opcode: u8) -> &'static [Form]
     ensures { map form_meant result.now ≡ forms_of opcode }
 {
     match opcode {
-        87 => &POP,
-        88 => &POP2,
-        89 => &DUP,
-        90 => &DUP_X1,
-        91 => &DUP_X2,
-        92 => &DUP2,
-        93 => &DUP2_X1,
-        94 => &DUP2_X2,
-        95 => &SWAP,
+        opcodes::POP => &POP,
+        opcodes::POP2 => &POP2,
+        opcodes::DUP => &DUP,
+        opcodes::DUP_X1 => &DUP_X1,
+        opcodes::DUP_X2 => &DUP_X2,
+        opcodes::DUP2 => &DUP2,
+        opcodes::DUP2_X1 => &DUP2_X1,
+        opcodes::DUP2_X2 => &DUP2_X2,
+        opcodes::SWAP => &SWAP,
         _ => &[],
     }
 }

@@ -18,6 +18,9 @@ use crate::ruled::Ruled;
 use crate::shuffles::shuffle;
 use crate::step::Step;
 use crate::{arrays, locals};
+use class_model::opcodes::{
+    IF_ACMPEQ, IF_ACMPNE, IF_ICMPEQ, IF_ICMPLE, IFEQ, IFLE, IFNONNULL, IFNULL,
+};
 use class_model::{Frame, Instr, Kind, MethodAt, Placed, VType};
 use class_tree::Tree;
 use std::alloc::Global;
@@ -73,12 +76,24 @@ impl MethodRules<'_> {
             Instr::Pure(opcode) => pure(&step, *opcode),
             Instr::Divide(opcode) => divide(&step, *opcode),
             Instr::FloatAsk(opcode) => float(&step, *opcode),
-            Instr::If(opcode, _) => compare(&step, 153 <= *opcode && *opcode <= 158, &[INT]),
-            Instr::If2(opcode, _) => compare(&step, 159 <= *opcode && *opcode <= 164, &[INT, INT]),
+            Instr::If(opcode, _) => compare(&step, IFEQ <= *opcode && *opcode <= IFLE, &[INT]),
+            Instr::If2(opcode, _) => compare(
+                &step,
+                IF_ICMPEQ <= *opcode && *opcode <= IF_ICMPLE,
+                &[INT, INT],
+            ),
             Instr::IfSame(opcode, _) => {
-                compare(&step, 165 <= *opcode && *opcode <= 166, &[REF, REF])
+                compare(
+                    &step,
+                    IF_ACMPEQ <= *opcode && *opcode <= IF_ACMPNE,
+                    &[REF, REF],
+                )
             }
-            Instr::IfNull(opcode, _) => compare(&step, 198 <= *opcode && *opcode <= 199, &[REF]),
+            Instr::IfNull(opcode, _) => compare(
+                &step,
+                IFNULL <= *opcode && *opcode <= IFNONNULL,
+                &[REF],
+            ),
             Instr::Table { .. } | Instr::Lookup { .. } => step.plain(&[INT], None),
             Instr::Enter | Instr::Leave => step.plain(&[REF], None),
             Instr::Return(kind) => give_back(&step, *kind),

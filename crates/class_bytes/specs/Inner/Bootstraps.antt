@@ -21,7 +21,9 @@ bootstraps_len (method ∷ methods) = 4 + 2 * length method.arguments + bootstra
 
 -- what one bootstrap method is asked, which stands at a place
 abbrev pub bootstrap_checks : Constants → ℕ → Bootstrap → List (Check Fault)
-bootstrap_checks pool at method = check at rules.Index (IsHandle (constant_at pool method.handle)) ∷ arguments_checks pool (at + 4) method.arguments
+bootstrap_checks pool at method =
+    check at rules.Index (IsHandle (constant_at pool method.handle))
+    ∷ arguments_checks pool (at + 4) method.arguments
 
 -- a table could be cut, and has so many methods
 pub record CountsMethods (table : Option (List Bootstrap)) (count : ℕ) : Type 0 where
@@ -31,4 +33,5 @@ pub record CountsMethods (table : Option (List Bootstrap)) (count : ℕ) : Type 
 
 -- how many bootstrap methods an attribute has, if it is a BootstrapMethods attribute
 abbrev pub own_count : Constants → Attr → Option ℕ
-own_count pool attr = if is_named pool bootstrap_methods attr then Some (bootstrap_count pool (attr ∷ [])) else None
+own_count pool attr =
+    if is_named pool bootstrap_methods attr then Some (bootstrap_count pool (attr ∷ [])) else None

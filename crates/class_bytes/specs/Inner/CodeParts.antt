@@ -32,7 +32,8 @@ at_place start (Ok instrs) = Ok instrs
 at_place start (Err f) = Err (fault (start + f.at) f.rule)
 
 abbrev pub decoded_checks : ℕ → List ℕ → List (Check Fault)
-decoded_checks start code = asked_of (at_place start (decoded code)) (λ instrs. jump_checks start instrs instrs)
+decoded_checks start code =
+    asked_of (at_place start (decoded code)) (λ instrs. jump_checks start instrs instrs)
 
 -- an entry of an exception table
 abbrev pub handler_checks : Constants → List Placed → ℕ → ℕ → Handler → List (Check Fault)
@@ -43,21 +44,29 @@ handler_checks pool code len at handler =
 
 -- the content of a StackMapTable, whose attribute stands at the place
 abbrev pub table_checks : Setting → Frame → ℕ → List ℕ → List (Check Fault)
-table_checks s entry at content = asked_of (in_table at (stack_map_table_at s entry content)) (λ frames. [])
+table_checks s entry at content =
+    asked_of (in_table at (stack_map_table_at s entry content)) (λ frames. [])
 
 -- an attribute of a code, behind a StackMapTable or not
 abbrev pub inner_checks : Setting → Frame → Bool → ℕ → InnerAttr → List (Check Fault)
 inner_checks s entry had at attr =
     check at rules.Index (IsSome (utf8_at s.pool attr.name))
-    ∷ asked_if (inner_is_named s.pool stack_map_table attr) (check at rules.Twice (IsFalse had) ∷ table_checks s entry at attr.bytes)
+    ∷ asked_if (inner_is_named s.pool stack_map_table attr)
+    (check at rules.Twice (IsFalse had) ∷ table_checks s entry at attr.bytes)
 
 -- ---- a code whose instructions are read
 
 abbrev pub setting_of_code : MethodCode → Setting
-setting_of_code code = record { pool = code.home.now.pool.now; max_locals = code.part.now.max_locals; max_stack = code.part.now.max_stack; code = code.instrs.now }
+setting_of_code code = record {
+  pool = code.home.now.pool.now;
+  max_locals = code.part.now.max_locals;
+  max_stack = code.part.now.max_stack;
+  code = code.instrs.now;
+}
 
 abbrev pub entry_frame_of : MethodCode → Frame
-entry_frame_of code = entry_of (home_seen code.home.now) (method_of code.method.now) (part_of code.part.now)
+entry_frame_of code =
+    entry_of (home_seen code.home.now) (method_of code.method.now) (part_of code.part.now)
 
 -- its operands, its exception table and its attributes; the code begins at the place
 abbrev pub parts_checks : MethodCode → ℕ → List (Check Fault)
@@ -65,5 +74,7 @@ parts_checks code start =
     let part = part_of code.part.now in
     let table = start + length part.code + 2 in
     operand_checks start code.home.now.pool.now code.home.now.major part.max_locals code.instrs.now
-    ++ (handlers_checks code.home.now.pool.now code.instrs.now (length part.code) table part.handlers
-    ++ inners_checks (setting_of_code code) (entry_frame_of code) false (table + 8 * length part.handlers + 2) part.attrs)
+    ++ (handlers_checks code.home.now.pool.now code.instrs.now
+    (length part.code) table part.handlers
+    ++ inners_checks (setting_of_code code) (entry_frame_of code) false
+    (table + 8 * length part.handlers + 2) part.attrs)

@@ -41,10 +41,20 @@ inners_of attrs = map inner_of attrs
 
 -- a member as a field, and as a method
 abbrev pub field_of : CutMember → Field
-field_of member = record { flags = member.flags; name = member.name; desc = member.desc; attrs = attrs_of member.attrs }
+field_of member = record {
+  flags = member.flags;
+  name = member.name;
+  desc = member.desc;
+  attrs = attrs_of member.attrs;
+}
 
 abbrev pub method_of : CutMember → Method
-method_of member = record { flags = member.flags; name = member.name; desc = member.desc; attrs = attrs_of member.attrs }
+method_of member = record {
+  flags = member.flags;
+  name = member.name;
+  desc = member.desc;
+  attrs = attrs_of member.attrs;
+}
 
 abbrev pub fields_of : List CutMember → List Field
 fields_of members = map field_of members
@@ -79,4 +89,9 @@ class_of pool body = record {
 
 -- the class that a method stands in
 abbrev pub home_seen : Home → methods.Home
-home_seen home = record { pool = home.pool.now; major = home.major; flags = home.flags; name = option_copied home.name }
+home_seen home = record {
+  pool = home.pool.now;
+  major = home.major;
+  flags = home.flags;
+  name = option_copied home.name;
+}

@@ -61,10 +61,20 @@ cut_header_at rest = do
 
 -- what is held of a class file that was cut with its attributes
 abbrev pub field_head : Field → MemberHead
-field_head field = record { flags = field.flags; name = field.name; desc = field.desc; attrs = attrs_len field.attrs }
+field_head field = record {
+  flags = field.flags;
+  name = field.name;
+  desc = field.desc;
+  attrs = attrs_len field.attrs;
+}
 
 abbrev pub method_head : Method → MemberHead
-method_head method = record { flags = method.flags; name = method.name; desc = method.desc; attrs = attrs_len method.attrs }
+method_head method = record {
+  flags = method.flags;
+  name = method.name;
+  desc = method.desc;
+  attrs = attrs_len method.attrs;
+}
 
 abbrev pub cut_header : ClassFile → CutHeader
 cut_header c = record {
@@ -90,9 +100,11 @@ field_head_checks pool at field =
 abbrev pub method_head_checks : Constants → ℕ → MemberHead → List (Check Fault)
 method_head_checks pool at method =
     check (at + 2) rules.Index (IsSome (utf8_at pool method.name))
-    ∷ check (at + 2) rules.Name (IfSome (utf8_at pool method.name) (λ name. IsMethodName name × InitIsVoid name (utf8_at pool method.desc)))
+    ∷ check (at + 2) rules.Name (IfSome (utf8_at pool method.name)
+    (λ name. IsMethodName name × InitIsVoid name (utf8_at pool method.desc)))
     ∷ check (at + 4) rules.Index (IsSome (utf8_at pool method.desc))
-    ∷ check (at + 4) rules.Descriptor (IfSome (utf8_at pool method.desc) (IsDescriptorOf method.flags))
+    ∷ check (at + 4) rules.Descriptor
+    (IfSome (utf8_at pool method.desc) (IsDescriptorOf method.flags))
     ∷ []
 
 abbrev pub member_checks : MemberKind → Constants → ℕ → MemberHead → List (Check Fault)
@@ -102,7 +114,8 @@ member_checks kinds.Method pool at member = method_head_checks pool at member
 -- members one after the other, and how many bytes they take
 abbrev pub members_checks : MemberKind → Constants → ℕ → List MemberHead → List (Check Fault)
 members_checks kind pool at [] = []
-members_checks kind pool at (member ∷ members) = member_checks kind pool at member ++ members_checks kind pool (at + (8 + member.attrs)) members
+members_checks kind pool at (member ∷ members) =
+    member_checks kind pool at member ++ members_checks kind pool (at + (8 + member.attrs)) members
 
 abbrev pub members_len : List MemberHead → ℕ
 members_len [] = 0
@@ -110,7 +123,8 @@ members_len (member ∷ members) = 8 + member.attrs + members_len members
 
 -- the head with the count of the interfaces, and the fields and the methods with theirs
 abbrev pub header_len : CutHeader → ℕ
-header_len head = 8 + 2 * length head.interfaces + (2 + members_len head.fields) + (2 + members_len head.methods)
+header_len head =
+    8 + 2 * length head.interfaces + (2 + members_len head.fields) + (2 + members_len head.methods)
 
 -- all of these, the flags of the class at the place
 abbrev pub cut_header_checks : Constants → ℕ → CutHeader → List (Check Fault)
@@ -131,7 +145,11 @@ class_name_in pool index = text_or_empty (class_at pool index)
 
 -- a member, with its name and its descriptor
 abbrev pub member_in : Constants → MemberHead → Member
-member_in pool member = record { flags = member.flags; name = text_or_empty (utf8_at pool member.name); desc = text_or_empty (utf8_at pool member.desc) }
+member_in pool member = record {
+  flags = member.flags;
+  name = text_or_empty (utf8_at pool member.name);
+  desc = text_or_empty (utf8_at pool member.desc);
+}
 
 abbrev pub header_in : Constants → CutHeader → Header
 header_in pool head = record {

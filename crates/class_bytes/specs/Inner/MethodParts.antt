@@ -11,7 +11,9 @@ use Rattle.class_model.specs.declared.fault.FileRule.TheVariants as rules
 abbrev pub signature_checks : Constants → ℕ → Method → List (Check Fault)
 signature_checks pool at method =
     check (at + 2) rules.Index (IsSome (utf8_at pool method.name))
-    ∷ check (at + 2) rules.Name (IfSome (utf8_at pool method.name) (λ name. IsMethodName name × InitIsVoid name (utf8_at pool method.desc)))
+    ∷ check (at + 2) rules.Name (IfSome (utf8_at pool method.name)
+    (λ name. IsMethodName name × InitIsVoid name (utf8_at pool method.desc)))
     ∷ check (at + 4) rules.Index (IsSome (utf8_at pool method.desc))
-    ∷ check (at + 4) rules.Descriptor (IfSome (utf8_at pool method.desc) (IsDescriptorOf method.flags))
+    ∷ check (at + 4) rules.Descriptor
+    (IfSome (utf8_at pool method.desc) (IsDescriptorOf method.flags))
     ∷ []

@@ -1,8 +1,7 @@
 -- The parts of a class file behind its pool, and of what it is asked, each from its place on.
-use Rattle.std.specs.Prelude.{◌≡◌, ◌==◌, ◌+◌, ◌*◌, ℕ, List, [], ◌∷◌, ◌++◌, length, Result, Ok, Err, IsTrue, if◌then◌else◌}
+use Rattle.std.specs.Prelude.{◌≡◌, ◌+◌, ◌*◌, ℕ, List, [], ◌∷◌, ◌++◌, length, IsTrue}
 use Rattle.std.specs.List.{flat_map}
-use Rattle.class_model.specs.Checks.{Check, check, Fault, fault, ◌>>=◌}
-use Rattle.class_model.specs.Cutting.{Rest, Version, u2_at, counted_at, field_at, method_at, attr_at}
+use Rattle.class_model.specs.Checks.{Check, check, Fault}
 use Rattle.class_model.specs.Descriptors.{SpellsDescriptor, parameter_units}
 use Rattle.class_model.specs.ClassOf.{fields_checks, methods_checks}
 use Rattle.class_model.specs.Members.{fits_class, class_name_checks, super_checks, interfaces_checks, attrs_checks}
@@ -15,29 +14,6 @@ use Rattle.class_model.specs.declared.class_file.Field.{Field}
 use Rattle.class_model.specs.declared.class_file.Method.{Method}
 use Rattle.class_model.specs.declared.descriptor.Descriptor.{Descriptor}
 use Rattle.class_model.specs.declared.fault.FileRule.TheVariants as rules
-
--- the class file from behind its pool to its last byte
-abbrev pub body_at : Version → Constants → Rest → Result ClassFile Fault
-body_at version pool rest = do
-  flags ← u2_at rest
-  this ← u2_at flags.1
-  super ← u2_at this.1
-  interfaces ← counted_at u2_at super.1
-  fields ← counted_at field_at interfaces.1
-  methods ← counted_at method_at fields.1
-  attrs ← counted_at attr_at methods.1
-  if length attrs.1.bytes == 0 then Ok (record {
-    major = version.major;
-    minor = version.minor;
-    pool = pool;
-    flags = flags.0;
-    this_class = this.0;
-    super_class = super.0;
-    interfaces = interfaces.0;
-    fields = fields.0;
-    methods = methods.0;
-    attrs = attrs.0;
-  }) else Err (fault attrs.1.at rules.Extra)
 
 -- the flags, the class, its superclass and its interfaces; the place is that of the flags
 abbrev pub head_checks : Constants → ℕ → ClassFile → List (Check Fault)
@@ -63,7 +39,8 @@ attrs_len attrs = length (flat_map attr_bytes attrs)
 
 -- what stands behind the pool: the head, the fields, the methods and the attributes, each list behind its count
 abbrev pub behind_len : ClassFile → ℕ
-behind_len c = head_len c + (2 + fields_len c.fields) + (2 + methods_len c.methods) + (2 + attrs_len c.attrs)
+behind_len c =
+    head_len c + (2 + fields_len c.fields) + (2 + methods_len c.methods) + (2 + attrs_len c.attrs)
 
 -- what that is asked, with the flags at this place
 abbrev pub behind_checks : ℕ → ClassFile → List (Check Fault)
@@ -78,4 +55,5 @@ behind_checks at c =
 
 -- a count is that of a method descriptor's parameters by units, and one more
 abbrev pub CountsUnits : List ℕ → ℕ → Type 0
-CountsUnits text count = (d : Descriptor) → SpellsDescriptor text d → count ≡ parameter_units d.params + 1
+CountsUnits text count =
+    (d : Descriptor) → SpellsDescriptor text d → count ≡ parameter_units d.params + 1

@@ -9,8 +9,11 @@ use Rattle.class_bytes.specs.declared.signatures.Signatures.{Signatures}
 
 -- a member has this name and this descriptor
 abbrev pub has_texts : Constants → List ℕ → List ℕ → Signature → Bool
-has_texts pool name desc member = is_text name (utf8_at pool member.name) && is_text desc (utf8_at pool member.desc)
+has_texts pool name desc member =
+    is_text name (utf8_at pool member.name) && is_text desc (utf8_at pool member.desc)
 
 -- A name and a descriptor are kept exactly where one of the members has them.
 pub record Knows (pool : Constants) (members : List Signature) (kept : Signatures) : Type 0 where
-  pub knows : (name desc : List ℕ) → contains_by (λ texts. bytes_eq name texts.0.now && bytes_eq desc texts.1.now) kept.texts ≡ list_any (has_texts pool name desc) members
+  pub knows : (name desc : List ℕ)
+      → contains_by (λ texts. bytes_eq name texts.0.now && bytes_eq desc texts.1.now) kept.texts
+      ≡ list_any (has_texts pool name desc) members

@@ -44,10 +44,13 @@ pub record AreInterfaceLists (headers : Headers) (lists : List (List Place)) : T
   pub each : (number : ℕ) (header : Header) (places : List Place)
       → slice_get (all_headers headers) number ≡ Some header
       → slice_get lists number ≡ Some places
-      → (names : List Name) × AreSuperinterfaces headers header.name names × (map (place_of headers) names ≡ map Some places)
+      → (names : List Name)
+      × AreSuperinterfaces headers header.name names
+      × (map (place_of headers) names ≡ map Some places)
 
 -- an index of the members of each class
-pub record AreMemberIndexes (members : Header → List Member) (headers : Headers) (indexes : List (List ℕ)) : Type 0 where
+pub record AreMemberIndexes (members : Header → List Member) (headers : Headers)
+    (indexes : List (List ℕ)) : Type 0 where
   pub len : length indexes ≡ length (all_headers headers)
   pub each : (number : ℕ) (header : Header) (index : List ℕ)
       → slice_get (all_headers headers) number ≡ Some header
@@ -63,7 +66,8 @@ indexes_of Method links = links.methods
 pub record AreLinks (classes : Classes) (of_folder : List Header) (links : Links) : Type 0 where
   pub tree : IsTree classes
   pub headers : of_folder ≡ map header_of classes.folder
-  pub superclasses : links.superclasses.items ≡ map (super_place (headers_of classes)) (all_headers (headers_of classes))
+  pub superclasses : links.superclasses.items
+      ≡ map (super_place (headers_of classes)) (all_headers (headers_of classes))
   pub interfaces : AreInterfaceLists (headers_of classes) links.interfaces
   pub members : (kind : MemberKind)
       → AreMemberIndexes (members_of kind) (headers_of classes) (indexes_of kind links)

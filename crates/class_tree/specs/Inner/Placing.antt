@@ -17,7 +17,8 @@ pub record AreMarksOf (nodes : List ℕ) (marks : List Bool) : Type 0 where
 pub record HasAdded (old new list : List ℕ) : Type 0 where
   pub kept : take (length old) new ≡ old
   pub added : (node : ℕ)
-      → list_any (λ one. one == node) new ≡ (list_any (λ one. one == node) old || list_any (λ one. one == node) list)
+      → list_any (λ one. one == node) new
+      ≡ (list_any (λ one. one == node) old || list_any (λ one. one == node) list)
 
 -- nodes in an order in which each stands once and behind its targets
 pub record AreBehindTargets (graph : Graph) (order : List ℕ) : Type 0 where

@@ -1,9 +1,10 @@
--- What is decided: it holds, or it does not. In a hierarchy it is decided which class is above which.
-use Rattle.std.proofs.Common.{◌≡◌, ◌⊎◌, ◌↔◌, Bool, true, false, List, [], ◌∷◌, get_or, ℕ, bytes_eq, Option, Some, None, IsTrue, IsFalse, refl, sym, ap, subst, ◌∙◌, inl, inr}
+-- In a hierarchy it is decided which class is above which.
+use Rattle.std.proofs.Common.{◌≡◌, ◌↔◌, Bool, true, false, List, [], ◌∷◌, get_or, ℕ, bytes_eq, Option, Some, None, IsTrue, IsFalse, refl, sym, ap, subst, ◌∙◌, inl, inr}
 use Rattle.std.proofs.lemmas.Bool.{false≢true, cases_Bool, cases_eq}
 use Rattle.std.proofs.lemmas.Option.{none-some, same_Some}
 use Rattle.std.proofs.lemmas.Slice.Eq.{bytes_eq-Decides}
 use Rattle.std.specs.List.{list_any}
+use Rattle.class_model.specs.Laws.Decisions.{Decision, mapped, is_true}
 use Rattle.class_model.specs.declared.header.Header.{Header}
 use Rattle.class_tree.specs.Headers.{Name, Headers, class_named}
 use Rattle.class_tree.specs.Hierarchy.{IsHierarchy}
@@ -12,9 +13,6 @@ use Rattle.class_tree.specs.Laws.Above.{low_is_there, above_is_there, class_is_c
 use Rattle.class_tree.specs.Laws.Headers.{class_there}
 use Rattle.class_tree.specs.Names.{is_interface}
 use Rattle.class_tree.specs.Subtype.{IsArray, IsDirectlyBelow, superclass, IsBelow, directly, onwards}
-
-abbrev pub Decision : Type 0 → Type 0
-Decision P = P ⊎ (¬ P)
 
 -- ---- words of logic
 
@@ -26,37 +24,6 @@ told (inr fails) = false
 pub told_is : {P : Type 0} (decision : Decision P) → IsTrue (told decision) ↔ P
 told_is (inl holds) = (λ is. holds, λ h. refl)
 told_is (inr fails) = (λ is. absurd (false≢true is), λ h. absurd (fails h))
-
-pub mapped : {P Q : Type 0} → (P → Q) → (Q → P) → Decision P → Decision Q
-mapped to from (inl p) = inl (to p)
-mapped to from (inr p) = inr (λ q. p (from q))
-
-pub both : {P Q : Type 0} → Decision P → Decision Q → Decision (P × Q)
-both (inl p) (inl q) = inl (p, q)
-both (inl p) (inr q) = inr (λ h. q h.1)
-both (inr p) q = inr (λ h. p h.0)
-
-pub either : {P Q : Type 0} → Decision P → Decision Q → Decision (P ⊎ Q)
-either (inl p) q = inl (inl p)
-either (inr p) (inl q) = inl (inr q)
-either (inr p) (inr q) = inr (λ h. elim h [ inl a ↦ p a | inr b ↦ q b ])
-
-pub denied : {P : Type 0} → Decision P → Decision (¬ P)
-denied (inl p) = inr (λ h. h p)
-denied (inr p) = inl p
-
-pub implied : {P Q : Type 0} → Decision P → Decision Q → Decision (P → Q)
-implied (inl p) (inl q) = inl (λ _. q)
-implied (inl p) (inr q) = inr (λ h. q (h p))
-implied (inr p) q = inl (λ h. absurd (p h))
-
-pub is_true : (test : Bool) → Decision (IsTrue test)
-is_true true = inl refl
-is_true false = inr (λ is. false≢true is)
-
-pub is_false : (test : Bool) → Decision (IsFalse test)
-is_false true = inr (λ is. false≢true (sym is))
-is_false false = inl refl
 
 pub same_bytes : (one other : List ℕ) → Decision (one ≡ other)
 same_bytes one other = mapped (bytes_eq-Decides one other).0 (bytes_eq-Decides one other).1 (is_true (bytes_eq one other))

@@ -23,7 +23,8 @@ form_bytes (Lookup at other pairs) = lookup_bytes at other pairs.now
 
 -- a tableswitch has a key for each target
 abbrev pub FitsTable : ℤ → List ℕ → Type 0
-FitsTable low to = (1 ≤ length to) × (length to ≤ 65535) × FitsSigned w32 (low +ℤ pos (length to - 1))
+FitsTable low to =
+    (1 ≤ length to) × (length to ≤ 65535) × FitsSigned w32 (low +ℤ pos (length to - 1))
 
 -- the targets of a switch fit their count
 abbrev pub FitsCount : Form → Type 0

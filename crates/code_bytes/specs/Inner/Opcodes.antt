@@ -1,6 +1,6 @@
 -- The rows of the table of instructions as a program tells them apart: by tests of the opcode.
 use Rattle.std.specs.Prelude.{◌==◌, ◌&&◌, ◌||◌, ◌-◌, ◌/◌, ◌%◌, nat_le, ℕ, pos, negsuc, Bool, Option, Some, None, if◌then◌else◌}
-use Rattle.class_model.specs.Instructions.{Operands, Alone, U1, U2, S1, S2, U1S1, U2U1, U2U1Zero, U2ZeroZero, Jump2, Jump4, TableSwitch, LookupSwitch, Wide, kind_at}
+use Rattle.class_model.specs.Instructions.{Operands, Alone, U1, U2, S1, S2, U1S1, ArrayCode, Dimensions, U2U1Zero, U2ZeroZero, Jump2, Jump4, TableSwitch, LookupSwitch, Wide, kind_at}
 use Rattle.class_model.specs.declared.instr.Imm.{Imm}
 use Rattle.class_model.specs.declared.instr.Imm.TheVariants as imms
 use Rattle.class_model.specs.declared.instr.Instr.{Instr}
@@ -90,15 +90,19 @@ is_pure o =
     || between I2B LCMP o
 
 abbrev pub arithmetic_of : ℕ → Instr
-arithmetic_of o = if is_divide o then instrs.Divide o else (if is_pure o then instrs.Pure o else instrs.FloatAsk o)
+arithmetic_of o =
+    if is_divide o then instrs.Divide o
+    else (if is_pure o then instrs.Pure o else instrs.FloatAsk o)
 
 abbrev pub alone_of : ℕ → Instr
 alone_of o =
     if o == NOP then instrs.Nop
     else (if between ACONST_NULL DCONST_1 o then instrs.Const (constant_of o)
-    else (if between ILOAD_0 ALOAD_3 o then instrs.Load (kind_at ((o - ILOAD_0) / 4)) ((o - ILOAD_0) % 4)
+    else (if between ILOAD_0 ALOAD_3 o then instrs.Load (kind_at ((o - ILOAD_0) / 4))
+    ((o - ILOAD_0) % 4)
     else (if between IALOAD SALOAD o then instrs.ArrayLoad o
-    else (if between ISTORE_0 ASTORE_3 o then instrs.Store (kind_at ((o - ISTORE_0) / 4)) ((o - ISTORE_0) % 4)
+    else (if between ISTORE_0 ASTORE_3 o then instrs.Store (kind_at ((o - ISTORE_0) / 4))
+    ((o - ISTORE_0) % 4)
     else (if between IASTORE SASTORE o then instrs.ArrayStore o
     else (if between POP SWAP o then instrs.Shuffle o
     else (if between IADD DCMPG o then arithmetic_of o
@@ -152,6 +156,6 @@ operands_of (Some layouts.TableSwitch) o = Some TableSwitch
 operands_of (Some layouts.LookupSwitch) o = Some LookupSwitch
 operands_of (Some layouts.U2U1Zero) o = Some (U2U1Zero (instrs.Invoke o))
 operands_of (Some layouts.U2ZeroZero) o = Some (U2ZeroZero instrs.Dynamic)
-operands_of (Some layouts.ArrayCode) o = Some (U1 instrs.NewArray)
-operands_of (Some layouts.Dimensions) o = Some (U2U1 instrs.NewMulti)
+operands_of (Some layouts.ArrayCode) o = Some ArrayCode
+operands_of (Some layouts.Dimensions) o = Some Dimensions
 operands_of (Some layouts.Wide) o = Some Wide

@@ -16,4 +16,7 @@ target_in at word = target_of at (cast_signed w32 (from_be_bytes w32 word))
 
 -- the pair that eight bytes are
 abbrev pub pair_in : ℕ → List ℕ → Pair
-pair_in at part = record { key = cast_signed w32 (from_be_bytes w32 (take 4 part)); to = target_in at (drop 4 part) }
+pair_in at part = record {
+  key = cast_signed w32 (from_be_bytes w32 (take 4 part));
+  to = target_in at (drop 4 part);
+}

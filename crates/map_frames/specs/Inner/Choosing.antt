@@ -1,5 +1,6 @@
 -- The first kind that fits, by counts alone.
 use Rattle.std.specs.Prelude.{◌==◌, ◌&&◌, nat_le, ℕ, Bool, true, List, [], ◌∷◌, if◌then◌else◌}
+use Rattle.class_model.specs.declared.frame_tags.TheConstants.{SAME_FRAME_LAST}
 use Rattle.map_frames.specs.Writing.{FrameKind, Same, SameItem, SameItemExtended, Chop, SameExtended, Append, Full}
 use Rattle.map_frames.specs.declared.kinds.Change.{Change}
 use Rattle.map_frames.specs.declared.kinds.Kind.{Kind}
@@ -24,8 +25,10 @@ keeps_locals change = (change.gone == 0) && (change.more == 0)
 
 -- A frame with this offset delta and this change has a spelling of the kind.
 abbrev pub passes : ℕ → Change → FrameKind → Bool
-passes delta change Same = keeps_locals change && (change.stack == 0) && nat_le delta 63
-passes delta change SameItem = keeps_locals change && (change.stack == 1) && nat_le delta 63
+passes delta change Same =
+    keeps_locals change && (change.stack == 0) && nat_le delta SAME_FRAME_LAST
+passes delta change SameItem =
+    keeps_locals change && (change.stack == 1) && nat_le delta SAME_FRAME_LAST
 passes delta change SameItemExtended = keeps_locals change && (change.stack == 1)
 passes delta change Chop = (change.stack == 0) && ((change.more == 0) && is_few change.gone)
 passes delta change SameExtended = keeps_locals change && (change.stack == 0)

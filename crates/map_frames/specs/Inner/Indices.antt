@@ -12,6 +12,7 @@ pub record AreShort (classes : List NamedIndex) : Type 0 where
   pub short : (name : List ℕ) → or_zero (index_of classes name) ≤ 65535
 
 -- At each name the map has the index of the class, which fits two bytes.
-pub record IsByName (classes : List NamedIndex) (by_name : HashMap (List ℕ) ℕ (BuildHasherDefault FoldHasher)) : Type 0 where
+pub record IsByName (classes : List NamedIndex)
+    (by_name : HashMap (List ℕ) ℕ (BuildHasherDefault FoldHasher)) : Type 0 where
   pub found : (name : List ℕ) → get (pointwise ◌==◌) by_name name ≡ index_of classes name
   pub short : AreShort classes

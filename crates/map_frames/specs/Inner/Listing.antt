@@ -7,7 +7,11 @@ use Rattle.map_frames.specs.declared.frame_writing.ListedFrame.{ListedFrame}
 use Rattle.map_frames.specs.declared.writing.NamedIndex.{NamedIndex}
 
 abbrev pub listed_of : ListedFrame → Listed
-listed_of frame = record { delta = frame.delta; locals = entries_of_units frame.locals.now; stack = frame.stack.now }
+listed_of frame = record {
+  delta = frame.delta;
+  locals = entries_of_units frame.locals.now;
+  stack = frame.stack.now;
+}
 
 -- the lists fit two bytes, and each type can be written
 pub record FitsListed (classes : List NamedIndex) (frame : Listed) : Type 0 where

@@ -6,7 +6,12 @@ use Rattle.map_frames.specs.Inner.Steps.{Standing}
 
 -- the setting that a context is
 abbrev pub setting_of : Context → Setting
-setting_of context = record { pool = context.pool.now; max_locals = context.max_locals; max_stack = context.max_stack; code = context.code }
+setting_of context = record {
+  pool = context.pool.now;
+  max_locals = context.max_locals;
+  max_stack = context.max_stack;
+  code = context.code;
+}
 
 -- where a walk stands
 abbrev pub standing_of : Walk → Standing

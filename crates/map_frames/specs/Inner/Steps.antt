@@ -1,76 +1,39 @@
 -- A table read step by step, for the contracts of the reader's own functions: what one step gives, and where it
 -- leaves the reader.
-use Rattle.std.specs.Prelude.{◌≡◌, ◌==◌, ◌+◌, ◌-◌, nat_lt, ℕ, List, [], ◌∷◌, ◌++◌, length, take, Result, Ok, Err, if◌then◌else◌}
+use Rattle.std.specs.Prelude.{◌≡◌, ◌==◌, ◌+◌, nat_lt, ℕ, List, [], ◌++◌, length, Result, Ok, Err, if◌then◌else◌}
 use Rattle.class_model.specs.Checks.{Fault, fault, ◌>>=◌}
 use Rattle.class_model.specs.Cutting.{Rest, Cut, behind}
-use Rattle.class_model.specs.Frames.{Setting, Stated, stated_frame, table_u2_at, object_of, verification_type_at, verification_types_at, frame_at, fits_at, is_new_at, filled, missing}
+use Rattle.class_model.specs.Frames.{Setting, Stated, stated_frame, frame_at, fits_at, filled, missing}
 use Rattle.class_model.specs.Instructions.{u1_in}
-use Rattle.class_model.specs.PoolChecks.{class_at}
 use Rattle.class_model.specs.declared.fault.ClassFault.{ClassFault}
 use Rattle.class_model.specs.declared.fault.ClassFault.TheVariants.{Malformed, Version, NoMemory}
-use Rattle.class_model.specs.declared.fault.FileRule.TheVariants as rules
 use Rattle.class_model.specs.declared.frame.Frame.{Frame}
 use Rattle.class_model.specs.declared.frame.PlacedFrame.{PlacedFrame}
 use Rattle.class_model.specs.declared.frame.VType.{VType}
-use Rattle.class_model.specs.declared.frame.VType.TheVariants.{Uninit}
 
 -- ---- numbers
 
 -- a number of one byte
 abbrev pub byte_at : Rest → Cut ℕ
-byte_at rest = if nat_lt (length rest.bytes) 1 then Err missing else Ok (u1_in rest.bytes 0, behind 1 rest)
+byte_at rest =
+    if nat_lt (length rest.bytes) 1 then Err missing else Ok (u1_in rest.bytes 0, behind 1 rest)
 
 -- nothing follows
 abbrev pub end_at : Rest → Result (Unit {0}) Fault
 end_at rest = if length rest.bytes == 0 then Ok tt else Err missing
 
--- ---- entries
-
--- an object of a class, behind its tag
-abbrev pub object_at : Setting → ℕ → Rest → Cut VType
-object_at s frame rest = table_u2_at rest >>= λ index. object_of frame index.1 (class_at s.pool index.0)
-
--- an object of a new, behind its tag
-abbrev pub uninit_at : Setting → ℕ → Rest → Cut VType
-uninit_at s frame rest =
-    table_u2_at rest >>= λ at. if is_new_at s.code at.0 then Ok (Uninit at.0, at.1) else Err (fault frame rules.FrameType)
+-- ---- frames
 
 -- a frame of these locals
 abbrev pub of_locals : List VType → Frame
 of_locals locals = record { locals = locals; stack = [] }
 
--- ---- frames
-
--- entries behind their number
-abbrev pub counted_types_at : Setting → ℕ → Rest → Cut (List VType)
-counted_types_at s frame rest = table_u2_at rest >>= λ count. verification_types_at s frame count.0 count.1
-
--- a stack of one entry
-abbrev pub item_at : Setting → ℕ → Rest → Cut (List VType)
-item_at s frame rest = verification_type_at s frame rest >>= λ item. Ok (item.0 ∷ [], item.1)
-
--- the last so many locals are gone
-abbrev pub chop_at : ℕ → List VType → ℕ → Rest → Cut Stated
-chop_at count locals frame rest =
-    if nat_lt (length locals) count then Err (fault frame rules.FrameKind)
-    else (table_u2_at rest >>= λ delta. Ok (stated_frame delta.0 (take (length locals - count) locals) [], delta.1))
-
--- so many locals are added
-abbrev pub append_at : Setting → ℕ → List VType → ℕ → Rest → Cut Stated
-append_at s count locals frame rest =
-    table_u2_at rest >>= λ delta. verification_types_at s frame count delta.1 >>= λ more. Ok (stated_frame delta.0 (locals ++ more.0) [], more.1)
-
--- all locals and the stack
-abbrev pub full_frame_at : Setting → ℕ → Rest → Cut Stated
-full_frame_at s frame rest = do
-  delta ← table_u2_at rest
-  locals ← counted_types_at s frame delta.1
-  stack ← counted_types_at s frame locals.1
-  Ok (stated_frame delta.0 locals.0 stack.0, stack.1)
-
 -- a frame with its offset, of these entries
 abbrev pub placed : Setting → ℕ → List VType → List VType → PlacedFrame
-placed s at locals stack = record { at = at; frame = record { locals = filled s.max_locals locals; stack = stack } }
+placed s at locals stack = record {
+  at = at;
+  frame = record { locals = filled s.max_locals locals; stack = stack };
+}
 
 -- ---- what a function of the reader answers
 
@@ -81,8 +44,10 @@ Refuses given NoMemory = Unit {0}
 Refuses given (Version major minor) = ⊥
 
 -- the entries that are read are appended to those before
-abbrev pub Appends : Cut (List VType) → List VType → List VType → Rest → Result (Unit {0}) ClassFault → Type 0
-Appends cut before now after (Ok done) = (more : List VType) × (cut ≡ Ok (more, after)) × (now ≡ before ++ more)
+abbrev pub Appends : Cut (List VType) → List VType → List VType → Rest
+    → Result (Unit {0}) ClassFault → Type 0
+Appends cut before now after (Ok done) =
+    (more : List VType) × (cut ≡ Ok (more, after)) × (now ≡ before ++ more)
 Appends cut before now after (Err f) = Refuses cut f
 
 -- the delta and the stack of a frame, whose locals are these
@@ -92,7 +57,8 @@ States cut locals after (Err f) = Refuses cut f
 
 -- the offset of a frame, whose entries are these
 abbrev pub IsPlaced : Setting → ℕ → Stated → ℕ → Result ℕ ClassFault → Type 0
-IsPlaced s frame f at (Ok offset) = (offset ≡ at) × (fits_at s frame at f ≡ Ok (placed s offset f.entries.locals f.entries.stack))
+IsPlaced s frame f at (Ok offset) =
+    (offset ≡ at) × (fits_at s frame at f ≡ Ok (placed s offset f.entries.locals f.entries.stack))
 IsPlaced s frame f at (Err d) = Refuses (fits_at s frame at f) d
 
 -- where the next frame is read: what its delta is added to, the locals before it, and the bytes
@@ -102,12 +68,16 @@ pub record Standing : Type 0 where
   pub rest : Rest
 
 -- A frame was read there: its offset and stack, and where the reader stands then.
-pub record IsStep (s : Setting) (w : Standing) (at : ℕ) (stack : List VType) (next : Standing) : Type 0 where
+pub record IsStep (s : Setting) (w : Standing) (at : ℕ) (stack : List VType)
+    (next : Standing) : Type 0 where
   pub delta : ℕ
   pub read : frame_at s w.locals w.rest ≡ Ok (stated_frame delta next.locals stack, next.rest)
-  pub fits : fits_at s w.rest.at (w.from + delta) (stated_frame delta next.locals stack) ≡ Ok (placed s at next.locals stack)
+  pub fits : fits_at s w.rest.at (w.from + delta) (stated_frame delta next.locals stack)
+      ≡ Ok (placed s at next.locals stack)
   pub from : next.from ≡ w.from + delta + 1
 
 abbrev pub Steps : Setting → Standing → Standing → Result (ℕ × List VType) ClassFault → Type 0
 Steps s w next (Ok read) = IsStep s w read.0 read.1 next
-Steps s w next (Err f) = Refuses (frame_at s w.locals w.rest >>= λ first. fits_at s w.rest.at (w.from + first.0.delta) first.0) f
+Steps s w next (Err f) =
+    Refuses (frame_at s w.locals w.rest >>= λ first. fits_at s w.rest.at
+    (w.from + first.0.delta) first.0) f

@@ -9,7 +9,8 @@ use Rattle.class_model.specs.declared.instr.Placed.{Placed}
 use Rattle.code_bytes.specs.OffsetIndexes.{IsIndexOf}
 use Rattle.member_link.specs.CodedMethods.{CodedMethod, descriptor_text, entry, stated}
 
-pub record IsBody (m : CodedMethod) (instrs : List Placed) (index : List ℕ) (frames : List PlacedFrame) (begins : Frame) (descriptor : Descriptor) : Type 0 where
+pub record IsBody (m : CodedMethod) (instrs : List Placed) (index : List ℕ)
+    (frames : List PlacedFrame) (begins : Frame) (descriptor : Descriptor) : Type 0 where
   pub few : length m.part.code < 65536
   pub instrs_are : decoded m.part.code ≡ Ok instrs
   pub indexed : IsIndexOf (map (λ placed. placed.at) instrs) index

@@ -13,10 +13,17 @@ use Rattle.member_link.specs.declared.upwards.Counted.TheVariants.{Every, OfInte
 
 abbrev pub Counts : Headers → Counted → Declared → Type 0
 Counts headers Every method = Unit {0}
-Counts headers (OfInterface place) method = ((header : Header) → header_at headers place ≡ Some header → method.class ≡ header.name) ⊎ IsTrue (has method.member.flags PUBLIC && not (has method.member.flags STATIC))
-Counts headers (Overriding found) method = (resolved : Declared) → IsMethodFound headers found resolved → IsOrOverrides headers resolved method
+Counts headers (OfInterface place) method =
+    ((header : Header) → header_at headers place ≡ Some header → method.class ≡ header.name)
+    ⊎ IsTrue (has method.member.flags PUBLIC && not (has method.member.flags STATIC))
+Counts headers (Overriding found) method =
+    (resolved : Declared)
+    → IsMethodFound headers found resolved
+    → IsOrOverrides headers resolved method
 Counts headers Instance method = IsFalse (has method.member.flags STATIC)
-Counts headers InstanceOfInterface method = IsFalse (has method.member.flags STATIC) × ((method.class ≢ object) ⊎ IsTrue (has method.member.flags PUBLIC))
+Counts headers InstanceOfInterface method =
+    IsFalse (has method.member.flags STATIC)
+    × ((method.class ≢ object) ⊎ IsTrue (has method.member.flags PUBLIC))
 
 -- it names what is there
 abbrev pub IsValid : Headers → Counted → Type 0

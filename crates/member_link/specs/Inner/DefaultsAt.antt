@@ -15,7 +15,8 @@ use Rattle.member_link.specs.declared.found.Found.{Found}
 -- a method that a class declares, if it is neither private nor static
 abbrev pub inherited_by : Name → Option Member → Option Declared
 inherited_by class None = None
-inherited_by class (Some member) = if is_inherited member then Some (declared_by class member) else None
+inherited_by class (Some member) =
+    if is_inherited member then Some (declared_by class member) else None
 
 -- such a method of a name and descriptor
 abbrev pub inherited_of : List ℕ → List ℕ → Header → Option Declared
@@ -35,12 +36,18 @@ pub record IsSuperinterfaceAt (headers : Headers) (class : Name) (place : Place)
   pub above : IsBelow headers class header.name
 
 -- a method of a superinterface of the class below an interface
-pub record IsHidden (headers : Headers) (class : Name) (name desc : List ℕ) (interface : Name) : Type 0 where
+pub record IsHidden (headers : Headers) (class : Name) (name desc : List ℕ)
+    (interface : Name) : Type 0 where
   pub other : Declared
   pub of_superinterface : IsSuperinterfaceMethod headers class name desc other
   pub below : IsBelow headers other.class interface
 
 -- the default of a class that an interface declares
 abbrev pub IsDefaultOf : Headers → Name → List ℕ → List ℕ → Name → Option Found → Type 0
-IsDefaultOf headers class name desc interface None = (method : Declared) → IsDefault headers class name desc method → method.class ≢ interface
-IsDefaultOf headers class name desc interface (Some found) = (method : Declared) × IsMethodFound headers found method × IsDefault headers class name desc method × (method.class ≡ interface)
+IsDefaultOf headers class name desc interface None =
+    (method : Declared) → IsDefault headers class name desc method → method.class ≢ interface
+IsDefaultOf headers class name desc interface (Some found) =
+    (method : Declared)
+    × IsMethodFound headers found method
+    × IsDefault headers class name desc method
+    × (method.class ≡ interface)

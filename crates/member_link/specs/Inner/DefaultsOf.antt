@@ -16,6 +16,10 @@ pub record HasTwoDefaults (headers : Headers) (class : Name) (name desc : List �
   pub differ : one ≢ other
 
 abbrev pub AreDefaults : Headers → Name → List ℕ → List ℕ → DefaultMethods → Type 0
-AreDefaults headers class name desc Nothing = (method : Declared) → ¬ IsDefault headers class name desc method
-AreDefaults headers class name desc (One found) = (method : Declared) × IsMethodFound headers found method × IsOneDefault headers class name desc method
+AreDefaults headers class name desc Nothing =
+    (method : Declared) → ¬ IsDefault headers class name desc method
+AreDefaults headers class name desc (One found) =
+    (method : Declared)
+    × IsMethodFound headers found method
+    × IsOneDefault headers class name desc method
 AreDefaults headers class name desc Several = HasTwoDefaults headers class name desc

@@ -25,16 +25,27 @@ pub record OpensPackage (headers : Headers) (middle high : Declared) : Type 0 wh
 
 -- one of an interface, or of a class that is none
 abbrev pub IsAboveOfKind : Headers → Bool → Declared → Declared → Type 0
-IsAboveOfKind headers kind low high = (above : IsAbove headers low high) × (is_interface above.method.header ≡ kind)
+IsAboveOfKind headers kind low high =
+    (above : IsAbove headers low high) × (is_interface above.method.header ≡ kind)
 
 -- the method of a class that has the name and descriptor of a member
-pub record IsSameOf (headers : Headers) (class : Name) (member : Member) (high : Declared) : Type 0 where
+pub record IsSameOf (headers : Headers) (class : Name) (member : Member)
+    (high : Declared) : Type 0 where
   pub method : IsMethod headers high
   pub own_class : high.class ≡ class
   pub same_name : high.member.name ≡ member.name
   pub same_desc : high.member.desc ≡ member.desc
 
 -- Whether one of the methods that count passes a test, by what the test answers.
-pub data IsAnyOf (headers : Headers) (Counts : Declared → Type 0) (Answer : Found → Bool → Type 0) : Bool → Type 0 where
-  one_passes : (found : Found) (high : Declared) → IsMethodFound headers found high → Counts high → Answer found true → IsAnyOf headers Counts Answer true
-  none_passes : ((high : Declared) → Counts high → (found : Found) × IsMethodFound headers found high × Answer found false) → IsAnyOf headers Counts Answer false
+pub data IsAnyOf (headers : Headers) (Counts : Declared → Type 0)
+    (Answer : Found → Bool → Type 0) : Bool
+    → Type 0 where
+  one_passes : (found : Found) (high : Declared)
+      → IsMethodFound headers found high
+      → Counts high
+      → Answer found true
+      → IsAnyOf headers Counts Answer true
+  none_passes : ((high : Declared)
+      → Counts high
+      → (found : Found) × IsMethodFound headers found high × Answer found false)
+      → IsAnyOf headers Counts Answer false

@@ -32,20 +32,26 @@ FirstBroken AreThere IsOpen Finds rule = ⊥
 -- ---- classes
 
 abbrev pub ClassResolves : Headers → Name → Name → Resolution → Type 0
-ClassResolves headers from name (resolutions.Broken rule) = FirstBroken (IsNamedThere headers name) (IsNamedAccessible headers from name) (Unit {0}) rule
-ClassResolves headers from name (resolutions.Class is_instantiable) = IsNamedThere headers name × IsNamedAccessible headers from name × (IsTrue is_instantiable ↔ IsInstantiable headers name)
+ClassResolves headers from name (resolutions.Broken rule) =
+    FirstBroken (IsNamedThere headers name) (IsNamedAccessible headers from name) (Unit {0}) rule
+ClassResolves headers from name (resolutions.Class is_instantiable) =
+    IsNamedThere headers name
+    × IsNamedAccessible headers from name
+    × (IsTrue is_instantiable ↔ IsInstantiable headers name)
 ClassResolves headers from name other = ⊥
 
 -- the classes that a descriptor names
 abbrev pub TypesResolve : (AreThere AreOpen : Type 0) → Resolution → Type 0
-TypesResolve AreThere AreOpen (resolutions.Broken rule) = FirstBroken AreThere AreOpen (Unit {0}) rule
+TypesResolve AreThere AreOpen (resolutions.Broken rule) =
+    FirstBroken AreThere AreOpen (Unit {0}) rule
 TypesResolve AreThere AreOpen resolutions.Settled = AreThere × AreOpen
 TypesResolve AreThere AreOpen other = ⊥
 
 -- ---- members
 
 -- what is kept of the one member that a look-up finds
-pub record IsReferent (headers : Headers) (from : Name) (named : Name) (Finds : Option Declared → Type 0) (referent : Referent) : Type 0 where
+pub record IsReferent (headers : Headers) (from : Name) (named : Name)
+    (Finds : Option Declared → Type 0) (referent : Referent) : Type 0 where
   pub member : Declared
   pub finds : Finds (Some member)
   pub only : (other : Declared) → Finds (Some other) → other ≡ member
@@ -53,22 +59,38 @@ pub record IsReferent (headers : Headers) (from : Name) (named : Name) (Finds : 
   pub accessible : IsTrue referent.is_accessible ↔ IsAccessible headers from named member
 
 -- what is kept of a reference that calls name
-pub record IsCallee (headers : Headers) (constant : Option Const) (reference : Reference) (callee : Callee) : Type 0 where
+pub record IsCallee (headers : Headers) (constant : Option Const) (reference : Reference)
+    (callee : Callee) : Type 0 where
   pub kind : IsTrue callee.fits_kind ↔ FitsKind headers constant reference.class
   pub initialiser : IsTrue callee.is_initialiser ↔ (reference.name ≡ init)
 
 abbrev pub FieldResolves : Headers → Name → Reference → Resolution → Type 0
 FieldResolves headers from reference (resolutions.Broken rule) =
-    FirstBroken (IsNamedThere headers reference.class × FieldTypeNames (IsThere headers) reference.desc) (IsNamedAccessible headers from reference.class) ((member : Declared) × FindsField headers reference.class reference.name reference.desc (Some member)) rule
+    FirstBroken
+    (IsNamedThere headers reference.class × FieldTypeNames (IsThere headers) reference.desc)
+    (IsNamedAccessible headers from reference.class)
+    ((member : Declared)
+    × FindsField headers reference.class reference.name reference.desc (Some member)) rule
 FieldResolves headers from reference (resolutions.Field referent) =
-    (IsNamedThere headers reference.class × FieldTypeNames (IsThere headers) reference.desc) × IsNamedAccessible headers from reference.class × IsReferent headers from reference.class (FindsField headers reference.class reference.name reference.desc) referent
+    (IsNamedThere headers reference.class × FieldTypeNames (IsThere headers) reference.desc)
+    × IsNamedAccessible headers from reference.class
+    × IsReferent headers from reference.class
+    (FindsField headers reference.class reference.name reference.desc) referent
 FieldResolves headers from reference other = ⊥
 
 abbrev pub MethodResolves : Headers → Name → Option Const → Reference → Resolution → Type 0
 MethodResolves headers from constant reference (resolutions.Broken rule) =
-    FirstBroken (IsNamedThere headers reference.class × DescriptorNames (IsThere headers) reference.desc) (IsNamedAccessible headers from reference.class) ((member : Declared) × FindsMethod headers reference.class reference.name reference.desc (Some member)) rule
+    FirstBroken
+    (IsNamedThere headers reference.class × DescriptorNames (IsThere headers) reference.desc)
+    (IsNamedAccessible headers from reference.class)
+    ((member : Declared)
+    × FindsMethod headers reference.class reference.name reference.desc (Some member)) rule
 MethodResolves headers from constant reference (resolutions.Method referent callee) =
-    (IsNamedThere headers reference.class × DescriptorNames (IsThere headers) reference.desc) × IsNamedAccessible headers from reference.class × IsReferent headers from reference.class (FindsMethod headers reference.class reference.name reference.desc) referent × IsCallee headers constant reference callee
+    (IsNamedThere headers reference.class × DescriptorNames (IsThere headers) reference.desc)
+    × IsNamedAccessible headers from reference.class
+    × IsReferent headers from reference.class
+    (FindsMethod headers reference.class reference.name reference.desc) referent
+    × IsCallee headers constant reference callee
 MethodResolves headers from constant reference other = ⊥
 
 -- ---- constants
@@ -83,12 +105,22 @@ IfHad Resolves None = IsSettled
 IfHad Resolves (Some x) = Resolves x
 
 abbrev pub ConstantResolves : Resolved → Option Const → Resolution → Type 0
-ConstantResolves class (Some (Class name)) = IfHad (ClassResolves class.headers class.from) (utf8_at class.pool name)
-ConstantResolves class (Some (Fieldref named member)) = IfHad (FieldResolves class.headers class.from) (reference_at class.pool named member)
-ConstantResolves class (Some (Methodref named member)) = IfHad (MethodResolves class.headers class.from (Some (Methodref named member))) (reference_at class.pool named member)
-ConstantResolves class (Some (InterfaceMethodref named member)) = IfHad (MethodResolves class.headers class.from (Some (InterfaceMethodref named member))) (reference_at class.pool named member)
-ConstantResolves class (Some (MethodType desc)) = IfHad (λ text. TypesResolve (DescriptorNames (IsThere class.headers) text) (DescriptorNames (IsClassAccessible class.headers class.from) text)) (utf8_at class.pool desc)
-ConstantResolves class (Some (InvokeDynamic bootstrap member)) = IfHad (λ text. TypesResolve (DescriptorNames (IsThere class.headers) text) (Unit {0})) (descriptor_at class.pool member)
+ConstantResolves class (Some (Class name)) =
+    IfHad (ClassResolves class.headers class.from) (utf8_at class.pool name)
+ConstantResolves class (Some (Fieldref named member)) =
+    IfHad (FieldResolves class.headers class.from) (reference_at class.pool named member)
+ConstantResolves class (Some (Methodref named member)) =
+    IfHad (MethodResolves class.headers class.from (Some (Methodref named member)))
+    (reference_at class.pool named member)
+ConstantResolves class (Some (InterfaceMethodref named member)) =
+    IfHad (MethodResolves class.headers class.from (Some (InterfaceMethodref named member)))
+    (reference_at class.pool named member)
+ConstantResolves class (Some (MethodType desc)) =
+    IfHad (λ text. TypesResolve (DescriptorNames (IsThere class.headers) text)
+    (DescriptorNames (IsClassAccessible class.headers class.from) text)) (utf8_at class.pool desc)
+ConstantResolves class (Some (InvokeDynamic bootstrap member)) =
+    IfHad (λ text. TypesResolve (DescriptorNames (IsThere class.headers) text) (Unit {0}))
+    (descriptor_at class.pool member)
 ConstantResolves class constant = IsSettled
 
 -- a constant that refers to a method, of a class or of an interface
@@ -107,4 +139,5 @@ IfFilled Resolves (Some (Some resolution)) = Resolves resolution
 IfFilled Resolves other = Unit {0}
 
 abbrev pub AreResolutions : Resolved → List (Option Resolution) → Type 0
-AreResolutions class entries = (index : ℕ) → IfFilled (Resolves class index) (slice_get entries index)
+AreResolutions class entries =
+    (index : ℕ) → IfFilled (Resolves class index) (slice_get entries index)

@@ -11,4 +11,8 @@ pub record Resolved : Type 0 where
 
 -- the references that stand in one of its methods
 abbrev pub resolved_scope : Resolved → Member → UseScope
-resolved_scope class method = record { headers = class.headers; pool = class.pool; site = record { class = class.from; member = method } }
+resolved_scope class method = record {
+  headers = class.headers;
+  pool = class.pool;
+  site = record { class = class.from; member = method };
+}

@@ -21,7 +21,8 @@ operation opcodes takes gives = record { opcodes = opcodes; takes = takes; gives
 -- Of int and long, which raise nothing.
 abbrev pub pure_operations : List Operation
 pure_operations =
-    operation (IADD ∷ ISUB ∷ IMUL ∷ ISHL ∷ ISHR ∷ IUSHR ∷ IAND ∷ IOR ∷ IXOR ∷ []) (Int ∷ Int ∷ []) Int
+    operation (IADD ∷ ISUB ∷ IMUL ∷ ISHL ∷ ISHR ∷ IUSHR ∷ IAND ∷ IOR ∷ IXOR ∷ [])
+    (Int ∷ Int ∷ []) Int
     ∷ operation (LADD ∷ LSUB ∷ LMUL ∷ LAND ∷ LOR ∷ LXOR ∷ []) (Long ∷ Long ∷ []) Long
     ∷ operation (LSHL ∷ LSHR ∷ LUSHR ∷ []) (Long ∷ Int ∷ []) Long
     ∷ operation (INEG ∷ I2B ∷ I2C ∷ I2S ∷ []) (Int ∷ []) Int
@@ -62,7 +63,8 @@ float_operations =
 -- the operation of an opcode
 abbrev pub operation_in : List Operation → ℕ → Option Operation
 operation_in [] opcode = None
-operation_in (first ∷ others) opcode = if list_any (λ o. o == opcode) first.opcodes then Some first else operation_in others opcode
+operation_in (first ∷ others) opcode =
+    if list_any (λ o. o == opcode) first.opcodes then Some first else operation_in others opcode
 
 -- the type of a value of a kind that is no reference
 abbrev pub type_of_kind : Kind → VType

@@ -1,8 +1,10 @@
 -- Instructions on arrays (JVM Specification SE 8, 6.5).
 use Rattle.std.specs.Prelude.{◌==◌, ◌-◌, nat_lt, ℕ, List, [], ◌∷◌, length, take, replicate, codes, Option, Some, None, if◌then◌else◌}
 use Rattle.class_model.specs.ArrayTypes.{component_of}
+use Rattle.class_model.specs.Characters.{left_bracket}
 use Rattle.class_model.specs.Descriptors.{named_text}
 use Rattle.class_model.specs.PoolChecks.{class_at}
+use Rattle.class_model.specs.declared.array_codes.TheConstants.{T_BOOLEAN, T_CHAR, T_FLOAT, T_DOUBLE, T_BYTE, T_SHORT, T_INT, T_LONG}
 use Rattle.class_model.specs.declared.descriptor.Kind.TheVariants.{Int, Long, Float, Double}
 use Rattle.class_model.specs.declared.frame.Frame.{Frame}
 use Rattle.class_model.specs.declared.frame.VType.{VType}
@@ -50,7 +52,9 @@ elements_load_row f (Some e) = plain f (array_among e.arrays ∷ of_kind Int ∷
 
 abbrev pub array_load_row : Frame → ℕ → Row
 array_load_row f opcode =
-    either (opcode == AALOAD) (plain f (array_of_references ∷ of_kind Int ∷ []) (component_type (lowest_of 2 f.stack) ∷ [])) (elements_load_row f (elements_from IALOAD opcode))
+    either (opcode == AALOAD)
+    (plain f (array_of_references ∷ of_kind Int ∷ []) (component_type (lowest_of 2 f.stack) ∷ []))
+    (elements_load_row f (elements_from IALOAD opcode))
 
 -- what is asked of a value of this type
 abbrev pub need_of_value : VType → Need
@@ -61,26 +65,29 @@ need_of_value other = of_kind Int
 
 abbrev pub elements_store_row : Frame → Option Elements → Row
 elements_store_row f None = no_row f
-elements_store_row f (Some e) = plain f (array_among e.arrays ∷ of_kind Int ∷ need_of_value e.type ∷ []) []
+elements_store_row f (Some e) =
+    plain f (array_among e.arrays ∷ of_kind Int ∷ need_of_value e.type ∷ []) []
 
 -- any array of references takes any reference that is initialised
 abbrev pub array_store_row : Frame → ℕ → Row
 array_store_row f opcode =
-    either (opcode == AASTORE) (plain f (array_of_references ∷ of_kind Int ∷ initialised ∷ []) []) (elements_store_row f (elements_from IASTORE opcode))
+    either (opcode == AASTORE)
+    (plain f (array_of_references ∷ of_kind Int ∷ initialised ∷ []) [])
+    (elements_store_row f (elements_from IASTORE opcode))
 
 -- ---- arrays that are made
 
 -- the arrays of newarray by their codes, from boolean on
 abbrev pub primitive_array : ℕ → Option Name
 primitive_array code =
-    if code == 4 then Some (codes "[Z")
-    else (if code == 5 then Some (codes "[C")
-    else (if code == 6 then Some (codes "[F")
-    else (if code == 7 then Some (codes "[D")
-    else (if code == 8 then Some (codes "[B")
-    else (if code == 9 then Some (codes "[S")
-    else (if code == 10 then Some (codes "[I")
-    else (if code == 11 then Some (codes "[J")
+    if code == T_BOOLEAN then Some (codes "[Z")
+    else (if code == T_CHAR then Some (codes "[C")
+    else (if code == T_FLOAT then Some (codes "[F")
+    else (if code == T_DOUBLE then Some (codes "[D")
+    else (if code == T_BYTE then Some (codes "[B")
+    else (if code == T_SHORT then Some (codes "[S")
+    else (if code == T_INT then Some (codes "[I")
+    else (if code == T_LONG then Some (codes "[J")
     else None)))))))
 
 -- an array of this name is made of so many counts
@@ -94,7 +101,7 @@ new_array_row f code = made_row f 1 (primitive_array code)
 -- the array of a class or array
 abbrev pub array_of : Option Name → Option Name
 array_of None = None
-array_of (Some name) = Some (91 ∷ named_text name)
+array_of (Some name) = Some (left_bracket ∷ named_text name)
 
 abbrev pub new_ref_array_row : RowScope → Frame → ℕ → Row
 new_ref_array_row s f index = made_row f 1 (array_of (class_at s.pool index))

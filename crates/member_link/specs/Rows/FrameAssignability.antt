@@ -10,7 +10,8 @@ use Rattle.member_link.specs.Assignability.{IsAssignable}
 -- as many entries, each assignable to the one in its place
 abbrev pub AreAssignable : Headers → List VType → List VType → Type 0
 AreAssignable headers [] [] = Unit {0}
-AreAssignable headers (low ∷ lows) (high ∷ highs) = IsAssignable headers low high × AreAssignable headers lows highs
+AreAssignable headers (low ∷ lows) (high ∷ highs) =
+    IsAssignable headers low high × AreAssignable headers lows highs
 AreAssignable headers lows highs = ⊥
 
 abbrev pub is_uninit_this : VType → Bool
@@ -21,4 +22,5 @@ is_uninit_this other = false
 pub record IsFrameAssignable (headers : Headers) (from to : Frame) : Type 0 where
   pub locals : AreAssignable headers from.locals to.locals
   pub stack : AreAssignable headers from.stack to.stack
-  pub keeps_this : IsTrue (list_any is_uninit_this from.locals) → IsTrue (list_any is_uninit_this to.locals)
+  pub keeps_this : IsTrue (list_any is_uninit_this from.locals)
+      → IsTrue (list_any is_uninit_this to.locals)

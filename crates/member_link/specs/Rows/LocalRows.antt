@@ -59,7 +59,8 @@ local_entry locals at = of_entry (slice_get locals at) where
   of_entry (Some type) = type ∷ []
 
 abbrev pub load_row : Frame → Kind → ℕ → Row
-load_row f kind at = record (plain f [] (local_entry f.locals at)) { local = HoldsKind kind f.locals at }
+load_row f kind at =
+    record (plain f [] (local_entry f.locals at)) { local = HoldsKind kind f.locals at }
 
 -- A long or double whose second unit is written is none any more.
 abbrev pub cut_before : ℕ → List VType → List VType
@@ -85,7 +86,12 @@ HasRoom kinds.Double locals at = at + 2 ≤ length locals
 HasRoom kind locals at = at + 1 ≤ length locals
 
 abbrev pub store_row : Frame → Kind → ℕ → Row
-store_row f kind at = record (plain f (of_kind kind ∷ []) []) { local = HasRoom kind f.locals at; locals = stored at (lowest_of 1 f.stack) f.locals }
+store_row f kind at =
+    record (plain f (of_kind kind ∷ []) []) {
+      local = HasRoom kind f.locals at;
+      locals = stored at
+          (lowest_of 1 f.stack) f.locals;
+    }
 
 abbrev pub iinc_row : Frame → ℕ → Row
 iinc_row f at = record (plain f [] []) { local = HoldsKind kinds.Int f.locals at }

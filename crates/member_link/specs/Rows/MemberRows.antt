@@ -47,17 +47,26 @@ result_types (Some type) = verification_type type ∷ []
 -- of an array.
 abbrev pub PassesProtected : RowScope → Reference → (Option Declared → Type 0) → VType → Type 0
 PassesProtected s reference Finds receiver =
-    (member : Declared) → Finds (Some member) → IsTrue (has member.member.flags PROTECTED) → package_of member.class ≢ package_of s.own.name → IsAtOrBelow s.headers s.own.name reference.class
-    → IsAssignableIn s.headers s.major receiver (types.Object s.own.name) ⊎ IsCloneOfArray receiver where
+    (member : Declared)
+    → Finds (Some member)
+    → IsTrue (has member.member.flags PROTECTED)
+    → package_of member.class ≢ package_of s.own.name
+    → IsAtOrBelow s.headers s.own.name reference.class
+    → IsAssignableIn s.headers s.major receiver (types.Object s.own.name)
+    ⊎ IsCloneOfArray receiver where
       IsCloneOfArray : VType → Type 0
       IsCloneOfArray (types.Object name) = IsArray name × (reference.name ≡ codes "clone")
       IsCloneOfArray other = ⊥
 
 abbrev pub PassesField : RowScope → Reference → VType → Type 0
-PassesField s reference receiver = PassesProtected s reference (FindsField s.headers reference.class reference.name reference.desc) receiver
+PassesField s reference receiver =
+    PassesProtected s reference
+    (FindsField s.headers reference.class reference.name reference.desc) receiver
 
 abbrev pub PassesMethod : RowScope → Reference → VType → Type 0
-PassesMethod s reference receiver = PassesProtected s reference (FindsMethod s.headers reference.class reference.name reference.desc) receiver
+PassesMethod s reference receiver =
+    PassesProtected s reference
+    (FindsMethod s.headers reference.class reference.name reference.desc) receiver
 
 -- ---- fields
 
@@ -72,11 +81,14 @@ put_static_row f (Some reference) = plain f (assignable_to (field_type reference
 abbrev pub get_field_row : RowScope → Frame → Option Reference → Row
 get_field_row s f None = no_row f
 get_field_row s f (Some reference) =
-    conditional f (assignable_to (types.Object reference.class) ∷ []) (field_type reference.desc ∷ []) (Unit {0}) (PassesField s reference (lowest_of 1 f.stack))
+    conditional f (assignable_to (types.Object reference.class) ∷ [])
+    (field_type reference.desc ∷ []) (Unit {0}) (PassesField s reference (lowest_of 1 f.stack))
 
 -- the field is one of the current class, and named there
 abbrev pub IsOwnField : RowScope → Reference → Type 0
-IsOwnField s reference = (reference.class ≡ s.own.name) × IsTrue (list_any (is_member reference.name reference.desc) s.own.fields)
+IsOwnField s reference =
+    (reference.class ≡ s.own.name)
+    × IsTrue (list_any (is_member reference.name reference.desc) s.own.fields)
 
 -- an uninitialised this has its own fields written
 abbrev pub MayPut : RowScope → Reference → VType → Type 0
@@ -91,7 +103,10 @@ PassesPut s reference receiver = PassesField s reference receiver
 abbrev pub put_field_row : RowScope → Frame → Option Reference → Row
 put_field_row s f None = no_row f
 put_field_row s f (Some reference) =
-    conditional f (assignable_or_this (types.Object reference.class) ∷ assignable_to (field_type reference.desc) ∷ []) [] (MayPut s reference (lowest_of 2 f.stack)) (PassesPut s reference (lowest_of 2 f.stack))
+    conditional f (assignable_or_this (types.Object reference.class) ∷ assignable_to
+    (field_type reference.desc)
+    ∷ []) [] (MayPut s reference (lowest_of 2 f.stack))
+    (PassesPut s reference (lowest_of 2 f.stack))
 
 -- ---- calls
 
@@ -100,42 +115,54 @@ abbrev pub receiver : Frame → List ℕ → VType
 receiver f desc = lowest_of (length (parameters_of desc) + 1) f.stack
 
 abbrev pub static_row : Frame → Reference → Row
-static_row f reference = plain f (argument_needs reference.desc) (result_types (result_of reference.desc))
+static_row f reference =
+    plain f (argument_needs reference.desc) (result_types (result_of reference.desc))
 
 -- a call on an object of the named class, with a further condition and one of access
 abbrev pub instance_row : Frame → Reference → Type 0 → Type 0 → Row
 instance_row f reference Further Access =
-    conditional f (assignable_to (types.Object reference.class) ∷ argument_needs reference.desc) (result_types (result_of reference.desc)) Further Access
+    conditional f (assignable_to
+    (types.Object reference.class)
+    ∷ argument_needs reference.desc) (result_types (result_of reference.desc)) Further Access
 
 -- the current class, a superclass of it, or in version 52 a direct superinterface
 abbrev pub IsSpecialTarget : RowScope → Name → Type 0
 IsSpecialTarget s name =
-    ((names : List Name) × IsChain s.headers s.own.name names × IsTrue (list_any (bytes_eq name) names))
+    ((names : List Name)
+    × IsChain s.headers s.own.name names
+    × IsTrue (list_any (bytes_eq name) names))
     ⊎ ((s.major ≡ 52) × IsTrue (list_any (bytes_eq name) s.own.interfaces))
 
 abbrev pub special_row : RowScope → Frame → Reference → Row
 special_row s f reference =
-    instance_row f reference (IsSpecialTarget s reference.class × IsAssignableIn s.headers s.major (receiver f reference.desc) (types.Object s.own.name)) (Unit {0})
+    instance_row f reference
+    (IsSpecialTarget s reference.class × IsAssignableIn s.headers s.major
+    (receiver f reference.desc) (types.Object s.own.name)) (Unit {0})
 
 -- ---- instance initialisers
 
 -- The initialiser of an object is one of its class, that of this one of the current class or its superclass.
 abbrev pub MayInitialise : RowScope → Reference → VType → Type 0
 MayInitialise s reference (types.Uninit at) = s.new_class at ≡ Some reference.class
-MayInitialise s reference types.UninitThis = (reference.class ≡ s.own.name) ⊎ (s.own.super_name ≡ Some reference.class)
+MayInitialise s reference types.UninitThis =
+    (reference.class ≡ s.own.name) ⊎ (s.own.super_name ≡ Some reference.class)
 MayInitialise s reference other = ⊥
 
 -- A protected initialiser of another package is for this alone.
 abbrev pub PassesInitialiser : RowScope → Reference → VType → Type 0
 PassesInitialiser s reference (types.Uninit at) =
-    (member : Declared) → FindsMethod s.headers reference.class reference.name reference.desc (Some member) → IsTrue (has member.member.flags PROTECTED) → package_of member.class ≡ package_of s.own.name
+    (member : Declared)
+    → FindsMethod s.headers reference.class reference.name reference.desc (Some member)
+    → IsTrue (has member.member.flags PROTECTED)
+    → package_of member.class ≡ package_of s.own.name
 PassesInitialiser s reference other = Unit {0}
 
 -- a copy of the receiver is initialised, and another type stays
 abbrev pub initialised_type : RowScope → Reference → VType → VType → VType
 initialised_type s reference (types.Uninit at) type = of_object type where
   of_object : VType → VType
-  of_object (types.Uninit other) = if other == at then types.Object reference.class else types.Uninit other
+  of_object (types.Uninit other) =
+      if other == at then types.Object reference.class else types.Uninit other
   of_object other = other
 initialised_type s reference types.UninitThis type = of_this type where
   of_this : VType → VType
@@ -146,7 +173,9 @@ initialised_type s reference other type = type
 abbrev pub init_row : RowScope → Frame → Reference → Row
 init_row s f reference =
     let object = receiver f reference.desc in
-    record (conditional f (uninitialised ∷ argument_needs reference.desc) (result_types (result_of reference.desc)) (MayInitialise s reference object) (PassesInitialiser s reference object)) {
+    record (conditional f (uninitialised ∷ argument_needs reference.desc)
+    (result_types (result_of reference.desc)) (MayInitialise s reference object)
+    (PassesInitialiser s reference object)) {
       locals = map (initialised_type s reference object) f.locals;
       becomes = λ entries. map (initialised_type s reference object) entries;
     }
@@ -156,14 +185,16 @@ abbrev pub call_row : RowScope → Frame → ℕ → Option Reference → Row
 call_row s f opcode None = no_row f
 call_row s f opcode (Some reference) =
     either (opcode == INVOKESTATIC) (static_row f reference)
-    (either (opcode == INVOKESPECIAL) (either (bytes_eq reference.name init) (init_row s f reference) (special_row s f reference))
+    (either (opcode == INVOKESPECIAL)
+    (either (bytes_eq reference.name init) (init_row s f reference) (special_row s f reference))
     (instance_row f reference (Unit {0}) (PassesMethod s reference (receiver f reference.desc))))
 
 abbrev pub dynamic_row : RowScope → Frame → Option Const → Row
-dynamic_row s f (Some (consts.InvokeDynamic bootstrap member)) = of_descriptor (descriptor_at s.pool member) where
-  of_descriptor : Option (List ℕ) → Row
-  of_descriptor None = no_row f
-  of_descriptor (Some desc) = plain f (argument_needs desc) (result_types (result_of desc))
+dynamic_row s f (Some (consts.InvokeDynamic bootstrap member)) =
+    of_descriptor (descriptor_at s.pool member) where
+      of_descriptor : Option (List ℕ) → Row
+      of_descriptor None = no_row f
+      of_descriptor (Some desc) = plain f (argument_needs desc) (result_types (result_of desc))
 dynamic_row s f constant = no_row f
 
 -- ---- returns
@@ -181,8 +212,10 @@ pub record MayReturnValue (s : RowScope) (kind : Kind) (value : VType) : Type 0 
   pub type : FieldType
   pub is_result : s.result ≡ Some type
   pub same_kind : kind_of type ≡ kind
-  pub assignable : kind ≡ kinds.Ref → IsAssignableIn s.headers s.major value (verification_type type)
+  pub assignable : kind ≡ kinds.Ref
+      → IsAssignableIn s.headers s.major value (verification_type type)
 
 abbrev pub return_row : RowScope → Frame → Option Kind → Row
 return_row s f None = ending f [] (MayReturn s f)
-return_row s f (Some kind) = ending f (of_kind kind ∷ []) (MayReturnValue s kind (lowest_of 1 f.stack))
+return_row s f (Some kind) =
+    ending f (of_kind kind ∷ []) (MayReturnValue s kind (lowest_of 1 f.stack))

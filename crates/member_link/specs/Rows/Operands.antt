@@ -84,9 +84,11 @@ Fits s (of_kind kind) type = IsOfKind kind type
 Fits s initialised type = IsInitialised type
 Fits s uninitialised type = IsUninitialised type
 Fits s (assignable_to wanted) type = IsAssignableIn s.headers s.major type wanted
-Fits s (assignable_or_this wanted) type = IsAssignableIn s.headers s.major type wanted ⊎ (type ≡ types.UninitThis)
+Fits s (assignable_or_this wanted) type =
+    IsAssignableIn s.headers s.major type wanted ⊎ (type ≡ types.UninitThis)
 Fits s (array_among names) type = IsNullOr (IsAmong names) type
-Fits s array_of_references type = IsNullOr (λ name. (component : Name) × IsReferenceComponent name component) type
+Fits s array_of_references type =
+    IsNullOr (λ name. (component : Name) × IsReferenceComponent name component) type
 Fits s some_array type = IsNullOr IsArray type
 Fits s single type = IsTrue (is_single type)
 Fits s double type = IsTrue (is_wide type)

@@ -37,7 +37,8 @@ plain f takes gives = record {
 
 -- the same, with a further condition and one of access
 abbrev pub conditional : Frame → List Need → List VType → Type 0 → Type 0 → Row
-conditional f takes gives Further Access = record (plain f takes gives) { further = Further; access = Access }
+conditional f takes gives Further Access =
+    record (plain f takes gives) { further = Further; access = Access }
 
 -- it takes, has a further condition, and control does not go on
 abbrev pub ending : Frame → List Need → Type 0 → Row
@@ -62,13 +63,11 @@ access_aside row = record row { access = Unit {0} }
 abbrev pub stack_left : Frame → Row → List VType
 stack_left f row = row.becomes (under (length row.takes) f.stack)
 
-abbrev pub frame_left : Frame → Row → Frame
-frame_left f row = record { locals = row.locals; stack = stack_left f row }
-
 -- the stack behind an instruction
 abbrev pub stack_behind : Frame → Row → List VType
 stack_behind f row = stack_left f row ++ row.gives
 
 -- the frame behind an instruction, if control goes on
 abbrev pub row_frame : Frame → Row → Option Frame
-row_frame f row = if row.goes_on then Some (record { locals = row.locals; stack = stack_behind f row }) else None
+row_frame f row =
+    if row.goes_on then Some (record { locals = row.locals; stack = stack_behind f row }) else None

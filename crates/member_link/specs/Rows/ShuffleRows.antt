@@ -28,12 +28,21 @@ forms_of opcode =
     else (if opcode == POP2 then form (one ∷ one ∷ []) [] ∷ form (two ∷ []) [] ∷ []
     else (if opcode == DUP then form (one ∷ []) (0 ∷ 0 ∷ []) ∷ []
     else (if opcode == DUP_X1 then form (one ∷ one ∷ []) (1 ∷ 0 ∷ 1 ∷ []) ∷ []
-    else (if opcode == DUP_X2 then form (one ∷ one ∷ one ∷ []) (2 ∷ 0 ∷ 1 ∷ 2 ∷ []) ∷ form (two ∷ one ∷ []) (1 ∷ 0 ∷ 1 ∷ []) ∷ []
-    else (if opcode == DUP2 then form (one ∷ one ∷ []) (0 ∷ 1 ∷ 0 ∷ 1 ∷ []) ∷ form (two ∷ []) (0 ∷ 0 ∷ []) ∷ []
-    else (if opcode == DUP2_X1 then form (one ∷ one ∷ one ∷ []) (1 ∷ 2 ∷ 0 ∷ 1 ∷ 2 ∷ []) ∷ form (one ∷ two ∷ []) (1 ∷ 0 ∷ 1 ∷ []) ∷ []
+    else (if opcode == DUP_X2 then form (one ∷ one ∷ one ∷ []) (2 ∷ 0 ∷ 1 ∷ 2 ∷ [])
+    ∷ form (two ∷ one ∷ []) (1 ∷ 0 ∷ 1 ∷ [])
+    ∷ []
+    else (if opcode == DUP2 then form (one ∷ one ∷ []) (0 ∷ 1 ∷ 0 ∷ 1 ∷ [])
+    ∷ form (two ∷ []) (0 ∷ 0 ∷ [])
+    ∷ []
+    else (if opcode == DUP2_X1 then form (one ∷ one ∷ one ∷ []) (1 ∷ 2 ∷ 0 ∷ 1 ∷ 2 ∷ [])
+    ∷ form (one ∷ two ∷ []) (1 ∷ 0 ∷ 1 ∷ [])
+    ∷ []
     else (if opcode == DUP2_X2 then
-    form (one ∷ one ∷ one ∷ one ∷ []) (2 ∷ 3 ∷ 0 ∷ 1 ∷ 2 ∷ 3 ∷ []) ∷ form (one ∷ one ∷ two ∷ []) (2 ∷ 0 ∷ 1 ∷ 2 ∷ [])
-    ∷ form (two ∷ one ∷ one ∷ []) (1 ∷ 2 ∷ 0 ∷ 1 ∷ 2 ∷ []) ∷ form (two ∷ two ∷ []) (1 ∷ 0 ∷ 1 ∷ []) ∷ []
+    form (one ∷ one ∷ one ∷ one ∷ []) (2 ∷ 3 ∷ 0 ∷ 1 ∷ 2 ∷ 3 ∷ [])
+    ∷ form (one ∷ one ∷ two ∷ []) (2 ∷ 0 ∷ 1 ∷ 2 ∷ [])
+    ∷ form (two ∷ one ∷ one ∷ []) (1 ∷ 2 ∷ 0 ∷ 1 ∷ 2 ∷ [])
+    ∷ form (two ∷ two ∷ []) (1 ∷ 0 ∷ 1 ∷ [])
+    ∷ []
     else (if opcode == SWAP then form (one ∷ one ∷ []) (1 ∷ 0 ∷ []) ∷ []
     else []))))))))
 
@@ -53,7 +62,9 @@ have_widths widths stack = false
 -- the form that the topmost entries have; no two forms of an opcode fit one stack
 abbrev pub form_in : List Form → List VType → Option Form
 form_in [] stack = None
-form_in (first ∷ others) stack = if have_widths first.takes (topmost (length first.takes) stack) then Some first else form_in others stack
+form_in (first ∷ others) stack =
+    if have_widths first.takes (topmost (length first.takes) stack) then Some first
+    else form_in others stack
 
 abbrev pub picked : List VType → List ℕ → List VType
 picked operands numbers = flat_map (λ number. entry (slice_get operands number)) numbers where
@@ -63,7 +74,8 @@ picked operands numbers = flat_map (λ number. entry (slice_get operands number)
 
 abbrev pub form_row : Frame → Option Form → Row
 form_row f None = no_row f
-form_row f (Some form) = plain f (map need_of form.takes) (picked (topmost (length form.takes) f.stack) form.gives)
+form_row f (Some form) =
+    plain f (map need_of form.takes) (picked (topmost (length form.takes) f.stack) form.gives)
 
 abbrev pub shuffle_row : Frame → ℕ → Row
 shuffle_row f opcode = form_row f (form_in (forms_of opcode) f.stack)

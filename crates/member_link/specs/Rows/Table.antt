@@ -65,10 +65,14 @@ row_of s f at (Shuffle opcode) = shuffle_row f opcode
 row_of s f at (Pure opcode) = operation_row f (operation_in pure_operations opcode)
 row_of s f at (Divide opcode) = operation_row f (operation_in divide_operations opcode)
 row_of s f at (FloatAsk opcode) = operation_row f (operation_in float_operations opcode)
-row_of s f at (If opcode target) = jump_row f (nat_le IFEQ opcode && nat_le opcode IFLE) (of_kind Int ∷ [])
-row_of s f at (If2 opcode target) = jump_row f (nat_le IF_ICMPEQ opcode && nat_le opcode IF_ICMPLE) (of_kind Int ∷ of_kind Int ∷ [])
-row_of s f at (IfSame opcode target) = jump_row f (nat_le IF_ACMPEQ opcode && nat_le opcode IF_ACMPNE) (of_kind Ref ∷ of_kind Ref ∷ [])
-row_of s f at (IfNull opcode target) = jump_row f (nat_le IFNULL opcode && nat_le opcode IFNONNULL) (of_kind Ref ∷ [])
+row_of s f at (If opcode target) =
+    jump_row f (nat_le IFEQ opcode && nat_le opcode IFLE) (of_kind Int ∷ [])
+row_of s f at (If2 opcode target) =
+    jump_row f (nat_le IF_ICMPEQ opcode && nat_le opcode IF_ICMPLE) (of_kind Int ∷ of_kind Int ∷ [])
+row_of s f at (IfSame opcode target) =
+    jump_row f (nat_le IF_ACMPEQ opcode && nat_le opcode IF_ACMPNE) (of_kind Ref ∷ of_kind Ref ∷ [])
+row_of s f at (IfNull opcode target) =
+    jump_row f (nat_le IFNULL opcode && nat_le opcode IFNONNULL) (of_kind Ref ∷ [])
 row_of s f at (Goto target) = plain f [] []
 row_of s f at (Table low other targets) = plain f (of_kind Int ∷ []) []
 row_of s f at (Lookup other pairs) = plain f (of_kind Int ∷ []) []
@@ -77,7 +81,8 @@ row_of s f at (GetStatic index) = get_static_row f (reference_of s.pool (constan
 row_of s f at (PutStatic index) = put_static_row f (reference_of s.pool (constant_at s.pool index))
 row_of s f at (GetField index) = get_field_row s f (reference_of s.pool (constant_at s.pool index))
 row_of s f at (PutField index) = put_field_row s f (reference_of s.pool (constant_at s.pool index))
-row_of s f at (Invoke opcode index count) = call_row s f opcode (reference_of s.pool (constant_at s.pool index))
+row_of s f at (Invoke opcode index count) =
+    call_row s f opcode (reference_of s.pool (constant_at s.pool index))
 row_of s f at (Dynamic index) = dynamic_row s f (constant_at s.pool index)
 row_of s f at (New index) = new_row f at
 row_of s f at (NewArray code) = new_array_row f code

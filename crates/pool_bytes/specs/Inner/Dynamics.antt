@@ -7,5 +7,6 @@ use Rattle.class_model.specs.declared.pool.Const.TheVariants.{InvokeDynamic}
 
 -- a dynamic call names one of so many; its place is that of the constant
 abbrev pub constant_bootstrap_checks : ℕ → ℕ → Const → List (Check Fault)
-constant_bootstrap_checks count at (InvokeDynamic bootstrap member) = check at rules.Index (bootstrap < count) ∷ []
+constant_bootstrap_checks count at (InvokeDynamic bootstrap member) =
+    check at rules.Index (bootstrap < count) ∷ []
 constant_bootstrap_checks count at other = []
