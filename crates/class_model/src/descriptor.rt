@@ -252,7 +252,8 @@ fn array_type_at(alloc: Global, bytes: &[u8]) -> Result<(FieldType, &[u8]), Name
 
 // The class type whose name, after its L, is at the front, and the bytes after its semicolon.
 fn class_type_at(alloc: Global, bytes: &[u8]) -> Result<(FieldType, &[u8]), NameFault>
-    ensures read { IfOk result (λ found. FieldTypeAt (class_letter ∷ bytes.now) found.0 found.1.now) }
+    ensures read { IfOk result
+        (λ found. FieldTypeAt (class_letter ∷ bytes.now) found.0 found.1.now) }
     ensures bad_name { IsErrOf result NameFault.BadName
         → (name rest : List ℕ)
         → IsText name
@@ -364,7 +365,8 @@ fn class_name_at(bytes: &[u8]) -> Option<(&[u8], &[u8])>
 fn first_semicolon(bytes: &[u8]) -> Option<usize>
     ensures within { IfSome result (λ end. end < length bytes.now) }
     ensures found { IfSome result (λ end. slice_index bytes.now end ≡ semicolon) }
-    ensures before { IfSome result (λ end. (k : ℕ) → k < end → slice_index bytes.now k ≢ semicolon) }
+    ensures before { IfSome result
+        (λ end. (k : ℕ) → k < end → slice_index bytes.now k ≢ semicolon) }
     ensures none { IfNone result (EachIndex bytes.now (λ k. slice_index bytes.now k ≢ semicolon)) }
 {
     bytes.iter().position(|byte| *byte == b';')

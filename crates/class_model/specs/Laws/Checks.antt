@@ -21,25 +21,35 @@ pub others_hold : {F : Type 0} (a b : List (Check F)) → AllHold (a ++ b) → A
 others_hold [] b h = h
 others_hold (c ∷ a) b h = others_hold a b h.1
 
-pub first_behind : {F : Type 0} (a b : List (Check F)) (f : F) → AllHold a → IsFirstFault b f → IsFirstFault (a ++ b) f
+pub first_behind :
+    {F : Type 0} (a b : List (Check F)) (f : F)
+    → AllHold a
+    → IsFirstFault b f
+    → IsFirstFault (a ++ b) f
 first_behind [] b f h first = first
 first_behind (c ∷ a) b f h first = inr (h.0, first_behind a b f h.1 first)
 
-pub first_before : {F : Type 0} (a b : List (Check F)) (f : F) → IsFirstFault a f → IsFirstFault (a ++ b) f
+pub first_before :
+    {F : Type 0} (a b : List (Check F)) (f : F) → IsFirstFault a f → IsFirstFault (a ++ b) f
 first_before [] b f first = absurd first
 first_before (c ∷ a) b f (inl here) = inl here
 first_before (c ∷ a) b f (inr later) = inr (later.0, first_before a b f later.1)
 
 -- ---- checks tell one thing
 
-pub one_fault : {F : Type 0} (checks : List (Check F)) (one other : F) → IsFirstFault checks one → IsFirstFault checks other → one ≡ other
+pub one_fault :
+    {F : Type 0} (checks : List (Check F)) (one other : F)
+    → IsFirstFault checks one
+    → IsFirstFault checks other
+    → one ≡ other
 one_fault [] one other h k = absurd h
 one_fault (c ∷ checks) one other (inl a) (inl b) = a.1 ∙ sym b.1
 one_fault (c ∷ checks) one other (inl a) (inr b) = absurd (a.0 b.0)
 one_fault (c ∷ checks) one other (inr a) (inl b) = absurd (b.0 a.0)
 one_fault (c ∷ checks) one other (inr a) (inr b) = one_fault checks one other a.1 b.1
 
-pub all_or_fault : {F : Type 0} (checks : List (Check F)) (f : F) → AllHold checks → ¬ IsFirstFault checks f
+pub all_or_fault :
+    {F : Type 0} (checks : List (Check F)) (f : F) → AllHold checks → ¬ IsFirstFault checks f
 all_or_fault [] f h k = k
 all_or_fault (c ∷ checks) f h (inl b) = b.0 h.0
 all_or_fault (c ∷ checks) f h (inr b) = all_or_fault checks f h.1 b.1
@@ -55,26 +65,48 @@ pub all_remain : {F : Type 0} (whole : List (Check F)) → Remain whole whole
 all_remain whole = record { hold = λ h. h; fail = λ f first. first }
 
 -- the first of them hold too
-pub remain : {F : Type 0} {whole : List (Check F)} (a b : List (Check F)) → Remain whole (a ++ b) → AllHold a → Remain whole b
+pub remain :
+    {F : Type 0} {whole : List (Check F)} (a b : List (Check F))
+    → Remain whole (a ++ b)
+    → AllHold a
+    → Remain whole b
 remain a b left h = record { hold = λ k. left.hold (both_hold a b h k); fail = λ f first. left.fail f (first_behind a b f h first) }
 
 -- one of the first fails
-pub fails_first : {F : Type 0} {whole : List (Check F)} (a b : List (Check F)) (f : F) → Remain whole (a ++ b) → IsFirstFault a f → IsFirstFault whole f
+pub fails_first :
+    {F : Type 0} {whole : List (Check F)} (a b : List (Check F)) (f : F)
+    → Remain whole (a ++ b)
+    → IsFirstFault a f
+    → IsFirstFault whole f
 fails_first a b f left first = left.fail f (first_before a b f first)
 
 -- one check holds
-pub passes : {F : Type 0} {whole rest : List (Check F)} {c : Check F} → Remain whole (c ∷ rest) → c.holds → Remain whole rest
+pub passes :
+    {F : Type 0} {whole rest : List (Check F)} {c : Check F}
+    → Remain whole (c ∷ rest)
+    → c.holds
+    → Remain whole rest
 passes left h = record { hold = λ k. left.hold (h, k); fail = λ f first. left.fail f (inr (h, first)) }
 
 -- ---- what each of these is asked, one after the other
 
 -- A loop over these is at an item: `is` is what the loop says of it.
-pub asked_at : {F X : Type 0} {whole : List (Check F)} (asks : X → List (Check F)) (items : List X) (i : ℕ) (x : X) → i < length items → x ≡ get_or items i x → Remain whole (asked_each asks (drop i items)) → Remain whole (asks x ++ asked_each asks (drop (i + 1) items))
+pub asked_at :
+    {F X : Type 0} {whole : List (Check F)} (asks : X → List (Check F)) (items : List X) (i : ℕ)
+    (x : X)
+    → i < length items
+    → x ≡ get_or items i x
+    → Remain whole (asked_each asks (drop i items))
+    → Remain whole (asks x ++ asked_each asks (drop (i + 1) items))
 asked_at {whole} asks items i x within is left =
     subst (λ item. Remain whole (asks item ++ asked_each asks (drop (i + 1) items))) (sym is)
     (subst (λ rest. Remain whole (asked_each asks rest)) (drop_more items i x within) left)
 
-pub asked_all : {F X : Type 0} {whole : List (Check F)} (asks : X → List (Check F)) (items : List X) (i : ℕ) → length items ≤ i → Remain whole (asked_each asks (drop i items)) → AllHold whole
+pub asked_all :
+    {F X : Type 0} {whole : List (Check F)} (asks : X → List (Check F)) (items : List X) (i : ℕ)
+    → length items ≤ i
+    → Remain whole (asked_each asks (drop i items))
+    → AllHold whole
 asked_all {whole} asks items i end left = (subst (λ rest. Remain whole (asked_each asks rest)) (drop_all i items end) left).hold tt
 
 -- ---- a check by a test that decides it

@@ -43,7 +43,10 @@ record SixHold (a b c d e f : List (Check Fault)) : Type 0 where
   fifth : AllHold e
   sixth : AllHold f
 
-six_hold : (a b c d e f g : List (Check Fault)) → AllHold (a ++ b ++ c ++ d ++ e ++ f ++ g) → AllHold g × SixHold a b c d e f
+six_hold :
+    (a b c d e f g : List (Check Fault))
+    → AllHold (a ++ b ++ c ++ d ++ e ++ f ++ g)
+    → AllHold g × SixHold a b c d e f
 six_hold a b c d e f g all =
     let abcdef = first_holds (a ++ b ++ c ++ d ++ e ++ f) g all in
     let abcde = first_holds (a ++ b ++ c ++ d ++ e) f abcdef in

@@ -16,12 +16,18 @@ rest_of at bytes = record { at = at; bytes = bytes }
 
 -- Wherever the text stands, the part cuts it off as this value.
 pub record CutsAs {X : Type 0} (part : Rest → Cut X) (text : List ℕ) (x : X) : Type 0 where
-  pub cut : (at : ℕ) (after : List ℕ) → part (rest_of at (text ++ after)) ≡ Ok (x, rest_of (at + length text) after)
+  pub cut :
+      (at : ℕ) (after : List ℕ)
+      → part (rest_of at (text ++ after)) ≡ Ok (x, rest_of (at + length text) after)
 
 -- ---- steps
 
 -- a step that did not fail, and the next
-pub next : {A B : Type 0} {r : Result A Fault} {x : A} (f : A → Result B Fault) {y : Result B Fault} → r ≡ Ok x → f x ≡ y → (r >>= f) ≡ y
+pub next :
+    {A B : Type 0} {r : Result A Fault} {x : A} (f : A → Result B Fault) {y : Result B Fault}
+    → r ≡ Ok x
+    → f x ≡ y
+    → (r >>= f) ≡ y
 next f e g = ap (λ r. r >>= f) e ∙ g
 
 -- a test that holds, or does not
@@ -32,7 +38,12 @@ pub on_false : {A : Type 0} {b : Bool} (x : A) {y z : A} → b ≡ false → y �
 on_false x {y = y} e g = ap (λ b. cond b x y) e ∙ g
 
 -- one part, and then what it leads to
-pub then_cut : {X Y : Type 0} {part : Rest → Cut X} {text : List ℕ} {x : X} (f : X × Rest → Cut Y) {more : List ℕ} {y : Y} → CutsAs part text x → CutsAs (λ rest. f (x, rest)) more y → CutsAs (λ rest. part rest >>= f) (text ++ more) y
+pub then_cut :
+    {X Y : Type 0} {part : Rest → Cut X} {text : List ℕ} {x : X} (f : X × Rest → Cut Y)
+    {more : List ℕ} {y : Y}
+    → CutsAs part text x
+    → CutsAs (λ rest. f (x, rest)) more y
+    → CutsAs (λ rest. part rest >>= f) (text ++ more) y
 then_cut {part = part} {text = text} {x = x} f {more = more} {y = y} a b = record {
   cut = λ at after.
       let place : (at + length text) + length more ≡ at + length (text ++ more) = omega (arith, length-append text more) in
@@ -40,11 +51,17 @@ then_cut {part = part} {text = text} {x = x} f {more = more} {y = y} a b = recor
 }
 
 -- one part that is made into a value
-pub made_cut : {X Y : Type 0} {part : Rest → Cut X} {text : List ℕ} {x : X} (make : X → Y) → CutsAs part text x → CutsAs (λ rest. part rest >>= λ n. Ok (make n.0, n.1)) text (make x)
+pub made_cut :
+    {X Y : Type 0} {part : Rest → Cut X} {text : List ℕ} {x : X} (make : X → Y)
+    → CutsAs part text x
+    → CutsAs (λ rest. part rest >>= λ n. Ok (make n.0, n.1)) text (make x)
 made_cut make a = record { cut = λ at after. next (λ n. Ok (make n.0, n.1)) (a.cut at after) refl }
 
 -- a part that takes all
-pub whole_cut : {X : Type 0} {part : Rest → Cut X} {text : List ℕ} {x : X} → CutsAs part text x → whole (part (rest_of 0 text)) ≡ Some x
+pub whole_cut :
+    {X : Type 0} {part : Rest → Cut X} {text : List ℕ} {x : X}
+    → CutsAs part text x
+    → whole (part (rest_of 0 text)) ≡ Some x
 whole_cut {part = part} {text = text} {x = x} a = ap (λ (t : List ℕ). whole (part (rest_of 0 t))) (sym (append-nil text)) ∙ ap whole (a.cut 0 [])
 
 -- ---- items
@@ -57,7 +74,11 @@ bytes_cut text = record {
 }
 
 -- a number that is found again in its bytes
-number_cut : (w : Width) (n : ℕ) → length (to_be_bytes w n) ≡ byte_len w → from_be_bytes w (to_be_bytes w n) ≡ n → CutsAs (number_at w) (to_be_bytes w n) n
+number_cut :
+    (w : Width) (n : ℕ)
+    → length (to_be_bytes w n) ≡ byte_len w
+    → from_be_bytes w (to_be_bytes w n) ≡ n
+    → CutsAs (number_at w) (to_be_bytes w n) n
 number_cut w n len back =
     let text : CutsAs (bytes_at (byte_len w)) (to_be_bytes w n) (to_be_bytes w n) = subst (λ (k : ℕ). CutsAs (bytes_at k) (to_be_bytes w n) (to_be_bytes w n)) len (bytes_cut (to_be_bytes w n)) in
     subst (λ (m : ℕ). CutsAs (number_at w) (to_be_bytes w n) m) back (made_cut (from_be_bytes w) text)
@@ -82,14 +103,25 @@ u2_pair_cut a b la lb = then_cut (λ first. u2_at first.1 >>= λ second. Ok ((fi
 -- ---- lists of parts
 
 -- parts, each of which is cut as what it is seen as
-pub many_cut : {X Y : Type 0} (part : Rest → Cut Y) (spell : X → List ℕ) (seen : X → Y) (Fits : X → Type 0) → ((x : X) → Fits x → CutsAs part (spell x) (seen x)) → (xs : List X) → AllByRecursion Fits xs → CutsAs (many_at part (length xs)) (flat_map spell xs) (map seen xs)
+pub many_cut :
+    {X Y : Type 0} (part : Rest → Cut Y) (spell : X → List ℕ) (seen : X → Y) (Fits : X → Type 0)
+    → ((x : X) → Fits x → CutsAs part (spell x) (seen x))
+    → (xs : List X)
+    → AllByRecursion Fits xs
+    → CutsAs (many_at part (length xs)) (flat_map spell xs) (map seen xs)
 unfolding many_at
 many_cut part spell seen Fits each [] all = record { cut = λ at after. ap (λ (n : ℕ). Ok ([], rest_of n after)) (omega arith) }
 many_cut part spell seen Fits each (x ∷ xs) all =
     then_cut (λ first. many_at part (length xs) first.1 >>= λ others. Ok (first.0 ∷ others.0, others.1)) (each x all.0)
     (made_cut (λ others. seen x ∷ others) (many_cut part spell seen Fits each xs all.1))
 
-pub counted_cut : {X Y : Type 0} (part : Rest → Cut Y) (spell : X → List ℕ) (seen : X → Y) (Fits : X → Type 0) → ((x : X) → Fits x → CutsAs part (spell x) (seen x)) → (xs : List X) → length xs ≤ 65535 → AllByRecursion Fits xs → CutsAs (counted_at part) (u2 (length xs) ++ flat_map spell xs) (map seen xs)
+pub counted_cut :
+    {X Y : Type 0} (part : Rest → Cut Y) (spell : X → List ℕ) (seen : X → Y) (Fits : X → Type 0)
+    → ((x : X) → Fits x → CutsAs part (spell x) (seen x))
+    → (xs : List X)
+    → length xs ≤ 65535
+    → AllByRecursion Fits xs
+    → CutsAs (counted_at part) (u2 (length xs) ++ flat_map spell xs) (map seen xs)
 counted_cut part spell seen Fits each xs few all =
     then_cut (λ count. many_at part count.0 count.1) (u2_cut (length xs) (omega arith)) (many_cut part spell seen Fits each xs all)
 
@@ -98,6 +130,12 @@ seen_alike : {X : Type 0} (xs : List X) → map (λ x. x) xs ≡ xs
 seen_alike [] = refl
 seen_alike (x ∷ xs) = ap (λ (rest : List _). x ∷ rest) (seen_alike xs)
 
-pub counted_alike : {X : Type 0} (part : Rest → Cut X) (spell : X → List ℕ) (Fits : X → Type 0) → ((x : X) → Fits x → CutsAs part (spell x) x) → (xs : List X) → length xs ≤ 65535 → AllByRecursion Fits xs → CutsAs (counted_at part) (u2 (length xs) ++ flat_map spell xs) xs
+pub counted_alike :
+    {X : Type 0} (part : Rest → Cut X) (spell : X → List ℕ) (Fits : X → Type 0)
+    → ((x : X) → Fits x → CutsAs part (spell x) x)
+    → (xs : List X)
+    → length xs ≤ 65535
+    → AllByRecursion Fits xs
+    → CutsAs (counted_at part) (u2 (length xs) ++ flat_map spell xs) xs
 counted_alike part spell Fits each xs few all =
     subst (λ (ys : List _). CutsAs (counted_at part) (u2 (length xs) ++ flat_map spell xs) ys) (seen_alike xs) (counted_cut part spell (λ x. x) Fits each xs few all)

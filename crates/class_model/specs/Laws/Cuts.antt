@@ -34,17 +34,25 @@ IsBytes-parts (x ∷ a) b h = let parts = IsBytes-parts a b h.1 in ((h.0, parts.
 -- ---- steps
 
 -- the value of a step that did not fail
-pub bind_ok : {A B : Type 0} (r : Result A Fault) (f : A → Result B Fault) (y : B) → (r >>= f) ≡ Ok y → (x : A) × (r ≡ Ok x) × (f x ≡ Ok y)
+pub bind_ok :
+    {A B : Type 0} (r : Result A Fault) (f : A → Result B Fault) (y : B)
+    → (r >>= f) ≡ Ok y
+    → (x : A) × (r ≡ Ok x) × (f x ≡ Ok y)
 bind_ok (Ok x) f y e = (x, refl, e)
 bind_ok (Err d) f y e = absurd cc
 
 -- two steps, one after the other
-pub bind_assoc : {A B C : Type 0} (r : Result A Fault) (f : A → Result B Fault) (g : B → Result C Fault) → ((r >>= f) >>= g) ≡ (r >>= λ x. f x >>= g)
+pub bind_assoc :
+    {A B C : Type 0} (r : Result A Fault) (f : A → Result B Fault) (g : B → Result C Fault)
+    → ((r >>= f) >>= g) ≡ (r >>= λ x. f x >>= g)
 bind_assoc (Ok x) f g = refl
 bind_assoc (Err d) f g = refl
 
 -- steps that go on alike
-pub bind_same : {A B : Type 0} (r : Result A Fault) (f g : A → Result B Fault) → ((x : A) → f x ≡ g x) → (r >>= f) ≡ (r >>= g)
+pub bind_same :
+    {A B : Type 0} (r : Result A Fault) (f g : A → Result B Fault)
+    → ((x : A) → f x ≡ g x)
+    → (r >>= f) ≡ (r >>= g)
 bind_same (Ok x) f g same = same x
 bind_same (Err d) f g same = refl
 
@@ -57,21 +65,31 @@ same_done x y e = cc
 -- ---- tests
 
 -- a test that did not fail
-pub guard_false : {A : Type 0} (b : Bool) (d : Fault) (x y : A) → cond b (Err d) (Ok x) ≡ Ok y → (b ≡ false) × (x ≡ y)
+pub guard_false :
+    {A : Type 0} (b : Bool) (d : Fault) (x y : A)
+    → cond b (Err d) (Ok x) ≡ Ok y
+    → (b ≡ false) × (x ≡ y)
 guard_false true d x y e = absurd cc
 guard_false false d x y e = (refl, cc)
 
-pub guard_true : {A : Type 0} (b : Bool) (d : Fault) (x y : A) → cond b (Ok x) (Err d) ≡ Ok y → (b ≡ true) × (x ≡ y)
+pub guard_true :
+    {A : Type 0} (b : Bool) (d : Fault) (x y : A)
+    → cond b (Ok x) (Err d) ≡ Ok y
+    → (b ≡ true) × (x ≡ y)
 guard_true true d x y e = (refl, cc)
 guard_true false d x y e = absurd cc
 
 -- a test behind which nothing stands
-pub guard_some : {A : Type 0} (b : Bool) (x y : A) → cond b (Some x) None ≡ Some y → (b ≡ true) × (x ≡ y)
+pub guard_some :
+    {A : Type 0} (b : Bool) (x y : A) → cond b (Some x) None ≡ Some y → (b ≡ true) × (x ≡ y)
 guard_some true x y e = (refl, cc)
 guard_some false x y e = absurd cc
 
 -- a content that was cut to its end
-pub whole_some : {A : Type 0} (r : Cut A) (part : A) → whole r ≡ Some part → (x : A × Rest) × (r ≡ Ok x) × (eqb (length x.1.bytes) 0 ≡ true) × (x.0 ≡ part)
+pub whole_some :
+    {A : Type 0} (r : Cut A) (part : A)
+    → whole r ≡ Some part
+    → (x : A × Rest) × (r ≡ Ok x) × (eqb (length x.1.bytes) 0 ≡ true) × (x.0 ≡ part)
 whole_some (Ok x) part e = let g = guard_some (eqb (length x.1.bytes) 0) x.0 part e in (x, refl, g.0, g.1)
 whole_some (Err f) part e = absurd cc
 
@@ -92,6 +110,8 @@ pub in_front-none : {X : Type 0} (cut : Cut (List X)) → cut ≡ in_front [] cu
 in_front-none (Ok others) = refl
 in_front-none (Err f) = refl
 
-pub in_front-append : {X : Type 0} (some more : List X) (cut : Cut (List X)) → in_front some (in_front more cut) ≡ in_front (some ++ more) cut
+pub in_front-append :
+    {X : Type 0} (some more : List X) (cut : Cut (List X))
+    → in_front some (in_front more cut) ≡ in_front (some ++ more) cut
 in_front-append some more (Ok others) = ap (λ (l : List _). Ok (l, others.1)) (sym (append_assoc some more others.0))
 in_front-append some more (Err f) = refl

@@ -17,7 +17,11 @@ pub record Head (name : List ℕ) : Type 0 where
   pub is : name ≡ first ∷ more
   pub no_bracket : first ≢ 91
 
-head_of : (parts : List (List ℕ)) → parts ≢ [] → AllByRecursion IsUnqualifiedName parts → Head (join_with_byte 47 parts)
+head_of :
+    (parts : List (List ℕ))
+    → parts ≢ []
+    → AllByRecursion IsUnqualifiedName parts
+    → Head (join_with_byte 47 parts)
 head_of [] some each = absurd (some refl)
 head_of ([] ∷ parts) some each = absurd (each.0.some refl)
 head_of ((first ∷ front) ∷ []) some each = record { first = first; more = front; is = refl; no_bracket = each.0.bytes.0.no_bracket }
@@ -26,14 +30,20 @@ head_of ((first ∷ front) ∷ next ∷ parts) some each = record { first = firs
 pub name_head : (name : List ℕ) → IsClassName name → Head name
 name_head name is_name = subst Head (sym is_name.joined) (head_of is_name.parts is_name.some is_name.unqualified)
 
-no_bracket_text : (first : ℕ) (more : List ℕ) → first ≢ 91 → named_text (first ∷ more) ≡ 76 ∷ (first ∷ more ++ 59 ∷ [])
+no_bracket_text :
+    (first : ℕ) (more : List ℕ)
+    → first ≢ 91
+    → named_text (first ∷ more) ≡ 76 ∷ (first ∷ more ++ 59 ∷ [])
 no_bracket_text first more other = grind (arith, nat_tests)
 
 pub class_text : (name : List ℕ) → IsClassName name → named_text name ≡ 76 ∷ (name ++ 59 ∷ [])
 class_text name is_name = let head = name_head name is_name in rw head.is (no_bracket_text head.first head.more head.no_bracket)
 
 -- an array type begins with a bracket
-some_brackets : (count : ℕ) (rest : List ℕ) → 1 ≤ count → (more : List ℕ) × (replicate count 91 ++ rest ≡ 91 ∷ more)
+some_brackets :
+    (count : ℕ) (rest : List ℕ)
+    → 1 ≤ count
+    → (more : List ℕ) × (replicate count 91 ++ rest ≡ 91 ∷ more)
 some_brackets zero rest some = absurd (omega arith)
 some_brackets (suc count) rest some = (replicate count 91 ++ rest, refl)
 
@@ -49,11 +59,13 @@ pub named : (type : FieldType) → IsFieldType type → IsTypeName type
 named (Named name) h = h.1
 named other h = tt
 
-pub named_types : (types : List FieldType) → AllByRecursion IsFieldType types → AllByRecursion IsTypeName types
+pub named_types :
+    (types : List FieldType) → AllByRecursion IsFieldType types → AllByRecursion IsTypeName types
 named_types [] h = tt
 named_types (type ∷ types) h = (named type h.0, named_types types h.1)
 
-pub named_result : (result : Option FieldType) → IfSome result IsFieldType → IfSome result IsTypeName
+pub named_result :
+    (result : Option FieldType) → IfSome result IsFieldType → IfSome result IsTypeName
 named_result None h = tt
 named_result (Some type) h = named type h
 

@@ -4,7 +4,8 @@ use Rattle.std.proofs.lemmas.Grind.{flat_map-append}
 use Rattle.class_model.specs.Frames.{units, depth, units_of_entries}
 use Rattle.class_model.specs.declared.frame.VType.{VType}
 
-pub units-append : (xs ys : List VType) → units_of_entries (xs ++ ys) ≡ units_of_entries xs ++ units_of_entries ys
+pub units-append :
+    (xs ys : List VType) → units_of_entries (xs ++ ys) ≡ units_of_entries xs ++ units_of_entries ys
 units-append xs ys = flat_map-append units xs ys
 
 pub depth-append : (xs ys : List VType) → depth (xs ++ ys) ≡ depth xs + depth ys

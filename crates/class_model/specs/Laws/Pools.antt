@@ -9,7 +9,11 @@ use Rattle.class_model.specs.declared.pool.Const.{Const}
 use Rattle.class_model.specs.declared.pool.Const.TheVariants.{Long, Double}
 
 -- the constants, and one more
-pub IsPool-push : (pool : Constants) (value : Const) → IsPool pool → length pool + length (entries_of value) ≤ 65535 → IsPool (pool ++ entries_of value)
+pub IsPool-push :
+    (pool : Constants) (value : Const)
+    → IsPool pool
+    → length pool + length (entries_of value) ≤ 65535
+    → IsPool (pool ++ entries_of value)
 IsPool-push pool value is fits = record {
   constants = is.constants ++ value ∷ [];
   all = ap (λ (entries : Constants). entries ++ entries_of value) is.all ∙ ap (λ (entries : Constants). None ∷ entries) (rw (flat_map-append, append-nil) refl);
@@ -17,13 +21,15 @@ IsPool-push pool value is fits = record {
 }
 
 -- a constant of two indices
-pub wide_entries : (value : Const) → length (entries_of value) ≡ 2 → entries_of value ≡ Some value ∷ None ∷ []
+pub wide_entries :
+    (value : Const) → length (entries_of value) ≡ 2 → entries_of value ≡ Some value ∷ None ∷ []
 wide_entries (Long number) e = refl
 wide_entries (Double bits) e = refl
 wide_entries other e = absurd cc
 
 -- any other
-pub narrow_entries : (value : Const) → length (entries_of value) ≢ 2 → entries_of value ≡ Some value ∷ []
+pub narrow_entries :
+    (value : Const) → length (entries_of value) ≢ 2 → entries_of value ≡ Some value ∷ []
 narrow_entries (Long number) ne = absurd (ne refl)
 narrow_entries (Double bits) ne = absurd (ne refl)
 narrow_entries other ne = refl
@@ -33,7 +39,8 @@ module _ (pool items : Constants) (value : Const) (view : None ∷ items ≡ poo
   pushed : IsPool (None ∷ (items ++ entries_of value))
   pushed = IsPool-push (None ∷ items) value is (omega (arith, ap length view))
 
-  pub wide_pushed : length (entries_of value) ≡ 2 → IsPool (None ∷ ((items ++ Some value ∷ []) ++ None ∷ []))
+  pub wide_pushed :
+      length (entries_of value) ≡ 2 → IsPool (None ∷ ((items ++ Some value ∷ []) ++ None ∷ []))
   wide_pushed two = rw append_assoc (rw (wide_entries value two) at pushed)
 
   pub narrow_pushed : length (entries_of value) ≢ 2 → IsPool (None ∷ (items ++ Some value ∷ []))

@@ -19,7 +19,9 @@ pub record TwoBytes (unit : ℕ) : Type 0 where
 
 pub record ThreeBytes (unit : ℕ) : Type 0 where
   pub low : 0x800 ≤ unit
-  pub bytes : unit_bytes unit ≡ (0xE0 + unit / 0x1000) ∷ (0x80 + unit / 0x40 % 0x40) ∷ (0x80 + unit % 0x40) ∷ []
+  pub bytes :
+      unit_bytes unit
+      ≡ (0xE0 + unit / 0x1000) ∷ (0x80 + unit / 0x40 % 0x40) ∷ (0x80 + unit % 0x40) ∷ []
 
 pub one_byte : (unit : ℕ) → 0 < unit → unit < 0x80 → OneByte unit
 one_byte unit low high = record { low = low; high = high; bytes = grind (arith, nat_tests) }
@@ -54,7 +56,8 @@ plain_units (byte ∷ bytes) plain =
     let unit : byte < 65536 = omega arith in
     (unit, plain_units bytes parts.1)
 
-plain_spelled : (bytes : List ℕ) → list_all is_plain bytes ≡ true → bytes ≡ flat_map unit_bytes bytes
+plain_spelled :
+    (bytes : List ℕ) → list_all is_plain bytes ≡ true → bytes ≡ flat_map unit_bytes bytes
 plain_spelled [] plain = refl
 plain_spelled (byte ∷ bytes) plain =
     let parts = and_parts (is_plain byte) (list_all is_plain bytes) plain in
