@@ -29,3 +29,5 @@ pub mod Targets
 pub mod Sizes
 pub mod Sequences
 pub mod ReadMethods
+pub mod ConsecutiveInstrs
+pub mod StatedAtStarts

@@ -7,6 +7,7 @@ pub mod Lengths
 pub mod Starts
 pub mod OffsetIndexes
 pub mod Codes
+pub mod Consecutive
 pub mod Entry
 pub mod Laws
 pub mod Inner

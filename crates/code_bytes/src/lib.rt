@@ -23,7 +23,10 @@ pub use decoding::decode;
 pub use descriptor::method_descriptor;
 pub use encoding::{code_len, encode_one};
 pub use entry::{entry_frame, entry_locals, is_text, verification_type};
-pub use laws::{a_class_file_has_read_methods, one_chosen_spelling};
+pub use laws::{
+    a_class_file_has_read_methods, frames_are_stated_at_instructions, instructions_are_consecutive,
+    one_chosen_spelling,
+};
 pub use offset_index::OffsetIndex;
 pub use spelling_laws::{
     a_length_does_not_depend_on_targets, a_wide_goto_spells_a_goto, each_spelling_is_of_the_table,
