@@ -32,3 +32,5 @@ pub mod KeptFrames
 pub mod KeptCode
 pub mod KeptMembers
 pub mod KeptClass
+pub mod OffsetTables
+pub mod FirstAtOffset

@@ -3,6 +3,7 @@
 #![tactic(auto)]
 
 mod class_file;
+mod code_index;
 mod copies;
 mod descriptor;
 mod descriptor_bytes;
@@ -19,6 +20,7 @@ mod local_types;
 mod lookup;
 mod memory;
 mod names;
+mod offset_index;
 pub mod opcodes;
 mod pool;
 mod rule_text;
@@ -29,6 +31,7 @@ pub use class_file::{
     Attr, AttrList, ClassFile, CodePart, Field, FieldList, Handler, HandlerList, IndexList,
     InnerAttr, InnerAttrList, Method, MethodAt, MethodList,
 };
+pub use code_index::CodeIndex;
 pub use descriptor::{
     Descriptor, FieldType, FieldTypeList, Kind, NameFault, is_array_type, parse_descriptor,
     parse_field_type,
@@ -60,6 +63,7 @@ pub use names::{
     BadName, CLINIT, INIT, is_class_name, is_field_name, is_method_name, is_unqualified_name,
     parse_class_name,
 };
+pub use offset_index::{HasOffset, OffsetIndex};
 pub use pool::{Const, Pool};
 pub use text::{Text, TextFault, is_modified_utf8};
 pub use value_laws::{

@@ -4,8 +4,6 @@ pub mod Forms
 pub mod Numbers
 pub mod Spellings
 pub mod Lengths
-pub mod Starts
-pub mod OffsetIndexes
 pub mod Codes
 pub mod Consecutive
 pub mod Entry

@@ -12,10 +12,8 @@ mod instruction;
 mod jumps;
 mod laws;
 mod layouts;
-mod offset_index;
 mod source;
 mod spelling_laws;
-mod starts;
 mod switches;
 
 pub use code::instructions_of;
@@ -27,9 +25,7 @@ pub use laws::{
     a_class_file_has_read_methods, frames_are_stated_at_instructions, instructions_are_consecutive,
     one_chosen_spelling,
 };
-pub use offset_index::OffsetIndex;
 pub use spelling_laws::{
     a_length_does_not_depend_on_targets, a_wide_goto_spells_a_goto, each_spelling_is_of_the_table,
     the_chosen_spelling_is_of_the_table,
 };
-pub use starts::Starts;

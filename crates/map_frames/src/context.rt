@@ -7,10 +7,9 @@ ghost use Rattle.class_model.specs.PoolChecks.{class_at};
 ghost use Rattle.map_frames.specs.Inner.Settings.{setting_of};
 ghost use Rattle.map_frames.specs.Inner.Steps.{Appends, IsPlaced, item_at, counted_types_at, object_at, uninit_at};
 
-use crate::code_index::CodeIndex;
 use crate::cursor::Cursor;
 use crate::entries::Entries;
-use class_model::{ClassFault, Const, FileRule, Pool, Text, VType};
+use class_model::{ClassFault, CodeIndex, Const, FileRule, Pool, Text, VType};
 use std::alloc::Global;
 
 /// The pool of a class, and the code of one of its methods with its greatest units of locals and of stack.

@@ -4,10 +4,11 @@ ghost use Rattle.class_model.specs.Answers.{Gives};
 ghost use Rattle.class_model.specs.Frames.{Setting, stack_map_table_at};
 ghost use Rattle.map_frames.specs.Reading.{Accepts};
 
-use crate::code_index::CodeIndex;
 use crate::context::Context;
 use crate::walk::Walk;
-use class_model::{ClassFault, Frame, ListOf, PlacedFrame, PlacedFrameList, PlacedList, Pool};
+use class_model::{
+    ClassFault, CodeIndex, Frame, ListOf, PlacedFrame, PlacedFrameList, PlacedList, Pool,
+};
 use std::alloc::Global;
 
 /// The frames that the content of a StackMapTable states for a code, each with its offset. The entry frame
@@ -30,7 +31,7 @@ pub fn read_frames(
     ensures { let s : Setting = record { pool = pool.now; max_locals = max_locals; max_stack = max_stack; code = code.now } in
         Gives (stack_map_table_at s entry.now bytes.now) result }
 {
-    let code = CodeIndex::new(code.as_slice());
+    let code = CodeIndex::of(alloc, code)?;
     let context = Context {
         alloc,
         pool,
@@ -70,7 +71,7 @@ pub fn check_frames(
     ensures { let s : Setting = record { pool = pool.now; max_locals = max_locals; max_stack = max_stack; code = code.now } in
         Accepts (stack_map_table_at s entry.now bytes.now) result }
 {
-    let code = CodeIndex::new(code.as_slice());
+    let code = CodeIndex::of(alloc, code)?;
     let context = Context {
         alloc,
         pool,
