@@ -1,15 +1,12 @@
 //! The exception table of a code (JVM Specification SE 8, 4.7.3).
-ghost use Rattle.std.specs.Prelude.{◌≡◌, ◌⊎◌, ◌↔◌, ◌+◌, ◌*◌, ◌<◌, ◌^◌, List, length, IsTrue};
+ghost use Rattle.std.specs.Prelude.{◌≡◌, ◌⊎◌, ◌↔◌, ◌+◌, ◌*◌, ◌<◌, ◌^◌, length, IsTrue};
 ghost use Rattle.class_model.specs.Answers.{Tells};
 ghost use Rattle.class_model.specs.Code.{IsRange, handlers_checks};
 ghost use Rattle.class_model.specs.PoolChecks.{IsClassAt};
-ghost use Rattle.class_model.specs.declared.instr.Placed.{Placed};
 ghost use Rattle.class_bytes.specs.Inner.CodeParts.{handler_checks};
-ghost use Rattle.code_bytes.specs.Starts.{IsStartsOf};
 
 use crate::checks::ask;
-use class_model::{ClassFault, Const, FileRule, Handler, PlacedList, Pool};
-use code_bytes::Starts;
+use class_model::{ClassFault, CodeIndex, Const, FileRule, Handler, PlacedList, Pool};
 use std::alloc::Global;
 
 /// Checks the entries of an exception table, the first of which stands at this place, against a code of so
@@ -29,10 +26,10 @@ pub(crate) fn check_handlers(
     if handlers.is_empty() {
         return Ok(());
     }
-    let starts = Starts::of(alloc, instrs)?;
+    let code = CodeIndex::of(alloc, instrs)?;
     let mut place = at;
     for handler in handlers {
-        check_handler(pool, &starts, len, handler, place)?;
+        check_handler(pool, &code, len, handler, place)?;
         place += 8;
     }
     Ok(())
@@ -41,30 +38,27 @@ pub(crate) fn check_handlers(
 // Checks an entry, which stands at this place.
 fn check_handler(
     pool: &Pool,
-    starts: &Starts,
+    code: &CodeIndex<'_>,
     len: usize,
     handler: &Handler,
     at: u64,
 ) -> Result<(), ClassFault>
     requires { at + 8 < 2 ^ 64 }
-    ensures { (code : List Placed) → IsStartsOf code starts.now
-        → Tells (handler_checks pool.now code len at handler.now) (λ done. Unit {0}) result }
+    ensures { Tells (handler_checks pool.now code.now len at handler.now) (λ done. Unit {0}) result }
 {
-    ask(is_range(starts, len, handler), at, FileRule::Range)?;
+    ask(is_range(code, len, handler), at, FileRule::Range)?;
     ask(is_caught(pool, handler.catch_type), at + 6, FileRule::Index)
 }
 
 // Whether an entry is of a range of instructions that is not empty, up to an instruction or the end, and of a
 // handler.
-fn is_range(starts: &Starts, len: usize, handler: &Handler) -> bool
-    ensures { (code : List Placed)
-        → IsStartsOf code starts.now
-        → IsTrue result ↔ IsRange code len handler.now }
+fn is_range(code: &CodeIndex<'_>, len: usize, handler: &Handler) -> bool
+    ensures { IsTrue result ↔ IsRange code.now len handler.now }
 {
     handler.start < handler.end
-        && starts.has(u32::from(handler.start))
-        && (starts.has(u32::from(handler.end)) || usize::from(handler.end) == len)
-        && starts.has(u32::from(handler.at))
+        && code.has_start(u32::from(handler.start))
+        && (code.has_start(u32::from(handler.end)) || usize::from(handler.end) == len)
+        && code.has_start(u32::from(handler.at))
 }
 
 // Whether an index names a class, or is 0 for all that is thrown.

@@ -33,3 +33,5 @@ pub mod KeptFrames
 pub mod KeptCode
 pub mod KeptMembers
 pub mod KeptClass
+pub mod OffsetTables
+pub mod FirstAtOffset

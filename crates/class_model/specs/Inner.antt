@@ -2,3 +2,4 @@
 -- said without them, so a reader of the definitions may pass them over.
 pub mod DescriptorParts
 pub mod LocalTypes
+pub mod FirstPlaced

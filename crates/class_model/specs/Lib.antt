@@ -21,6 +21,7 @@ pub mod Answers
 pub mod Stated
 pub mod MethodCode
 pub mod ArrayTypes
+pub mod OffsetIndexes
 pub mod Laws
 pub mod RuleNames
 pub mod Inner

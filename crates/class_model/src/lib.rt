@@ -4,6 +4,7 @@
 
 pub mod array_codes;
 mod class_file;
+mod code_index;
 pub mod constant_tags;
 mod copies;
 mod descriptor;
@@ -22,6 +23,7 @@ mod local_types;
 mod lookup;
 mod memory;
 mod names;
+mod offset_index;
 pub mod opcodes;
 mod pool;
 mod rule_text;
@@ -32,6 +34,7 @@ pub use class_file::{
     Attr, AttrList, ClassFile, CodePart, Field, FieldList, Handler, HandlerList, IndexList,
     InnerAttr, InnerAttrList, Method, MethodAt, MethodList,
 };
+pub use code_index::CodeIndex;
 pub use descriptor::{
     Descriptor, FieldType, FieldTypeList, Kind, NameFault, is_array_type, parse_descriptor,
     parse_field_type,
@@ -63,6 +66,7 @@ pub use names::{
     BadName, CLINIT, INIT, is_class_name, is_field_name, is_method_name, is_unqualified_name,
     parse_class_name,
 };
+pub use offset_index::{HasOffset, OffsetIndex};
 pub use pool::{Const, Pool};
 pub use text::{Text, TextFault, is_modified_utf8};
 pub use value_laws::{

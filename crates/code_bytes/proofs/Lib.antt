@@ -5,7 +5,6 @@ pub mod FormLengths
 pub mod InstrLengths
 pub mod Fronts
 pub mod Offsets
-pub mod OffsetTables
 pub mod OperandForms
 pub mod Outcomes
 pub mod Pads
@@ -24,8 +23,9 @@ pub mod Rows
 pub mod Parts
 pub mod Keys
 pub mod SwitchForms
-pub mod Marks
 pub mod Targets
 pub mod Sizes
 pub mod Sequences
 pub mod ReadMethods
+pub mod ConsecutiveInstrs
+pub mod StatedAtStarts

@@ -9,12 +9,6 @@ use Rattle.class_model.specs.Code.{jump_checks}
 use Rattle.class_model.specs.Instructions.{is_start, targets, decoded, CodeOf}
 use Rattle.class_model.specs.declared.fault.FileRule.TheVariants as rules
 use Rattle.class_model.specs.declared.instr.Placed.{Placed}
-use Rattle.code_bytes.specs.Starts.{is_marked, IsStartsOf}
-
--- the same test of each element
-list_all-same : (p q : ℕ → Bool) (xs : List ℕ) → ((x : ℕ) → p x ≡ q x) → list_all p xs ≡ list_all q xs
-list_all-same p q [] same = refl
-list_all-same p q (x ∷ xs) same = rw (same x, list_all-same p q xs same) refl
 
 -- What is told of the instructions from an index on is told of the code: those before are as asked.
 pub record Passes (code : List Placed) (index : ℕ) : Type 0 where
@@ -27,23 +21,20 @@ passes_none code = record { all = λ h. h; first = λ f h. h }
 next_is : (code : List Placed) (index : ℕ) (placed : Placed) → index < length code → placed ≡ get_or code index placed → drop index code ≡ placed ∷ drop (index + 1) code
 next_is code index placed inside is = drop-cons code index placed inside ∙ rw (← is, add-one) refl
 
-told : (code : List Placed) (marks : List Bool) (placed : Placed) (answer : Bool) → IsStartsOf code marks → answer ≡ list_all (is_marked marks) (targets placed.instr) → answer ≡ list_all (is_start code) (targets placed.instr)
-told code marks placed answer starts is = is ∙ list_all-same (is_marked marks) (is_start code) (targets placed.instr) starts
-
-pub passes_more : (code : List Placed) (marks : List Bool) (index : ℕ) (placed : Placed) (answer : Bool) → IsStartsOf code marks → index < length code → placed ≡ get_or code index placed
-    → answer ≡ list_all (is_marked marks) (targets placed.instr) → answer ≡ true → Passes code index → Passes code (index + 1)
-passes_more code marks index placed answer starts inside is_at is good passes =
-    let holds : IsTrue (list_all (is_start code) (targets placed.instr)) = sym (told code marks placed answer starts is) ∙ good in
+pub passes_more : (code : List Placed) (index : ℕ) (placed : Placed) (answer : Bool) → index < length code → placed ≡ get_or code index placed
+    → answer ≡ list_all (is_start code) (targets placed.instr) → answer ≡ true → Passes code index → Passes code (index + 1)
+passes_more code index placed answer inside is_at is good passes =
+    let holds : IsTrue (list_all (is_start code) (targets placed.instr)) = sym is ∙ good in
     let next = next_is code index placed inside is_at in
     record {
       all = λ h. passes.all (rw next (holds, h));
       first = λ f h. passes.first f (rw next (inr (holds, h)));
     }
 
-pub fails_here : (code : List Placed) (marks : List Bool) (index : ℕ) (placed : Placed) (answer : Bool) → IsStartsOf code marks → index < length code → placed ≡ get_or code index placed
-    → answer ≡ list_all (is_marked marks) (targets placed.instr) → answer ≡ false → Passes code index → IsFirstFault (jump_checks 0 code code) (fault placed.at rules.Jump)
-fails_here code marks index placed answer starts inside is_at is bad passes =
-    let fails : ¬ IsTrue (list_all (is_start code) (targets placed.instr)) = λ holds. false≢true (sym bad ∙ told code marks placed answer starts is ∙ holds) in
+pub fails_here : (code : List Placed) (index : ℕ) (placed : Placed) (answer : Bool) → index < length code → placed ≡ get_or code index placed
+    → answer ≡ list_all (is_start code) (targets placed.instr) → answer ≡ false → Passes code index → IsFirstFault (jump_checks 0 code code) (fault placed.at rules.Jump)
+fails_here code index placed answer inside is_at is bad passes =
+    let fails : ¬ IsTrue (list_all (is_start code) (targets placed.instr)) = λ holds. false≢true (sym bad ∙ is ∙ holds) in
     let next = next_is code index placed inside is_at in
     passes.first (fault placed.at rules.Jump) (rw next (inl (fails, ap (λ (at : ℕ). fault at rules.Jump) (sym (zero-add placed.at)))))
 

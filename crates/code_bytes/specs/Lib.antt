@@ -4,9 +4,8 @@ pub mod Forms
 pub mod Numbers
 pub mod Spellings
 pub mod Lengths
-pub mod Starts
-pub mod OffsetIndexes
 pub mod Codes
+pub mod Consecutive
 pub mod Entry
 pub mod Laws
 pub mod Inner

@@ -12,10 +12,8 @@ mod instruction;
 mod jumps;
 mod laws;
 mod layouts;
-mod offset_index;
 mod source;
 mod spelling_laws;
-mod starts;
 mod switches;
 
 pub use code::instructions_of;
@@ -23,10 +21,11 @@ pub use decoding::decode;
 pub use descriptor::method_descriptor;
 pub use encoding::{code_len, encode_one};
 pub use entry::{entry_frame, entry_locals, is_text, verification_type};
-pub use laws::{a_class_file_has_read_methods, one_chosen_spelling};
-pub use offset_index::OffsetIndex;
+pub use laws::{
+    a_class_file_has_read_methods, frames_are_stated_at_instructions, instructions_are_consecutive,
+    one_chosen_spelling,
+};
 pub use spelling_laws::{
     a_length_does_not_depend_on_targets, a_wide_goto_spells_a_goto, each_spelling_is_of_the_table,
     the_chosen_spelling_is_of_the_table,
 };
-pub use starts::Starts;

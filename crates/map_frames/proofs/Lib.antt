@@ -1,5 +1,4 @@
 pub mod EntryUnits
-pub mod Offsets
 pub mod Faults
 pub mod Counts
 pub mod EntriesRead

@@ -4,7 +4,6 @@ pub mod Change
 pub mod Choosing
 pub mod Indices
 pub mod Listing
-pub mod Offsets
 pub mod Settings
 pub mod Steps
 pub mod Tags

@@ -7,14 +7,13 @@ ghost use Rattle.class_model.specs.PoolChecks.{class_at};
 ghost use Rattle.map_frames.specs.Inner.Settings.{setting_of};
 ghost use Rattle.map_frames.specs.Inner.Steps.{Appends, IsPlaced};
 
-use crate::code_index::CodeIndex;
 use crate::cursor::Cursor;
 use crate::entries::Entries;
 use class_model::frame_tags::{
     ITEM_DOUBLE, ITEM_FLOAT, ITEM_INTEGER, ITEM_LONG, ITEM_NULL, ITEM_OBJECT, ITEM_TOP,
     ITEM_UNINITIALIZED, ITEM_UNINITIALIZED_THIS,
 };
-use class_model::{ClassFault, Const, FileRule, Pool, Text, VType};
+use class_model::{ClassFault, CodeIndex, Const, FileRule, Pool, Text, VType};
 use std::alloc::Global;
 
 /// The pool of a class, and the code of one of its methods with its greatest units of locals and of stack.

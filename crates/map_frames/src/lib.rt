@@ -2,7 +2,6 @@
 #![tactic(auto)]
 
 mod class_indices;
-mod code_index;
 mod context;
 mod cursor;
 mod entries;

@@ -4,10 +4,11 @@ ghost use Rattle.class_model.specs.Answers.{Gives};
 ghost use Rattle.class_model.specs.Frames.{Setting, stack_map_table_at};
 ghost use Rattle.map_frames.specs.Reading.{Accepts};
 
-use crate::code_index::CodeIndex;
 use crate::context::Context;
 use crate::walk::Walk;
-use class_model::{ClassFault, Frame, ListOf, PlacedFrame, PlacedFrameList, PlacedList, Pool};
+use class_model::{
+    ClassFault, CodeIndex, Frame, ListOf, PlacedFrame, PlacedFrameList, PlacedList, Pool,
+};
 use std::alloc::Global;
 
 /// The frames that the content of a StackMapTable states for a code, each with its offset. The entry frame
@@ -35,7 +36,7 @@ pub fn read_frames(
     } in
         Gives (stack_map_table_at s entry.now bytes.now) result }
 {
-    let code = CodeIndex::new(code.as_slice());
+    let code = CodeIndex::of(alloc, code)?;
     let context = Context {
         alloc,
         pool,
@@ -80,7 +81,7 @@ pub fn check_frames(
     } in
         Accepts (stack_map_table_at s entry.now bytes.now) result }
 {
-    let code = CodeIndex::new(code.as_slice());
+    let code = CodeIndex::of(alloc, code)?;
     let context = Context {
         alloc,
         pool,

@@ -5,7 +5,7 @@ use Rattle.class_model.specs.Stated.{frame_for}
 use Rattle.class_model.specs.declared.frame.Frame.{Frame}
 use Rattle.class_model.specs.declared.frame.PlacedFrame.{PlacedFrame}
 use Rattle.class_model.specs.declared.instr.Placed.{Placed}
-use Rattle.code_bytes.specs.OffsetIndexes.{first_at, number_in, IsIndexOf}
+use Rattle.class_model.specs.OffsetIndexes.{first_at, number_in, IsIndexOf}
 use Rattle.member_link.specs.CodedMethods.{placed_at}
 
 -- a search that gives of the first item at an offset what an item gives

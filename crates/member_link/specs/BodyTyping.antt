@@ -1,5 +1,5 @@
 -- What it means that frames type a body (JVM Specification SE 8, 4.10.1.6), place by place.
-use Rattle.std.specs.Prelude.{◌≡◌, ◌==◌, ◌<◌, ◌≤◌, ℕ, List, [], ◌∷◌, length, slice_get, Option, Some, None, IsSome, if◌then◌else◌}
+use Rattle.std.specs.Prelude.{◌≡◌, ◌⊎◌, ◌==◌, ◌<◌, ◌≤◌, ℕ, List, [], ◌∷◌, length, slice_get, Option, Some, None, IsSome, if◌then◌else◌}
 use Rattle.std.specs.List.{AllByRecursion}
 use Rattle.class_model.specs.Frames.{depth}
 use Rattle.class_model.specs.declared.frame.Frame.{Frame}
@@ -99,5 +99,36 @@ BeginAt place (point ∷ points) = point.place ≡ place
 -- each point stands behind the one before it
 abbrev pub AreInOrder : List BodyPoint → Type 0
 AreInOrder [] = Unit {0}
-AreInOrder (point ∷ points) =
-    (point.place < point.next) × BeginAt point.next points × AreInOrder points
+AreInOrder (point ∷ points) = (point.place < point.next) × BeginAt point.next points × AreInOrder points
+
+-- one of these points stands at a place
+abbrev pub IsPlaceOf : List BodyPoint → ℕ → Type 0
+IsPlaceOf [] place = ⊥
+IsPlaceOf (point ∷ points) place = (point.place ≡ place) ⊎ IsPlaceOf points place
+
+-- they stand one after the other from one place to another
+abbrev pub AreConsecutivePoints : ℕ → List BodyPoint → ℕ → Type 0
+AreConsecutivePoints from [] to = from ≡ to
+AreConsecutivePoints from (point ∷ points) to = (point.place ≡ from) × (point.place < point.next) × AreConsecutivePoints point.next points to
+
+-- a frame is stated for the place of a point only
+abbrev pub StatesAtPoints : Body → Type 0
+StatesAtPoints b = (place : ℕ) (stated : Frame) → b.stated place ≡ Some stated → IsPlaceOf b.points place
+
+-- ---- into the frames that are stated
+
+-- a frame is there, and it goes to a place whose frame is the one that is stated there
+pub record GoesInto (b : Body) (frames : List Frame) (goes : Option Frame) (place : ℕ) : Type 0 where
+  pub frame : Frame
+  pub goes_is : goes ≡ Some frame
+  pub stated : Frame
+  pub is_stated : b.stated place ≡ Some stated
+  pub is_at : frame_at b frames place ≡ Some stated
+  pub assignable : IsFrameAssignableIn b.scope.headers b.scope.major frame stated
+
+-- so do those behind a point that jumps and those that its handlers begin with
+pub record GoesToStated (b : Body) (frames : List Frame) (point : BodyPoint) : Type 0 where
+  pub frame : Frame
+  pub is_at : frame_at b frames point.place ≡ Some frame
+  pub targets : AllByRecursion (GoesInto b frames (frame_behind point frame)) (item_targets point.item)
+  pub handlers : AllByRecursion (λ catch. GoesInto b frames (Some (catch_frame frame catch.class)) catch.to) point.catches

@@ -11,9 +11,10 @@ ghost use Rattle.member_link.specs.CodedMethods.{descriptor_text, entry, placed_
 
 use crate::stated::{Decoded, StatedFrames};
 use class_model::{
-    ClassFile, CodePart, Descriptor, Frame, Method, NoMemory, Placed, PlacedFrameList, PlacedList,
+    ClassFile, CodePart, Descriptor, Frame, Method, NoMemory, OffsetIndex, Placed, PlacedFrameList,
+    PlacedList,
 };
-use code_bytes::{OffsetIndex, entry_frame, instructions_of, method_descriptor};
+use code_bytes::{entry_frame, instructions_of, method_descriptor};
 use std::alloc::Global;
 use std::marker::Model;
 
@@ -64,7 +65,7 @@ impl<'a> MethodBody<'a> {
         };
         let descriptor = method_descriptor(alloc, text, method.flags)?;
         let instrs = instructions_of(alloc, part.code.as_slice())?;
-        let index = OffsetIndex::of_instrs(alloc, instrs.as_slice())?;
+        let index = OffsetIndex::of(alloc, instrs.as_slice())?;
         let entry = entry_frame(alloc, class, method, part, descriptor.params.as_slice())?;
         let code = Decoded {
             class,
@@ -127,7 +128,7 @@ impl<'a> MethodBody<'a> {
             × (decoded self.now.part.code ≡ Ok instrs)
             × (option_copied result ≡ placed_at instrs at) }
     {
-        self.instrs.get(self.index.find(at)?)
+        self.instrs.get(self.index.find(u64::from(at))?)
     }
 
     /// The frames that it states, by offset.

@@ -4,13 +4,13 @@ ghost use Rattle.std.specs.Option.{option_copied};
 ghost use Rattle.class_model.specs.Instructions.{decoded};
 ghost use Rattle.class_model.specs.Methods.{entry_of, home_of};
 ghost use Rattle.class_model.specs.Stated.{frame_for, read_or_none, stated_frames, stated_in};
-ghost use Rattle.code_bytes.specs.OffsetIndexes.{IsIndexOf};
+ghost use Rattle.class_model.specs.OffsetIndexes.{IsIndexOf};
 
 use class_model::{
-    ClassFault, ClassFile, CodePart, Frame, InnerAttr, Method, NoMemory, PlacedFrameList,
-    PlacedList,
+    ClassFault, ClassFile, CodePart, Frame, InnerAttr, Method, NoMemory, OffsetIndex,
+    PlacedFrameList, PlacedList,
 };
-use code_bytes::{OffsetIndex, is_text};
+use code_bytes::is_text;
 use map_frames::read_frames;
 use std::alloc::Global;
 use std::marker::Model;
@@ -38,7 +38,7 @@ pub(crate) struct StatedFrames {
 impl Model for StatedFrames {
     ghost use Rattle.std.specs.Prelude.{List, map};
     ghost use Rattle.class_model.specs.declared.frame.PlacedFrame.{PlacedFrame};
-    ghost use Rattle.code_bytes.specs.OffsetIndexes.{IsIndexOf};
+    ghost use Rattle.class_model.specs.OffsetIndexes.{IsIndexOf};
 
     ghost Value = { List PlacedFrame };
 
@@ -57,7 +57,7 @@ impl StatedFrames {
             ≡ stated_in (home_of code.now.class.now) code.now.method.now code.now.part.now code.now.part.now.attrs) }
     {
         let frames = frames_in(alloc, code, code.part.attrs.as_slice())?;
-        let index = OffsetIndex::of_frames(alloc, frames.as_slice())?;
+        let index = OffsetIndex::of(alloc, frames.as_slice())?;
         Ok(StatedFrames { frames, index })
     }
 
@@ -72,7 +72,7 @@ impl StatedFrames {
     pub(crate) fn at(&self, offset: u32) -> Option<&Frame>
         ensures { option_copied result ≡ frame_for self.now offset }
     {
-        let placed = self.frames.get(self.index.find(offset)?)?;
+        let placed = self.frames.get(self.index.find(u64::from(offset))?)?;
         Some(&placed.frame)
     }
 }

@@ -1,5 +1,5 @@
-use class_model::{ClassFault, FileRule, Placed};
-use code_bytes::{Starts, decode};
+use class_model::{ClassFault, CodeIndex, FileRule, Placed};
+use code_bytes::decode;
 use std::alloc::Global;
 use std::fmt::Write;
 use std::process::Abort;
@@ -488,15 +488,15 @@ fn is_refused(rt: &(impl Abort + AllocGlobal), code: &[u8], at: u64, rule: FileR
 #[test]
 fn starts_of_codes(rt: HostRuntime) -> Result<(), Fail> {
     let instrs = decode(rt.alloc(), &[0x57, 0x10, 0x00, 0xB1])?;
-    let starts = Starts::of(rt.alloc(), &instrs)?;
-    compare_starts(&rt, &starts, &[0, 1, 3], true);
-    compare_starts(&rt, &starts, &[2, 4, u32::MAX], false);
+    let code = CodeIndex::of(rt.alloc(), &instrs)?;
+    compare_starts(&rt, &code, &[0, 1, 3], true);
+    compare_starts(&rt, &code, &[2, 4, u32::MAX], false);
     Ok(())
 }
 
 // Checks whether there is an instruction at each of these offsets.
-fn compare_starts(rt: &impl Abort, starts: &Starts, offsets: &[u32], wanted: bool) {
+fn compare_starts(rt: &impl Abort, code: &CodeIndex<'_>, offsets: &[u32], wanted: bool) {
     for at in offsets {
-        assert!(rt; starts.has(*at) == wanted, "at {at}");
+        assert!(rt; code.has_start(*at) == wanted, "at {at}");
     }
 }

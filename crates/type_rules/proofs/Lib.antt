@@ -26,4 +26,6 @@ pub mod OneTyping
 pub mod EachTyped
 pub mod Places
 pub mod ByPlace
+pub mod MethodOrder
+pub mod StatedFrames
 pub mod CallRows

@@ -34,7 +34,8 @@ pub use assignability::{assignable, frame_assignable};
 pub use code::{code_of, has_code};
 pub use fault::{RuleFault, TypeRule, VerifyFault};
 pub use laws::{
-    a_failing_method_has_no_frames, a_method_has_one_typing, a_typed_folder_types_each_method,
+    a_failing_method_has_no_frames, a_method_has_one_typing, a_method_stands_in_order,
+    a_typed_body_goes_to_stated_frames, a_typed_folder_types_each_method,
     a_typed_method_types_each_instruction, frames_type_a_body_by_its_places,
 };
 pub use method_rules::MethodRules;

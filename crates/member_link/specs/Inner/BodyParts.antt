@@ -6,7 +6,7 @@ use Rattle.class_model.specs.declared.descriptor.Descriptor.{Descriptor}
 use Rattle.class_model.specs.declared.frame.Frame.{Frame}
 use Rattle.class_model.specs.declared.frame.PlacedFrame.{PlacedFrame}
 use Rattle.class_model.specs.declared.instr.Placed.{Placed}
-use Rattle.code_bytes.specs.OffsetIndexes.{IsIndexOf}
+use Rattle.class_model.specs.OffsetIndexes.{IsIndexOf}
 use Rattle.member_link.specs.CodedMethods.{CodedMethod, descriptor_text, entry, stated}
 
 pub record IsBody (m : CodedMethod) (instrs : List Placed) (index : List ℕ)

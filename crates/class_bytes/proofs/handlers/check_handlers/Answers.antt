@@ -6,8 +6,8 @@ use Rattle.class_bytes.proofs.handlers.check_handlers.Goals as goal
 pub returns-in_err-check_handler : goal.returns-in_err-check_handler
 returns-in_err-check_handler c =
     let p = err_from_is_err_and c.from_residual-in_err-check_handler.result c.from_residual-in_err-check_handler.ensures.1 in
-    rw (p.1, p.2) (entry_refused _ _ _ _ _ _ c.loop-handler.handler-index _ c.loop-handler-test.true c.loop-handler.invariant.1 _ (c.in_err-check_handler.ensures _ c.in_ok-starts.ensures))
+    rw (p.1, p.2) (entry_refused _ _ _ _ _ _ c.loop-handler.handler-index _ c.loop-handler-test.true c.loop-handler.invariant.1 _ (rw c.in_ok-code.ensures at c.in_err-check_handler.ensures))
 
 pub loop-handler-preserved : goal.loop-handler-preserved
 loop-handler-preserved c =
-    (omega arith, entry_more _ _ _ _ _ _ c.loop-handler.handler-index _ c.loop-handler-test.true c.loop-handler.invariant.1 tt (c.in_ok-check_handler.ensures _ c.in_ok-starts.ensures))
+    (omega arith, entry_more _ _ _ _ _ _ c.loop-handler.handler-index _ c.loop-handler-test.true c.loop-handler.invariant.1 tt (rw c.in_ok-code.ensures at c.in_ok-check_handler.ensures))

@@ -24,12 +24,12 @@ setting c code = record { pool = c.args.pool.now; max_locals = c.args.max_locals
 abbrev table : In_ok-count → List Placed → Result (List PlacedFrame) Fault
 table c code = stack_map_table_at (setting c code) c.args.entry.now c.args.bytes.now
 
-same_table : (c : In_ok-count) → table c c.args.code.now ≡ table c c.new-code.result
-same_table c = ap (table c) (sym (c.new-code.ensures ∙ c.as_slice.ensures))
+same_table : (c : In_ok-count) → table c c.args.code.now ≡ table c c.in_ok-code.code
+same_table c = ap (table c) (sym c.in_ok-code.ensures)
 
 pub loop-preserved : goal.loop-preserved
 loop-preserved c =
-    let s = setting (goal.at.loop-preserved c).In_ok-count c.new-code.result in
+    let s = setting (goal.at.loop-preserved c).In_ok-count c.in_ok-code.code in
     (_, frames_next s c.in_ok-count.count (standing_of c.count.new.self) c.loop.counter c.loop.invariant.0 (standing_of c.loop.walk) (standing_of c.frame.new.self) c.in_ok-frame.field-0.0 c.in_ok-frame.field-0.1 c.loop-test.true c.loop.invariant.1 c.in_ok-frame.ensures.steps)
 
 pub returns-in_err-frame : goal.returns-in_err-frame
@@ -37,11 +37,11 @@ returns-in_err-frame c =
     let k = (goal.at.returns-in_err-frame c).In_ok-count in
     let f = c.in_err-frame.field-0.0 in
     let p = err_from_is_err_and c.from_residual-in_err-frame.result c.from_residual-in_err-frame.ensures.1 in
-    let fails = table_fails (setting k c.new-code.result) _ _ _ (standing_of c.count.new.self) c.loop.counter c.loop.invariant.0 (standing_of c.loop.walk) (standing_of c.frame.new.self) f (start_of k) c.loop-test.true c.loop.invariant.1 c.in_err-frame.ensures.steps in
+    let fails = table_fails (setting k c.in_ok-code.code) _ _ _ (standing_of c.count.new.self) c.loop.counter c.loop.invariant.0 (standing_of c.loop.walk) (standing_of c.frame.new.self) f (start_of k) c.loop-test.true c.loop.invariant.1 c.in_err-frame.ensures.steps in
     rw (p.1, p.2) (accepts_refused (table k c.args.code.now) f (refuses_same _ _ f (same_table k) fails))
 
 pub returns : goal.returns
 returns c =
     let k = (goal.at.returns c).In_ok-count in
-    let told = table_told (setting k c.new-code.result) _ _ _ (standing_of c.count.new.self) c.loop.counter c.loop.invariant.0 (standing_of c.loop.walk) c.end.result (start_of k) c.loop-test.false c.loop.invariant.1 c.end.ensures in
+    let told = table_told (setting k c.in_ok-code.code) _ _ _ (standing_of c.count.new.self) c.loop.counter c.loop.invariant.0 (standing_of c.loop.walk) c.end.result (start_of k) c.loop-test.false c.loop.invariant.1 c.end.ensures in
     subst (λ (given : Result (List PlacedFrame) Fault). Accepts given c.end.result) (sym (same_table k)) told

@@ -23,15 +23,15 @@ setting c code = record { pool = c.args.pool.now; max_locals = c.args.max_locals
 abbrev table : In_ok-count → List Placed → Result (List PlacedFrame) Fault
 table c code = stack_map_table_at (setting c code) c.args.entry.now c.args.bytes.now
 
-same_table : (c : In_ok-count) → table c c.args.code.now ≡ table c c.new-code.result
-same_table c = ap (table c) (sym (c.new-code.ensures ∙ c.as_slice.ensures))
+same_table : (c : In_ok-count) → table c c.args.code.now ≡ table c c.in_ok-code.code
+same_table c = ap (table c) (sym c.in_ok-code.ensures)
 
 pub frame_with_units-requires : goal.frame_with_units-requires
 frame_with_units-requires c = c.loop.invariant.1
 
 pub loop-preserved : goal.loop-preserved
 loop-preserved c =
-    let s = setting (goal.at.loop-preserved c).In_ok-count c.new-code.result in (
+    let s = setting (goal.at.loop-preserved c).In_ok-count c.in_ok-code.code in (
       rw (c.in_ok-push.ensures.ok, c.in_ok-copy.ensures, c.in_ok-at.ensures.units, c.into_list.ensures)
           (frames_next s c.in_ok-count.count (standing_of c.count.new.self) c.loop.counter c.loop.frames (standing_of c.loop.walk) (standing_of c.frame_with_units.new.self) c.in_ok-at.at c.in_ok-at.stack c.loop-test.true c.loop.invariant.0 c.in_ok-at.ensures.steps),
       c.in_ok-at.ensures.units,
@@ -42,7 +42,7 @@ returns-in_err-at c =
     let k = (goal.at.returns-in_err-at c).In_ok-count in
     let f = c.in_err-at.field-0.0 in
     let p = err_from_is_err_and c.from_residual-in_err-at.result c.from_residual-in_err-at.ensures.1 in
-    let fails = table_fails (setting k c.new-code.result) _ _ _ (standing_of c.count.new.self) c.loop.counter c.loop.frames (standing_of c.loop.walk) (standing_of c.frame_with_units.new.self) f (start_of k) c.loop-test.true c.loop.invariant.0 c.in_err-at.ensures.steps in
+    let fails = table_fails (setting k c.in_ok-code.code) _ _ _ (standing_of c.count.new.self) c.loop.counter c.loop.frames (standing_of c.loop.walk) (standing_of c.frame_with_units.new.self) f (start_of k) c.loop-test.true c.loop.invariant.0 c.in_err-at.ensures.steps in
     rw (p.1, p.2) (gives_refused (table k c.args.code.now) f (refuses_same _ _ f (same_table k) fails))
 
 pub returns-in_err-end : goal.returns-in_err-end
@@ -50,10 +50,10 @@ returns-in_err-end c =
     let k = (goal.at.returns-in_err-end c).In_ok-count in
     let f = c.in_err-end.field-0.0 in
     let p = err_from_is_err_and c.from_residual-in_err-end.result c.from_residual-in_err-end.ensures.1 in
-    let fails = table_goes_on (setting k c.new-code.result) _ _ _ (standing_of c.count.new.self) c.loop.counter c.loop.frames (standing_of c.loop.walk) f (start_of k) c.loop-test.false c.loop.invariant.0 c.in_err-end.ensures in
+    let fails = table_goes_on (setting k c.in_ok-code.code) _ _ _ (standing_of c.count.new.self) c.loop.counter c.loop.frames (standing_of c.loop.walk) f (start_of k) c.loop-test.false c.loop.invariant.0 c.in_err-end.ensures in
     rw (p.1, p.2) (gives_refused (table k c.args.code.now) f (refuses_same _ _ f (same_table k) fails))
 
 pub returns : goal.returns
 returns c =
     let k = (goal.at.returns c).In_ok-count in
-    same_table k ∙ table_ends (setting k c.new-code.result) _ _ _ (standing_of c.count.new.self) c.loop.counter c.loop.frames (standing_of c.loop.walk) (start_of k) c.loop-test.false c.loop.invariant.0 c.in_ok-end.ensures
+    same_table k ∙ table_ends (setting k c.in_ok-code.code) _ _ _ (standing_of c.count.new.self) c.loop.counter c.loop.frames (standing_of c.loop.walk) (start_of k) c.loop-test.false c.loop.invariant.0 c.in_ok-end.ensures

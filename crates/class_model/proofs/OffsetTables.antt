@@ -1,10 +1,10 @@
 -- A table of the first things at offsets, filled one offset after another.
-use Rattle.std.proofs.Common.{◌≡◌, ◌≢◌, inl, inr, ℕ, zero, suc, ◌+◌, ◌<◌, Bool, true, false, List, [], ◌∷◌, length, get_or, set, take, Option, Some, None, option_map, refl, sym, ap, subst, ◌∙◌, arith}
+use Rattle.std.proofs.Common.{◌≡◌, ◌≢◌, inl, inr, ℕ, zero, suc, ◌+◌, ◌<◌, Bool, true, false, List, [], ◌∷◌, length, map, get_or, set, take, Option, Some, None, option_map, refl, sym, ap, subst, ◌∙◌, arith}
 use Rattle.std.specs.Prelude.{◌==◌, if◌then◌else◌}
 use Rattle.std.specs.Option.{option_or}
 use Rattle.std.proofs.lemmas.Bool.{cases_eq, eq-eqb, ne_eqb}
-use Rattle.std.proofs.lemmas.List.{get_or-set_same, get_or-set_other}
-use Rattle.code_bytes.specs.OffsetIndexes.{first_at, number_in, IsIndexOf}
+use Rattle.std.proofs.lemmas.List.{get_or-set_same, get_or-set_other, length-map}
+use Rattle.class_model.specs.OffsetIndexes.{first_at, number_in, IsIndexOf}
 
 -- ---- the first of these offsets and one more
 
@@ -73,15 +73,38 @@ module _ (offsets numbers : List ℕ) (number : ℕ) (inside : number < length o
   by_one_more at = ap (λ (found : Option ℕ). option_or found (added (get_or offsets number 0 == at) number)) (indexed at) ∙ sym (one_more offsets number at inside)
 
   -- of one offset more, the first of its kind
-  pub one_written : get_or offsets number 0 < length numbers → get_or numbers (get_or offsets number 0) 0 ≡ 0 → IsIndexOf (take (number + 1) offsets) (set numbers (get_or offsets number 0) (number + 1))
+  one_written : get_or offsets number 0 < length numbers → get_or numbers (get_or offsets number 0) 0 ≡ 0 → IsIndexOf (take (number + 1) offsets) (set numbers (get_or offsets number 0) (number + 1))
   one_written fits free =
       let next_is : suc number ≡ number + 1 = omega arith in
       subst (λ next. IsIndexOf (take next offsets) (set numbers (get_or offsets number 0) next)) next_is
       (λ at. written numbers (get_or offsets number 0) number at fits free ∙ by_one_more at)
 
   -- of one that was there before
-  pub one_known : get_or numbers (get_or offsets number 0) 0 ≢ 0 → IsIndexOf (take (number + 1) offsets) numbers
+  one_known : get_or numbers (get_or offsets number 0) 0 ≢ 0 → IsIndexOf (take (number + 1) offsets) numbers
   one_known taken =
       let next_is : suc number ≡ number + 1 = omega arith in
       subst (λ next. IsIndexOf (take next offsets) numbers) next_is
       (λ at. stays numbers (get_or offsets number 0) number at taken ∙ by_one_more at)
+
+-- ---- of things that stand at offsets
+
+mapped_at : {X : Type 0} (at : X → ℕ) (things : List X) (number : ℕ) (thing : X) → number < length things → thing ≡ get_or things number thing → get_or (map at things) number 0 ≡ at thing
+mapped_at at [] number thing inside is = absurd (omega (arith, inside))
+mapped_at at (first ∷ things) zero thing inside is = ap at (sym is)
+mapped_at at (first ∷ things) (suc number) thing inside is = mapped_at at things number thing (omega (arith, inside)) is
+
+module _ {X : Type 0} (at : X → ℕ) (things : List X) (numbers : List ℕ) (number : ℕ) (thing : X) (inside : number < length things) (is : thing ≡ get_or things number thing) (indexed : IsIndexOf (take number (map at things)) numbers) where
+  counted : number < length (map at things)
+  counted = subst (λ (count : ℕ). number < count) (sym (length-map things at)) inside
+
+  pub thing_written : (offset value : ℕ) → offset ≡ at thing → value ≡ number + 1 → offset < length numbers → get_or numbers offset 0 ≡ 0 → IsIndexOf (take (number + 1) (map at things)) (set numbers offset value)
+  thing_written offset value offset_is value_is fits free =
+      let there : get_or (map at things) number 0 ≡ offset = mapped_at at things number thing inside is ∙ sym offset_is in
+      subst (λ (v : ℕ). IsIndexOf (take (number + 1) (map at things)) (set numbers offset v)) (sym value_is)
+      (subst (λ (o : ℕ). IsIndexOf (take (number + 1) (map at things)) (set numbers o (number + 1))) there
+      (one_written (map at things) numbers number counted indexed (subst (λ (o : ℕ). o < length numbers) (sym there) fits) (ap (λ (o : ℕ). get_or numbers o 0) there ∙ free)))
+
+  pub thing_known : (offset : ℕ) → offset ≡ at thing → get_or numbers offset 0 ≢ 0 → IsIndexOf (take (number + 1) (map at things)) numbers
+  thing_known offset offset_is taken =
+      let there : get_or (map at things) number 0 ≡ offset = mapped_at at things number thing inside is ∙ sym offset_is in
+      one_known (map at things) numbers number counted indexed (λ e. taken (ap (λ (o : ℕ). get_or numbers o 0) (sym there) ∙ e))

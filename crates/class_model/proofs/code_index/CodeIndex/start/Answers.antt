@@ -1,6 +1,6 @@
 use Rattle.std.proofs.Common.{ap, ◌∙◌}
-use Rattle.map_frames.proofs.Offsets.{start_of, start_found}
-use Rattle.map_frames.proofs.code_index.CodeIndex.start.Goals as goal
+use Rattle.class_model.proofs.FirstAtOffset.{start_of, start_found}
+use Rattle.class_model.proofs.code_index.CodeIndex.start.Goals as goal
 
 pub returns-in_err-first : goal.returns-in_err-first
 returns-in_err-first c = c.from_residual.ensures ∙ ap start_of c.in_err-first.ensures ∙ start_found c.args.self.now c.args.at

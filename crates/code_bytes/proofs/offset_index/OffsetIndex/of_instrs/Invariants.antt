@@ -1,5 +1,0 @@
-use Rattle.std.proofs.Common.{◌≡◌, map, take}
-use Rattle.code_bytes.proofs.offset_index.OffsetIndex.of_instrs.Given as goal
-
-abbrev pub invariant-loop-placed : goal.invariant-loop-placed
-invariant-loop-placed l = l.offsets.items ≡ map (λ placed. placed.at) (take l.placed-index l.instrs)
