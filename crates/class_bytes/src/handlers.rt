@@ -44,7 +44,8 @@ fn check_handler(
     at: u64,
 ) -> Result<(), ClassFault>
     requires { at + 8 < 2 ^ 64 }
-    ensures { Tells (handler_checks pool.now code.now len at handler.now) (λ done. Unit {0}) result }
+    ensures { Tells (handler_checks pool.now code.now len at handler.now) (λ done. Unit {0})
+        result }
 {
     ask(is_range(code, len, handler), at, FileRule::Range)?;
     ask(is_caught(pool, handler.catch_type), at + 6, FileRule::Index)

@@ -5,4 +5,5 @@ use Rattle.class_model.specs.declared.instr.Placed.{Placed}
 -- they fill a code from one offset to another, each at least a byte of it
 abbrev pub AreConsecutive : ℕ → List Placed → ℕ → Type 0
 AreConsecutive from [] to = from ≡ to
-AreConsecutive from (placed ∷ others) to = (placed.at ≡ from) × (0 < placed.len) × AreConsecutive (placed.at + placed.len) others to
+AreConsecutive from (placed ∷ others) to =
+    (placed.at ≡ from) × (0 < placed.len) × AreConsecutive (placed.at + placed.len) others to

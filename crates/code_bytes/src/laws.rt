@@ -41,11 +41,15 @@ pub fn a_class_file_has_read_methods()
 
 /// The instructions of a code stand one after the other, from its first byte to its end.
 pub fn instructions_are_consecutive()
-    ensures { (code : List ℕ) (instrs : List Placed) → decoded code ≡ Ok instrs → AreConsecutive 0 instrs (length code) }
+    ensures { (code : List ℕ) (instrs : List Placed)
+        → decoded code ≡ Ok instrs
+        → AreConsecutive 0 instrs (length code) }
 {}
 
 /// A method's code states a frame only for an offset at which an instruction starts.
 pub fn frames_are_stated_at_instructions()
-    ensures { (home : Home) (method : Method) (part : CodePart) (attrs : List InnerAttr) (at : ℕ) (frame : Frame) → frame_for (stated_in home method part attrs) at ≡ Some frame
+    ensures { (home : Home) (method : Method) (part : CodePart) (attrs : List InnerAttr) (at : ℕ)
+        (frame : Frame)
+        → frame_for (stated_in home method part attrs) at ≡ Some frame
         → (instrs : List Placed) × (decoded part.code ≡ Ok instrs) × IsTrue (is_start instrs at) }
 {}

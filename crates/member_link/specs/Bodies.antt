@@ -67,7 +67,8 @@ asked_access true row = row
 asked_access false row = access_aside row
 
 abbrev pub point_row : BodyPoint → Frame → Row
-point_row point before = asked_access point.asks_access (item_row point.scope before point.place point.item)
+point_row point before =
+    asked_access point.asks_access (item_row point.scope before point.place point.item)
 
 -- the frame after a point, if control goes on
 abbrev pub frame_behind : BodyPoint → Frame → Option Frame

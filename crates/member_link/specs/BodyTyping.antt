@@ -99,7 +99,8 @@ BeginAt place (point ∷ points) = point.place ≡ place
 -- each point stands behind the one before it
 abbrev pub AreInOrder : List BodyPoint → Type 0
 AreInOrder [] = Unit {0}
-AreInOrder (point ∷ points) = (point.place < point.next) × BeginAt point.next points × AreInOrder points
+AreInOrder (point ∷ points) =
+    (point.place < point.next) × BeginAt point.next points × AreInOrder points
 
 -- one of these points stands at a place
 abbrev pub IsPlaceOf : List BodyPoint → ℕ → Type 0
@@ -109,16 +110,19 @@ IsPlaceOf (point ∷ points) place = (point.place ≡ place) ⊎ IsPlaceOf point
 -- they stand one after the other from one place to another
 abbrev pub AreConsecutivePoints : ℕ → List BodyPoint → ℕ → Type 0
 AreConsecutivePoints from [] to = from ≡ to
-AreConsecutivePoints from (point ∷ points) to = (point.place ≡ from) × (point.place < point.next) × AreConsecutivePoints point.next points to
+AreConsecutivePoints from (point ∷ points) to =
+    (point.place ≡ from) × (point.place < point.next) × AreConsecutivePoints point.next points to
 
 -- a frame is stated for the place of a point only
 abbrev pub StatesAtPoints : Body → Type 0
-StatesAtPoints b = (place : ℕ) (stated : Frame) → b.stated place ≡ Some stated → IsPlaceOf b.points place
+StatesAtPoints b =
+    (place : ℕ) (stated : Frame) → b.stated place ≡ Some stated → IsPlaceOf b.points place
 
 -- ---- into the frames that are stated
 
 -- a frame is there, and it goes to a place whose frame is the one that is stated there
-pub record GoesInto (b : Body) (frames : List Frame) (goes : Option Frame) (place : ℕ) : Type 0 where
+pub record GoesInto (b : Body) (frames : List Frame) (goes : Option Frame) (place : ℕ)
+    : Type 0 where
   pub frame : Frame
   pub goes_is : goes ≡ Some frame
   pub stated : Frame
@@ -130,5 +134,8 @@ pub record GoesInto (b : Body) (frames : List Frame) (goes : Option Frame) (plac
 pub record GoesToStated (b : Body) (frames : List Frame) (point : BodyPoint) : Type 0 where
   pub frame : Frame
   pub is_at : frame_at b frames point.place ≡ Some frame
-  pub targets : AllByRecursion (GoesInto b frames (frame_behind point frame)) (item_targets point.item)
-  pub handlers : AllByRecursion (λ catch. GoesInto b frames (Some (catch_frame frame catch.class)) catch.to) point.catches
+  pub targets :
+      AllByRecursion (GoesInto b frames (frame_behind point frame)) (item_targets point.item)
+  pub handlers :
+      AllByRecursion (λ catch. GoesInto b frames (Some (catch_frame frame catch.class)) catch.to)
+      point.catches

@@ -39,9 +39,12 @@ impl<'a> Model for MethodBody<'a> {
 
     ghost Value = { CodedMethod };
 
-    ghost view = { λ body. record { class = body.class.now; method = body.method.now; part = body.part.now } };
+    ghost view = { λ body.
+        record { class = body.class.now; method = body.method.now; part = body.part.now } };
 
-    ghost invariant = { λ body. IsBody (record { class = body.class.now; method = body.method.now; part = body.part.now }) body.instrs body.index body.stated body.entry body.descriptor };
+    ghost invariant = { λ body.
+        IsBody (record { class = body.class.now; method = body.method.now; part = body.part.now })
+        body.instrs body.index body.stated body.entry body.descriptor };
 }
 
 impl<'a> MethodBody<'a> {

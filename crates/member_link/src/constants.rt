@@ -21,7 +21,8 @@ impl<'a> Model for Reference<'a> {
 
     ghost Value = { references.Reference };
 
-    ghost view = { λ parts. record { class = parts.class.now; name = parts.name.now; desc = parts.desc.now } };
+    ghost view = { λ parts.
+        record { class = parts.class.now; name = parts.name.now; desc = parts.desc.now } };
 }
 
 /// The reference of a class index and a NameAndType index, if all of it could be had.

@@ -35,9 +35,20 @@ impl<'a> Model for Resolver<'a> {
 
     ghost Value = { Resolved };
 
-    ghost view = { λ resolver. record { headers = headers_of resolver.tree.now; pool = resolver.class.now.pool; from = resolver.name.now } };
+    ghost view = { λ resolver.
+        record {
+          headers = headers_of resolver.tree.now;
+          pool = resolver.class.now.pool;
+          from = resolver.name.now;
+        } };
 
-    ghost invariant = { λ resolver. AreResolutions (record { headers = headers_of resolver.tree.now; pool = resolver.class.now.pool; from = resolver.name.now }) resolver.resolutions.items };
+    ghost invariant = { λ resolver.
+        AreResolutions
+        (record {
+          headers = headers_of resolver.tree.now;
+          pool = resolver.class.now.pool;
+          from = resolver.name.now;
+        }) resolver.resolutions.items };
 }
 
 impl<'a> Resolver<'a> {

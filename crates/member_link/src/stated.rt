@@ -44,7 +44,8 @@ impl Model for StatedFrames {
 
     ghost view = { λ stated. stated.frames };
 
-    ghost invariant = { λ stated. IsIndexOf (map (λ placed. placed.at) stated.frames) stated.index };
+    ghost invariant = { λ stated.
+        IsIndexOf (map (λ placed. placed.at) stated.frames) stated.index };
 }
 
 impl StatedFrames {
@@ -53,8 +54,10 @@ impl StatedFrames {
         requires instrs { decoded code.now.part.now.code ≡ Ok code.now.instrs.now }
         requires entry { code.now.entry.now
             ≡ entry_of (home_of code.now.class.now) code.now.method.now code.now.part.now }
-        ensures { IfOk result (λ frames. frames
-            ≡ stated_in (home_of code.now.class.now) code.now.method.now code.now.part.now code.now.part.now.attrs) }
+        ensures { IfOk result (λ frames.
+            frames
+            ≡ stated_in (home_of code.now.class.now) code.now.method.now code.now.part.now
+            code.now.part.now.attrs) }
     {
         let frames = frames_in(alloc, code, code.part.attrs.as_slice())?;
         let index = OffsetIndex::of(alloc, frames.as_slice())?;

@@ -53,7 +53,11 @@ module _ (home : Home) (method : Method) (part : CodePart) (locals : List VType)
   abbrev this_of : List VType
   this_of = this_entries method.flags (utf8_at home.pool method.name) home.name
 
-  pub entry_with : (params : List FieldType) → params ≡ parameters_of (text_or_empty (utf8_at home.pool method.desc)) → locals ≡ this_of ++ units_of_entries (map verification_type params) → frame_of (with_tops part.max_locals locals) ≡ entry_of home method part
+  pub entry_with :
+      (params : List FieldType)
+      → params ≡ parameters_of (text_or_empty (utf8_at home.pool method.desc))
+      → locals ≡ this_of ++ units_of_entries (map verification_type params)
+      → frame_of (with_tops part.max_locals locals) ≡ entry_of home method part
   entry_with params params_are are =
       let name : Option (List ℕ) = utf8_at home.pool method.name in
       let parts : locals ≡ units_of_entries (this_of ++ map verification_type params) =
@@ -64,7 +68,9 @@ module _ (home : Home) (method : Method) (part : CodePart) (locals : List VType)
       ∙ sym (frame_is method.flags name home.name params part.max_locals)
       ∙ ap (λ (own : List FieldType). entry_frame method.flags (text_or_empty name) home.name own part.max_locals) params_are
 
-pub entry_is : (home : Home) (method : Method) (part : CodePart) (text : List ℕ) (locals : List VType) → utf8_at home.pool method.desc ≡ Some text
+pub entry_is :
+    (home : Home) (method : Method) (part : CodePart) (text : List ℕ) (locals : List VType)
+    → utf8_at home.pool method.desc ≡ Some text
     → locals ≡ this_entries method.flags (utf8_at home.pool method.name) home.name ++ units_of_entries (map verification_type (parameters_of text))
     → frame_of (with_tops part.max_locals locals) ≡ entry_of home method part
 entry_is home method part text locals there are = entry_with home method part locals (parameters_of text) (ap (λ (of : Option (List ℕ)). parameters_of (text_or_empty of)) (sym there)) are

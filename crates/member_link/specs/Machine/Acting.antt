@@ -65,7 +65,8 @@ given_values known (one ∷ others) = both (given_value known one) (given_values
 -- as many values as types, each of which conforms
 abbrev pub all_conform : Program → World → List FieldType → List Value → Bool
 all_conform P w [] [] = true
-all_conform P w (type ∷ types) (value ∷ values) = value_conforms P w.memory.heap type value && all_conform P w types values
+all_conform P w (type ∷ types) (value ∷ values) =
+    value_conforms P w.memory.heap type value && all_conform P w types values
 all_conform P w types values = false
 
 -- ---- calls
@@ -73,7 +74,8 @@ all_conform P w types values = false
 -- a class of the folder is begun on top of these frames, if it is not begun
 abbrev pub beginning_of_number : Program → World → Option ℕ → World
 beginning_of_number P w None = w
-beginning_of_number P w (Some number) = if is_begun w.memory number then w else begun_on P number w w.frames
+beginning_of_number P w (Some number) =
+    if is_begun w.memory number then w else begun_on P number w w.frames
 
 abbrev pub beginning_if : Program → Name → World → World
 beginning_if P class w = beginning_of_number P w (folder_number P class)
@@ -84,7 +86,9 @@ begins_with_angle (first ∷ rest) = first == 60
 
 abbrev pub call_of_static : Program → World → Name → List ℕ → MethodAt → List Value → World
 call_of_static P w class desc at values =
-    if all_conform P w (parameters_of desc) values then beginning_if P class (called P w at values w.frames) else fault w
+    if all_conform P w (parameters_of desc) values
+    then beginning_if P class (called P w at values w.frames)
+    else fault w
 
 -- a null receiver is no fault: the machine raises, and calls and begins nothing
 abbrev pub call_on : Program → World → MethodAt → List Value → Value → World
@@ -94,26 +98,34 @@ call_on P w at values receiver = called P w at (receiver ∷ values) w.frames
 abbrev pub call_of_instance : Program → World → Name → List ℕ → MethodAt → List Value → World
 call_of_instance P w class desc at [] = fault w
 call_of_instance P w class desc at (receiver ∷ values) =
-    if all_conform P w (types.Named class ∷ parameters_of desc) (receiver ∷ values) then call_on P w at values receiver else fault w
+    if all_conform P w (types.Named class ∷ parameters_of desc) (receiver ∷ values)
+    then call_on P w at values receiver
+    else fault w
 
 abbrev pub call_by_sort : Program → World → Name → List ℕ → MethodAt → List Value → Bool → World
 call_by_sort P w class desc at values true = call_of_static P w class desc at values
 call_by_sort P w class desc at values false = call_of_instance P w class desc at values
 
-abbrev pub call_of_method : Program → World → Name → List ℕ → MethodAt → List Value → Option RunMethod → World
+abbrev pub call_of_method :
+    Program → World → Name → List ℕ → MethodAt → List Value → Option RunMethod → World
 call_of_method P w class desc at values None = fault w
 call_of_method P w class desc at values (Some method) =
-    if is_some (code_at P at) then call_by_sort P w class desc at values (has method.member.flags STATIC) else fault w
+    if is_some (code_at P at)
+    then call_by_sort P w class desc at values (has method.member.flags STATIC)
+    else fault w
 
 abbrev pub call_at : Program → World → Name → List ℕ → Option MethodAt → Option (List Value) → World
-call_at P w class desc (Some at) (Some values) = call_of_method P w class desc at values (run_method P at)
+call_at P w class desc (Some at) (Some values) =
+    call_of_method P w class desc at values (run_method P at)
 call_at P w class desc at values = fault w
 
 -- a method that the class itself declares
 abbrev pub act_call : Program → World → Name → List ℕ → List ℕ → List Given → World
 act_call P w class name desc values =
     if begins_with_angle name then fault w
-    else call_at P w class desc (place_of_method P (record { class = class; name = name; desc = desc })) (given_values w.known values)
+    else call_at P w class desc
+    (place_of_method P (record { class = class; name = name; desc = desc }))
+    (given_values w.known values)
 
 -- ---- constructions
 
@@ -122,7 +134,11 @@ abbrev pub NEW_INVOKE_SPECIAL : ℕ
 NEW_INVOKE_SPECIAL = 8
 
 abbrev pub is_handled : Program → Name → List ℕ → Bool
-is_handled P class desc = list_any (λ found. list_any (same_constant (Handle NEW_INVOKE_SPECIAL class init desc)) found.handles) P.classes
+is_handled P class desc =
+    list_any
+    (λ found.
+    list_any (same_constant (Handle NEW_INVOKE_SPECIAL class init desc)) found.handles)
+    P.classes
 
 abbrev pub is_concrete : Option Header → Bool
 is_concrete None = false
@@ -137,18 +153,24 @@ with_made reference frames = frames
 abbrev pub constructed : Program → World → Name → MethodAt → List Value → Made → World
 constructed P w class at values made =
     beginning_if P class
-    (called P (record w { memory = with_heap w.memory made.heap }) at (Ref made.reference ∷ values) (with_made made.reference w.frames))
+    (called P (record w { memory = with_heap w.memory made.heap }) at (Ref made.reference ∷ values)
+    (with_made made.reference w.frames))
 
-abbrev pub construct_at : Program → World → Name → List ℕ → Option ℕ → Option MethodAt → Option (List Value) → World
+abbrev pub construct_at :
+    Program → World → Name → List ℕ → Option ℕ → Option MethodAt → Option (List Value) → World
 construct_at P w class desc (Some number) (Some at) (Some values) =
-    if is_some (code_at P at) && (is_concrete (header_named P class) && (is_handled P class desc && all_conform P w (parameters_of desc) values))
+    if is_some (code_at P at)
+    && (is_concrete (header_named P class)
+    && (is_handled P class desc && all_conform P w (parameters_of desc) values))
     then constructed P w class at values (blank_object P w.memory.heap number)
     else fault w
 construct_at P w class desc number at values = fault w
 
 abbrev pub act_construct : Program → World → Name → List ℕ → List Given → World
 act_construct P w class desc values =
-    construct_at P w class desc (folder_number P class) (place_of_method P (record { class = class; name = init; desc = desc })) (given_values w.known values)
+    construct_at P w class desc (folder_number P class)
+    (place_of_method P (record { class = class; name = init; desc = desc }))
+    (given_values w.known values)
 
 -- ---- answers
 
@@ -190,17 +212,22 @@ pub record Waiting : Type 0 where
   pub pending : Pending
 
 abbrev pub waiting_in : Program → List RunFrame → Option Waiting
-waiting_in P (Library made ∷ Method f ∷ rest) = option_map (λ p. record { frame = f; rest = rest; pending = p }) (option_and_then (λ point. pending_of point.op) (point_at P f.at f.place))
+waiting_in P (Library made ∷ Method f ∷ rest) =
+    option_map (λ p. record { frame = f; rest = rest; pending = p })
+    (option_and_then (λ point. pending_of point.op) (point_at P f.at f.place))
 waiting_in P frames = None
 
 -- the frame that waits goes on with these values
 abbrev pub answered : World → Waiting → List Value → World
-answered w waiting values = record w { frames = Method (resumed waiting.frame values) ∷ waiting.rest }
+answered w waiting values =
+    record w { frames = Method (resumed waiting.frame values) ∷ waiting.rest }
 
 -- a value that conforms to the type goes to it, narrowed
 abbrev pub answer_with : Program → World → Waiting → Option FieldType → Option Value → World
 answer_with P w waiting (Some type) (Some value) =
-    if value_conforms P w.memory.heap type value then answered w waiting (narrowed type value ∷ []) else fault w
+    if value_conforms P w.memory.heap type value
+    then answered w waiting (narrowed type value ∷ [])
+    else fault w
 answer_with P w waiting type value = fault w
 
 abbrev pub answer_without : World → Waiting → Option FieldType → World
@@ -210,7 +237,8 @@ answer_without w waiting (Some type) = fault w
 abbrev pub act_return : Program → World → Option Waiting → Option Given → World
 act_return P w None value = fault w
 act_return P w (Some waiting) None = answer_without w waiting waiting.pending.answer
-act_return P w (Some waiting) (Some value) = answer_with P w waiting waiting.pending.answer (given_value w.known value)
+act_return P w (Some waiting) (Some value) =
+    answer_with P w waiting waiting.pending.answer (given_value w.known value)
 
 abbrev pub is_throwable : Program → World → ℕ → Bool
 is_throwable P w reference = of_object (object_at w.memory.heap reference) where
@@ -220,7 +248,9 @@ is_throwable P w reference = of_object (object_at w.memory.heap reference) where
 
 abbrev pub act_throw : Program → World → Option Waiting → Option ℕ → World
 act_throw P w (Some waiting) (Some reference) =
-    if waiting.pending.may_throw && is_throwable P w reference then thrown P w reference (Method waiting.frame ∷ waiting.rest) else fault w
+    if waiting.pending.may_throw && is_throwable P w reference
+    then thrown P w reference (Method waiting.frame ∷ waiting.rest)
+    else fault w
 act_throw P w waiting reference = fault w
 
 -- ---- arrays and objects of the library
@@ -234,7 +264,8 @@ got_of_value P w None = fault w
 got_of_value P w (Some value) = shows_got P w value
 
 abbrev pub got_of_shape : Program → World → List Value → ℤ → Shape → World
-got_of_shape P w values index (Array desc len) = got_of_value P w (option_and_then (slice_get values) (index_in index len))
+got_of_shape P w values index (Array desc len) =
+    got_of_value P w (option_and_then (slice_get values) (index_in index len))
 got_of_shape P w values index shape = fault w
 
 abbrev pub act_array_get : Program → World → Option Object → ℤ → World
@@ -245,15 +276,19 @@ abbrev pub set_at : Program → World → ℕ → FieldType → Value → Option
 set_at P w reference type value None = fault w
 set_at P w reference type value (Some at) =
     if value_conforms P w.memory.heap type value
-    then record w { memory = with_heap w.memory (with_value w.memory.heap reference at (narrowed type value)) }
+    then record w {
+      memory = with_heap w.memory (with_value w.memory.heap reference at (narrowed type value));
+    }
     else fault w
 
 abbrev pub set_of_shape : Program → World → ℕ → ℤ → Value → Shape → World
-set_of_shape P w reference index value (Array desc len) = set_at P w reference (type_of (component_text desc)) value (index_in index len)
+set_of_shape P w reference index value (Array desc len) =
+    set_at P w reference (type_of (component_text desc)) value (index_in index len)
 set_of_shape P w reference index value shape = fault w
 
 abbrev pub act_array_set : Program → World → Option ℕ → Option Object → ℤ → Option Value → World
-act_array_set P w (Some reference) (Some found) index (Some value) = set_of_shape P w reference index value found.shape
+act_array_set P w (Some reference) (Some found) index (Some value) =
+    set_of_shape P w reference index value found.shape
 act_array_set P w reference found index value = fault w
 
 abbrev pub length_of_shape : World → Shape → World
@@ -289,24 +324,30 @@ is_element (letter ∷ rest) = ends_well rest && of_class (class_in (letter ∷ 
 abbrev pub is_array_within : ℕ → List ℕ → Bool
 is_array_within zero text = false
 is_array_within (suc left) [] = false
-is_array_within (suc left) (first ∷ rest) = first == OPENING && (is_element rest || is_array_within left rest)
+is_array_within (suc left) (first ∷ rest) =
+    first == OPENING && (is_element rest || is_array_within left rest)
 
 abbrev pub is_array_descriptor : List ℕ → Bool
 is_array_descriptor text = is_array_within 255 text
 
 -- the library sees what it made
 abbrev pub shows_new : Program → World → Made → World
-shows_new P w made = shows_made P (record w { memory = with_heap w.memory made.heap }) made.reference
+shows_new P w made =
+    shows_made P (record w { memory = with_heap w.memory made.heap }) made.reference
 
 abbrev pub act_new_array : Program → World → Name → ℤ → World
 act_new_array P w desc (negsuc n) = fault w
 act_new_array P w desc (pos count) =
-    if is_array_descriptor desc && nat_le count most_elements then shows_new P w (blank_array w.memory.heap desc count) else fault w
+    if is_array_descriptor desc && nat_le count most_elements
+    then shows_new P w (blank_array w.memory.heap desc count)
+    else fault w
 
 -- a concrete class of the library, and interfaces of both
 abbrev pub act_new_external : Program → World → Name → List Name → World
 act_new_external P w class also =
-    if not (is_some (folder_number P class)) && (is_concrete (header_named P class) && not (list_any (λ name. not (is_interface_named P name)) also))
+    if not (is_some (folder_number P class))
+    && (is_concrete (header_named P class)
+    && not (list_any (λ name. not (is_interface_named P name)) also))
     then shows_new P w (allocated w.memory.heap (External class also) [])
     else fault w
 
@@ -317,10 +358,13 @@ acted P (actions.Call class name desc values) w = act_call P w class name desc v
 acted P (actions.Construct class desc values) w = act_construct P w class desc values
 acted P (actions.Return value) w = act_return P w (waiting_in P w.frames) value
 acted P (actions.Throw number) w = act_throw P w (waiting_in P w.frames) (slice_get w.known number)
-acted P (actions.ArrayGet number index) w = act_array_get P w (known_object w (slice_get w.known number)) index
+acted P (actions.ArrayGet number index) w =
+    act_array_get P w (known_object w (slice_get w.known number)) index
 acted P (actions.ArraySet number index value) w =
-    act_array_set P w (slice_get w.known number) (known_object w (slice_get w.known number)) index (given_value w.known value)
-acted P (actions.ArrayLength number) w = act_array_length w (known_object w (slice_get w.known number))
+    act_array_set P w (slice_get w.known number) (known_object w (slice_get w.known number)) index
+    (given_value w.known value)
+acted P (actions.ArrayLength number) w =
+    act_array_length w (known_object w (slice_get w.known number))
 acted P (actions.NewArray desc count) w = act_new_array P w desc count
 acted P (actions.NewExternal class also) w = act_new_external P w class also
 acted P actions.Stop w = record w { halt = stopped }

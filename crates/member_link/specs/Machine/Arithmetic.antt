@@ -43,7 +43,8 @@ low_bits width number count = cast_signed width (cast_unsigned w64 number % 2 ^ 
 
 -- -1, 0 or 1
 abbrev pub comparison : ℤ → ℤ → ℤ
-comparison one other = if int_lt one other then negsuc 0 else (if int_lt other one then pos 1 else pos 0)
+comparison one other =
+    if int_lt one other then negsuc 0 else (if int_lt other one then pos 1 else pos 0)
 
 -- ---- operations that raise nothing
 
@@ -89,7 +90,8 @@ divide_meanings =
 
 abbrev pub meaning_in : List MeaningRow → ℕ → Option Meaning
 meaning_in [] opcode = None
-meaning_in (first ∷ others) opcode = if first.opcode == opcode then Some first.meaning else meaning_in others opcode
+meaning_in (first ∷ others) opcode =
+    if first.opcode == opcode then Some first.meaning else meaning_in others opcode
 
 -- what an operation gives of its operands, the topmost last; nothing for operands of other kinds
 abbrev pub result_by : Meaning → List Value → Option Value

@@ -26,15 +26,20 @@ most_elements = 1000000
 
 -- an array of a descriptor, of so many elements that are zero or null
 abbrev pub blank_array : Heap → Name → ℕ → Made
-blank_array heap desc count = allocated heap (Array desc count) (replicate count (blank_value (component_text desc)))
+blank_array heap desc count =
+    allocated heap (Array desc count) (replicate count (blank_value (component_text desc)))
 
 abbrev pub gives_array : Memory → Made → Completion
-gives_array memory made = gives (record memory { heap = made.heap; allocations = memory.allocations + 1 }) (Ref made.reference ∷ [])
+gives_array memory made =
+    gives (record memory { heap = made.heap; allocations = memory.allocations + 1 })
+    (Ref made.reference ∷ [])
 
 abbrev pub new_array_work : Memory → Name → List Value → Completion
 new_array_work memory desc (Int (negsuc n) ∷ []) = raises negative_size
 new_array_work memory desc (Int (pos count) ∷ []) =
-    if nat_lt most_elements count then ends array_too_long else gives_array memory (blank_array memory.heap desc count)
+    if nat_lt most_elements count
+    then ends array_too_long
+    else gives_array memory (blank_array memory.heap desc count)
 new_array_work memory desc operands = ends stuck
 
 -- a heap, and the elements that were made in it
@@ -57,7 +62,8 @@ array_with desc count made = allocated made.heap (Array desc count) made.values
 -- An array of arrays to the depth of the counts: its elements are made before it. Behind the last count its elements are zero or null.
 abbrev pub nested : Name → ℕ → List ℕ → Heap → Made
 nested desc count [] heap = blank_array heap desc count
-nested desc count (next ∷ counts) heap = array_with desc count (made_times (nested (component_text desc) next counts) count heap)
+nested desc count (next ∷ counts) heap =
+    array_with desc count (made_times (nested (component_text desc) next counts) count heap)
 
 -- the counts as numbers, if none is negative
 pub data Counts : Type 0 where
@@ -80,7 +86,8 @@ counts_of (value ∷ values) = no_counts
 -- a product of the leading counts is above the most elements
 abbrev pub is_too_long : ℕ → List ℕ → Bool
 is_too_long product [] = false
-is_too_long product (count ∷ counts) = nat_lt most_elements (product * count) || is_too_long (product * count) counts
+is_too_long product (count ∷ counts) =
+    nat_lt most_elements (product * count) || is_too_long (product * count) counts
 
 -- how many arrays are made of these counts
 abbrev pub arrays_made : List ℕ → ℕ
@@ -89,7 +96,9 @@ arrays_made (count ∷ []) = 1
 arrays_made (count ∷ counts) = 1 + count * arrays_made counts
 
 abbrev pub gives_arrays : Memory → ℕ → Made → Completion
-gives_arrays memory count made = gives (record memory { heap = made.heap; allocations = memory.allocations + count }) (Ref made.reference ∷ [])
+gives_arrays memory count made =
+    gives (record memory { heap = made.heap; allocations = memory.allocations + count })
+    (Ref made.reference ∷ [])
 
 abbrev pub arrays_of_counts : Memory → Name → Counts → Completion
 arrays_of_counts memory desc (all_counts []) = ends stuck
@@ -147,13 +156,15 @@ element_of memory number index (Some object) = of_shape object.shape where
   of_index (Some at) = of_value (slice_get object.values at)
 
   of_shape : Shape → Completion
-  of_shape (Array desc len) = if takes_array number desc then of_index (index_in index len) else ends stuck
+  of_shape (Array desc len) =
+      if takes_array number desc then of_index (index_in index len) else ends stuck
   of_shape shape = ends stuck
 
 -- a load by the number of its opcode, counted from iaload; of null each load raises
 abbrev pub load_element_work : Memory → ℕ → List Value → Completion
 load_element_work memory number (Null ∷ Int index ∷ []) = raises null_pointer
-load_element_work memory number (Ref reference ∷ Int index ∷ []) = element_of memory number index (object_at memory.heap reference)
+load_element_work memory number (Ref reference ∷ Int index ∷ []) =
+    element_of memory number index (object_at memory.heap reference)
 load_element_work memory number operands = ends stuck
 
 -- the kind of the values that a store takes
@@ -167,10 +178,11 @@ stores_value number (Ref reference) = number == 4
 
 -- a value is null or an instance of an array's component
 abbrev pub fits_component : Program → Memory → Name → Value → Bool
-fits_component P memory desc (Ref reference) = of_component (component_named (component_text desc)) (object_at memory.heap reference) where
-  of_component : Option Name → Option Object → Bool
-  of_component (Some name) (Some object) = is_instance P object.shape name
-  of_component name object = false
+fits_component P memory desc (Ref reference) =
+    of_component (component_named (component_text desc)) (object_at memory.heap reference) where
+      of_component : Option Name → Option Object → Bool
+      of_component (Some name) (Some object) = is_instance P object.shape name
+      of_component name object = false
 fits_component P memory desc value = true
 
 abbrev pub put_element : Program → Memory → ℕ → ℕ → ℤ → Value → Option Object → Completion
@@ -180,18 +192,24 @@ put_element P memory number reference index value (Some object) = of_shape objec
   of_index desc None = raises index_outside
   of_index desc (Some at) =
       if fits_component P memory desc value
-      then gives (with_heap memory (with_value memory.heap reference at (narrowed (type_of (component_text desc)) value))) []
+      then gives
+      (with_heap memory
+      (with_value memory.heap reference at
+      (narrowed (type_of (component_text desc)) value))) []
       else raises array_store
 
   of_shape : Shape → Completion
-  of_shape (Array desc len) = if takes_array number desc then of_index desc (index_in index len) else ends stuck
+  of_shape (Array desc len) =
+      if takes_array number desc then of_index desc (index_in index len) else ends stuck
   of_shape shape = ends stuck
 
 -- a store by the number of its opcode, counted from iastore
 abbrev pub store_element_work : Program → Memory → ℕ → List Value → Completion
-store_element_work P memory number (array ∷ Int index ∷ value ∷ []) = if stores_value number value then into array else ends stuck where
-  into : Value → Completion
-  into Null = raises null_pointer
-  into (Ref reference) = put_element P memory number reference index value (object_at memory.heap reference)
-  into other = ends stuck
+store_element_work P memory number (array ∷ Int index ∷ value ∷ []) =
+    if stores_value number value then into array else ends stuck where
+      into : Value → Completion
+      into Null = raises null_pointer
+      into (Ref reference) =
+          put_element P memory number reference index value (object_at memory.heap reference)
+      into other = ends stuck
 store_element_work P memory number operands = ends stuck

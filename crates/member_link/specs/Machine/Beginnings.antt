@@ -26,7 +26,9 @@ use Rattle.member_link.specs.Machine.Worlds.{Memory, World, with_heap, with_stat
 abbrev pub with_start : Program → ℕ → Memory → StaticStart → Memory
 with_start P class memory start = of_value start.value where
   keep : Memory → Value → Memory
-  keep memory value = with_static memory class start.field (narrowed (type_of (field_desc P class start.field)) value)
+  keep memory value =
+      with_static memory class start.field
+      (narrowed (type_of (field_desc P class start.field)) value)
 
   of_made : Made → Memory
   of_made made = keep (with_heap memory made.heap) (Ref made.reference)
@@ -37,7 +39,8 @@ with_start P class memory start = of_value start.value where
 
 abbrev pub with_starts : Program → ℕ → Memory → List StaticStart → Memory
 with_starts P class memory [] = memory
-with_starts P class memory (start ∷ starts) = with_starts P class (with_start P class memory start) starts
+with_starts P class memory (start ∷ starts) =
+    with_starts P class (with_start P class memory start) starts
 
 abbrev pub starts_of : Program → ℕ → List StaticStart
 starts_of P class = of_class (slice_get P.classes class) where
@@ -47,11 +50,13 @@ starts_of P class = of_class (slice_get P.classes class) where
 
 -- a class is marked as begun, and its static fields have their constant values
 abbrev pub begun_memory : Program → ℕ → Memory → Memory
-begun_memory P class memory = with_starts P class (record memory { begun = memory.begun ++ class ∷ [] }) (starts_of P class)
+begun_memory P class memory =
+    with_starts P class (record memory { begun = memory.begun ++ class ∷ [] }) (starts_of P class)
 
 -- and its beginning is on top of these frames
 abbrev pub begun_on : Program → ℕ → World → List RunFrame → World
-begun_on P class w frames = record w { memory = begun_memory P class w.memory; frames = Beginning class ∷ frames }
+begun_on P class w frames =
+    record w { memory = begun_memory P class w.memory; frames = Beginning class ∷ frames }
 
 -- ---- the classes that come first
 
@@ -66,40 +71,51 @@ has_defaults (Some header) = list_any is_default header.methods
 -- Interfaces in order, each behind its own superinterfaces; followed at most as many times as there are classes.
 abbrev pub interfaces_up : Program → ℕ → List Name → List Name
 interfaces_up P zero names = []
-interfaces_up P (suc left) names = flat_map (λ name. of_header (interfaces_up P left) name (header_named P name)) names where
-  of_header : (List Name → List Name) → Name → Option Header → List Name
-  of_header above name None = []
-  of_header above name (Some header) = above header.interfaces ++ name ∷ []
+interfaces_up P (suc left) names =
+    flat_map (λ name. of_header (interfaces_up P left) name (header_named P name)) names where
+      of_header : (List Name → List Name) → Name → Option Header → List Name
+      of_header above name None = []
+      of_header above name (Some header) = above header.interfaces ++ name ∷ []
 
 -- the superclass, and then the superinterfaces with such a method; for an interface none
 abbrev pub come_first : Program → Header → List Name
-come_first P header = if is_interface header then [] else supers header.super_name ++ filter (λ name. has_defaults (header_named P name)) (interfaces_up P (length (all_headers (headers_in P))) header.interfaces) where
-  supers : Option Name → List Name
-  supers None = []
-  supers (Some name) = name ∷ []
+come_first P header =
+    if is_interface header
+    then []
+    else supers header.super_name
+    ++ filter (λ name. has_defaults (header_named P name))
+    (interfaces_up P (length (all_headers (headers_in P))) header.interfaces) where
+      supers : Option Name → List Name
+      supers None = []
+      supers (Some name) = name ∷ []
 
 -- the first class of the folder among these that is not begun
 abbrev pub first_unbegun : Program → Memory → List Name → Option ℕ
 first_unbegun P memory [] = None
-first_unbegun P memory (name ∷ names) = of_number (folder_number P name) (first_unbegun P memory names) where
-  of_number : Option ℕ → Option ℕ → Option ℕ
-  of_number None others = others
-  of_number (Some number) others = if is_begun memory number then others else Some number
+first_unbegun P memory (name ∷ names) =
+    of_number (folder_number P name) (first_unbegun P memory names) where
+      of_number : Option ℕ → Option ℕ → Option ℕ
+      of_number None others = others
+      of_number (Some number) others = if is_begun memory number then others else Some number
 
 -- ---- the initialiser
 
 -- the class initialiser of a class, if it has one with code
 abbrev pub initialiser_of : Program → ℕ → Option MethodAt
-initialiser_of P class = option_and_then if_code (place_of_method P (record { class = name_of_class P class; name = clinit; desc = codes "()V" })) where
-  if_code : MethodAt → Option MethodAt
-  if_code at = if is_some (code_at P at) then Some at else None
+initialiser_of P class =
+    option_and_then if_code
+    (place_of_method P
+    (record { class = name_of_class P class; name = clinit; desc = codes "()V" })) where
+      if_code : MethodAt → Option MethodAt
+      if_code at = if is_some (code_at P at) then Some at else None
 
 -- the frame of a method that begins with these local units
 abbrev pub frame_with : Program → MethodAt → List (Option Value) → Option ℕ → MethodState
-frame_with P at units held = record { at = at; place = 0; locals = padded (code_at P at); stack = []; held = held } where
-  padded : Option Code → List (Option Value)
-  padded None = units
-  padded (Some code) = units ++ replicate (code.locals - length units) None
+frame_with P at units held =
+    record { at = at; place = 0; locals = padded (code_at P at); stack = []; held = held } where
+      padded : Option Code → List (Option Value)
+      padded None = units
+      padded (Some code) = units ++ replicate (code.locals - length units) None
 
 -- the initialiser takes the place of the beginning; without one the beginning is over
 abbrev pub initialised : Program → World → List RunFrame → Option MethodAt → World
@@ -113,7 +129,8 @@ begun_next P class w rest None = initialised P w rest (initialiser_of P class)
 
 abbrev pub beginning_of : Program → ℕ → World → List RunFrame → Option RunClass → World
 beginning_of P class w rest None = record w { halt = stuck }
-beginning_of P class w rest (Some found) = begun_next P class w rest (first_unbegun P w.memory (come_first P found.header))
+beginning_of P class w rest (Some found) =
+    begun_next P class w rest (first_unbegun P w.memory (come_first P found.header))
 
 -- one step of a beginning
 abbrev pub beginning_step : Program → ℕ → World → List RunFrame → World

@@ -24,7 +24,10 @@ use Rattle.member_link.specs.Scope.{scope_of}
 -- the first attribute that is a ConstantValue, as the constant that it names
 abbrev pub constant_of : Constants → List Attr → Option Const
 constant_of pool [] = None
-constant_of pool (attr ∷ attrs) = if is_named pool constant_value attr then constant_at pool (u2_in (raw_content attr) 0) else constant_of pool attrs
+constant_of pool (attr ∷ attrs) =
+    if is_named pool constant_value attr
+    then constant_at pool (u2_in (raw_content attr) 0)
+    else constant_of pool attrs
 
 abbrev pub start_of : Constants → Option Const → Option StartValue
 start_of pool (Some (consts.Integer number)) = Some (start_value (values.Int number))
@@ -38,7 +41,8 @@ start_of pool constant = None
 abbrev pub starts_from : Constants → ℕ → List Field → List StaticStart
 starts_from pool number [] = []
 starts_from pool number (field ∷ fields) =
-    start_in (if has field.flags STATIC then start_of pool (constant_of pool field.attrs) else None) ++ starts_from pool (suc number) fields
+    start_in (if has field.flags STATIC then start_of pool (constant_of pool field.attrs) else None)
+    ++ starts_from pool (suc number) fields
   where
     start_in : Option StartValue → List StaticStart
     start_in None = []

@@ -49,17 +49,23 @@ or_meaningless (Some op) = op
 
 -- the method handle of a kind, by what it refers to (4.4.8)
 abbrev pub handle_of : Constants → ℕ → ℕ → Option Constant
-handle_of pool kind index = option_map (λ r. objects.Handle kind r.class r.name r.desc) (reference_of pool (constant_at pool index))
+handle_of pool kind index =
+    option_map (λ r. objects.Handle kind r.class r.name r.desc)
+    (reference_of pool (constant_at pool index))
 
 abbrev pub constant_op : Constants → Option PoolConst → Op
 constant_op pool (Some (consts.Integer number)) = push_value (values.Int number)
 constant_op pool (Some (consts.Long number)) = push_value (values.Long number)
 constant_op pool (Some (consts.Float bits)) = push_value (values.Float bits)
 constant_op pool (Some (consts.Double bits)) = push_value (values.Double bits)
-constant_op pool (Some (consts.String text)) = or_meaningless (option_map (λ t. push_constant (objects.Str t)) (utf8_at pool text))
-constant_op pool (Some (consts.Class name)) = or_meaningless (option_map (λ t. push_constant (objects.Class t)) (utf8_at pool name))
-constant_op pool (Some (consts.MethodType desc)) = or_meaningless (option_map (λ t. push_constant (objects.MethodType t)) (utf8_at pool desc))
-constant_op pool (Some (consts.MethodHandle kind reference)) = or_meaningless (option_map push_constant (handle_of pool kind reference))
+constant_op pool (Some (consts.String text)) =
+    or_meaningless (option_map (λ t. push_constant (objects.Str t)) (utf8_at pool text))
+constant_op pool (Some (consts.Class name)) =
+    or_meaningless (option_map (λ t. push_constant (objects.Class t)) (utf8_at pool name))
+constant_op pool (Some (consts.MethodType desc)) =
+    or_meaningless (option_map (λ t. push_constant (objects.MethodType t)) (utf8_at pool desc))
+constant_op pool (Some (consts.MethodHandle kind reference)) =
+    or_meaningless (option_map push_constant (handle_of pool kind reference))
 constant_op pool constant = meaningless
 
 -- ---- operations
@@ -69,7 +75,8 @@ abbrev pub if_between : ℕ → ℕ → ℕ → Op → Op
 if_between low high opcode op = if nat_le low opcode && nat_le opcode high then op else meaningless
 
 abbrev pub referring : RowScope → ℕ → (Reference → Op) → Op
-referring s index op = or_meaningless (option_map op (reference_of s.pool (constant_at s.pool index)))
+referring s index op =
+    or_meaningless (option_map op (reference_of s.pool (constant_at s.pool index)))
 
 abbrev pub naming : Option Name → (Name → Op) → Op
 naming name op = or_meaningless (option_map op name)
@@ -88,7 +95,8 @@ same_kind one other = false
 
 abbrev pub return_op : Option FieldType → Option Kind → Op
 return_op None None = return_nothing
-return_op (Some type) (Some kind) = if same_kind (kind_of type) kind then return_value type else meaningless
+return_op (Some type) (Some kind) =
+    if same_kind (kind_of type) kind then return_value type else meaningless
 return_op result kind = meaningless
 
 -- The class at which the selection of a special call starts: the current class's superclass where the named class is no interface and is
@@ -105,7 +113,10 @@ special_start links s named = of_header (class_named s.headers named) where
 
   of_header : Option Header → Name
   of_header None = named
-  of_header (Some header) = of_class (not (is_interface header) && (links.below s.own.name named && not (bytes_eq s.own.name named)))
+  of_header (Some header) =
+      of_class
+      (not (is_interface header)
+      && (links.below s.own.name named && not (bytes_eq s.own.name named)))
 
 -- invokevirtual, invokespecial, invokestatic and invokeinterface
 abbrev pub call_op : Links → RowScope → ℕ → Reference → Op
@@ -117,10 +128,11 @@ call_op links s opcode r =
     else meaningless)))
 
 abbrev pub dynamic_op : RowScope → Option PoolConst → Op
-dynamic_op s (Some (consts.InvokeDynamic bootstrap member)) = of_parts (name_at s.pool member) (descriptor_at s.pool member) where
-  of_parts : Option (List ℕ) → Option (List ℕ) → Op
-  of_parts (Some name) (Some desc) = call_dynamic s.own.name bootstrap name desc
-  of_parts name desc = meaningless
+dynamic_op s (Some (consts.InvokeDynamic bootstrap member)) =
+    of_parts (name_at s.pool member) (descriptor_at s.pool member) where
+      of_parts : Option (List ℕ) → Option (List ℕ) → Op
+      of_parts (Some name) (Some desc) = call_dynamic s.own.name bootstrap name desc
+      of_parts name desc = meaningless
 dynamic_op s constant = meaningless
 
 -- an instruction; the first function gives the number of the point at a place to which it jumps
@@ -133,29 +145,40 @@ instr_op links number s (Load kind local) = load_local kind local
 instr_op links number s (Store kind local) = store_local kind local
 instr_op links number s (Iinc local by) = increment_local local by
 instr_op links number s (ArrayLoad opcode) = if_between IALOAD SALOAD opcode (load_element opcode)
-instr_op links number s (ArrayStore opcode) = if_between IASTORE SASTORE opcode (store_element opcode)
+instr_op links number s (ArrayStore opcode) =
+    if_between IASTORE SASTORE opcode (store_element opcode)
 instr_op links number s (Shuffle opcode) = shuffle_stack opcode
 instr_op links number s (Pure opcode) = pure_arithmetic opcode
 instr_op links number s (Divide opcode) = division opcode
 instr_op links number s (FloatAsk opcode) = float_arithmetic opcode
-instr_op links number s (If opcode target) = if_between IFEQ IFLE opcode (jump_by_int opcode (number target))
-instr_op links number s (If2 opcode target) = if_between IF_ICMPEQ IF_ICMPLE opcode (jump_by_ints opcode (number target))
-instr_op links number s (IfSame opcode target) = if_between IF_ACMPEQ IF_ACMPNE opcode (jump_by_references opcode (number target))
-instr_op links number s (IfNull opcode target) = if_between IFNULL IFNONNULL opcode (jump_by_null opcode (number target))
+instr_op links number s (If opcode target) =
+    if_between IFEQ IFLE opcode (jump_by_int opcode (number target))
+instr_op links number s (If2 opcode target) =
+    if_between IF_ICMPEQ IF_ICMPLE opcode (jump_by_ints opcode (number target))
+instr_op links number s (IfSame opcode target) =
+    if_between IF_ACMPEQ IF_ACMPNE opcode (jump_by_references opcode (number target))
+instr_op links number s (IfNull opcode target) =
+    if_between IFNULL IFNONNULL opcode (jump_by_null opcode (number target))
 instr_op links number s (Goto target) = jump_to (number target)
-instr_op links number s (Table low other targets) = table_switch low (number other) (map number targets)
-instr_op links number s (Lookup other pairs) = lookup_switch (number other) (map (λ pair. record { key = pair.key; to = number pair.to }) pairs)
+instr_op links number s (Table low other targets) =
+    table_switch low (number other) (map number targets)
+instr_op links number s (Lookup other pairs) =
+    lookup_switch (number other)
+    (map (λ pair. record { key = pair.key; to = number pair.to }) pairs)
 instr_op links number s (Return kind) = return_op s.result kind
 instr_op links number s (GetStatic index) = referring s index get_static
-instr_op links number s (PutStatic index) = referring s index (λ r. put_static r (initialises s.is_clinit s.own))
+instr_op links number s (PutStatic index) =
+    referring s index (λ r. put_static r (initialises s.is_clinit s.own))
 instr_op links number s (GetField index) = referring s index get_field
-instr_op links number s (PutField index) = referring s index (λ r. put_field r (initialises s.is_init s.own))
+instr_op links number s (PutField index) =
+    referring s index (λ r. put_field r (initialises s.is_init s.own))
 instr_op links number s (Invoke opcode index count) = referring s index (call_op links s opcode)
 instr_op links number s (Dynamic index) = dynamic_op s (constant_at s.pool index)
 instr_op links number s (New index) = naming (class_at s.pool index) new_object
 instr_op links number s (NewArray code) = naming (primitive_array code) new_array
 instr_op links number s (NewRefArray index) = naming (array_of (class_at s.pool index)) new_array
-instr_op links number s (NewMulti index dimensions) = naming (class_at s.pool index) (λ name. new_arrays name dimensions)
+instr_op links number s (NewMulti index dimensions) =
+    naming (class_at s.pool index) (λ name. new_arrays name dimensions)
 instr_op links number s Length = array_length
 instr_op links number s Throw = throw_reference
 instr_op links number s (Cast index) = naming (class_at s.pool index) check_cast
@@ -189,7 +212,11 @@ run_code links locals points = record { locals = locals; points = map point_of p
   catch_of catch = record catch { to = number_at points catch.to }
 
   point_of : CodePoint → Point
-  point_of point = record { op = item_op links (number_at points) point.scope point.item; catches = map catch_of point.catches }
+  point_of point =
+      record {
+        op = item_op links (number_at points) point.scope point.item;
+        catches = map catch_of point.catches;
+      }
 
 -- ---- the code of a class file's method
 
@@ -200,13 +227,17 @@ covers handler at = nat_le handler.start at && nat_lt at handler.end
 -- A handler of catch type 0 catches everything. A catch type that names no class, which a class file that was read never has, catches
 -- nothing.
 abbrev pub catch_in : Constants → Handler → List Catch
-catch_in pool handler = if handler.catch_type == 0 then record { to = handler.at; class = None } ∷ [] else of_class (class_at pool handler.catch_type) where
-  of_class : Option Name → List Catch
-  of_class None = []
-  of_class (Some name) = record { to = handler.at; class = Some name } ∷ []
+catch_in pool handler =
+    if handler.catch_type == 0
+    then record { to = handler.at; class = None } ∷ []
+    else of_class (class_at pool handler.catch_type) where
+      of_class : Option Name → List Catch
+      of_class None = []
+      of_class (Some name) = record { to = handler.at; class = Some name } ∷ []
 
 abbrev pub catches_at : Constants → List Handler → ℕ → List Catch
-catches_at pool handlers at = flat_map (λ handler. if covers handler at then catch_in pool handler else []) handlers
+catches_at pool handlers at =
+    flat_map (λ handler. if covers handler at then catch_in pool handler else []) handlers
 
 abbrev pub code_points : Scope → List CodePoint
 code_points s = map point_of (instructions s) where

@@ -29,14 +29,16 @@ begun_first P memory class otherwise = of_number (folder_number P class) where
 
 -- a store into a final field outside an initialiser of the class that declares it; of a class of the library always
 abbrev pub is_barred : Program → Reference → Option Name → Bool
-is_barred P field initialises = has_flag (field_of P field) FINAL && not (is_inside initialises) where
-  is_inside : Option Name → Bool
-  is_inside None = false
-  is_inside (Some class) = bytes_eq class field.class
+is_barred P field initialises =
+    has_flag (field_of P field) FINAL && not (is_inside initialises) where
+      is_inside : Option Name → Bool
+      is_inside None = false
+      is_inside (Some class) = bytes_eq class field.class
 
 -- a value of another kind than the field is no operand of a store
 abbrev pub if_fits : Reference → Value → Completion → Completion
-if_fits field value completion = if has_kind (kind_of (type_of field.desc)) value then completion else ends stuck
+if_fits field value completion =
+    if has_kind (kind_of (type_of field.desc)) value then completion else ends stuck
 
 -- ---- static fields
 
@@ -66,7 +68,8 @@ put_static_value P memory field value (Some class) = of_number (static_number P 
 abbrev pub put_static_begun : Program → Memory → Reference → Option Name → Value → Completion
 put_static_begun P memory field initialises value =
     if is_barred P field initialises then raises illegal_access
-    else put_static_value P memory field (narrowed (type_of field.desc) value) (folder_number P field.class)
+    else put_static_value P memory field (narrowed (type_of field.desc) value)
+    (folder_number P field.class)
 
 abbrev pub get_static_work : Program → Memory → Option Reference → Completion
 get_static_work P memory None = ends stuck
@@ -75,10 +78,12 @@ get_static_work P memory (Some field) =
     then begun_first P memory field.class (got_static P memory field (folder_number P field.class))
     else ends stuck
 
-abbrev pub put_static_work : Program → Memory → Option Reference → Option Name → List Value → Completion
+abbrev pub put_static_work :
+    Program → Memory → Option Reference → Option Name → List Value → Completion
 put_static_work P memory (Some field) initialises (value ∷ []) =
     if has_flag (field_of P field) STATIC
-    then if_fits field value (begun_first P memory field.class (put_static_begun P memory field initialises value))
+    then if_fits field value
+    (begun_first P memory field.class (put_static_begun P memory field initialises value))
     else ends stuck
 put_static_work P memory field initialises operands = ends stuck
 
@@ -105,7 +110,8 @@ put_field_value P memory field reference value None = ends stuck
 put_field_value P memory field reference value (Some object) = of_shape object.shape where
   of_number : Option ℕ → Completion
   of_number None = ends stuck
-  of_number (Some number) = gives (with_heap memory (with_value memory.heap reference number value)) []
+  of_number (Some number) =
+      gives (with_heap memory (with_value memory.heap reference number value)) []
 
   of_shape : Shape → Completion
   of_shape (shapes.Folder class) = of_number (slot_number P (name_of_class P class) field)
@@ -114,15 +120,18 @@ put_field_value P memory field reference value (Some object) = of_shape object.s
 -- by the class of the folder that declares it, if one does
 abbrev pub get_from : Program → Memory → Reference → ℕ → Option ℕ → Completion
 get_from P memory field reference None = asks (asks_get field (Some (Ref reference)))
-get_from P memory field reference (Some class) = got_field P memory field (object_at memory.heap reference)
+get_from P memory field reference (Some class) =
+    got_field P memory field (object_at memory.heap reference)
 
 abbrev pub put_into : Program → Memory → Reference → ℕ → Value → Option ℕ → Completion
 put_into P memory field reference value None = asks (asks_put field (Some (Ref reference)) value)
-put_into P memory field reference value (Some class) = put_field_value P memory field reference value (object_at memory.heap reference)
+put_into P memory field reference value (Some class) =
+    put_field_value P memory field reference value (object_at memory.heap reference)
 
 -- a field, found by a reference through a class to which the receiver conforms
 abbrev pub get_field_work : Program → Memory → Name → Option Reference → List Value → Completion
-get_field_work P memory named (Some field) (Null ∷ []) = if has_flag (field_of P field) STATIC then ends stuck else raises null_pointer
+get_field_work P memory named (Some field) (Null ∷ []) =
+    if has_flag (field_of P field) STATIC then ends stuck else raises null_pointer
 get_field_work P memory named (Some field) (Ref reference ∷ []) =
     if not (has_flag (field_of P field) STATIC) && reference_conforms P memory.heap reference named
     then get_from P memory field reference (folder_number P field.class)
@@ -134,15 +143,20 @@ abbrev pub put_field_in : Program → Memory → Name → Reference → Value �
 put_field_in P memory named field Null value = raises null_pointer
 put_field_in P memory named field (Ref reference) value =
     if reference_conforms P memory.heap reference named
-    then put_into P memory field reference (narrowed (type_of field.desc) value) (folder_number P field.class)
+    then put_into P memory field reference (narrowed (type_of field.desc) value)
+    (folder_number P field.class)
     else ends stuck
 put_field_in P memory named field other value = ends stuck
 
-abbrev pub put_field_tested : Program → Memory → Name → Reference → Option Name → Value → Value → Completion
+abbrev pub put_field_tested :
+    Program → Memory → Name → Reference → Option Name → Value → Value → Completion
 put_field_tested P memory named field initialises receiver value =
-    if is_barred P field initialises then raises illegal_access else put_field_in P memory named field receiver value
+    if is_barred P field initialises
+    then raises illegal_access
+    else put_field_in P memory named field receiver value
 
-abbrev pub put_field_work : Program → Memory → Name → Option Reference → Option Name → List Value → Completion
+abbrev pub put_field_work :
+    Program → Memory → Name → Option Reference → Option Name → List Value → Completion
 put_field_work P memory named (Some field) initialises (receiver ∷ value ∷ []) =
     if has_flag (field_of P field) STATIC then ends stuck
     else if_fits field value (put_field_tested P memory named field initialises receiver value)

@@ -29,7 +29,8 @@ abbrev pub object_at : Heap → ℕ → Option Object
 object_at heap reference = slice_get heap.objects reference
 
 abbrev pub with_object : Heap → ℕ → Object → Heap
-with_object heap reference object = record heap { objects = slice_set heap.objects reference object }
+with_object heap reference object =
+    record heap { objects = slice_set heap.objects reference object }
 
 -- a new object, whose monitor is not entered
 abbrev pub allocated : Heap → Shape → List Value → Made
@@ -43,7 +44,8 @@ abbrev pub with_value : Heap → ℕ → ℕ → Value → Heap
 with_value heap reference index value = of_object (object_at heap reference) where
   of_object : Option Object → Heap
   of_object None = heap
-  of_object (Some object) = with_object heap reference (record object { values = slice_set object.values index value })
+  of_object (Some object) =
+      with_object heap reference (record object { values = slice_set object.values index value })
 
 -- ---- monitors
 
@@ -85,12 +87,14 @@ class_of_constant (Handle kind class name desc) = method_handle
 
 abbrev pub kept_in : List Kept → Constant → Option ℕ
 kept_in [] constant = None
-kept_in (first ∷ others) constant = if same_constant first.constant constant then Some first.reference else kept_in others constant
+kept_in (first ∷ others) constant =
+    if same_constant first.constant constant then Some first.reference else kept_in others constant
 
 -- the constant that a reference is, if it is one
 abbrev pub constant_in : List Kept → ℕ → Option Constant
 constant_in [] reference = None
-constant_in (first ∷ others) reference = if first.reference == reference then Some first.constant else constant_in others reference
+constant_in (first ∷ others) reference =
+    if first.reference == reference then Some first.constant else constant_in others reference
 
 -- an object of the library
 abbrev pub external : Heap → Name → Made
@@ -100,7 +104,13 @@ external heap class = allocated heap (External class []) []
 abbrev pub constant_made : Heap → Constant → Made
 constant_made heap constant = of_kept (kept_in heap.constants constant) where
   keeping : Made → Made
-  keeping made = record made { heap = record made.heap { constants = heap.constants ++ record { constant = constant; reference = made.reference } ∷ [] } }
+  keeping made =
+      record made {
+        heap = record made.heap {
+          constants = heap.constants ++ record { constant = constant; reference = made.reference }
+              ∷ [];
+        };
+      }
 
   of_kept : Option ℕ → Made
   of_kept (Some reference) = record { heap = heap; reference = reference }

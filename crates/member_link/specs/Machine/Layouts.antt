@@ -13,10 +13,11 @@ use Rattle.member_link.specs.References.{Reference}
 abbrev pub classes_up : Program → ℕ → Option Name → List Name
 classes_up P zero name = []
 classes_up P (suc left) None = []
-classes_up P (suc left) (Some name) = name ∷ classes_up P left (super_of (header_named P name)) where
-  super_of : Option Header → Option Name
-  super_of None = None
-  super_of (Some header) = header.super_name
+classes_up P (suc left) (Some name) =
+    name ∷ classes_up P left (super_of (header_named P name)) where
+      super_of : Option Header → Option Name
+      super_of None = None
+      super_of (Some header) = header.super_name
 
 abbrev pub superclasses : Program → Name → List Name
 superclasses P name = classes_up P (length (all_headers (headers_in P))) (Some name)
@@ -24,7 +25,8 @@ superclasses P name = classes_up P (length (all_headers (headers_in P))) (Some n
 -- an instance field of a class
 abbrev pub slots_of_class : Name → List Member → List Reference
 slots_of_class class fields =
-    map (λ field. record { class = class; name = field.name; desc = field.desc }) (filter (λ field. not (has field.flags STATIC)) fields)
+    map (λ field. record { class = class; name = field.name; desc = field.desc })
+    (filter (λ field. not (has field.flags STATIC)) fields)
 
 -- the instance fields that a class of the folder declares; those of a library's class are the library's
 abbrev pub own_slots : Program → Name → List Reference

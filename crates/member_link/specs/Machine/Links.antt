@@ -14,7 +14,8 @@ use Rattle.member_link.specs.declared.selection.CallForm.{CallForm}
 
 -- a declared member as a reference names it
 abbrev pub reference_to : Declared → Reference
-reference_to found = record { class = found.class; name = found.member.name; desc = found.member.desc }
+reference_to found =
+    record { class = found.class; name = found.member.name; desc = found.member.desc }
 
 abbrev pub chosen_by : Choice → Chosen
 chosen_by (chosen_method method) = chosen (reference_to method)
@@ -29,7 +30,9 @@ pub record IsLink (Finds : Option Declared → Type 0) (link : Option Reference)
   pub same : link ≡ option_map reference_to found
 
 -- what a selection chooses
-pub record IsChoiceLink (headers : Headers) (receiver : Name) (method : Declared) (form : CallForm) (link : Chosen) : Type 0 where
+pub record IsChoiceLink (headers : Headers) (receiver : Name) (method : Declared) (form : CallForm)
+    (link : Chosen)
+    : Type 0 where
   pub choice : Choice
   pub selects : Selects headers receiver method form choice
   pub same : link ≡ chosen_by choice
@@ -37,12 +40,23 @@ pub record IsChoiceLink (headers : Headers) (receiver : Name) (method : Declared
 -- by the method that is declared there, if one is
 abbrev pub IsSelection : Headers → Name → CallForm → Option Declared → Chosen → Type 0
 IsSelection headers receiver form None link = link ≡ abstract_method
-IsSelection headers receiver form (Some method) link = IsChoiceLink headers receiver method form link
+IsSelection headers receiver form (Some method) link =
+    IsChoiceLink headers receiver method form link
 
 pub record AreLinksOf (headers : Headers) (links : Links) : Type 0 where
   pub below : (low high : Name) → IsTrue (links.below low high) ↔ IsSubtype headers low high
   pub field : (r : Reference) → IsLink (FindsField headers r.class r.name r.desc) (links.field r)
-  pub method : (r : Reference) → r.name ≢ init → IsLink (FindsMethod headers r.class r.name r.desc) (links.method r)
+  pub method :
+      (r : Reference)
+      → r.name ≢ init
+      → IsLink (FindsMethod headers r.class r.name r.desc) (links.method r)
   pub initialiser : (r : Reference) → r.name ≡ init → links.method r ≡ None
-  pub select : (receiver : Name) (r : Reference) (form : CallForm) → r.name ≢ init → IsSelection headers receiver form (own_method headers r.class r.name r.desc) (links.select receiver r form)
-  pub no_initialiser : (receiver : Name) (r : Reference) (form : CallForm) → r.name ≡ init → links.select receiver r form ≡ abstract_method
+  pub select :
+      (receiver : Name) (r : Reference) (form : CallForm)
+      → r.name ≢ init
+      → IsSelection headers receiver form (own_method headers r.class r.name r.desc)
+      (links.select receiver r form)
+  pub no_initialiser :
+      (receiver : Name) (r : Reference) (form : CallForm)
+      → r.name ≡ init
+      → links.select receiver r form ≡ abstract_method

@@ -43,9 +43,12 @@ width_of value = if is_wide_value value then 2 else 1
 
 -- a value is stored, if its units are there
 abbrev pub stored : ℕ → Value → List (Option Value) → Option (List (Option Value))
-stored at value locals = if nat_le (at + width_of value) (length locals) then Some (second (slice_set (cut_before at locals) at (Some value))) else None where
-  second : List (Option Value) → List (Option Value)
-  second units = if is_wide_value value then slice_set units (at + 1) None else units
+stored at value locals =
+    if nat_le (at + width_of value) (length locals)
+    then Some (second (slice_set (cut_before at locals) at (Some value)))
+    else None where
+      second : List (Option Value) → List (Option Value)
+      second units = if is_wide_value value then slice_set units (at + 1) None else units
 
 abbrev pub incremented : ℤ → Value → Value
 incremented by (Int number) = Int (int_wrapping_add w32 number by)
@@ -69,7 +72,10 @@ topmost count stack = reverse (take count stack)
 -- the form of an instruction that the topmost values have
 abbrev pub form_for : List Form → List Value → Option Form
 form_for [] stack = None
-form_for (form ∷ forms) stack = if fit_widths form.takes (topmost (length form.takes) stack) then Some form else form_for forms stack
+form_for (form ∷ forms) stack =
+    if fit_widths form.takes (topmost (length form.takes) stack)
+    then Some form
+    else form_for forms stack
 
 abbrev pub chosen_values : List Value → List ℕ → List Value
 chosen_values values numbers = flat_map (λ number. entry (slice_get values number)) numbers where
@@ -81,7 +87,9 @@ chosen_values values numbers = flat_map (λ number. entry (slice_get values numb
 abbrev pub shuffled : ℕ → List Value → Option (List Value)
 shuffled opcode stack = option_map by_form (form_for (forms_of opcode) stack) where
   by_form : Form → List Value
-  by_form form = reverse (chosen_values (topmost (length form.takes) stack) form.gives) ++ drop (length form.takes) stack
+  by_form form =
+      reverse (chosen_values (topmost (length form.takes) stack) form.gives)
+      ++ drop (length form.takes) stack
 
 -- ---- where control goes on
 
@@ -100,7 +108,8 @@ jump_of_int opcode stack = None
 
 -- if_icmpeq, ne, lt, ge, gt, le
 abbrev pub jump_of_ints : ℕ → List Value → Jump
-jump_of_ints opcode (Int other ∷ Int one ∷ rest) = with_rest rest (holds_for (opcode - IF_ICMPEQ) one other)
+jump_of_ints opcode (Int other ∷ Int one ∷ rest) =
+    with_rest rest (holds_for (opcode - IF_ICMPEQ) one other)
 jump_of_ints opcode stack = None
 
 abbrev pub same_references : Value → Value → Option Bool
@@ -112,7 +121,10 @@ same_references one other = None
 
 -- if_acmpeq, if_acmpne
 abbrev pub jump_of_references : ℕ → List Value → Jump
-jump_of_references opcode (other ∷ one ∷ rest) = with_rest rest (option_map (λ same. if opcode == IF_ACMPEQ then same else not same) (same_references one other))
+jump_of_references opcode (other ∷ one ∷ rest) =
+    with_rest rest
+    (option_map (λ same. if opcode == IF_ACMPEQ then same else not same)
+    (same_references one other))
 jump_of_references opcode stack = None
 
 -- ifnull, ifnonnull
@@ -123,12 +135,16 @@ jump_of_null opcode stack = None
 
 -- the target of a tableswitch for a key: those from low on, else the default
 abbrev pub table_target : ℤ → ℕ → List ℕ → ℤ → ℕ
-table_target low other targets key = if int_lt key low then other else of_target (slice_get targets (int_gap low key)) where
-  of_target : Option ℕ → ℕ
-  of_target None = other
-  of_target (Some to) = to
+table_target low other targets key =
+    if int_lt key low then other else of_target (slice_get targets (int_gap low key)) where
+      of_target : Option ℕ → ℕ
+      of_target None = other
+      of_target (Some to) = to
 
 -- the target of a lookupswitch for a key
 abbrev pub lookup_target : ℕ → List Pair → ℤ → ℕ
 lookup_target other [] key = other
-lookup_target other (pair ∷ pairs) key = if (if int_lt key pair.key then false else not (int_lt pair.key key)) then pair.to else lookup_target other pairs key
+lookup_target other (pair ∷ pairs) key =
+    if (if int_lt key pair.key then false else not (int_lt pair.key key))
+    then pair.to
+    else lookup_target other pairs key

@@ -51,7 +51,8 @@ pub record Locked : Type 0 where
   pub held : Option ℕ
 
 abbrev pub locked_on : Memory → ℕ → Locked
-locked_on memory reference = record { memory = with_entered memory reference; held = Some reference }
+locked_on memory reference =
+    record { memory = with_entered memory reference; held = Some reference }
 
 abbrev pub locked_on_made : Memory → Made → Locked
 locked_on_made memory made = locked_on (with_heap memory made.heap) made.reference
@@ -59,15 +60,21 @@ locked_on_made memory made = locked_on (with_heap memory made.heap) made.referen
 -- a static method enters the monitor of its class, which is a constant
 abbrev pub locked_by : Memory → Name → Locking → List Value → Locked
 locked_by memory class receiver_lock (Ref reference ∷ others) = locked_on memory reference
-locked_by memory class class_lock values = locked_on_made memory (constant_made memory.heap (Class class))
+locked_by memory class class_lock values =
+    locked_on_made memory (constant_made memory.heap (Class class))
 locked_by memory class locking values = record { memory = memory; held = None }
 
 abbrev pub locked : Program → Memory → MethodAt → List Value → Locked
-locked P memory at values = locked_by memory (name_of_class P at.class) (locking_of (run_method P at)) values
+locked P memory at values =
+    locked_by memory (name_of_class P at.class) (locking_of (run_method P at)) values
 
 -- the frame of a called method on top of others
 abbrev pub with_frame : Program → World → MethodAt → List Value → List RunFrame → Locked → World
-with_frame P w at values rest l = record w { memory = l.memory; frames = Method (frame_with P at (units_of_values values) l.held) ∷ rest }
+with_frame P w at values rest l =
+    record w {
+      memory = l.memory;
+      frames = Method (frame_with P at (units_of_values values) l.held) ∷ rest;
+    }
 
 abbrev pub called : Program → World → MethodAt → List Value → List RunFrame → World
 called P w at values rest = with_frame P w at values rest (locked P w.memory at values)
@@ -98,13 +105,17 @@ abbrev pub returned_to : Program → World → Option ℕ → List Value → Lis
 returned_to P w held values (Method waiting ∷ others) =
     record w { memory = unlocked w.memory held; frames = Method (resumed waiting values) ∷ others }
 returned_to P w held values (Library made ∷ others) =
-    shows_result P (record w { memory = unlocked w.memory held; frames = Library None ∷ others }) (result_seen made values)
+    shows_result P (record w { memory = unlocked w.memory held; frames = Library None ∷ others })
+    (result_seen made values)
 returned_to P w held values others = record w { halt = stuck }
 
-abbrev pub returned_by : Program → World → Option ℕ → List RunFrame → List Value → Option RunMethod → World
+abbrev pub returned_by :
+    Program → World → Option ℕ → List RunFrame → List Value → Option RunMethod → World
 returned_by P w held rest values None = record w { halt = stuck }
 returned_by P w held rest values (Some method) =
-    if is_initialiser method then record w { memory = unlocked w.memory held; frames = rest } else returned_to P w held values rest
+    if is_initialiser method
+    then record w { memory = unlocked w.memory held; frames = rest }
+    else returned_to P w held values rest
 
 abbrev pub returned : Program → World → MethodState → List RunFrame → List Value → World
 returned P w f rest values = returned_by P w f.held rest values (run_method P f.at)
@@ -114,11 +125,14 @@ returned P w f rest values = returned_by P w f.held rest values (run_method P f.
 -- the first handler around a point that catches an object
 abbrev pub handler_for : Program → Heap → List Catch → ℕ → Option ℕ
 handler_for P heap [] reference = None
-handler_for P heap (first ∷ others) reference = if catches first.class (object_at heap reference) then Some first.to else handler_for P heap others reference where
-  catches : Option Name → Option Object → Bool
-  catches None object = true
-  catches (Some name) None = false
-  catches (Some name) (Some object) = is_instance P object.shape name
+handler_for P heap (first ∷ others) reference =
+    if catches first.class (object_at heap reference)
+    then Some first.to
+    else handler_for P heap others reference where
+      catches : Option Name → Option Object → Bool
+      catches None object = true
+      catches (Some name) None = false
+      catches (Some name) (Some object) = is_instance P object.shape name
 
 abbrev pub handler_at : Program → Heap → Option Point → ℕ → Option ℕ
 handler_at P heap None reference = None
@@ -132,13 +146,17 @@ pub data Landing : Type 0 where
   lands_nowhere : Landing
 
 -- past a method without a handler: its monitor is left, and the next frame is looked at
-abbrev pub past_method : Option ℕ → List RunFrame → Option RunMethod → (Memory → Landing) → Memory → Landing
+abbrev pub past_method :
+    Option ℕ → List RunFrame → Option RunMethod → (Memory → Landing) → Memory → Landing
 past_method held rest None next memory = lands_nowhere
 past_method held rest (Some method) next memory =
     if is_initialiser method then leaves_initialiser memory rest else next (unlocked memory held)
 
-abbrev pub past_handler : ℕ → MethodState → List RunFrame → Option RunMethod → (Memory → Landing) → Memory → Option ℕ → Landing
-past_handler reference f rest method next memory (Some to) = lands_in memory (Method (record f { place = to; stack = Ref reference ∷ [] }) ∷ rest)
+abbrev pub past_handler :
+    ℕ → MethodState → List RunFrame → Option RunMethod → (Memory → Landing) → Memory → Option ℕ
+    → Landing
+past_handler reference f rest method next memory (Some to) =
+    lands_in memory (Method (record f { place = to; stack = Ref reference ∷ [] }) ∷ rest)
 past_handler reference f rest method next memory None = past_method f.held rest method next memory
 
 -- Frame by frame from the top: to the handler of a method, else to the next frame.
@@ -147,13 +165,16 @@ unwind P reference [] memory = lands_nowhere
 unwind P reference (Library made ∷ rest) memory = lands_in_library memory (Library None ∷ rest)
 unwind P reference (Beginning class ∷ rest) memory = lands_nowhere
 unwind P reference (Method f ∷ rest) memory =
-    past_handler reference f rest (run_method P f.at) (unwind P reference rest) memory (handler_at P memory.heap (point_at P f.at f.place) reference)
+    past_handler reference f rest (run_method P f.at) (unwind P reference rest) memory
+    (handler_at P memory.heap (point_at P f.at f.place) reference)
 
 -- a world that is as before where an object lands nowhere
 abbrev pub landed : Program → World → ℕ → Landing → World
 landed P w reference (lands_in memory frames) = record w { memory = memory; frames = frames }
-landed P w reference (lands_in_library memory frames) = shows_threw P (record w { memory = memory; frames = frames }) reference
-landed P w reference (leaves_initialiser memory frames) = record w { memory = memory; frames = frames; halt = init_threw }
+landed P w reference (lands_in_library memory frames) =
+    shows_threw P (record w { memory = memory; frames = frames }) reference
+landed P w reference (leaves_initialiser memory frames) =
+    record w { memory = memory; frames = frames; halt = init_threw }
 landed P w reference lands_nowhere = record w { halt = stuck }
 
 -- an object is thrown with these frames standing, and this memory
@@ -173,15 +194,19 @@ raised P w class frames = thrown_made P w frames (external w.memory.heap class)
 -- ---- completions
 
 -- The frame before an operation, and the same less its operands. A frame that waits stands at its operation.
-abbrev pub perform : Program → World → MethodState → MethodState → List RunFrame → Completion → World
-perform P w before taken rest (gives memory values) = record w { memory = memory; frames = Method (resumed taken values) ∷ rest }
+abbrev pub perform :
+    Program → World → MethodState → MethodState → List RunFrame → Completion → World
+perform P w before taken rest (gives memory values) =
+    record w { memory = memory; frames = Method (resumed taken values) ∷ rest }
 perform P w before taken rest (raises class) = raised P w class (Method taken ∷ rest)
 perform P w before taken rest (throws reference) = thrown P w reference (Method taken ∷ rest)
 perform P w before taken rest (begins class) = begun_on P class w (Method before ∷ rest)
 perform P w before taken rest (calls at values) = called P w at values (Method taken ∷ rest)
-perform P w before taken rest (asks asked) = shows_asked P (record w { frames = Library None ∷ Method taken ∷ rest }) asked
+perform P w before taken rest (asks asked) =
+    shows_asked P (record w { frames = Library None ∷ Method taken ∷ rest }) asked
 perform P w before taken rest (ends halt) = record w { halt = halt }
 
 -- a value of a declared result, narrowed to it
-abbrev pub returned_value : Program → World → MethodState → List RunFrame → FieldType → Value → World
+abbrev pub returned_value :
+    Program → World → MethodState → List RunFrame → FieldType → Value → World
 returned_value P w f rest type value = returned P w f rest (narrowed type value ∷ [])

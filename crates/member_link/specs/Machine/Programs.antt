@@ -80,7 +80,8 @@ header_named P name = class_named (headers_in P) name
 -- the number of the first in a list that passes a test
 abbrev pub number_of_first : {A : Type 0} → (A → Bool) → List A → Option ℕ
 number_of_first passes [] = None
-number_of_first passes (first ∷ others) = if passes first then Some zero else option_map suc (number_of_first passes others)
+number_of_first passes (first ∷ others) =
+    if passes first then Some zero else option_map suc (number_of_first passes others)
 
 -- the number of a class of the folder
 abbrev pub folder_number : Program → Name → Option ℕ
@@ -106,14 +107,19 @@ member_of reference member = is_member reference.name reference.desc member
 
 abbrev pub first_member : Reference → List Member → Option Member
 first_member reference [] = None
-first_member reference (member ∷ members) = if member_of reference member then Some member else first_member reference members
+first_member reference (member ∷ members) =
+    if member_of reference member then Some member else first_member reference members
 
 -- the field of a class of the folder or of the library
 abbrev pub field_of : Program → Reference → Option Member
-field_of P reference = option_and_then (λ header. first_member reference header.fields) (header_named P reference.class)
+field_of P reference =
+    option_and_then (λ header. first_member reference header.fields)
+    (header_named P reference.class)
 
 abbrev pub method_of : Program → Reference → Option Member
-method_of P reference = option_and_then (λ header. first_member reference header.methods) (header_named P reference.class)
+method_of P reference =
+    option_and_then (λ header. first_member reference header.methods)
+    (header_named P reference.class)
 
 -- the flags of a member that may be there
 abbrev pub has_flag : Option Member → ℕ → Bool
@@ -124,13 +130,16 @@ has_flag (Some member) mask = has member.flags mask
 abbrev pub place_of_method : Program → Reference → Option MethodAt
 place_of_method P reference = option_and_then in_class (folder_number P reference.class) where
   at_number : ℕ → RunClass → Option MethodAt
-  at_number number class = option_map (λ method. record { class = number; method = method }) (number_of_first (λ method. member_of reference method.member) class.methods)
+  at_number number class =
+      option_map (λ method. record { class = number; method = method })
+      (number_of_first (λ method. member_of reference method.member) class.methods)
 
   in_class : ℕ → Option MethodAt
   in_class number = option_and_then (at_number number) (slice_get P.classes number)
 
 abbrev pub run_method : Program → MethodAt → Option RunMethod
-run_method P at = option_and_then (λ class. slice_get class.methods at.method) (slice_get P.classes at.class)
+run_method P at =
+    option_and_then (λ class. slice_get class.methods at.method) (slice_get P.classes at.class)
 
 -- the code that a method of the folder runs: that of a native one is not looked at
 abbrev pub code_run : RunMethod → Option Code
@@ -144,4 +153,5 @@ point_at P at place = option_and_then (λ code. slice_get code.points place) (co
 
 -- two references to one member
 abbrev pub same_reference : Reference → Reference → Bool
-same_reference one other = bytes_eq one.class other.class && (bytes_eq one.name other.name && bytes_eq one.desc other.desc)
+same_reference one other =
+    bytes_eq one.class other.class && (bytes_eq one.name other.name && bytes_eq one.desc other.desc)

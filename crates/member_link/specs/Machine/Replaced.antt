@@ -21,11 +21,13 @@ without_flags flags cleared = flags - bit_and flags (bit_and cleared (PRIVATE + 
 -- each item of a list by its number, from the number of the first on
 abbrev pub map_numbered : {A B : Type 0} → (ℕ → A → B) → ℕ → List A → List B
 map_numbered change number [] = []
-map_numbered change number (item ∷ items) = change number item ∷ map_numbered change (suc number) items
+map_numbered change number (item ∷ items) =
+    change number item ∷ map_numbered change (suc number) items
 
 -- a field less the flags that are cleared
 abbrev pub field_cleared : Replacement → ℕ → ℕ → Member → Member
-field_cleared r class field member = record member { flags = without_flags member.flags (r.cleared class field) }
+field_cleared r class field member =
+    record member { flags = without_flags member.flags (r.cleared class field) }
 
 abbrev pub with_body : RunMethod → Option Code → RunMethod
 with_body method None = method
@@ -33,7 +35,8 @@ with_body method (Some code) = record method { code = option_map (λ old. code) 
 
 -- a method with the code that takes the place of its own, if one does
 abbrev pub method_replaced : Replacement → ℕ → ℕ → RunMethod → RunMethod
-method_replaced r class number method = with_body method (r.body (record { class = class; method = number }))
+method_replaced r class number method =
+    with_body method (r.body (record { class = class; method = number }))
 
 abbrev pub replaced_class : Replacement → ℕ → RunClass → RunClass
 replaced_class r number class = record class {
@@ -46,7 +49,8 @@ replaced_class r number class = record class {
 
 -- each method that is added is an instance initialiser
 abbrev pub AddsInitialisers : Replacement → Type 0
-AddsInitialisers r = (class : ℕ) → All (λ (method : RunMethod). method.member.name ≡ init) (r.added class)
+AddsInitialisers r =
+    (class : ℕ) → All (λ (method : RunMethod). method.member.name ≡ init) (r.added class)
 
 abbrev pub replaced : Program → Replacement → Program
 replaced P r = record P { classes = map_numbered (replaced_class r) zero P.classes }

@@ -20,7 +20,10 @@ begins_with actions = record { world = start; actions = actions; used = 0 }
 
 -- an action that is a fault is not used
 abbrev pub behind_action : Run → List Action → World → Run
-behind_action r actions w = if is_fault w.halt then record r { world = w } else record { world = w; actions = actions; used = r.used + 1 }
+behind_action r actions w =
+    if is_fault w.halt
+    then record r { world = w }
+    else record { world = w; actions = actions; used = r.used + 1 }
 
 abbrev pub at_library_turn : Program → Run → List Action → Run
 at_library_turn P r [] = r
@@ -28,7 +31,10 @@ at_library_turn P r (action ∷ actions) = behind_action r actions (act P action
 
 -- a run that goes on
 abbrev pub going_turn : Program → Run → Run
-going_turn P r = if is_library_turn r.world.frames then at_library_turn P r r.actions else record r { world = step P r.world }
+going_turn P r =
+    if is_library_turn r.world.frames
+    then at_library_turn P r r.actions
+    else record r { world = step P r.world }
 
 abbrev pub turn_by : Program → Run → Halt → Run
 turn_by P r going = going_turn P r

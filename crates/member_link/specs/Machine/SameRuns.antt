@@ -25,8 +25,12 @@ pub record IsSameShown (one other : Shown) : Type 0 where
 
 -- what the first shows after any number of steps the second shows after some number, and the other way round
 pub record RunsSame (P Q : Program) (actions : List Action) : Type 0 where
-  pub forth : (count : ℕ) → (other : ℕ) × IsSameShown (shown_after P actions count) (shown_after Q actions other)
-  pub back : (other : ℕ) → (count : ℕ) × IsSameShown (shown_after P actions count) (shown_after Q actions other)
+  pub forth :
+      (count : ℕ)
+      → (other : ℕ) × IsSameShown (shown_after P actions count) (shown_after Q actions other)
+  pub back :
+      (other : ℕ)
+      → (count : ℕ) × IsSameShown (shown_after P actions count) (shown_after Q actions other)
 
 abbrev pub SameRuns : Program → Program → Type 0
 SameRuns P Q = (actions : List Action) → RunsSame P Q actions

@@ -27,7 +27,8 @@ is_external shape = false
 
 -- it is an instance of a class or array type: an object of the library of what it also implements too
 abbrev pub is_instance : Program → Shape → Name → Bool
-is_instance P (External class also) name = P.links.below class name || list_any (λ interface. P.links.below interface name) also
+is_instance P (External class also) name =
+    P.links.below class name || list_any (λ interface. P.links.below interface name) also
 is_instance P shape name = P.links.below (class_of_shape P shape) name
 
 -- ---- conforming
@@ -51,7 +52,8 @@ class_conforms P low high = is_interface_named P high || P.links.below low high
 -- the component of an array of references as a class name or array type; of another array none
 abbrev pub component_named : List ℕ → Option Name
 component_named [] = None
-component_named (first ∷ rest) = if first == OPENING then Some (first ∷ rest) else class_in (first ∷ rest)
+component_named (first ∷ rest) =
+    if first == OPENING then Some (first ∷ rest) else class_in (first ∷ rest)
 
 abbrev pub both_conform : Program → Option Name → Option Name → Bool
 both_conform P (Some low) (Some high) = class_conforms P low high
@@ -71,7 +73,8 @@ component_text (first ∷ rest) = if first == OPENING then rest else []
 
 abbrev pub shape_conforms : Program → Shape → Name → Bool
 shape_conforms P (Array desc len) name =
-    is_interface_named P name || (P.links.below desc name || components_conform P (component_text desc) (component_text name))
+    is_interface_named P name
+    || (P.links.below desc name || components_conform P (component_text desc) (component_text name))
 shape_conforms P shape name = is_interface_named P name || is_instance P shape name
 
 -- a reference that is in the heap and conforms

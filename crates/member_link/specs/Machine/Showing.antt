@@ -36,7 +36,12 @@ abbrev pub first_of : Program → Heap → ℕ → First
 first_of P heap reference = of_object (object_at heap reference) where
   of_object : Option Object → First
   of_object None = record { class = []; also = []; constant = None }
-  of_object (Some object) = record { class = class_of_shape P object.shape; also = also_of object.shape; constant = constant_in heap.constants reference }
+  of_object (Some object) =
+      record {
+        class = class_of_shape P object.shape;
+        also = also_of object.shape;
+        constant = constant_in heap.constants reference;
+      }
 
 -- a value that is seen, and the references that are known behind it
 pub record Numbered (A : Type 0) : Type 0 where
@@ -46,13 +51,19 @@ pub record Numbered (A : Type 0) : Type 0 where
 abbrev pub numbered_reference : Program → Heap → List ℕ → ℕ → Numbered SeenRef
 numbered_reference P heap known reference = of_number (known_number known reference) where
   of_number : Option ℕ → Numbered SeenRef
-  of_number (Some number) = record { seen = record { number = number; first = None }; known = known }
-  of_number None = record { seen = record { number = length known; first = Some (first_of P heap reference) }; known = known ++ reference ∷ [] }
+  of_number (Some number) =
+      record { seen = record { number = number; first = None }; known = known }
+  of_number None =
+      record {
+        seen = record { number = length known; first = Some (first_of P heap reference) };
+        known = known ++ reference ∷ [];
+      }
 
 abbrev pub numbered : Program → Heap → List ℕ → Value → Numbered Seen
-numbered P heap known (Ref reference) = of_reference (numbered_reference P heap known reference) where
-  of_reference : Numbered SeenRef → Numbered Seen
-  of_reference one = record { seen = seen.Ref one.seen; known = one.known }
+numbered P heap known (Ref reference) =
+    of_reference (numbered_reference P heap known reference) where
+      of_reference : Numbered SeenRef → Numbered Seen
+      of_reference one = record { seen = seen.Ref one.seen; known = one.known }
 numbered P heap known (Int number) = record { seen = seen.Int number; known = known }
 numbered P heap known (Long number) = record { seen = seen.Long number; known = known }
 numbered P heap known (Float bits) = record { seen = seen.Float bits; known = known }
@@ -79,16 +90,24 @@ abbrev pub kind_with : {A : Type 0} → (A → EventKind) → Numbered A → Num
 kind_with make values = record { seen = make values.seen; known = values.known }
 
 -- of a written field the receiver comes before the value
-abbrev pub put_kind : Program → Heap → Reference → Numbered (Option Seen) → Value → Numbered EventKind
-put_kind P heap field receiver value = kind_with (λ shown. kinds.Put field.class field.name field.desc receiver.seen shown) (numbered P heap receiver.known value)
+abbrev pub put_kind :
+    Program → Heap → Reference → Numbered (Option Seen) → Value → Numbered EventKind
+put_kind P heap field receiver value =
+    kind_with (λ shown. kinds.Put field.class field.name field.desc receiver.seen shown)
+    (numbered P heap receiver.known value)
 
 -- what is asked, as the library sees it
 abbrev pub asked_kind : Program → Heap → List ℕ → Asked → Numbered EventKind
-asked_kind P heap known (asks_call method values) = kind_with (kinds.Call method.class method.name method.desc) (numbered_all P heap known values)
-asked_kind P heap known (asks_dynamic class bootstrap name desc values) = kind_with (kinds.Dynamic class bootstrap name desc) (numbered_all P heap known values)
-asked_kind P heap known (asks_get field receiver) = kind_with (kinds.Get field.class field.name field.desc) (numbered_option P heap known receiver)
-asked_kind P heap known (asks_put field receiver value) = put_kind P heap field (numbered_option P heap known receiver) value
-asked_kind P heap known (asks_float opcode values) = kind_with (kinds.Float opcode) (numbered_all P heap known values)
+asked_kind P heap known (asks_call method values) =
+    kind_with (kinds.Call method.class method.name method.desc) (numbered_all P heap known values)
+asked_kind P heap known (asks_dynamic class bootstrap name desc values) =
+    kind_with (kinds.Dynamic class bootstrap name desc) (numbered_all P heap known values)
+asked_kind P heap known (asks_get field receiver) =
+    kind_with (kinds.Get field.class field.name field.desc) (numbered_option P heap known receiver)
+asked_kind P heap known (asks_put field receiver value) =
+    put_kind P heap field (numbered_option P heap known receiver) value
+asked_kind P heap known (asks_float opcode values) =
+    kind_with (kinds.Float opcode) (numbered_all P heap known values)
 
 -- an event with the two counts, and the monitor counts of all references known behind it
 abbrev pub event_of : Memory → Numbered EventKind → Event
@@ -107,16 +126,19 @@ abbrev pub shows_asked : Program → World → Asked → World
 shows_asked P w asked = showing w (asked_kind P w.memory.heap w.known asked)
 
 abbrev pub shows_result : Program → World → Option Value → World
-shows_result P w value = showing w (kind_with kinds.Result (numbered_option P w.memory.heap w.known value))
+shows_result P w value =
+    showing w (kind_with kinds.Result (numbered_option P w.memory.heap w.known value))
 
 abbrev pub shows_threw : Program → World → ℕ → World
-shows_threw P w reference = showing w (kind_with kinds.Threw (numbered_reference P w.memory.heap w.known reference))
+shows_threw P w reference =
+    showing w (kind_with kinds.Threw (numbered_reference P w.memory.heap w.known reference))
 
 abbrev pub shows_got : Program → World → Value → World
 shows_got P w value = showing w (kind_with kinds.Got (numbered P w.memory.heap w.known value))
 
 abbrev pub shows_made : Program → World → ℕ → World
-shows_made P w reference = showing w (kind_with kinds.Made (numbered_reference P w.memory.heap w.known reference))
+shows_made P w reference =
+    showing w (kind_with kinds.Made (numbered_reference P w.memory.heap w.known reference))
 
 abbrev pub shows_length : World → ℕ → World
 shows_length w len = showing w (record { seen = kinds.Length len; known = w.known })

@@ -38,17 +38,23 @@ abbrev pub load_step : World → MethodState → List RunFrame → Option Value 
 load_step w f rest None = ends_stuck w
 load_step w f rest (Some value) = with_top w rest (next_with f (value ∷ f.stack))
 
-abbrev pub store_units : World → MethodState → List RunFrame → List Value → Option (List (Option Value)) → World
+abbrev pub store_units :
+    World → MethodState → List RunFrame → List Value → Option (List (Option Value)) → World
 store_units w f rest stack None = ends_stuck w
-store_units w f rest stack (Some units) = with_top w rest (record (next_with f stack) { locals = units })
+store_units w f rest stack (Some units) =
+    with_top w rest (record (next_with f stack) { locals = units })
 
 abbrev pub store_step : World → MethodState → List RunFrame → Kind → ℕ → List Value → World
 store_step w f rest kind at [] = ends_stuck w
-store_step w f rest kind at (value ∷ stack) = if has_kind kind value then store_units w f rest stack (stored at value f.locals) else ends_stuck w
+store_step w f rest kind at (value ∷ stack) =
+    if has_kind kind value
+    then store_units w f rest stack (stored at value f.locals)
+    else ends_stuck w
 
 abbrev pub increment_step : World → MethodState → List RunFrame → ℕ → ℤ → Option Value → World
 increment_step w f rest at by None = ends_stuck w
-increment_step w f rest at by (Some value) = store_units w f rest f.stack (stored at (incremented by value) f.locals)
+increment_step w f rest at by (Some value) =
+    store_units w f rest f.stack (stored at (incremented by value) f.locals)
 
 abbrev pub test_step : Program → World → MethodState → List RunFrame → Option Value → World
 test_step P w f rest (Some Null) = raised P w null_pointer (Method f ∷ rest)
@@ -63,15 +69,19 @@ shuffle_step w f rest (Some stack) = with_top w rest (next_with f stack)
 
 abbrev pub jump_step : World → MethodState → List RunFrame → ℕ → Jump → World
 jump_step w f rest to None = ends_stuck w
-jump_step w f rest to (Some jump) = with_top w rest (record f { place = if jump.0 then to else f.place + 1; stack = jump.1 })
+jump_step w f rest to (Some jump) =
+    with_top w rest (record f { place = if jump.0 then to else f.place + 1; stack = jump.1 })
 
 abbrev pub switch_step : World → MethodState → List RunFrame → (ℤ → ℕ) → List Value → World
-switch_step w f rest target (Int key ∷ stack) = with_top w rest (record f { place = target key; stack = stack })
+switch_step w f rest target (Int key ∷ stack) =
+    with_top w rest (record f { place = target key; stack = stack })
 switch_step w f rest target stack = ends_stuck w
 
-abbrev pub return_step : Program → World → MethodState → List RunFrame → FieldType → List Value → World
+abbrev pub return_step :
+    Program → World → MethodState → List RunFrame → FieldType → List Value → World
 return_step P w f rest type [] = ends_stuck w
-return_step P w f rest type (value ∷ stack) = if has_kind (kind_of type) value then returned_value P w f rest type value else ends_stuck w
+return_step P w f rest type (value ∷ stack) =
+    if has_kind (kind_of type) value then returned_value P w f rest type value else ends_stuck w
 
 -- ---- an operation
 
@@ -79,7 +89,8 @@ return_step P w f rest type (value ∷ stack) = if has_kind (kind_of type) value
 abbrev pub work_step : Program → World → MethodState → List RunFrame → Op → World
 work_step P w f rest op =
     if nat_le (arity op) (length f.stack)
-    then perform P w f (record f { stack = drop (arity op) f.stack }) rest (work P w.memory op (reverse (take (arity op) f.stack)))
+    then perform P w f (record f { stack = drop (arity op) f.stack }) rest
+    (work P w.memory op (reverse (take (arity op) f.stack)))
     else ends_stuck w
 
 abbrev pub op_step : Program → World → MethodState → List RunFrame → Op → World
@@ -87,16 +98,20 @@ op_step P w f rest no_operation = with_top w rest (next_with f f.stack)
 op_step P w f rest meaningless = ends_stuck w
 op_step P w f rest (load_local kind at) = load_step w f rest (local_value kind f.locals at)
 op_step P w f rest (store_local kind at) = store_step w f rest kind at f.stack
-op_step P w f rest (increment_local at by) = increment_step w f rest at by (local_value kinds.Int f.locals at)
+op_step P w f rest (increment_local at by) =
+    increment_step w f rest at by (local_value kinds.Int f.locals at)
 op_step P w f rest (test_local at) = test_step P w f rest (local_value kinds.Ref f.locals at)
 op_step P w f rest (shuffle_stack opcode) = shuffle_step w f rest (shuffled opcode f.stack)
 op_step P w f rest (jump_by_int opcode to) = jump_step w f rest to (jump_of_int opcode f.stack)
 op_step P w f rest (jump_by_ints opcode to) = jump_step w f rest to (jump_of_ints opcode f.stack)
-op_step P w f rest (jump_by_references opcode to) = jump_step w f rest to (jump_of_references opcode f.stack)
+op_step P w f rest (jump_by_references opcode to) =
+    jump_step w f rest to (jump_of_references opcode f.stack)
 op_step P w f rest (jump_by_null opcode to) = jump_step w f rest to (jump_of_null opcode f.stack)
 op_step P w f rest (jump_to to) = with_top w rest (record f { place = to })
-op_step P w f rest (table_switch low other targets) = switch_step w f rest (table_target low other targets) f.stack
-op_step P w f rest (lookup_switch other pairs) = switch_step w f rest (lookup_target other pairs) f.stack
+op_step P w f rest (table_switch low other targets) =
+    switch_step w f rest (table_target low other targets) f.stack
+op_step P w f rest (lookup_switch other pairs) =
+    switch_step w f rest (lookup_target other pairs) f.stack
 op_step P w f rest return_nothing = returned P w f rest []
 op_step P w f rest (return_value type) = return_step P w f rest type f.stack
 op_step P w f rest op = work_step P w f rest op
@@ -120,4 +135,7 @@ is_library_turn frames = false
 
 -- a step is counted, but at the library's turn
 abbrev pub step : Program → World → World
-step P w = if is_library_turn w.frames then w else frames_step P (record w { steps = w.steps + 1 }) w.frames
+step P w =
+    if is_library_turn w.frames
+    then w
+    else frames_step P (record w { steps = w.steps + 1 }) w.frames

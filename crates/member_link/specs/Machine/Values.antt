@@ -55,8 +55,9 @@ units_of_values (value ∷ values) = Some value ∷ units_of_values values
 -- the values are of the kinds of these types, one by one
 abbrev pub have_kinds : List FieldType → List Value → Bool
 have_kinds [] [] = true
-have_kinds (type ∷ types) (value ∷ values) = both (has_kind (kind_of type) value) (have_kinds types values) where
-  both : Bool → Bool → Bool
-  both true other = other
-  both false other = false
+have_kinds (type ∷ types) (value ∷ values) =
+    both (has_kind (kind_of type) value) (have_kinds types values) where
+      both : Bool → Bool → Bool
+      both true other = other
+      both false other = false
 have_kinds types values = false

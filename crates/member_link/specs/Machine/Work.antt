@@ -83,40 +83,53 @@ division_work memory None operands = ends stuck
 division_work memory (Some meaning) operands = of_operands (result_by meaning operands) where
   of_operands : Option Value → Completion
   of_operands None = ends stuck
-  of_operands (Some value) = if divides_by_zero operands then raises arithmetic else gives memory (value ∷ [])
+  of_operands (Some value) =
+      if divides_by_zero operands then raises arithmetic else gives memory (value ∷ [])
 
 -- the library computes with floats and doubles
 abbrev pub float_work : ℕ → Option Operation → List Value → Completion
 float_work opcode None operands = ends stuck
-float_work opcode (Some operation) operands = if have operation.takes operands then asks (asks_float opcode operands) else ends stuck where
-  have : List Kind → List Value → Bool
-  have [] [] = true
-  have (kind ∷ kinds) (value ∷ values) = has_kind kind value && have kinds values
-  have kinds values = false
+float_work opcode (Some operation) operands =
+    if have operation.takes operands then asks (asks_float opcode operands) else ends stuck where
+      have : List Kind → List Value → Bool
+      have [] [] = true
+      have (kind ∷ kinds) (value ∷ values) = has_kind kind value && have kinds values
+      have kinds values = false
 
 -- ---- the table
 
 abbrev pub work : Program → Memory → Op → List Value → Completion
 work P memory (push_value value) operands = gives memory (value ∷ [])
 work P memory (push_constant constant) operands = push_constant_work memory constant
-work P memory (pure_arithmetic opcode) operands = arithmetic_work memory (meaning_in pure_meanings opcode) operands
-work P memory (division opcode) operands = division_work memory (meaning_in divide_meanings opcode) operands
-work P memory (float_arithmetic opcode) operands = float_work opcode (operation_in float_operations opcode) operands
+work P memory (pure_arithmetic opcode) operands =
+    arithmetic_work memory (meaning_in pure_meanings opcode) operands
+work P memory (division opcode) operands =
+    division_work memory (meaning_in divide_meanings opcode) operands
+work P memory (float_arithmetic opcode) operands =
+    float_work opcode (operation_in float_operations opcode) operands
 work P memory throw_reference operands = throw_work P memory operands
 work P memory (get_static field) operands = get_static_work P memory (P.links.field field)
-work P memory (put_static field initialises) operands = put_static_work P memory (P.links.field field) initialises operands
-work P memory (get_field field) operands = get_field_work P memory field.class (P.links.field field) operands
-work P memory (put_field field initialises) operands = put_field_work P memory field.class (P.links.field field) initialises operands
-work P memory (call_static method) operands = call_static_work P memory method (P.links.method method) operands
-work P memory (call_virtual method) operands = call_virtual_work P memory method (P.links.method method) operands
-work P memory (call_interface method) operands = call_interface_work P memory method (P.links.method method) operands
+work P memory (put_static field initialises) operands =
+    put_static_work P memory (P.links.field field) initialises operands
+work P memory (get_field field) operands =
+    get_field_work P memory field.class (P.links.field field) operands
+work P memory (put_field field initialises) operands =
+    put_field_work P memory field.class (P.links.field field) initialises operands
+work P memory (call_static method) operands =
+    call_static_work P memory method (P.links.method method) operands
+work P memory (call_virtual method) operands =
+    call_virtual_work P memory method (P.links.method method) operands
+work P memory (call_interface method) operands =
+    call_interface_work P memory method (P.links.method method) operands
 work P memory (call_special method from) operands = call_special_work P memory method from operands
-work P memory (call_dynamic class bootstrap name desc) operands = call_dynamic_work class bootstrap name desc operands
+work P memory (call_dynamic class bootstrap name desc) operands =
+    call_dynamic_work class bootstrap name desc operands
 work P memory (new_object class) operands = new_object_work P memory class
 work P memory (new_array desc) operands = new_array_work memory desc operands
 work P memory (new_arrays desc dimensions) operands = new_arrays_work memory desc operands
 work P memory (load_element opcode) operands = load_element_work memory (opcode - IALOAD) operands
-work P memory (store_element opcode) operands = store_element_work P memory (opcode - IASTORE) operands
+work P memory (store_element opcode) operands =
+    store_element_work P memory (opcode - IASTORE) operands
 work P memory array_length operands = array_length_work memory operands
 work P memory (check_cast name) operands = check_cast_work P memory name operands
 work P memory (instance_of name) operands = instance_of_work P memory name operands

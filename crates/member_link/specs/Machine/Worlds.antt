@@ -67,7 +67,8 @@ is_static_of class field static = static.class == class && static.field == field
 
 abbrev pub written_static : List StaticValue → ℕ → ℕ → Option Value
 written_static [] class field = None
-written_static (first ∷ others) class field = if is_static_of class field first then Some first.value else written_static others class field
+written_static (first ∷ others) class field =
+    if is_static_of class field first then Some first.value else written_static others class field
 
 -- the descriptor of a field by its number, empty where there is none
 abbrev pub field_desc : Program → ℕ → ℕ → List ℕ
@@ -90,10 +91,13 @@ static_value P memory class field = or_blank (written_static memory.statics clas
 abbrev pub put_static_in : List StaticValue → ℕ → ℕ → Value → List StaticValue
 put_static_in [] class field value = record { class = class; field = field; value = value } ∷ []
 put_static_in (first ∷ others) class field value =
-    if is_static_of class field first then record first { value = value } ∷ others else first ∷ put_static_in others class field value
+    if is_static_of class field first
+    then record first { value = value } ∷ others
+    else first ∷ put_static_in others class field value
 
 abbrev pub with_static : Memory → ℕ → ℕ → Value → Memory
-with_static memory class field value = record memory { statics = put_static_in memory.statics class field value }
+with_static memory class field value =
+    record memory { statics = put_static_in memory.statics class field value }
 
 -- ---- classes
 
