@@ -1,7 +1,6 @@
 -- The instructions of a code stand one after the other.
-use Rattle.std.proofs.Common.{◌≡◌, ℕ, zero, suc, ◌+◌, ◌-◌, ◌<◌, ◌≤◌, List, [], ◌∷◌, length, drop, Result, Ok, refl, sym, ap, subst, ◌∙◌, arith}
+use Rattle.std.proofs.Common.{◌≡◌, ℕ, zero, suc, ◌+◌, ◌-◌, ◌≤◌, List, [], ◌∷◌, length, drop, Ok, refl, subst, arith}
 use Rattle.std.proofs.lemmas.List.{length-drop}
-use Rattle.class_model.specs.Checks.{◌>>=◌}
 use Rattle.class_model.specs.Instructions.{instr_at, instrs_at, decoded}
 use Rattle.class_model.specs.Laws.Cuts.{bind_ok, same_done}
 use Rattle.class_model.specs.declared.instr.Placed.{Placed}

@@ -1,9 +1,9 @@
 -- Frames are stated where instructions start.
-use Rattle.std.proofs.Common.{◌≡◌, ℕ, zero, suc, ◌+◌, Bool, true, false, cond, List, [], ◌∷◌, length, Some, None, Result, Ok, Err, IsTrue, refl, sym, ap, subst, ◌∙◌}
-use Rattle.std.specs.Prelude.{◌==◌, ◌||◌, nat_lt, if◌then◌else◌}
+use Rattle.std.proofs.Common.{◌≡◌, ℕ, zero, suc, ◌+◌, Bool, true, false, List, [], ◌∷◌, length, Some, Result, Ok, Err, IsTrue, refl, sym, subst}
+use Rattle.std.specs.Prelude.{◌==◌, if◌then◌else◌}
 use Rattle.std.specs.List.{AllByRecursion}
 use Rattle.std.proofs.lemmas.Bool.{eqb-true}
-use Rattle.class_model.specs.Checks.{Fault, fault, ◌>>=◌}
+use Rattle.class_model.specs.Checks.{Fault}
 use Rattle.class_model.specs.Code.{inner_is_named, stack_map_table}
 use Rattle.class_model.specs.Cutting.{Rest}
 use Rattle.class_model.specs.Frames.{Setting, Stated, fits_at, frame_at, frames_at, listed, missing, stack_map_table_at, table_u2_at}

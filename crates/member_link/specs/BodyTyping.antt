@@ -1,12 +1,12 @@
 -- What it means that frames type a body (JVM Specification SE 8, 4.10.1.6), place by place.
-use Rattle.std.specs.Prelude.{◌≡◌, ◌⊎◌, ◌==◌, ◌<◌, ◌≤◌, ℕ, List, [], ◌∷◌, length, slice_get, Option, Some, None, IsSome, if◌then◌else◌}
+use Rattle.std.specs.Prelude.{◌≡◌, ◌⊎◌, ◌==◌, ◌<◌, ◌≤◌, ℕ, List, [], ◌∷◌, length, Option, Some, None, IsSome, if◌then◌else◌}
 use Rattle.std.specs.List.{AllByRecursion}
 use Rattle.class_model.specs.Frames.{depth}
 use Rattle.class_model.specs.declared.frame.Frame.{Frame}
 use Rattle.class_tree.specs.Headers.{Name, Headers}
 use Rattle.class_tree.specs.Names.{throwable}
 use Rattle.member_link.specs.Access.{IsAtOrBelow}
-use Rattle.member_link.specs.Bodies.{Body, BodyCaught, BodyPoint, catch_frame, flows_on, frame_behind, item_targets, point_row}
+use Rattle.member_link.specs.Bodies.{Body, BodyPoint, catch_frame, flows_on, frame_behind, item_targets, point_row}
 use Rattle.member_link.specs.RowScope.{RowScope}
 use Rattle.member_link.specs.Rows.Assigning.{IsFrameAssignableIn}
 use Rattle.member_link.specs.Rows.Operands.{AllFit, topmost}

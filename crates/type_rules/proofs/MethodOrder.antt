@@ -1,17 +1,15 @@
 -- The points of a method's body stand in order, and frames are stated at points only.
-use Rattle.std.proofs.Common.{◌≡◌, inl, inr, ℕ, ◌+◌, ◌<◌, Bool, true, false, ◌||◌, List, [], ◌∷◌, length, map, Some, Result, Ok, Err, IsTrue, refl, sym, ap, subst, ◌∙◌, arith}
+use Rattle.std.proofs.Common.{◌≡◌, inl, inr, ℕ, ◌+◌, Bool, true, false, ◌||◌, List, [], ◌∷◌, length, map, Result, Ok, Err, IsTrue, refl, sym, subst, arith}
 use Rattle.std.specs.Prelude.{◌==◌}
 use Rattle.std.proofs.lemmas.Bool.{eqb-true}
 use Rattle.class_model.specs.Checks.{Fault}
 use Rattle.class_model.specs.Instructions.{decoded, is_start}
-use Rattle.class_model.specs.declared.frame.Frame.{Frame}
 use Rattle.class_model.specs.declared.instr.Placed.{Placed}
 use Rattle.code_bytes.specs.Consecutive.{AreConsecutive}
 use Rattle.member_link.specs.Bodies.{BodyPoint}
-use Rattle.member_link.specs.BodyTyping.{AreConsecutivePoints, AreInOrder, BeginAt, IsPlaceOf, StatesAtPoints}
+use Rattle.member_link.specs.BodyTyping.{AreConsecutivePoints, AreInOrder, BeginAt, IsPlaceOf}
 use Rattle.member_link.specs.Scope.{Scope, instructions}
 use Rattle.type_rules.specs.MethodBodies.{body_of, point_of}
-use Rattle.type_rules.specs.Stated.{stated_at}
 
 consecutive_points : (s : Scope) (from : ℕ) (instrs : List Placed) (to : ℕ) → AreConsecutive from instrs to → AreConsecutivePoints from (map (point_of s) instrs) to
 consecutive_points s from [] to are = are

@@ -1,10 +1,10 @@
 -- The frames at places where one is stated, in a typed body.
-use Rattle.std.proofs.Common.{◌≡◌, inl, inr, ℕ, zero, suc, List, [], ◌∷◌, slice_get, Option, Some, None, refl, ap, subst, ◌∙◌}
+use Rattle.std.proofs.Common.{◌≡◌, inl, inr, ℕ, suc, List, [], ◌∷◌, slice_get, Option, Some, None, refl, ap, subst, ◌∙◌}
 use Rattle.std.specs.List.{AllByRecursion}
 use Rattle.class_model.specs.Laws.Lists.{AllByRecursion-weaker}
 use Rattle.class_model.specs.declared.frame.Frame.{Frame}
 use Rattle.member_link.specs.Bodies.{Body, BodyCatch, BodyPoint, catch_frame, frame_behind, item_targets}
-use Rattle.member_link.specs.BodyTyping.{AreInOrder, GoesInto, GoesToStated, IsPlaceOf, MayGoTo, PointFits, StatesAtPoints, frame_among, frame_at}
+use Rattle.member_link.specs.BodyTyping.{AreInOrder, GoesInto, GoesToStated, IsPlaceOf, MayGoTo, PointFits, StatesAtPoints, frame_at}
 use Rattle.type_rules.proofs.ByPlace.{by_place}
 use Rattle.type_rules.proofs.EachTyped.{each_instruction}
 use Rattle.type_rules.proofs.Places.{at_number}

@@ -3,7 +3,6 @@ use Rattle.class_model.specs.Instructions.{decoded}
 use Rattle.class_model.specs.Methods.{home_of}
 use Rattle.class_model.specs.declared.instr.Placed.{Placed}
 use Rattle.code_bytes.specs.Consecutive.{AreConsecutive}
-use Rattle.member_link.specs.Bodies.{Body}
 use Rattle.member_link.specs.BodyTyping.{AreInOrder}
 use Rattle.member_link.specs.Scope.{Scope}
 use Rattle.type_rules.proofs.ByPlace.{by_place, from_places}
