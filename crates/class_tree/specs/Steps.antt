@@ -108,7 +108,8 @@ needed_class_checks test name classes =
 abbrev pub base_checks : Classes → List (Check Problem)
 base_checks classes =
     let headers = headers_of classes in
-    asked_each (λ name. check name rules.Missing (IsSome (named name classes.library)) ∷ []) base_names
+    asked_each (λ name. check name rules.Missing (IsSome (named name classes.library)) ∷ [])
+    base_names
     ++ (check object rules.NoMember (IfSome (class_named headers object) HasOneConstructor) ∷ [])
     ++ asked_each
     (λ name. check name rules.KindOfSuper (IsBelow headers name throwable) ∷ [])

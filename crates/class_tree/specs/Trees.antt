@@ -40,7 +40,8 @@ pub record IsTree (classes : Classes) : Type 0 where
   pub holds : AllHold (step_checks classes)
 
 -- the same classes in byte order of their names
-pub record IsArranged (folder : List ClassFile) (library : List Header) (classes : Classes) : Type 0 where
+pub record IsArranged (folder : List ClassFile) (library : List Header) (classes : Classes)
+    : Type 0 where
   pub folder_same : IsPermutation folder classes.folder
   pub library_same : IsPermutation library classes.library
   pub folder_sorted : AreHeadersInOrder (map header_of classes.folder)
@@ -59,7 +60,8 @@ pub data IsProblemOf (classes : Classes) : Problem → Type 0 where
       → IsProblemOf classes problem
 
 -- the first problem of a folder and its library, in any order
-pub record IsProblem (folder : List ClassFile) (library : List Header) (problem : Problem) : Type 0 where
+pub record IsProblem (folder : List ClassFile) (library : List Header) (problem : Problem)
+    : Type 0 where
   pub classes : Classes
   pub arranged : IsArranged folder library classes
   pub first : IsProblemOf classes problem

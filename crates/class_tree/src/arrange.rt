@@ -120,7 +120,13 @@ fn methods_of(alloc: Global, class: &ClassFile) -> Result<MemberList, NoMemory>
 
 // A member with the texts that indices name.
 fn member(alloc: Global, pool: &Pool, flags: u16, name: u16, desc: u16) -> Result<Member, NoMemory>
-    ensures { IfOk result (λ member. member ≡ record { flags = flags; name = unwrap_or (utf8_at pool.now name) []; desc = unwrap_or (utf8_at pool.now desc) [] }) }
+    ensures { IfOk result (λ member.
+        member
+        ≡ record {
+          flags = flags;
+          name = unwrap_or (utf8_at pool.now name) [];
+          desc = unwrap_or (utf8_at pool.now desc) [];
+        }) }
 {
     Ok(Member {
         flags,
@@ -154,7 +160,8 @@ pub(crate) fn first_duplicate<'a>(headers: &'a Headers<'_>) -> Option<&'a Text>
     requires folder { AreHeadersInOrder headers.now.folder }
     requires library { AreHeadersInOrder headers.now.library }
     ensures twice { IfSome result (λ name. 2 ≤ times name.now headers.now) }
-    ensures first { IfSome result (λ name. (other : Name) → IsBefore other name.now → times other headers.now ≤ 1) }
+    ensures first { IfSome result
+        (λ name. (other : Name) → IsBefore other name.now → times other headers.now ≤ 1) }
     ensures none { IfNone result ((name : Name) → times name headers.now ≤ 1) }
 {
     let mut rest = headers.copy();

@@ -42,7 +42,8 @@ pub(crate) fn check_base(
     requires in_order { IsInOrder headers.now }
     requires folder { headers.now.folder ≡ map header_of folder.now }
     requires graph { graph.now ≡ graph_of headers.now }
-    ensures { Answers (base_checks (record { folder = folder.now; library = headers.now.library })) result }
+    ensures { Answers (base_checks (record { folder = folder.now; library = headers.now.library }))
+        result }
 {
     check_names(alloc, headers)?;
     check_object(alloc, headers)?;
@@ -56,7 +57,10 @@ pub(crate) fn check_base(
 // Asks for the classes that each library has.
 fn check_names(alloc: Global, headers: &Headers<'_>) -> Result<(), LinkFault>
     requires { IsInOrder headers.now }
-    ensures { Answers (asked_each (λ name. check name rules.Missing (IsSome (named name headers.now.library)) ∷ []) names.base_names) result }
+    ensures { Answers
+        (asked_each
+        (λ name. check name rules.Missing (IsSome (named name headers.now.library)) ∷ [])
+        names.base_names) result }
 {
     for name in base_names() {
         ask_named(alloc, is_in_library(headers, name), name, LinkRule::Missing)?;
@@ -89,7 +93,10 @@ fn class_of<'a>(headers: &'a Headers<'_>, name: &[u8]) -> Option<&'a Header>
 // Asks that java/lang/Object has one instance initialiser, which is public and has no parameters.
 fn check_object(alloc: Global, headers: &Headers<'_>) -> Result<(), LinkFault>
     requires { IsInOrder headers.now }
-    ensures { Answers (check names.object rules.NoMember (IfSome (class_named headers.now names.object) HasOneConstructor) ∷ []) result }
+    ensures { Answers
+        (check names.object rules.NoMember
+        (IfSome (class_named headers.now names.object) HasOneConstructor)
+        ∷ []) result }
 {
     ask_named(alloc, is_object_open(headers), OBJECT, LinkRule::NoMember)
 }
@@ -151,7 +158,10 @@ fn check_throwables(
     requires in_order { IsInOrder headers.now }
     requires graph { graph.now ≡ graph_of headers.now }
     requires there { IsThere headers.now names.throwable }
-    ensures { Answers (asked_each (λ name. check name rules.KindOfSuper (IsBelow headers.now name names.throwable) ∷ []) names.machine_throwables) result }
+    ensures { Answers
+        (asked_each
+        (λ name. check name rules.KindOfSuper (IsBelow headers.now name names.throwable) ∷ [])
+        names.machine_throwables) result }
 {
     let Some(throwable) = headers.number_of(THROWABLE) else {
         unreachable!()
@@ -173,7 +183,9 @@ fn is_below(
 ) -> Result<bool, NoMemory>
     requires in_order { IsInOrder headers.now }
     requires graph { graph.now ≡ graph_of headers.now }
-    ensures { (high : Name) → number_of headers.now high ≡ Some above → IfOk result (λ yes. IsTrue yes ↔ IsBelow headers.now name.now high) }
+    ensures { (high : Name)
+        → number_of headers.now high ≡ Some above
+        → IfOk result (λ yes. IsTrue yes ↔ IsBelow headers.now name.now high) }
 {
     match headers.number_of(name) {
         Some(number) => reaches(alloc, graph, number, above),
@@ -184,7 +196,13 @@ fn is_below(
 // Asks that java/io/Serializable and java/lang/Cloneable are interfaces.
 fn check_interfaces(alloc: Global, headers: &Headers<'_>) -> Result<(), LinkFault>
     requires { IsInOrder headers.now }
-    ensures { Answers (asked_each (λ name. check name rules.KindOfSuper (IfSome (class_named headers.now name) (λ header. IsTrue (names.is_interface header))) ∷ []) (names.serializable ∷ names.cloneable ∷ [])) result }
+    ensures { Answers
+        (asked_each
+        (λ name.
+        check name rules.KindOfSuper
+        (IfSome (class_named headers.now name)
+        (λ header. IsTrue (names.is_interface header)))
+        ∷ []) (names.serializable ∷ names.cloneable ∷ [])) result }
 {
     ask_named(
         alloc,
@@ -203,7 +221,8 @@ fn check_interfaces(alloc: Global, headers: &Headers<'_>) -> Result<(), LinkFaul
 // Whether the class of a name is an interface, if it is there.
 fn is_no_class(headers: &Headers<'_>, name: &[u8]) -> bool
     requires { IsInOrder headers.now }
-    ensures { IsTrue result ↔ IfSome (class_named headers.now name.now) (λ header. IsTrue (names.is_interface header)) }
+    ensures { IsTrue result
+        ↔ IfSome (class_named headers.now name.now) (λ header. IsTrue (names.is_interface header)) }
 {
     match class_of(headers, name) {
         Some(header) => is_interface(header),
@@ -229,7 +248,11 @@ impl Constants {
     }
 
     fn or(self, other: Constants) -> Self
-        ensures { result ≡ record { method_handle = self.method_handle || other.method_handle; method_type = self.method_type || other.method_type } }
+        ensures { result
+            ≡ record {
+              method_handle = self.method_handle || other.method_handle;
+              method_type = self.method_type || other.method_type;
+            } }
     {
         Constants {
             method_handle: self.method_handle || other.method_handle,
@@ -241,8 +264,10 @@ impl Constants {
 // What constants of a folder need, as far as it matters: where the classes that they may need are there, no pool is read.
 fn needs_of(headers: &Headers<'_>, folder: &[ClassFile]) -> Constants
     requires { IsInOrder headers.now }
-    ensures method_handle { IsThere headers.now names.method_handle ⊎ (result.method_handle ≡ list_any (has_constant is_method_handle) folder.now) }
-    ensures method_type { IsThere headers.now names.method_type ⊎ (result.method_type ≡ list_any (has_constant is_method_type) folder.now) }
+    ensures method_handle { IsThere headers.now names.method_handle
+        ⊎ (result.method_handle ≡ list_any (has_constant is_method_handle) folder.now) }
+    ensures method_type { IsThere headers.now names.method_type
+        ⊎ (result.method_type ≡ list_any (has_constant is_method_type) folder.now) }
 {
     if is_there(headers, METHOD_HANDLE) && is_there(headers, METHOD_TYPE) {
         Constants::none()
@@ -261,7 +286,8 @@ fn is_there(headers: &Headers<'_>, name: &[u8]) -> bool
 
 // Whether the pools of class files have such constants.
 fn constants_of(folder: &[ClassFile]) -> Constants
-    ensures method_handle { result.method_handle ≡ list_any (has_constant is_method_handle) folder.now }
+    ensures method_handle { result.method_handle
+        ≡ list_any (has_constant is_method_handle) folder.now }
     ensures method_type { result.method_type ≡ list_any (has_constant is_method_type) folder.now }
 {
     let mut constants = Constants::none();
@@ -285,8 +311,10 @@ fn constants_in(class: &ClassFile) -> Constants
 
 // Whether such a constant is at an index.
 fn constants_at(pool: &Pool, index: u16) -> Constants
-    ensures method_handle { result.method_handle ≡ option_map_or is_method_handle (constant_at pool.now index) false }
-    ensures method_type { result.method_type ≡ option_map_or is_method_type (constant_at pool.now index) false }
+    ensures method_handle { result.method_handle
+        ≡ option_map_or is_method_handle (constant_at pool.now index) false }
+    ensures method_type { result.method_type
+        ≡ option_map_or is_method_type (constant_at pool.now index) false }
 {
     match pool.get(index) {
         Some(constant) => Constants {
@@ -320,7 +348,9 @@ fn check_need(
 ) -> Result<(), LinkFault>
     requires in_order { IsInOrder headers.now }
     requires plain { IsTrue (is_plain_text name.now) }
-    ensures { Answers (asked_if is_needed (check name.now rules.Missing (IsThere headers.now name.now) ∷ [])) result }
+    ensures { Answers
+        (asked_if is_needed (check name.now rules.Missing (IsThere headers.now name.now) ∷ []))
+        result }
 {
     if !is_needed {
         return Ok(());

@@ -92,7 +92,8 @@ fn link_in_order(
     requires folder { AllByRecursion IsClassFile folder.now }
     requires library { AllByRecursion IsLibraryClass headers.now.library }
     requires in_order { IsInOrder headers.now }
-    ensures { IsLinksOf (record { folder = folder.now; library = headers.now.library }) headers.now.folder result }
+    ensures { IsLinksOf (record { folder = folder.now; library = headers.now.library })
+        headers.now.folder result }
 {
     let graph = supers_graph(alloc, headers)?;
     let order = topological(alloc, &graph)?;

@@ -34,7 +34,8 @@ fn supers_of(
     header: &Header,
 ) -> Result<ListOf<usize>, NoMemory>
     requires { IsInOrder headers.now }
-    ensures { IfOk result (λ numbers. numbers ≡ filter_map (number_of headers.now) (supers header.now)) }
+    ensures { IfOk result
+        (λ numbers. numbers ≡ filter_map (number_of headers.now) (supers header.now)) }
 {
     let mut numbers = ListOf::new(alloc);
     if let Some(name) = &header.super_name {
@@ -53,7 +54,8 @@ fn push_number(
     name: &Text,
 ) -> Result<(), NoMemory>
     requires { IsInOrder headers.now }
-    ensures { OnOk result (numbers.new ≡ numbers.old ++ option_to_list (number_of headers.now name.now)) }
+    ensures { OnOk result
+        (numbers.new ≡ numbers.old ++ option_to_list (number_of headers.now name.now)) }
 {
     if let Some(number) = headers.number_of(name.bytes()) {
         numbers.push(number)?;
@@ -141,7 +143,8 @@ impl NodeSet {
     pub(crate) fn push(&mut self, node: usize) -> Result<(), NoMemory>
         requires node { node < self.old.size }
         requires new { IsNoneOf self.old.nodes node }
-        ensures ok { OnOk result (self.new ≡ record self.old { nodes = self.old.nodes ++ node ∷ [] }) }
+        ensures ok { OnOk result
+            (self.new ≡ record self.old { nodes = self.old.nodes ++ node ∷ [] }) }
         ensures bound { length self.new.nodes ≤ self.new.size }
     {
         self.nodes.push(node)?;

@@ -25,7 +25,8 @@ impl<'a> Model for Headers<'a> {
 
     ghost Value = { Headers };
 
-    ghost view = { λ headers. record { folder = headers.folder.now; library = headers.library.now } };
+    ghost view = { λ headers.
+        record { folder = headers.folder.now; library = headers.library.now } };
 }
 
 impl<'a> Headers<'a> {
@@ -69,9 +70,14 @@ impl<'a> Headers<'a> {
         requires library { AreHeadersInOrder self.now.library }
         ensures folder { IfSome result (λ split. AreHeadersInOrder split.1.folder) }
         ensures library { IfSome result (λ split. AreHeadersInOrder split.1.library) }
-        ensures fewer { IfSome result (λ split. length (all_headers split.1) < length (all_headers self.now)) }
-        ensures counts { IfSome result (λ split. (name : List ℕ) → times name self.now ≡ times name split.1 + (if bytes_eq name split.0.now.name then 1 else 0)) }
-        ensures first { IfSome result (λ split. (name : List ℕ) → IsBefore name split.0.now.name → times name self.now ≡ 0) }
+        ensures fewer { IfSome result
+            (λ split. length (all_headers split.1) < length (all_headers self.now)) }
+        ensures counts { IfSome result (λ split.
+            (name : List ℕ)
+            → times name self.now
+            ≡ times name split.1 + (if bytes_eq name split.0.now.name then 1 else 0)) }
+        ensures first { IfSome result
+            (λ split. (name : List ℕ) → IsBefore name split.0.now.name → times name self.now ≡ 0) }
         ensures none { IfNone result ((name : List ℕ) → times name self.now ≡ 0) }
     {
         match (self.folder, self.library) {
@@ -155,7 +161,8 @@ impl<'a> Headers<'a> {
 /// The place of the class of a name in a list in byte order of names, each of which stands once.
 pub(crate) fn find_header(headers: &[Header], name: &[u8]) -> Option<usize>
     requires in_order { AreHeadersInOrder headers.now }
-    requires once { (name : List ℕ) → count_by (λ header. bytes_eq name header.name) headers.now ≤ 1 }
+    requires once { (name : List ℕ)
+        → count_by (λ header. bytes_eq name header.name) headers.now ≤ 1 }
     ensures { result ≡ first_place (λ header. bytes_eq name.now header.name) headers.now }
 {
     headers

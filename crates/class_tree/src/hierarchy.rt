@@ -50,7 +50,8 @@ pub(crate) fn check_hierarchy(
 fn placed_nodes(alloc: Global, len: usize, order: &[usize]) -> Result<Vec<bool>, NoMemory>
     requires { (node : ℕ) → IsOneOf order.now node → node < len }
     ensures len { IfOk result (λ placed. length placed.items ≡ len) }
-    ensures placed { IfOk result (λ placed. (node : ℕ) → IsTrue (slice_index_or placed.items node false) → IsOneOf order.now node) }
+    ensures placed { IfOk result (λ placed.
+        (node : ℕ) → IsTrue (slice_index_or placed.items node false) → IsOneOf order.now node) }
 {
     let mut placed = vec![in alloc; false; len]?;
     for node in order {
@@ -73,8 +74,13 @@ fn check_class(
     requires number { number < length (all_headers headers.now) }
     requires circle { IsTrue is_on_circle ↔ IsPath graph.now number number }
     requires object { IsTrue is_object ↔ (number_of headers.now names.object ≡ Some number) }
-    ensures folder { (header : Header) → slice_get headers.now.folder number ≡ Some header → Answers (folder_checks headers.now header) result }
-    ensures library { (header : Header) → length headers.now.folder ≤ number → slice_get headers.now.library (number - length headers.now.folder) ≡ Some header → Answers (library_checks headers.now header) result }
+    ensures folder { (header : Header)
+        → slice_get headers.now.folder number ≡ Some header
+        → Answers (folder_checks headers.now header) result }
+    ensures library { (header : Header)
+        → length headers.now.folder ≤ number
+        → slice_get headers.now.library (number - length headers.now.folder) ≡ Some header
+        → Answers (library_checks headers.now header) result }
 {
     let Some(header) = headers.get(number) else {
         return Ok(());
@@ -184,7 +190,8 @@ pub(crate) fn is_outside(headers: &Headers<'_>, number: usize) -> bool
 // The superclass of a class, all above which are there under these numbers.
 fn superclass<'a>(headers: &'a Headers<'_>, header: &Header, above: &[usize]) -> Option<&'a Header>
     requires { map (number_of headers.now) (supers header.now) ≡ map Some above.now }
-    ensures { option_copied result ≡ option_and_then (class_named headers.now) header.now.super_name }
+    ensures { option_copied result
+        ≡ option_and_then (class_named headers.now) header.now.super_name }
 {
     match (&header.super_name, above) {
         (Some(_), [number, ..]) => headers.get(*number),
@@ -223,7 +230,8 @@ fn fits_folder_kinds(
 ) -> bool
     requires above { map (number_of headers.now) (supers header.now) ≡ map Some above.now }
     requires object { IsTrue is_object ↔ (header.now.name ≡ names.object) }
-    ensures { IsTrue result ↔ (FitsKinds headers.now header.now × (header.now.name ≢ names.object)) }
+    ensures { IsTrue result
+        ↔ (FitsKinds headers.now header.now × (header.now.name ≢ names.object)) }
 {
     fits_kinds(headers, header, above) && !is_object
 }
@@ -242,7 +250,9 @@ fn fits_kinds(headers: &Headers<'_>, header: &Header, above: &[usize]) -> bool
 // Whether the superclass is no interface.
 fn extends_no_interface(headers: &Headers<'_>, header: &Header, above: &[usize]) -> bool
     requires { map (number_of headers.now) (supers header.now) ≡ map Some above.now }
-    ensures { IsTrue result ↔ IfSome header.now.super_name (λ name. IfSome (class_named headers.now name) (λ class. IsFalse (names.is_interface class))) }
+    ensures { IsTrue result
+        ↔ IfSome header.now.super_name (λ name.
+        IfSome (class_named headers.now name) (λ class. IsFalse (names.is_interface class))) }
 {
     match superclass(headers, header, above) {
         Some(superclass) => !is_interface(superclass),
@@ -253,14 +263,22 @@ fn extends_no_interface(headers: &Headers<'_>, header: &Header, above: &[usize])
 // Whether each interface is one.
 fn implements_interfaces(headers: &Headers<'_>, header: &Header, above: &[usize]) -> bool
     requires { map (number_of headers.now) (supers header.now) ≡ map Some above.now }
-    ensures { IsTrue result ↔ AllByRecursion (λ name. IfSome (class_named headers.now name) (λ class. IsTrue (names.is_interface class))) header.now.interfaces }
+    ensures { IsTrue result
+        ↔ AllByRecursion
+        (λ name.
+        IfSome (class_named headers.now name) (λ class. IsTrue (names.is_interface class)))
+        header.now.interfaces }
 {
     are_interfaces(headers, interfaces(headers, header, above))
 }
 
 // Whether each class of these numbers is an interface.
 fn are_interfaces(headers: &Headers<'_>, numbers: &[usize]) -> bool
-    ensures { result ≡ list_all (λ number. option_map_or names.is_interface (slice_get (all_headers headers.now) number) true) numbers.now }
+    ensures { result
+        ≡ list_all
+        (λ number.
+        option_map_or names.is_interface (slice_get (all_headers headers.now) number) true)
+        numbers.now }
 {
     numbers
         .iter()
@@ -269,7 +287,8 @@ fn are_interfaces(headers: &Headers<'_>, numbers: &[usize]) -> bool
 
 // Whether the class of a number is an interface.
 fn is_interface_at(headers: &Headers<'_>, number: usize) -> bool
-    ensures { result ≡ option_map_or names.is_interface (slice_get (all_headers headers.now) number) true }
+    ensures { result
+        ≡ option_map_or names.is_interface (slice_get (all_headers headers.now) number) true }
 {
     match headers.get(number) {
         Some(header) => is_interface(header),
@@ -279,7 +298,9 @@ fn is_interface_at(headers: &Headers<'_>, number: usize) -> bool
 
 // Whether an interface has the superclass java/lang/Object, and a class with none is java/lang/Object.
 fn fits_root(header: &Header) -> bool
-    ensures { IsTrue result ↔ ((IsTrue (names.is_interface header.now) → header.now.super_name ≡ Some names.object) × (header.now.super_name ≡ None → header.now.name ≡ names.object)) }
+    ensures { IsTrue result
+        ↔ ((IsTrue (names.is_interface header.now) → header.now.super_name ≡ Some names.object)
+        × (header.now.super_name ≡ None → header.now.name ≡ names.object)) }
 {
     match &header.super_name {
         Some(name) => !is_interface(header) || name.bytes() == OBJECT,

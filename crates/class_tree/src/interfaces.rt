@@ -114,7 +114,12 @@ fn list_of_class(
     requires marks { AreMarks marks.old [] }
     requires superclass { IfSome superclass (λ number. number < length marks.old) }
     requires interfaces { All (λ number. number < length marks.old) interfaces.now }
-    ensures list { IfOk result (λ list. list ≡ with_numbers [] (with_lists lists.now interfaces.now ++ unwrap_or (option_map (λ number. slice_index_or lists.now number []) superclass) [])) }
+    ensures list { IfOk result (λ list.
+        list
+        ≡ with_numbers []
+        (with_lists lists.now interfaces.now
+        ++ unwrap_or (option_map (λ number. slice_index_or lists.now number []) superclass)
+        [])) }
     ensures marks { OnOk result (AreMarks marks.new []) }
 {
     let mut list = ListOf::new(alloc);

@@ -37,18 +37,32 @@ pub fn a_folder_is_told_once()
 
 /// In a hierarchy a test tells of any two types whether the one is a subtype of the other.
 pub fn a_hierarchy_decides_subtypes()
-    ensures { (headers : Headers) → IsHierarchy headers → (sub : Name → Name → Bool) × ((low high : Name) → IsTrue (sub low high) ↔ IsSubtype headers low high) }
+    ensures { (headers : Headers)
+        → IsHierarchy headers
+        → (sub : Name → Name → Bool)
+        × ((low high : Name) → IsTrue (sub low high) ↔ IsSubtype headers low high) }
 {}
 
 /// Classes that are alike are a hierarchy together, and have the same subtypes.
 pub fn alike_classes_have_one_hierarchy()
-    ensures hierarchy { (one other : Headers) → AreAlike one other → IsHierarchy one ↔ IsHierarchy other }
-    ensures subtypes { (one other : Headers) (low high : Name) → AreAlike one other → IsSubtype one low high ↔ IsSubtype other low high }
-    ensures places { (one other : Headers) (name : Name) → AreAlike one other → place_of one name ≡ place_of other name }
+    ensures hierarchy { (one other : Headers)
+        → AreAlike one other
+        → IsHierarchy one ↔ IsHierarchy other }
+    ensures subtypes { (one other : Headers) (low high : Name)
+        → AreAlike one other
+        → IsSubtype one low high ↔ IsSubtype other low high }
+    ensures places { (one other : Headers) (name : Name)
+        → AreAlike one other
+        → place_of one name ≡ place_of other name }
 {}
 
 /// Classes that are alike number their fields alike, and their methods but for instance initialisers.
 pub fn alike_classes_number_members_alike()
-    ensures fields { (one other : Header) (name desc : List ℕ) → IsAlike one other → member_place name desc one.fields ≡ member_place name desc other.fields }
-    ensures methods { (one other : Header) (name desc : List ℕ) → IsAlike one other → name ≢ init → member_place name desc one.methods ≡ member_place name desc other.methods }
+    ensures fields { (one other : Header) (name desc : List ℕ)
+        → IsAlike one other
+        → member_place name desc one.fields ≡ member_place name desc other.fields }
+    ensures methods { (one other : Header) (name desc : List ℕ)
+        → IsAlike one other
+        → name ≢ init
+        → member_place name desc one.methods ≡ member_place name desc other.methods }
 {}

@@ -56,7 +56,8 @@ fn member_index(alloc: Global, members: &[Member]) -> Result<ListOf<usize>, NoMe
 
 // How two places compare: by name, then by descriptor, then by place.
 fn compare(members: &[Member], one: usize, other: usize) -> Ordering
-    ensures { result ≡ slice_cmp (slice_cmp nat_cmp) (key_at members.now one) (key_at members.now other) }
+    ensures { result
+        ≡ slice_cmp (slice_cmp nat_cmp) (key_at members.now one) (key_at members.now other) }
 {
     let (one_name, one_desc) = texts(members, one);
     let (other_name, other_desc) = texts(members, other);
@@ -94,7 +95,9 @@ pub(crate) fn find_member(
 
 // Whether a place stands before all that have this name and descriptor.
 fn is_before(members: &[Member], place: usize, name: &[u8], desc: &[u8]) -> bool
-    ensures { result ≡ is_lt (slice_cmp (slice_cmp nat_cmp) (key_at members.now place) (name.now ∷ desc.now ∷ [])) }
+    ensures { result
+        ≡ is_lt
+        (slice_cmp (slice_cmp nat_cmp) (key_at members.now place) (name.now ∷ desc.now ∷ [])) }
 {
     let (own_name, own_desc) = texts(members, place);
     own_name.cmp(name).then(own_desc.cmp(desc)).is_lt()

@@ -49,7 +49,9 @@ fn place_rest(graph: &Lists<usize>, placed: &mut NodeSet) -> Result<(), NoMemory
 
 // The first node that can follow.
 fn next(graph: &Lists<usize>, placed: &NodeSet) -> Option<usize>
-    ensures { MatchOption result ((node : ℕ) → node < length graph.now → CannotFollow graph.now placed.now.nodes node) (λ node. (node < length graph.now) × CanFollow graph.now placed.now.nodes node) }
+    ensures { MatchOption result
+        ((node : ℕ) → node < length graph.now → CannotFollow graph.now placed.now.nodes node)
+        (λ node. (node < length graph.now) × CanFollow graph.now placed.now.nodes node) }
 {
     for node in 0..graph.len() {
         if can_follow(graph, placed, node) {
@@ -62,7 +64,8 @@ fn next(graph: &Lists<usize>, placed: &NodeSet) -> Option<usize>
 // Whether a node is not placed yet and its targets are.
 fn can_follow(graph: &Lists<usize>, placed: &NodeSet, node: usize) -> bool
     requires { node < length graph.now }
-    ensures { MatchBool result (CanFollow graph.now placed.now.nodes node) (CannotFollow graph.now placed.now.nodes node) }
+    ensures { MatchBool result (CanFollow graph.now placed.now.nodes node)
+        (CannotFollow graph.now placed.now.nodes node) }
 {
     if placed.has(node) {
         return false;

@@ -20,7 +20,8 @@ pub(crate) fn super_places(
 ) -> Result<Vec<Option<Place>>, NoMemory>
     requires graph { graph.now ≡ graph_of headers.now }
     requires hierarchy { AllHold (hierarchy_checks headers.now) }
-    ensures { IfOk result (λ places. places.items ≡ map (super_place headers.now) (all_headers headers.now)) }
+    ensures { IfOk result
+        (λ places. places.items ≡ map (super_place headers.now) (all_headers headers.now)) }
 {
     let mut places = Vec::with_capacity(alloc, headers.len())?;
     for number in 0..headers.len() {

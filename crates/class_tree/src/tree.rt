@@ -42,7 +42,9 @@ impl Model for Tree {
 
     ghost view = { λ tree. record { folder = tree.folder; library = tree.library } };
 
-    ghost invariant = { λ tree. AreLinks (record { folder = tree.folder; library = tree.library }) tree.headers.items tree.links };
+    ghost invariant = { λ tree.
+        AreLinks (record { folder = tree.folder; library = tree.library }) tree.headers.items
+        tree.links };
 }
 
 impl Tree {
@@ -100,7 +102,8 @@ impl Tree {
 
     /// Whether the class at a place is an interface.
     pub(crate) fn is_interface(&self, place: Place) -> bool
-        ensures { result ≡ option_map_or names.is_interface (header_at (headers_of self.now) place) false }
+        ensures { result
+            ≡ option_map_or names.is_interface (header_at (headers_of self.now) place) false }
     {
         match self.header(place) {
             Some(header) => is_interface(header),
@@ -110,7 +113,10 @@ impl Tree {
 
     /// The place of the superclass of the class at a place.
     pub fn superclass(&self, place: Place) -> Option<Place>
-        ensures { result ≡ option_and_then (λ header. option_and_then (place_of (headers_of self.now)) header.super_name) (header_at (headers_of self.now) place) }
+        ensures { result
+            ≡ option_and_then
+            (λ header. option_and_then (place_of (headers_of self.now)) header.super_name)
+            (header_at (headers_of self.now) place) }
     {
         let _class = self.header(place)?;
         *self.links.superclasses.get(self.number(place))?
@@ -120,28 +126,37 @@ impl Tree {
     /// class before those of its superclass.
     pub fn superinterfaces(&self, place: Place) -> &[Place]
         requires { IsSome (header_at (headers_of self.now) place) }
-        ensures { IfSome (header_at (headers_of self.now) place) (λ header. (names : List Name) × AreSuperinterfaces (headers_of self.now) header.name names × (map (place_of (headers_of self.now)) names ≡ map Some result.now)) }
+        ensures { IfSome (header_at (headers_of self.now) place) (λ header.
+            (names : List Name)
+            × AreSuperinterfaces (headers_of self.now) header.name names
+            × (map (place_of (headers_of self.now)) names ≡ map Some result.now)) }
     {
         self.links.interfaces.get(self.number(place))
     }
 
     /// The number of the first field of a name and descriptor that the class at a place declares, counted from 0.
     pub fn field(&self, place: Place, name: &Text, desc: &Text) -> Option<usize>
-        ensures { result ≡ option_and_then (λ header. member_place name.now desc.now header.fields) (header_at (headers_of self.now) place) }
+        ensures { result
+            ≡ option_and_then (λ header. member_place name.now desc.now header.fields)
+            (header_at (headers_of self.now) place) }
     {
         self.member(MemberKind::Field, place, name, desc)
     }
 
     /// The number of the first method of a name and descriptor that the class at a place declares, counted from 0.
     pub fn method(&self, place: Place, name: &Text, desc: &Text) -> Option<usize>
-        ensures { result ≡ option_and_then (λ header. member_place name.now desc.now header.methods) (header_at (headers_of self.now) place) }
+        ensures { result
+            ≡ option_and_then (λ header. member_place name.now desc.now header.methods)
+            (header_at (headers_of self.now) place) }
     {
         self.member(MemberKind::Method, place, name, desc)
     }
 
     /// The number of the first field or method of a name and descriptor that the class at a place declares, counted from 0.
     pub fn member(&self, kind: MemberKind, place: Place, name: &Text, desc: &Text) -> Option<usize>
-        ensures { result ≡ option_and_then (λ header. member_place name.now desc.now (members_of kind header)) (header_at (headers_of self.now) place) }
+        ensures { result
+            ≡ option_and_then (λ header. member_place name.now desc.now (members_of kind header))
+            (header_at (headers_of self.now) place) }
     {
         let header = self.header(place)?;
         find_member(

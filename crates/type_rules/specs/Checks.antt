@@ -27,12 +27,16 @@ MayFlowIn s flows stated = Unit {0}
 -- each of these handlers
 abbrev pub handler_checks : Body → Frame → List BodyCatch → List (Check TypeRule)
 handler_checks b before [] = []
-handler_checks b before (catch ∷ catches) = check rules.Handler (MayGoTo b.scope (Some (catch_frame before catch.class)) (b.stated catch.to)) ∷ handler_checks b before catches
+handler_checks b before (catch ∷ catches) =
+    check rules.Handler
+    (MayGoTo b.scope (Some (catch_frame before catch.class)) (b.stated catch.to))
+    ∷ handler_checks b before catches
 
 -- each target, in order
 abbrev pub target_checks : Body → Option Frame → List ℕ → List (Check TypeRule)
 target_checks b behind [] = []
-target_checks b behind (target ∷ targets) = check rules.Target (MayGoTo b.scope behind (b.stated target)) ∷ target_checks b behind targets
+target_checks b behind (target ∷ targets) =
+    check rules.Target (MayGoTo b.scope behind (b.stated target)) ∷ target_checks b behind targets
 
 -- ---- an instruction
 
@@ -44,7 +48,8 @@ instr_checks b flows point before =
     ++ target_checks b (frame_behind point before) (item_targets point.item)
 
 -- the frame is the one before the instruction, and every check holds
-pub record IsTypedAt (b : Body) (flows : Option Frame) (point : BodyPoint) (before : Frame) : Type 0 where
+pub record IsTypedAt (b : Body) (flows : Option Frame) (point : BodyPoint) (before : Frame)
+    : Type 0 where
   pub before_is : frame_before flows (b.stated point.place) ≡ Some before
   pub holds : AllHold (instr_checks b flows point before)
 
@@ -54,4 +59,5 @@ FailsBehind b flows point rule None = rule ≡ rules.NoFrame
 FailsBehind b flows point rule (Some before) = IsFirstFault (instr_checks b flows point before) rule
 
 abbrev pub FailsAt : Body → Option Frame → BodyPoint → TypeRule → Type 0
-FailsAt b flows point rule = FailsBehind b flows point rule (frame_before flows (b.stated point.place))
+FailsAt b flows point rule =
+    FailsBehind b flows point rule (frame_before flows (b.stated point.place))

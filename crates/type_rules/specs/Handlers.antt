@@ -9,7 +9,8 @@ use Rattle.member_link.specs.Scope.{Scope}
 
 -- the class that a handler catches: any throwable, or one of the pool
 abbrev pub caught : Scope → Handler → Option Name
-caught s handler = if handler.catch_type == 0 then Some throwable else class_at s.class.pool handler.catch_type
+caught s handler =
+    if handler.catch_type == 0 then Some throwable else class_at s.class.pool handler.catch_type
 
 -- the range of a handler has an offset
 abbrev pub covers : Handler → ℕ → Bool
@@ -23,7 +24,10 @@ catch_of s handler = record { to = handler.at; class = caught s handler }
 -- the handlers whose range has an offset, in table order
 abbrev pub catches_at : Scope → ℕ → List Handler → List BodyCatch
 catches_at s at [] = []
-catches_at s at (handler ∷ handlers) = if covers handler at then catch_of s handler ∷ catches_at s at handlers else catches_at s at handlers
+catches_at s at (handler ∷ handlers) =
+    if covers handler at
+    then catch_of s handler ∷ catches_at s at handlers
+    else catches_at s at handlers
 
 abbrev pub caught_in : Scope → Handler → BodyCaught
 caught_in s handler = record { start = handler.start; class = caught s handler }

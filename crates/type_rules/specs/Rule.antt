@@ -55,7 +55,8 @@ RowRules s f row (Err faults.NoMemory) = Unit {0}
 
 -- what the rule of an instruction answers
 abbrev pub Rules : Scope → Placed → Frame → Result Ruled RuleFault → Type 0
-Rules s placed f result = RowRules (row_scope s) f (row_of (row_scope s) f placed.at placed.instr) result
+Rules s placed f result =
+    RowRules (row_scope s) f (row_of (row_scope s) f placed.at placed.instr) result
 
 -- invokevirtual names a method, invokeinterface an interface's, and the other two either in version 52
 abbrev pub NamesMethod : Constants → ℕ → ℕ → ℕ → Type 0

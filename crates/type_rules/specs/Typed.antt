@@ -14,7 +14,8 @@ use Rattle.type_rules.specs.declared.fault.TypeRule.TheVariants as rules
 -- each instruction is typed by its frame, behind what flows into the first; nothing flows past the last
 abbrev pub AreTyped : Body → Option Frame → List BodyPoint → List Frame → Type 0
 AreTyped b flows [] [] = flows ≡ None
-AreTyped b flows (point ∷ points) (frame ∷ frames) = IsTypedAt b flows point frame × AreTyped b (flows_on point frame) points frames
+AreTyped b flows (point ∷ points) (frame ∷ frames) =
+    IsTypedAt b flows point frame × AreTyped b (flows_on point frame) points frames
 AreTyped b flows points frames = ⊥
 
 -- an entry of the exception table catches throwables
@@ -38,26 +39,33 @@ flows_behind point frame = None
 -- what flows into the instruction of a number: behind its end, what flows past the code
 abbrev pub flows_into : Body → List Frame → ℕ → Option Frame
 flows_into b frames zero = Some b.entry
-flows_into b frames (suc number) = flows_behind (slice_get b.points number) (slice_get frames number)
+flows_into b frames (suc number) =
+    flows_behind (slice_get b.points number) (slice_get frames number)
 
 -- ---- the first failure: a place and the rule that fails there
 
 -- the first handler that catches something else
 abbrev pub FailsInTable : Headers → List BodyCaught → ℕ → Type 0
 FailsInTable headers [] at = ⊥
-FailsInTable headers (caught ∷ others) at = ((¬ CaughtIsThrowable headers caught) × (at ≡ caught.start)) ⊎ (CaughtIsThrowable headers caught × FailsInTable headers others at)
+FailsInTable headers (caught ∷ others) at =
+    ((¬ CaughtIsThrowable headers caught) × (at ≡ caught.start))
+    ⊎ (CaughtIsThrowable headers caught × FailsInTable headers others at)
 
 -- the first instruction that is typed by no frame, or what flows past the last
 abbrev pub FailsIn : Body → Option Frame → List BodyPoint → ℕ → TypeRule → Type 0
-FailsIn b flows [] at rule = ((frame : Frame) × (flows ≡ Some frame)) × (at ≡ b.end) × (rule ≡ rules.FallsOff)
+FailsIn b flows [] at rule =
+    ((frame : Frame) × (flows ≡ Some frame)) × (at ≡ b.end) × (rule ≡ rules.FallsOff)
 FailsIn b flows (point ∷ points) at rule =
     (FailsAt b flows point rule × (at ≡ point.place))
-    ⊎ ((frame : Frame) × IsTypedAt b flows point frame × FailsIn b (flows_on point frame) points at rule)
+    ⊎ ((frame : Frame)
+    × IsTypedAt b flows point frame
+    × FailsIn b (flows_on point frame) points at rule)
 
 abbrev pub BodyFails : Body → ℕ → TypeRule → Type 0
 BodyFails b at rule =
     (FailsInTable b.scope.headers b.table at × (rule ≡ rules.CatchType))
-    ⊎ (AllByRecursion (CaughtIsThrowable b.scope.headers) b.table × FailsIn b (Some b.entry) b.points at rule)
+    ⊎ (AllByRecursion (CaughtIsThrowable b.scope.headers) b.table
+    × FailsIn b (Some b.entry) b.points at rule)
 
 -- of a method's code, at an offset in bytes
 abbrev pub IsFirstFailure : Scope → ℕ → TypeRule → Type 0

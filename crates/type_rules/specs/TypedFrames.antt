@@ -8,4 +8,6 @@ FolderFrames = List (List (Option (List Frame)))
 
 -- the frames of the method at its numbers; none for a method without code
 abbrev pub typed_frames_at : FolderFrames → MethodAt → Option (List Frame)
-typed_frames_at typed at = option_and_then (λ methods. option_and_then (λ frames. frames) (slice_get methods at.method)) (slice_get typed at.class)
+typed_frames_at typed at =
+    option_and_then (λ methods. option_and_then (λ frames. frames) (slice_get methods at.method))
+    (slice_get typed at.class)

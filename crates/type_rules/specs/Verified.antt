@@ -19,13 +19,16 @@ TypesMethod scope frames = ⊥
 -- the methods of a class
 abbrev pub AreTypedMethods : Headers → ClassFile → List Method → List (Option (List Frame)) → Type 0
 AreTypedMethods headers class [] [] = Unit {0}
-AreTypedMethods headers class (method ∷ methods) (frames ∷ others) = TypesMethod (scope_of headers class method) frames × AreTypedMethods headers class methods others
+AreTypedMethods headers class (method ∷ methods) (frames ∷ others) =
+    TypesMethod (scope_of headers class method) frames
+    × AreTypedMethods headers class methods others
 AreTypedMethods headers class methods typed = ⊥
 
 -- the classes of a folder
 abbrev pub AreTypedClasses : Headers → List ClassFile → FolderFrames → Type 0
 AreTypedClasses headers [] [] = Unit {0}
-AreTypedClasses headers (class ∷ classes) (typed ∷ others) = AreTypedMethods headers class class.methods typed × AreTypedClasses headers classes others
+AreTypedClasses headers (class ∷ classes) (typed ∷ others) =
+    AreTypedMethods headers class class.methods typed × AreTypedClasses headers classes others
 AreTypedClasses headers classes typed = ⊥
 
 -- the frames type each method of the folder

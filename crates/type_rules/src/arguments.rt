@@ -21,7 +21,9 @@ pub(crate) fn call_with(
     further: bool,
     access: bool,
 ) -> Result<Ruled, RuleFault>
-    ensures { RowRules (row_scope step.now.rules.now) step.now.before.now (signature_row step.now.before.now receiver.entry descriptor.now (IsTrue further) (IsTrue access)) result }
+    ensures { RowRules (row_scope step.now.rules.now) step.now.before.now
+        (signature_row step.now.before.now receiver.entry descriptor.now (IsTrue further)
+        (IsTrue access)) result }
 {
     let count = take_operands(step, receiver, descriptor)?;
     let stack = step.replaced(count, result_type(descriptor)?)?;
@@ -38,7 +40,8 @@ pub(crate) fn take_operands(
     receiver: Option<Need<'_>>,
     descriptor: &Descriptor,
 ) -> Result<usize, RuleFault>
-    ensures { TakesSo (row_scope step.now.rules.now) step.now.before.now (operand_needs receiver.entry descriptor.now.params) result }
+    ensures { TakesSo (row_scope step.now.rules.now) step.now.before.now
+        (operand_needs receiver.entry descriptor.now.params) result }
 {
     let rules = step.rules;
     let params = descriptor.params.as_slice();
@@ -68,7 +71,8 @@ fn are_operands(
     params: &[FieldType],
     operands: &[VType],
 ) -> bool
-    ensures { IsTrue result ↔ AllFit (row_scope rules.now) (operand_needs receiver.entry params.now) operands.now }
+    ensures { IsTrue result
+        ↔ AllFit (row_scope rules.now) (operand_needs receiver.entry params.now) operands.now }
 {
     match receiver {
         Some(need) => match operands.split_first() {

@@ -25,7 +25,8 @@ const DOUBLE: Need<'static> = Need::OfKind(Kind::Double);
 
 /// Arithmetic of int and long that raises nothing.
 pub(crate) fn pure(step: &Step<'_>, opcode: u8) -> Result<Ruled, RuleFault>
-    ensures { RowRules (row_scope step.now.rules.now) step.now.before.now (operation_row step.now.before.now (operation_in pure_operations opcode)) result }
+    ensures { RowRules (row_scope step.now.rules.now) step.now.before.now
+        (operation_row step.now.before.now (operation_in pure_operations opcode)) result }
 {
     match opcode {
         IADD | ISUB | IMUL | ISHL | ISHR | IUSHR | IAND | IOR | IXOR => {
@@ -44,7 +45,8 @@ pub(crate) fn pure(step: &Step<'_>, opcode: u8) -> Result<Ruled, RuleFault>
 
 /// A division or remainder of int or long.
 pub(crate) fn divide(step: &Step<'_>, opcode: u8) -> Result<Ruled, RuleFault>
-    ensures { RowRules (row_scope step.now.rules.now) step.now.before.now (operation_row step.now.before.now (operation_in divide_operations opcode)) result }
+    ensures { RowRules (row_scope step.now.rules.now) step.now.before.now
+        (operation_row step.now.before.now (operation_in divide_operations opcode)) result }
 {
     match opcode {
         IDIV | IREM => step.plain(&[INT, INT], Some(VType::Int)),
@@ -55,7 +57,8 @@ pub(crate) fn divide(step: &Step<'_>, opcode: u8) -> Result<Ruled, RuleFault>
 
 /// An operation of float or double.
 pub(crate) fn float(step: &Step<'_>, opcode: u8) -> Result<Ruled, RuleFault>
-    ensures { RowRules (row_scope step.now.rules.now) step.now.before.now (operation_row step.now.before.now (operation_in float_operations opcode)) result }
+    ensures { RowRules (row_scope step.now.rules.now) step.now.before.now
+        (operation_row step.now.before.now (operation_in float_operations opcode)) result }
 {
     match opcode {
         FADD | FSUB | FMUL | FDIV | FREM => step.plain(&[FLOAT, FLOAT], Some(VType::Float)),

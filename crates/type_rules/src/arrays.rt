@@ -38,7 +38,8 @@ const DOUBLE: Need<'static> = Need::OfKind(Kind::Double);
 
 /// Pushes an element.
 pub(crate) fn load(step: &Step<'_>, opcode: u8) -> Result<Ruled, RuleFault>
-    ensures { RowRules (row_scope step.now.rules.now) step.now.before.now (rows.array_load_row step.now.before.now opcode) result }
+    ensures { RowRules (row_scope step.now.rules.now) step.now.before.now
+        (rows.array_load_row step.now.before.now opcode) result }
 {
     match opcode.checked_sub(IALOAD) {
         Some(0) => load_from(step, b"[I", VType::Int),
@@ -55,7 +56,8 @@ pub(crate) fn load(step: &Step<'_>, opcode: u8) -> Result<Ruled, RuleFault>
 
 /// Pops a value into an element.
 pub(crate) fn store(step: &Step<'_>, opcode: u8) -> Result<Ruled, RuleFault>
-    ensures { RowRules (row_scope step.now.rules.now) step.now.before.now (rows.array_store_row step.now.before.now opcode) result }
+    ensures { RowRules (row_scope step.now.rules.now) step.now.before.now
+        (rows.array_store_row step.now.before.now opcode) result }
 {
     match opcode.checked_sub(IASTORE) {
         Some(0) => store_into(step, b"[I", INT),
@@ -72,7 +74,9 @@ pub(crate) fn store(step: &Step<'_>, opcode: u8) -> Result<Ruled, RuleFault>
 
 // Pops an array of this name and an index, and pushes an element.
 fn load_from(step: &Step<'_>, array: &'static [u8], element: VType) -> Result<Ruled, RuleFault>
-    ensures { RowRules (row_scope step.now.rules.now) step.now.before.now (plain step.now.before.now (array_among (array.now ∷ []) ∷ of_kind kinds.Int ∷ []) (element ∷ [])) result }
+    ensures { RowRules (row_scope step.now.rules.now) step.now.before.now
+        (plain step.now.before.now (array_among (array.now ∷ []) ∷ of_kind kinds.Int ∷ [])
+        (element ∷ [])) result }
 {
     step.plain(&[Need::ArrayAmong(array, array), INT], Some(element))
 }
@@ -83,14 +87,18 @@ fn store_into(
     array: &'static [u8],
     value: Need<'static>,
 ) -> Result<Ruled, RuleFault>
-    ensures { RowRules (row_scope step.now.rules.now) step.now.before.now (plain step.now.before.now (array_among (array.now ∷ []) ∷ of_kind kinds.Int ∷ need_meant value.entry ∷ []) []) result }
+    ensures { RowRules (row_scope step.now.rules.now) step.now.before.now
+        (plain step.now.before.now
+        (array_among (array.now ∷ []) ∷ of_kind kinds.Int ∷ need_meant value.entry ∷ []) [])
+        result }
 {
     step.plain(&[Need::ArrayAmong(array, array), INT, value], None)
 }
 
 // Pops an array of references and an index, and pushes an element.
 fn load_reference(step: &Step<'_>) -> Result<Ruled, RuleFault>
-    ensures { RowRules (row_scope step.now.rules.now) step.now.before.now (rows.array_load_row step.now.before.now AALOAD) result }
+    ensures { RowRules (row_scope step.now.rules.now) step.now.before.now
+        (rows.array_load_row step.now.before.now AALOAD) result }
 {
     let element = element(step)?;
     step.plain(&[Need::ArrayOfReferences, INT], Some(element))
@@ -98,7 +106,10 @@ fn load_reference(step: &Step<'_>) -> Result<Ruled, RuleFault>
 
 // The type of the elements of the array of references under an index.
 fn element(step: &Step<'_>) -> Result<VType, NoMemory>
-    ensures { IfOk result (λ element. AllFit (row_scope step.now.rules.now) (array_of_references ∷ of_kind kinds.Int ∷ []) (topmost 2 step.now.before.now.stack) → element ≡ rows.component_type (lowest_of 2 step.now.before.now.stack)) }
+    ensures { IfOk result (λ element.
+        AllFit (row_scope step.now.rules.now) (array_of_references ∷ of_kind kinds.Int ∷ [])
+        (topmost 2 step.now.before.now.stack)
+        → element ≡ rows.component_type (lowest_of 2 step.now.before.now.stack)) }
 {
     let operands = topmost(step.before.stack.as_slice(), 2);
     let [array, ..] = operands else {
@@ -109,7 +120,9 @@ fn element(step: &Step<'_>) -> Result<VType, NoMemory>
 
 // The type of the elements of an array of references. What is none has no elements.
 fn element_type(alloc: Global, array: &VType) -> Result<VType, NoMemory>
-    ensures { IfOk result (λ element. IsNullOr (λ name. (component : Name) × IsReferenceComponent name component) array.now → element ≡ rows.component_type array.now) }
+    ensures { IfOk result (λ element.
+        IsNullOr (λ name. (component : Name) × IsReferenceComponent name component) array.now
+        → element ≡ rows.component_type array.now) }
 {
     match array {
         VType::Object(name) => match component(name.bytes()) {
@@ -123,7 +136,8 @@ fn element_type(alloc: Global, array: &VType) -> Result<VType, NoMemory>
 /// Makes an array of a primitive type.
 #[tactic(auto, using(crate::proofs::ArrayTexts::primitive_text))]
 pub(crate) fn new_array(step: &Step<'_>, code: u8) -> Result<Ruled, RuleFault>
-    ensures { RowRules (row_scope step.now.rules.now) step.now.before.now (rows.new_array_row step.now.before.now code) result }
+    ensures { RowRules (row_scope step.now.rules.now) step.now.before.now
+        (rows.new_array_row step.now.before.now code) result }
 {
     match code {
         T_BOOLEAN => made(step, b"[Z"),
@@ -141,7 +155,8 @@ pub(crate) fn new_array(step: &Step<'_>, code: u8) -> Result<Ruled, RuleFault>
 /// Makes an array of a class or of arrays.
 pub(crate) fn new_ref_array(step: &Step<'_>, index: u16) -> Result<Ruled, RuleFault>
     requires { IfSome (class_at step.now.rules.now.class.pool index) FitsArray }
-    ensures { RowRules (row_scope step.now.rules.now) step.now.before.now (rows.new_ref_array_row (row_scope step.now.rules.now) step.now.before.now index) result }
+    ensures { RowRules (row_scope step.now.rules.now) step.now.before.now
+        (rows.new_ref_array_row (row_scope step.now.rules.now) step.now.before.now index) result }
 {
     let rules = step.rules;
     let Some(name) = rules.class.pool.class_name(index) else {
@@ -154,7 +169,8 @@ pub(crate) fn new_ref_array(step: &Step<'_>, index: u16) -> Result<Ruled, RuleFa
 // Pops a count and pushes an array of this name.
 fn made(step: &Step<'_>, array: &[u8]) -> Result<Ruled, RuleFault>
     requires { IsText array.now }
-    ensures { RowRules (row_scope step.now.rules.now) step.now.before.now (rows.made_row step.now.before.now 1 (Some array.now)) result }
+    ensures { RowRules (row_scope step.now.rules.now) step.now.before.now
+        (rows.made_row step.now.before.now 1 (Some array.now)) result }
 {
     let array = Text::of_text(step.alloc, array)?;
     step.plain(&[INT], Some(VType::Object(array)))
@@ -178,7 +194,9 @@ fn array_of(alloc: Global, name: &[u8]) -> Result<Vec<u8>, NoMemory>
 
 /// Makes an array of arrays with so many counts.
 pub(crate) fn new_multi(step: &Step<'_>, index: u16, dimensions: u8) -> Result<Ruled, RuleFault>
-    ensures { RowRules (row_scope step.now.rules.now) step.now.before.now (rows.new_multi_row (row_scope step.now.rules.now) step.now.before.now index dimensions) result }
+    ensures { RowRules (row_scope step.now.rules.now) step.now.before.now
+        (rows.new_multi_row (row_scope step.now.rules.now) step.now.before.now index dimensions)
+        result }
 {
     let rules = step.rules;
     let Some(name) = rules.class.pool.class_name(index) else {
@@ -191,14 +209,16 @@ pub(crate) fn new_multi(step: &Step<'_>, index: u16, dimensions: u8) -> Result<R
 
 // What so many counts must be.
 fn counts(alloc: Global, dimensions: u8) -> Result<Vec<Need<'static>>, NoMemory>
-    ensures { IfOk result (λ counts. map need_meant counts.items ≡ replicate dimensions (of_kind kinds.Int)) }
+    ensures { IfOk result
+        (λ counts. map need_meant counts.items ≡ replicate dimensions (of_kind kinds.Int)) }
 {
     Ok(vec![in alloc; INT; usize::from(dimensions)]?)
 }
 
 /// The length of an array.
 pub(crate) fn length(step: &Step<'_>) -> Result<Ruled, RuleFault>
-    ensures { RowRules (row_scope step.now.rules.now) step.now.before.now (rows.length_row step.now.before.now) result }
+    ensures { RowRules (row_scope step.now.rules.now) step.now.before.now
+        (rows.length_row step.now.before.now) result }
 {
     step.plain(&[Need::SomeArray], Some(VType::Int))
 }

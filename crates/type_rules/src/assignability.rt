@@ -25,7 +25,8 @@ pub fn assignable(tree: &Tree, from: &VType, to: &VType) -> bool
 
 /// Whether a value of a type may stand where one of a field type is wanted.
 pub(crate) fn is_value_of(tree: &Tree, from: &VType, to: &FieldType) -> bool
-    ensures { IsTrue result ↔ IsAssignable (headers_of tree.now) from.now (verification_type to.now) }
+    ensures { IsTrue result
+        ↔ IsAssignable (headers_of tree.now) from.now (verification_type to.now) }
 {
     match to {
         FieldType::Named(name) => is_object_of(tree, from, name.bytes()),
@@ -59,7 +60,9 @@ fn is_name_assignable(tree: &Tree, low: &[u8], high: &[u8]) -> bool
 
 // Whether an object of a type is assignable to another where not both have a component.
 fn is_innermost_assignable(tree: &Tree, low: &[u8], high: &[u8]) -> bool
-    requires { (low_component high_component : Name) → IsReferenceComponent low.now low_component → ¬ IsReferenceComponent high.now high_component }
+    requires { (low_component high_component : Name)
+        → IsReferenceComponent low.now low_component
+        → ¬ IsReferenceComponent high.now high_component }
     ensures { IsTrue result ↔ IsNameAssignable (headers_of tree.now) low.now high.now }
 {
     a_tree_is_a_hierarchy(tree);
@@ -121,7 +124,8 @@ fn are_locals_assignable(tree: &Tree, from: &LocalTypeList, to: &LocalTypeList) 
 // The same of as many locals.
 fn are_first_assignable(tree: &Tree, from: &LocalTypeList, to: &LocalTypeList, count: usize) -> bool
     requires { count ≤ length to.now }
-    ensures { IsTrue result ↔ AreAssignable (headers_of tree.now) (take count from.now) (take count to.now) }
+    ensures { IsTrue result
+        ↔ AreAssignable (headers_of tree.now) (take count from.now) (take count to.now) }
 {
     for at in 0..count {
         let (Some(low), Some(high)) = (from.get(at), to.get(at)) else {

@@ -43,7 +43,10 @@ const INTERFACE_TARGETS: u16 = 52;
 /// Calls a method, by its opcode.
 pub(crate) fn call(step: &Step<'_>, opcode: u8, index: u16) -> Result<Ruled, RuleFault>
     requires { IsCallable (constant_at step.now.rules.now.class.pool index) }
-    ensures { RowRules (row_scope step.now.rules.now) step.now.before.now (call_row (row_scope step.now.rules.now) step.now.before.now opcode (reference_of step.now.rules.now.class.pool (constant_at step.now.rules.now.class.pool index))) result }
+    ensures { RowRules (row_scope step.now.rules.now) step.now.before.now
+        (call_row (row_scope step.now.rules.now) step.now.before.now opcode
+        (reference_of step.now.rules.now.class.pool
+        (constant_at step.now.rules.now.class.pool index))) result }
 {
     let rules = step.rules;
     let Some(reference) = reference_at(rules.class, index) else {
@@ -61,7 +64,9 @@ pub(crate) fn call(step: &Step<'_>, opcode: u8, index: u16) -> Result<Ruled, Rul
 
 /// Calls a call site.
 pub(crate) fn call_dynamic(step: &Step<'_>, index: u16) -> Result<Ruled, RuleFault>
-    ensures { RowRules (row_scope step.now.rules.now) step.now.before.now (dynamic_row (row_scope step.now.rules.now) step.now.before.now (constant_at step.now.rules.now.class.pool index)) result }
+    ensures { RowRules (row_scope step.now.rules.now) step.now.before.now
+        (dynamic_row (row_scope step.now.rules.now) step.now.before.now
+        (constant_at step.now.rules.now.class.pool index)) result }
 {
     let rules = step.rules;
     let Some(Const::InvokeDynamic(_, member)) = rules.class.pool.get(index) else {
@@ -90,7 +95,8 @@ fn call_static(
     descriptor: &Descriptor,
 ) -> Result<Ruled, RuleFault>
     requires { SpellsDescriptor reference.now.desc.now descriptor.now }
-    ensures { RowRules (row_scope step.now.rules.now) step.now.before.now (static_row step.now.before.now (reference_meant reference.now)) result }
+    ensures { RowRules (row_scope step.now.rules.now) step.now.before.now
+        (static_row step.now.before.now (reference_meant reference.now)) result }
 {
     a_descriptor_is_read_back();
     call_with(step, None, descriptor, true, true)
@@ -105,7 +111,9 @@ fn call_on(
     access: bool,
 ) -> Result<Ruled, RuleFault>
     requires { SpellsDescriptor reference.now.desc.now descriptor.now }
-    ensures { RowRules (row_scope step.now.rules.now) step.now.before.now (instance_row step.now.before.now (reference_meant reference.now) (IsTrue further) (IsTrue access)) result }
+    ensures { RowRules (row_scope step.now.rules.now) step.now.before.now
+        (instance_row step.now.before.now (reference_meant reference.now) (IsTrue further)
+        (IsTrue access)) result }
 {
     a_descriptor_is_read_back();
     call_with(
@@ -124,7 +132,10 @@ fn call_virtual(
     descriptor: &Descriptor,
 ) -> Result<Ruled, RuleFault>
     requires { SpellsDescriptor reference.now.desc.now descriptor.now }
-    ensures { RowRules (row_scope step.now.rules.now) step.now.before.now (instance_row step.now.before.now (reference_meant reference.now) (Unit {0}) (PassesMethod (row_scope step.now.rules.now) (reference_meant reference.now) (receiver step.now.before.now reference.now.desc.now))) result }
+    ensures { RowRules (row_scope step.now.rules.now) step.now.before.now
+        (instance_row step.now.before.now (reference_meant reference.now) (Unit {0})
+        (PassesMethod (row_scope step.now.rules.now) (reference_meant reference.now)
+        (receiver step.now.before.now reference.now.desc.now))) result }
 {
     a_descriptor_is_read_back();
     let top = VType::Top;
@@ -140,7 +151,12 @@ fn call_named(
     descriptor: &Descriptor,
 ) -> Result<Ruled, RuleFault>
     requires { SpellsDescriptor reference.now.desc.now descriptor.now }
-    ensures { RowRules (row_scope step.now.rules.now) step.now.before.now (either (bytes_eq reference.now.name.now init) (init_row (row_scope step.now.rules.now) step.now.before.now (reference_meant reference.now)) (special_row (row_scope step.now.rules.now) step.now.before.now (reference_meant reference.now))) result }
+    ensures { RowRules (row_scope step.now.rules.now) step.now.before.now
+        (either (bytes_eq reference.now.name.now init)
+        (init_row (row_scope step.now.rules.now) step.now.before.now
+        (reference_meant reference.now))
+        (special_row (row_scope step.now.rules.now) step.now.before.now
+        (reference_meant reference.now))) result }
 {
     if reference.name.bytes() == INIT {
         initialise(step, reference, descriptor)
@@ -156,7 +172,9 @@ fn call_special(
     descriptor: &Descriptor,
 ) -> Result<Ruled, RuleFault>
     requires { SpellsDescriptor reference.now.desc.now descriptor.now }
-    ensures { RowRules (row_scope step.now.rules.now) step.now.before.now (special_row (row_scope step.now.rules.now) step.now.before.now (reference_meant reference.now)) result }
+    ensures { RowRules (row_scope step.now.rules.now) step.now.before.now
+        (special_row (row_scope step.now.rules.now) step.now.before.now
+        (reference_meant reference.now)) result }
 {
     a_descriptor_is_read_back();
     let top = VType::Top;
@@ -184,7 +202,11 @@ fn fits_special(
     name: &Text,
     object: &VType,
 ) -> Result<bool, NoMemory>
-    ensures { IfOk result (λ fits. IsTrue fits ↔ (IsSpecialTarget (row_scope rules.now) name.now × IsAssignableIn rules.now.headers rules.now.class.major object.now (VType.Object (current rules.now)))) }
+    ensures { IfOk result (λ fits.
+        IsTrue fits
+        ↔ (IsSpecialTarget (row_scope rules.now) name.now
+        × IsAssignableIn rules.now.headers rules.now.class.major object.now
+        (VType.Object (current rules.now)))) }
 {
     if !is_object_of(rules.tree, object, rules.header.name.bytes()) {
         return Ok(false);
@@ -197,14 +219,20 @@ fn fits_special(
 
 // Whether a class is a direct superinterface, in version 52.
 fn is_direct_target(rules: &MethodRules<'_>, name: &Text) -> bool
-    ensures { IsTrue result ↔ ((rules.now.class.major ≡ 52) × IsTrue (list_any (bytes_eq name.now) (header_of rules.now.class).interfaces)) }
+    ensures { IsTrue result
+        ↔ ((rules.now.class.major ≡ 52)
+        × IsTrue (list_any (bytes_eq name.now) (header_of rules.now.class).interfaces)) }
 {
     rules.class.major == INTERFACE_TARGETS && stands_in(name, rules.header.interfaces.as_slice())
 }
 
 // Whether a class is the current class or a superclass of it.
 fn is_on_chain(alloc: Global, rules: &MethodRules<'_>, name: &Text) -> Result<bool, NoMemory>
-    ensures { IfOk result (λ above. IsTrue above ↔ ((names : List Name) × IsChain rules.now.headers (current rules.now) names × IsTrue (list_any (bytes_eq name.now) names))) }
+    ensures { IfOk result (λ above.
+        IsTrue above
+        ↔ ((names : List Name)
+        × IsChain rules.now.headers (current rules.now) names
+        × IsTrue (list_any (bytes_eq name.now) names))) }
 {
     a_tree_is_a_hierarchy(rules.tree);
     let names = chain(alloc, rules.tree, &rules.header.name)?;

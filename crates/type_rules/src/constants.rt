@@ -18,14 +18,16 @@ const STRING: &[u8] = b"java/lang/String";
 
 /// Pushes a number or null that the instruction has itself.
 pub(crate) fn push_imm(step: &Step<'_>, imm: Imm) -> Result<Ruled, RuleFault>
-    ensures { RowRules (row_scope step.now.rules.now) step.now.before.now (imm_row step.now.before.now imm) result }
+    ensures { RowRules (row_scope step.now.rules.now) step.now.before.now
+        (imm_row step.now.before.now imm) result }
 {
     step.plain(&[], Some(type_of_imm(imm)))
 }
 
 /// Pushes a constant of the pool.
 pub(crate) fn push_constant(step: &Step<'_>, index: u16) -> Result<Ruled, RuleFault>
-    ensures { RowRules (row_scope step.now.rules.now) step.now.before.now (const_row step.now.before.now (constant_at step.now.rules.now.class.pool index)) result }
+    ensures { RowRules (row_scope step.now.rules.now) step.now.before.now
+        (const_row step.now.before.now (constant_at step.now.rules.now.class.pool index)) result }
 {
     let rules = step.rules;
     match rules.class.pool.get(index) {
@@ -36,7 +38,8 @@ pub(crate) fn push_constant(step: &Step<'_>, index: u16) -> Result<Ruled, RuleFa
 
 // Pushes a constant that is there.
 fn push_type(step: &Step<'_>, constant: &Const) -> Result<Ruled, RuleFault>
-    ensures { RowRules (row_scope step.now.rules.now) step.now.before.now (const_row step.now.before.now (Some constant.now)) result }
+    ensures { RowRules (row_scope step.now.rules.now) step.now.before.now
+        (const_row step.now.before.now (Some constant.now)) result }
 {
     match type_of_const(step.alloc, constant)? {
         Some(given) => step.plain(&[], Some(given)),

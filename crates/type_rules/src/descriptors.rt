@@ -74,7 +74,9 @@ pub(crate) fn result_type(descriptor: &Descriptor) -> Result<Option<VType>, NoMe
 
 /// A law: the text of a method descriptor gives back its parameters and its result.
 pub(crate) fn a_descriptor_is_read_back()
-    ensures { (text : List ℕ) (descriptor : Descriptor) → SpellsDescriptor text descriptor → (parameters_of text ≡ descriptor.params) × (result_of text ≡ descriptor.result) }
+    ensures { (text : List ℕ) (descriptor : Descriptor)
+        → SpellsDescriptor text descriptor
+        → (parameters_of text ≡ descriptor.params) × (result_of text ≡ descriptor.result) }
 {
     parameters_are_spelled();
 }

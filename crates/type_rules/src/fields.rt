@@ -31,7 +31,10 @@ struct FieldReference<'a> {
 
 /// Pushes a static field.
 pub(crate) fn get_static(step: &Step<'_>, index: u16) -> Result<Ruled, RuleFault>
-    ensures { RowRules (row_scope step.now.rules.now) step.now.before.now (get_static_row step.now.before.now (reference_of step.now.rules.now.class.pool (constant_at step.now.rules.now.class.pool index))) result }
+    ensures { RowRules (row_scope step.now.rules.now) step.now.before.now
+        (get_static_row step.now.before.now
+        (reference_of step.now.rules.now.class.pool
+        (constant_at step.now.rules.now.class.pool index))) result }
 {
     match field_at(step.alloc, step.rules, index)? {
         Some(field) => step.plain(&[], Some(verification_type(&field.field_type)?)),
@@ -41,7 +44,10 @@ pub(crate) fn get_static(step: &Step<'_>, index: u16) -> Result<Ruled, RuleFault
 
 /// Pops a value into a static field.
 pub(crate) fn put_static(step: &Step<'_>, index: u16) -> Result<Ruled, RuleFault>
-    ensures { RowRules (row_scope step.now.rules.now) step.now.before.now (put_static_row step.now.before.now (reference_of step.now.rules.now.class.pool (constant_at step.now.rules.now.class.pool index))) result }
+    ensures { RowRules (row_scope step.now.rules.now) step.now.before.now
+        (put_static_row step.now.before.now
+        (reference_of step.now.rules.now.class.pool
+        (constant_at step.now.rules.now.class.pool index))) result }
 {
     match field_at(step.alloc, step.rules, index)? {
         Some(field) => step.plain(&[Need::Value(&field.field_type)], None),
@@ -51,7 +57,10 @@ pub(crate) fn put_static(step: &Step<'_>, index: u16) -> Result<Ruled, RuleFault
 
 /// Pushes a field of an object.
 pub(crate) fn get_field(step: &Step<'_>, index: u16) -> Result<Ruled, RuleFault>
-    ensures { RowRules (row_scope step.now.rules.now) step.now.before.now (get_field_row (row_scope step.now.rules.now) step.now.before.now (reference_of step.now.rules.now.class.pool (constant_at step.now.rules.now.class.pool index))) result }
+    ensures { RowRules (row_scope step.now.rules.now) step.now.before.now
+        (get_field_row (row_scope step.now.rules.now) step.now.before.now
+        (reference_of step.now.rules.now.class.pool
+        (constant_at step.now.rules.now.class.pool index))) result }
 {
     match field_at(step.alloc, step.rules, index)? {
         Some(field) => get_from(step, &field),
@@ -62,7 +71,9 @@ pub(crate) fn get_field(step: &Step<'_>, index: u16) -> Result<Ruled, RuleFault>
 // Pushes this field of an object.
 fn get_from(step: &Step<'_>, field: &FieldReference<'_>) -> Result<Ruled, RuleFault>
     requires { field.now.field_type ≡ type_of field.now.reference.desc.now }
-    ensures { RowRules (row_scope step.now.rules.now) step.now.before.now (get_field_row (row_scope step.now.rules.now) step.now.before.now (Some (reference_meant field.now.reference))) result }
+    ensures { RowRules (row_scope step.now.rules.now) step.now.before.now
+        (get_field_row (row_scope step.now.rules.now) step.now.before.now
+        (Some (reference_meant field.now.reference))) result }
 {
     let reference = &field.reference;
     let top = VType::Top;
@@ -77,7 +88,10 @@ fn get_from(step: &Step<'_>, field: &FieldReference<'_>) -> Result<Ruled, RuleFa
 
 /// Pops a value into a field of an object.
 pub(crate) fn put_field(step: &Step<'_>, index: u16) -> Result<Ruled, RuleFault>
-    ensures { RowRules (row_scope step.now.rules.now) step.now.before.now (put_field_row (row_scope step.now.rules.now) step.now.before.now (reference_of step.now.rules.now.class.pool (constant_at step.now.rules.now.class.pool index))) result }
+    ensures { RowRules (row_scope step.now.rules.now) step.now.before.now
+        (put_field_row (row_scope step.now.rules.now) step.now.before.now
+        (reference_of step.now.rules.now.class.pool
+        (constant_at step.now.rules.now.class.pool index))) result }
 {
     match field_at(step.alloc, step.rules, index)? {
         Some(field) => put_into(step, &field),
@@ -88,7 +102,9 @@ pub(crate) fn put_field(step: &Step<'_>, index: u16) -> Result<Ruled, RuleFault>
 // Pops a value into this field of an object.
 fn put_into(step: &Step<'_>, field: &FieldReference<'_>) -> Result<Ruled, RuleFault>
     requires { field.now.field_type ≡ type_of field.now.reference.desc.now }
-    ensures { RowRules (row_scope step.now.rules.now) step.now.before.now (put_field_row (row_scope step.now.rules.now) step.now.before.now (Some (reference_meant field.now.reference))) result }
+    ensures { RowRules (row_scope step.now.rules.now) step.now.before.now
+        (put_field_row (row_scope step.now.rules.now) step.now.before.now
+        (Some (reference_meant field.now.reference))) result }
 {
     let reference = &field.reference;
     let top = VType::Top;
@@ -106,7 +122,8 @@ fn put_into(step: &Step<'_>, field: &FieldReference<'_>) -> Result<Ruled, RuleFa
 
 // Whether a field of a receiver may be written: an uninitialised this has its own fields written.
 fn may_put(rules: &MethodRules<'_>, reference: &Reference<'_>, receiver: &VType) -> bool
-    ensures { IsTrue result ↔ MayPut (row_scope rules.now) (reference_meant reference.now) receiver.now }
+    ensures { IsTrue result
+        ↔ MayPut (row_scope rules.now) (reference_meant reference.now) receiver.now }
 {
     match receiver {
         VType::UninitThis => is_own_field(rules, reference),
@@ -116,7 +133,8 @@ fn may_put(rules: &MethodRules<'_>, reference: &Reference<'_>, receiver: &VType)
 
 // Whether another object lends the field, if it is protected.
 fn passes_put(rules: &MethodRules<'_>, reference: &Reference<'_>, receiver: &VType) -> bool
-    ensures { IsTrue result ↔ PassesPut (row_scope rules.now) (reference_meant reference.now) receiver.now }
+    ensures { IsTrue result
+        ↔ PassesPut (row_scope rules.now) (reference_meant reference.now) receiver.now }
 {
     match receiver {
         VType::UninitThis => true,
@@ -141,8 +159,11 @@ fn field_at<'a>(
     rules: &MethodRules<'a>,
     index: u16,
 ) -> Result<Option<FieldReference<'a>>, NoMemory>
-    ensures same { IfOk result (λ found. option_map (λ field. reference_meant field.reference) found ≡ reference_of rules.now.class.pool (constant_at rules.now.class.pool index)) }
-    ensures typed { IfOk result (λ found. IfSome found (λ field. field.field_type ≡ type_of field.reference.desc.now)) }
+    ensures same { IfOk result (λ found.
+        option_map (λ field. reference_meant field.reference) found
+        ≡ reference_of rules.now.class.pool (constant_at rules.now.class.pool index)) }
+    ensures typed { IfOk result
+        (λ found. IfSome found (λ field. field.field_type ≡ type_of field.reference.desc.now)) }
 {
     let Some(reference) = reference_at(rules.class, index) else {
         return Ok(None);

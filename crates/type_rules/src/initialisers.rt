@@ -32,7 +32,9 @@ pub(crate) fn initialise(
     descriptor: &Descriptor,
 ) -> Result<Ruled, RuleFault>
     requires { SpellsDescriptor reference.now.desc.now descriptor.now }
-    ensures { RowRules (row_scope step.now.rules.now) step.now.before.now (init_row (row_scope step.now.rules.now) step.now.before.now (reference_meant reference.now)) result }
+    ensures { RowRules (row_scope step.now.rules.now) step.now.before.now
+        (init_row (row_scope step.now.rules.now) step.now.before.now
+        (reference_meant reference.now)) result }
 {
     a_descriptor_is_read_back();
     initialise_by(step, reference, descriptor)
@@ -44,7 +46,9 @@ fn initialise_by(
     reference: &Reference<'_>,
     descriptor: &Descriptor,
 ) -> Result<Ruled, RuleFault>
-    ensures { RowRules (row_scope step.now.rules.now) step.now.before.now (init_signature (row_scope step.now.rules.now) step.now.before.now (reference_meant reference.now) descriptor.now.params descriptor.now.result) result }
+    ensures { RowRules (row_scope step.now.rules.now) step.now.before.now
+        (init_signature (row_scope step.now.rules.now) step.now.before.now
+        (reference_meant reference.now) descriptor.now.params descriptor.now.result) result }
 {
     let count = take_operands(step, Some(Need::Uninitialised), descriptor)?;
     let top = VType::Top;
@@ -59,7 +63,8 @@ fn initialise_by(
 
 // Whether an initialiser is one of a receiver.
 fn may_initialise(rules: &MethodRules<'_>, reference: &Reference<'_>, receiver: &VType) -> bool
-    ensures { IsTrue result ↔ MayInitialise (row_scope rules.now) (reference_meant reference.now) receiver.now }
+    ensures { IsTrue result
+        ↔ MayInitialise (row_scope rules.now) (reference_meant reference.now) receiver.now }
 {
     match receiver {
         VType::Uninit(at) => is_made_of(rules, *at, reference.class),
@@ -71,7 +76,8 @@ fn may_initialise(rules: &MethodRules<'_>, reference: &Reference<'_>, receiver: 
 
 // Whether an initialiser of another object than this is no protected one of another package.
 fn passes_initialiser(rules: &MethodRules<'_>, reference: &Reference<'_>, receiver: &VType) -> bool
-    ensures { IsTrue result ↔ PassesInitialiser (row_scope rules.now) (reference_meant reference.now) receiver.now }
+    ensures { IsTrue result
+        ↔ PassesInitialiser (row_scope rules.now) (reference_meant reference.now) receiver.now }
 {
     match receiver {
         VType::Uninit(at) => passes_initialiser_of(rules, reference, *at),
@@ -81,7 +87,9 @@ fn passes_initialiser(rules: &MethodRules<'_>, reference: &Reference<'_>, receiv
 
 // The same of the object that the `new` at an offset made.
 fn passes_initialiser_of(rules: &MethodRules<'_>, reference: &Reference<'_>, at: u32) -> bool
-    ensures { IsTrue result ↔ PassesInitialiser (row_scope rules.now) (reference_meant reference.now) (VType.Uninit at) }
+    ensures { IsTrue result
+        ↔ PassesInitialiser (row_scope rules.now) (reference_meant reference.now)
+        (VType.Uninit at) }
 {
     a_look_up_finds_one_method();
     let found = find_method(rules.tree, reference.class, reference.name, reference.desc);
@@ -117,7 +125,12 @@ fn initialised_stack(
     count: usize,
     gives: Option<VType>,
 ) -> Result<VTypeList, NoMemory>
-    ensures { IfOk result (λ stack. stack ≡ map (initialised_type (row_scope step.now.rules.now) (reference_meant reference.now) receiver.now) (under count step.now.before.now.stack) ++ given gives) }
+    ensures { IfOk result (λ stack.
+        stack
+        ≡ map
+        (initialised_type (row_scope step.now.rules.now) (reference_meant reference.now)
+        receiver.now) (under count step.now.before.now.stack)
+        ++ given gives) }
 {
     let mut stack = initialised_under(step, reference, receiver, count)?;
     if let Some(value) = gives {
@@ -133,7 +146,11 @@ fn initialised_under(
     receiver: &VType,
     count: usize,
 ) -> Result<VTypeList, NoMemory>
-    ensures { IfOk result (λ stack. stack ≡ map (initialised_type (row_scope step.now.rules.now) (reference_meant reference.now) receiver.now) (under count step.now.before.now.stack)) }
+    ensures { IfOk result (λ stack.
+        stack
+        ≡ map
+        (initialised_type (row_scope step.now.rules.now) (reference_meant reference.now)
+        receiver.now) (under count step.now.before.now.stack)) }
 {
     let before = step.under(count)?;
     let mut stack = VTypeList::new(step.alloc);
@@ -150,7 +167,10 @@ fn initialised(
     receiver: &VType,
     entry: &VType,
 ) -> Result<VType, NoMemory>
-    ensures { IfOk result (λ after. after ≡ initialised_type (row_scope rules.now) (reference_meant reference.now) receiver.now entry.now) }
+    ensures { IfOk result (λ after.
+        after
+        ≡ initialised_type (row_scope rules.now) (reference_meant reference.now) receiver.now
+        entry.now) }
 {
     match class_after(rules, reference, receiver, entry) {
         Some(name) => Ok(VType::Object(name.copy()?)),
@@ -164,7 +184,11 @@ fn initialised_locals(
     reference: &Reference<'_>,
     receiver: &VType,
 ) -> Result<LocalTypeList, NoMemory>
-    ensures { IfOk result (λ locals. locals ≡ map (initialised_type (row_scope step.now.rules.now) (reference_meant reference.now) receiver.now) step.now.before.now.locals) }
+    ensures { IfOk result (λ locals.
+        locals
+        ≡ map
+        (initialised_type (row_scope step.now.rules.now) (reference_meant reference.now)
+        receiver.now) step.now.before.now.locals) }
 {
     let before = &step.before.locals;
     let mut after = before.copy(step.alloc)?;
@@ -184,7 +208,10 @@ fn class_of_local<'a>(
     locals: &LocalTypeList,
     index: usize,
 ) -> Option<&'a Text>
-    ensures { (local : entry_type) → slice_get locals.now index ≡ Some local → Becomes (row_scope rules.now) (reference_meant reference.now) receiver.now local (option_copied result) }
+    ensures { (local : entry_type)
+        → slice_get locals.now index ≡ Some local
+        → Becomes (row_scope rules.now) (reference_meant reference.now) receiver.now local
+        (option_copied result) }
 {
     match locals.get(index) {
         Some(local) => class_after(rules, reference, receiver, local),
@@ -199,7 +226,8 @@ fn class_after<'a>(
     receiver: &VType,
     entry: &VType,
 ) -> Option<&'a Text>
-    ensures { Becomes (row_scope rules.now) (reference_meant reference.now) receiver.now entry.now (option_copied result) }
+    ensures { Becomes (row_scope rules.now) (reference_meant reference.now) receiver.now entry.now
+        (option_copied result) }
 {
     match (receiver, entry) {
         (VType::Uninit(at), VType::Uninit(other)) if at == other => Some(reference.class),

@@ -16,7 +16,8 @@ pub(crate) fn compare(
     is_known: bool,
     needs: &[Need<'_>],
 ) -> Result<Ruled, RuleFault>
-    ensures { RowRules (row_scope step.now.rules.now) step.now.before.now (jump_row step.now.before.now is_known (map need_meant needs.now)) result }
+    ensures { RowRules (row_scope step.now.rules.now) step.now.before.now
+        (jump_row step.now.before.now is_known (map need_meant needs.now)) result }
 {
     if is_known {
         step.plain(needs, None)

@@ -18,50 +18,90 @@ ghost use Rattle.type_rules.specs.declared.fault.TypeRule.{TypeRule};
 
 /// There is at most one list of frames that types a body, and so a method.
 pub fn a_method_has_one_typing()
-    ensures { (b : Body) (one other : List Frame) → TypesBody b one → TypesBody b other → one ≡ other }
+    ensures { (b : Body) (one other : List Frame)
+        → TypesBody b one
+        → TypesBody b other
+        → one ≡ other }
 {}
 
 /// Where a body fails, as that of a method, no frames type it, and it fails first in one place by one rule.
 pub fn a_failing_method_has_no_frames()
-    ensures none { (b : Body) (frames : List Frame) (offset : ℕ) (rule : TypeRule) → BodyFails b offset rule → ¬ TypesBody b frames }
-    ensures one { (b : Body) (offset other : ℕ) (rule other_rule : TypeRule) → BodyFails b offset rule → BodyFails b other other_rule → (offset ≡ other) × (rule ≡ other_rule) }
+    ensures none { (b : Body) (frames : List Frame) (offset : ℕ) (rule : TypeRule)
+        → BodyFails b offset rule
+        → ¬ TypesBody b frames }
+    ensures one { (b : Body) (offset other : ℕ) (rule other_rule : TypeRule)
+        → BodyFails b offset rule
+        → BodyFails b other other_rule
+        → (offset ≡ other) × (rule ≡ other_rule) }
 {}
 
 /// A typed folder types each method by its numbers: one with code has frames that type it, and one without has none.
 pub fn a_typed_folder_types_each_method()
-    ensures { (classes : Classes) (typed : FolderFrames) → TypesFolder classes typed → (at : MethodAt) → TypesMethod (scope_at classes at) (typed_frames_at typed at) }
+    ensures { (classes : Classes) (typed : FolderFrames)
+        → TypesFolder classes typed
+        → (at : MethodAt)
+        → TypesMethod (scope_at classes at) (typed_frames_at typed at) }
 {}
 
 /// In a typed body, as that of a method, each instruction is typed by its frame behind what flows into it, and nothing flows
 /// past the last.
 pub fn a_typed_method_types_each_instruction()
-    ensures count { (b : Body) (frames : List Frame) → TypesBody b frames → length frames ≡ length b.points }
-    ensures each { (b : Body) (frames : List Frame) → TypesBody b frames → (number : ℕ) (point : BodyPoint) → slice_get b.points number ≡ Some point → (frame : Frame) × (slice_get frames number ≡ Some frame) × IsTypedAt b (flows_into b frames number) point frame }
-    ensures past { (b : Body) (frames : List Frame) → TypesBody b frames → flows_into b frames (length b.points) ≡ None }
+    ensures count { (b : Body) (frames : List Frame)
+        → TypesBody b frames
+        → length frames ≡ length b.points }
+    ensures each { (b : Body) (frames : List Frame)
+        → TypesBody b frames
+        → (number : ℕ) (point : BodyPoint)
+        → slice_get b.points number ≡ Some point
+        → (frame : Frame)
+        × (slice_get frames number ≡ Some frame)
+        × IsTypedAt b (flows_into b frames number) point frame }
+    ensures past { (b : Body) (frames : List Frame)
+        → TypesBody b frames
+        → flows_into b frames (length b.points) ≡ None }
 {}
 
 /// Frames type a body whose points stand in order exactly where, place by place, what flows in, what is stated and where control
 /// may go agree: the frame at each place where one is stated is equal to it, and so is that at each target and each handler.
 pub fn frames_type_a_body_by_its_places()
-    ensures places { (b : Body) (frames : List Frame) → AreInOrder b.points → TypesBody b frames → HasFrames b frames }
-    ensures types { (b : Body) (frames : List Frame) → AreInOrder b.points → HasFrames b frames → TypesBody b frames }
+    ensures places { (b : Body) (frames : List Frame)
+        → AreInOrder b.points
+        → TypesBody b frames
+        → HasFrames b frames }
+    ensures types { (b : Body) (frames : List Frame)
+        → AreInOrder b.points
+        → HasFrames b frames
+        → TypesBody b frames }
 {}
 
 /// In a typed body whose points stand in order, and that states frames at points only, the frame at a place for which one is
 /// stated is the stated one; and each frame behind a point that jumps, and each that a handler of it begins with, is assignable
 /// to the frame at its place, which is the stated one.
 pub fn a_typed_body_goes_to_stated_frames()
-    ensures stated { (b : Body) (frames : List Frame) → AreInOrder b.points → StatesAtPoints b → TypesBody b frames → (place : ℕ) (stated : Frame) → b.stated place ≡ Some stated → frame_at b frames place ≡ Some stated }
-    ensures edges { (b : Body) (frames : List Frame) → AreInOrder b.points → StatesAtPoints b → TypesBody b frames → AllByRecursion (GoesToStated b frames) b.points }
+    ensures stated { (b : Body) (frames : List Frame)
+        → AreInOrder b.points
+        → StatesAtPoints b
+        → TypesBody b frames
+        → (place : ℕ) (stated : Frame)
+        → b.stated place ≡ Some stated
+        → frame_at b frames place ≡ Some stated }
+    ensures edges { (b : Body) (frames : List Frame)
+        → AreInOrder b.points
+        → StatesAtPoints b
+        → TypesBody b frames
+        → AllByRecursion (GoesToStated b frames) b.points }
 {}
 
 /// The body of a method with code stands in order and states frames at its points only. Where the code has instructions, they
 /// stand one after the other from its first byte to its end. So frames type a method exactly where they do so place by place.
 pub fn a_method_stands_in_order()
     ensures order { (s : Scope) → AreInOrder (body_of s).points }
-    ensures consecutive { (s : Scope) (instrs : List Placed) → decoded s.part.code ≡ Ok instrs → AreConsecutivePoints 0 (body_of s).points (body_of s).end }
+    ensures consecutive { (s : Scope) (instrs : List Placed)
+        → decoded s.part.code ≡ Ok instrs
+        → AreConsecutivePoints 0 (body_of s).points (body_of s).end }
     ensures stated { (s : Scope) → StatesAtPoints (body_of s) }
-    ensures places { (s : Scope) (frames : List Frame) → Typed s frames ↔ HasFrames (body_of s) frames }
+    ensures places { (s : Scope) (frames : List Frame)
+        → Typed s frames ↔ HasFrames (body_of s) frames }
 {
     code_bytes::instructions_are_consecutive();
     code_bytes::frames_are_stated_at_instructions();

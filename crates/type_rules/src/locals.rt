@@ -16,7 +16,8 @@ use std::alloc::Global;
 
 /// Pushes a local.
 pub(crate) fn load(step: &Step<'_>, kind: Kind, local: u16) -> Result<Ruled, RuleFault>
-    ensures { RowRules (row_scope step.now.rules.now) step.now.before.now (load_row step.now.before.now kind local) result }
+    ensures { RowRules (row_scope step.now.rules.now) step.now.before.now
+        (load_row step.now.before.now kind local) result }
 {
     match held(step.before, kind, local) {
         Some(unit) => step.plain(&[], Some(unit.copy()?)),
@@ -26,7 +27,8 @@ pub(crate) fn load(step: &Step<'_>, kind: Kind, local: u16) -> Result<Ruled, Rul
 
 /// Pops a value into a local. The long or double that it cuts is none any more.
 pub(crate) fn store(step: &Step<'_>, kind: Kind, local: u16) -> Result<Ruled, RuleFault>
-    ensures { RowRules (row_scope step.now.rules.now) step.now.before.now (store_row step.now.before.now kind local) result }
+    ensures { RowRules (row_scope step.now.rules.now) step.now.before.now
+        (store_row step.now.before.now kind local) result }
 {
     let before = step.before;
     step.takes(&[Need::OfKind(kind)])?;
@@ -43,7 +45,8 @@ pub(crate) fn store(step: &Step<'_>, kind: Kind, local: u16) -> Result<Ruled, Ru
 
 /// Adds to a local.
 pub(crate) fn increment(step: &Step<'_>, local: u16) -> Result<Ruled, RuleFault>
-    ensures { RowRules (row_scope step.now.rules.now) step.now.before.now (iinc_row step.now.before.now local) result }
+    ensures { RowRules (row_scope step.now.rules.now) step.now.before.now
+        (iinc_row step.now.before.now local) result }
 {
     match held(step.before, Kind::Int, local) {
         Some(_) => step.plain(&[], None),
@@ -53,7 +56,8 @@ pub(crate) fn increment(step: &Step<'_>, local: u16) -> Result<Ruled, RuleFault>
 
 // A local, if it is there and of a kind.
 fn held(frame: &Frame, kind: Kind, local: u16) -> Option<&VType>
-    ensures { MatchOption (option_copied result) (¬ HoldsKind kind frame.now.locals local) (λ unit. (slice_get frame.now.locals local ≡ Some unit) × IsOfKind kind unit) }
+    ensures { MatchOption (option_copied result) (¬ HoldsKind kind frame.now.locals local)
+        (λ unit. (slice_get frame.now.locals local ≡ Some unit) × IsOfKind kind unit) }
 {
     match frame.locals.get(usize::from(local)) {
         Some(unit) if is_of_kind(kind, unit) => Some(unit),
@@ -108,7 +112,8 @@ fn cut_before(locals: &mut LocalTypeList, at: usize) -> Result<(), NoMemory>
 
 // Whether a local has the first unit of a long or double.
 fn is_wide_at(locals: &LocalTypeList, at: usize) -> bool
-    ensures { IsTrue result ↔ ((unit : VType) × (slice_get locals.now at ≡ Some unit) × IsTrue (is_wide unit)) }
+    ensures { IsTrue result
+        ↔ ((unit : VType) × (slice_get locals.now at ≡ Some unit) × IsTrue (is_wide unit)) }
 {
     match locals.get(at) {
         Some(unit) => is_wide(unit),

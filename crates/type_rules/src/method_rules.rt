@@ -47,9 +47,22 @@ impl<'a> Model for MethodRules<'a> {
 
     ghost Value = { Scope };
 
-    ghost view = { λ rules. record { headers = headers_of rules.tree.now; class = rules.class.now; method = rules.method.now; part = rules.part.now } };
+    ghost view = { λ rules.
+        record {
+          headers = headers_of rules.tree.now;
+          class = rules.class.now;
+          method = rules.method.now;
+          part = rules.part.now;
+        } };
 
-    ghost invariant = { λ rules. IsKnown rules.tree.now (record { headers = headers_of rules.tree.now; class = rules.class.now; method = rules.method.now; part = rules.part.now }) rules.place rules.header.now rules.body };
+    ghost invariant = { λ rules.
+        IsKnown rules.tree.now
+        (record {
+          headers = headers_of rules.tree.now;
+          class = rules.class.now;
+          method = rules.method.now;
+          part = rules.part.now;
+        }) rules.place rules.header.now rules.body };
 }
 
 impl<'a> MethodRules<'a> {
@@ -194,9 +207,11 @@ fn of_method<'a>(
     requires stands { header_at (headers_of tree.now) place ≡ Some header.now }
     requires header { header.now ≡ header_of class.now }
     requires read { IsReadMethod class.now.pool method.now }
-    requires operands { AllByRecursion (HasOperands class.now.pool class.now.major) method.now.attrs }
+    requires operands { AllByRecursion (HasOperands class.now.pool class.now.major)
+        method.now.attrs }
     requires has_code { IsSome (scope_of (headers_of tree.now) class.now method.now) }
-    ensures { IfOk result (λ rules. scope_of (headers_of tree.now) class.now method.now ≡ Some rules) }
+    ensures { IfOk result
+        (λ rules. scope_of (headers_of tree.now) class.now method.now ≡ Some rules) }
 {
     let Some(part) = code_of(method.attrs.as_slice()) else {
         unreachable!()

@@ -85,7 +85,8 @@ fn is_null_or_among(operand: &VType, one: &[u8], other: &[u8]) -> bool
 
 // Whether an operand is null, or an array of references.
 fn is_null_or_array_of_references(operand: &VType) -> bool
-    ensures { IsTrue result ↔ IsNullOr (λ name. (component : Name) × IsReferenceComponent name component) operand.now }
+    ensures { IsTrue result
+        ↔ IsNullOr (λ name. (component : Name) × IsReferenceComponent name component) operand.now }
 {
     match operand {
         VType::Null => true,
@@ -107,7 +108,9 @@ fn is_null_or_array(operand: &VType) -> bool
 
 /// Whether the topmost entries of a stack fit, the topmost last.
 pub(crate) fn all_fit(rules: &MethodRules<'_>, needs: &[Need<'_>], stack: &[VType]) -> bool
-    ensures { IsTrue result ↔ AllFit (row_scope rules.now) (map need_meant needs.now) (topmost (length needs.now) stack.now) }
+    ensures { IsTrue result
+        ↔ AllFit (row_scope rules.now) (map need_meant needs.now)
+        (topmost (length needs.now) stack.now) }
 {
     let operands = topmost(stack, needs.len());
     needs.len() == operands.len()
@@ -119,7 +122,9 @@ pub(crate) fn all_fit(rules: &MethodRules<'_>, needs: &[Need<'_>], stack: &[VTyp
 
 /// Whether entries are assignable to field types, one by one.
 pub(crate) fn are_values_of(rules: &MethodRules<'_>, types: &[FieldType], entries: &[VType]) -> bool
-    ensures { IsTrue result ↔ AllFit (row_scope rules.now) (map (λ type. assignable_to (verification_type type)) types.now) entries.now }
+    ensures { IsTrue result
+        ↔ AllFit (row_scope rules.now)
+        (map (λ type. assignable_to (verification_type type)) types.now) entries.now }
 {
     types.len() == entries.len()
         && types

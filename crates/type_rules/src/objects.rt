@@ -16,7 +16,8 @@ use std::alloc::Global;
 
 /// Makes an object at an offset, in bytes. No local keeps an older one of that offset.
 pub(crate) fn new_object(step: &Step<'_>, at: u32) -> Result<Ruled, RuleFault>
-    ensures { RowRules (row_scope step.now.rules.now) step.now.before.now (new_row step.now.before.now at) result }
+    ensures { RowRules (row_scope step.now.rules.now) step.now.before.now
+        (new_row step.now.before.now at) result }
 {
     let before = step.before;
     let is_first = has_none_made(&before.stack, at);
@@ -27,7 +28,8 @@ pub(crate) fn new_object(step: &Step<'_>, at: u32) -> Result<Ruled, RuleFault>
 
 /// Casts a reference to a class or array.
 pub(crate) fn cast(step: &Step<'_>, index: u16) -> Result<Ruled, RuleFault>
-    ensures { RowRules (row_scope step.now.rules.now) step.now.before.now (cast_row step.now.before.now (class_at step.now.rules.now.class.pool index)) result }
+    ensures { RowRules (row_scope step.now.rules.now) step.now.before.now
+        (cast_row step.now.before.now (class_at step.now.rules.now.class.pool index)) result }
 {
     let rules = step.rules;
     match rules.class.pool.class_name(index) {
@@ -38,7 +40,8 @@ pub(crate) fn cast(step: &Step<'_>, index: u16) -> Result<Ruled, RuleFault>
 
 /// Throws an object.
 pub(crate) fn throw(step: &Step<'_>) -> Result<Ruled, RuleFault>
-    ensures { RowRules (row_scope step.now.rules.now) step.now.before.now (throw_row step.now.before.now) result }
+    ensures { RowRules (row_scope step.now.rules.now) step.now.before.now
+        (throw_row step.now.before.now) result }
 {
     let needs = [Need::Object(THROWABLE)];
     step.takes(&needs)?;

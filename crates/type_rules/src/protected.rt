@@ -30,7 +30,8 @@ pub(crate) fn passes_field(
     reference: &Reference<'_>,
     receiver: &VType,
 ) -> bool
-    ensures { IsTrue result ↔ PassesField (row_scope rules.now) (reference_meant reference.now) receiver.now }
+    ensures { IsTrue result
+        ↔ PassesField (row_scope rules.now) (reference_meant reference.now) receiver.now }
 {
     a_look_up_finds_one_field();
     if is_free(rules, reference, receiver) {
@@ -46,7 +47,8 @@ pub(crate) fn passes_method(
     reference: &Reference<'_>,
     receiver: &VType,
 ) -> bool
-    ensures { IsTrue result ↔ PassesMethod (row_scope rules.now) (reference_meant reference.now) receiver.now }
+    ensures { IsTrue result
+        ↔ PassesMethod (row_scope rules.now) (reference_meant reference.now) receiver.now }
 {
     a_look_up_finds_one_method();
     if is_free(rules, reference, receiver) {
@@ -58,7 +60,9 @@ pub(crate) fn passes_method(
 
 /// Whether a member that was found is protected and of a class in another package than the current class.
 pub(crate) fn is_foreign(rules: &MethodRules<'_>, found: Option<Found>) -> bool
-    ensures { (members_of : head → List Member) (member : Option Declared) → AreSame (IsFoundIn members_of rules.now.headers) found member → IsTrue result ↔ IsForeign (row_scope rules.now) member }
+    ensures { (members_of : head → List Member) (member : Option Declared)
+        → AreSame (IsFoundIn members_of rules.now.headers) found member
+        → IsTrue result ↔ IsForeign (row_scope rules.now) member }
 {
     let Some(found) = found else {
         return false;
@@ -74,8 +78,10 @@ pub(crate) fn is_foreign(rules: &MethodRules<'_>, found: Option<Found>) -> bool
 
 // Whether a receiver lends all its protected members, or the class that a reference names is not above the current class.
 fn is_free(rules: &MethodRules<'_>, reference: &Reference<'_>, receiver: &VType) -> bool
-    ensures yes { IsTrue result → IsFree (row_scope rules.now) (reference_meant reference.now) receiver.now }
-    ensures no { IsFalse result → IsBound (row_scope rules.now) (reference_meant reference.now) receiver.now }
+    ensures yes { IsTrue result
+        → IsFree (row_scope rules.now) (reference_meant reference.now) receiver.now }
+    ensures no { IsFalse result
+        → IsBound (row_scope rules.now) (reference_meant reference.now) receiver.now }
 {
     let current = rules.header.name.bytes();
     is_object_of(rules.tree, receiver, current)

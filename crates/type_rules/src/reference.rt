@@ -18,7 +18,8 @@ pub(crate) struct Reference<'a> {
 
 /// What the constant at an index refers to.
 pub(crate) fn reference_at(class: &ClassFile, index: u16) -> Option<Reference<'_>>
-    ensures { option_map reference_meant result ≡ reference_of class.now.pool (constant_at class.now.pool index) }
+    ensures { option_map reference_meant result
+        ≡ reference_of class.now.pool (constant_at class.now.pool index) }
 {
     let pool = &class.pool;
     match pool.get(index) {

@@ -17,7 +17,8 @@ use class_model::{FieldType, Frame, Kind, VType};
 
 /// Returns, with a value of a kind or none.
 pub(crate) fn give_back(step: &Step<'_>, kind: Option<Kind>) -> Result<Ruled, RuleFault>
-    ensures { RowRules (row_scope step.now.rules.now) step.now.before.now (return_row (row_scope step.now.rules.now) step.now.before.now kind) result }
+    ensures { RowRules (row_scope step.now.rules.now) step.now.before.now
+        (return_row (row_scope step.now.rules.now) step.now.before.now kind) result }
 {
     match kind {
         Some(kind) => give_back_value(step, kind),
@@ -27,7 +28,8 @@ pub(crate) fn give_back(step: &Step<'_>, kind: Option<Kind>) -> Result<Ruled, Ru
 
 // Returns with a value of a kind.
 fn give_back_value(step: &Step<'_>, kind: Kind) -> Result<Ruled, RuleFault>
-    ensures { RowRules (row_scope step.now.rules.now) step.now.before.now (return_row (row_scope step.now.rules.now) step.now.before.now (Some kind)) result }
+    ensures { RowRules (row_scope step.now.rules.now) step.now.before.now
+        (return_row (row_scope step.now.rules.now) step.now.before.now (Some kind)) result }
 {
     let needs = [Need::OfKind(kind)];
     step.takes(&needs)?;
@@ -76,7 +78,10 @@ fn is_value_if_ref(
     value: &VType,
     field_type: &FieldType,
 ) -> bool
-    ensures { IsTrue result ↔ (kind ≡ Kind.Ref → IsAssignableIn rules.now.headers rules.now.class.major value.now (verification_type field_type.now)) }
+    ensures { IsTrue result
+        ↔ (kind ≡ Kind.Ref
+        → IsAssignableIn rules.now.headers rules.now.class.major value.now
+        (verification_type field_type.now)) }
 {
     match kind {
         Kind::Ref => is_value_of(rules.tree, value, field_type),

@@ -15,7 +15,8 @@ use class_model::{NoMemory, VType, VTypeList, opcodes};
 
 /// Moves, copies or drops the topmost entries.
 pub(crate) fn shuffle(step: &Step<'_>, opcode: u8) -> Result<Ruled, RuleFault>
-    ensures { RowRules (row_scope step.now.rules.now) step.now.before.now (shuffle_row step.now.before.now opcode) result }
+    ensures { RowRules (row_scope step.now.rules.now) step.now.before.now
+        (shuffle_row step.now.before.now opcode) result }
 {
     let stack = step.before.stack.as_slice();
     let Some(form) = form_in(forms_of(opcode), stack) else {
@@ -158,7 +159,8 @@ fn forms_of(opcode: u8) -> &'static [Form]
 
 // The form that the topmost entries of a stack have.
 fn form_in(forms: &'static [Form], stack: &[VType]) -> Option<&'static Form>
-    ensures { option_map form_meant (option_copied result) ≡ form_in (map form_meant forms.now) stack.now }
+    ensures { option_map form_meant (option_copied result)
+        ≡ form_in (map form_meant forms.now) stack.now }
 {
     for form in forms {
         if have_widths(form.takes, topmost(stack, form.takes.len())) {

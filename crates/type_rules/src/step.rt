@@ -29,7 +29,8 @@ impl Step<'_> {
     /// # Errors
     /// `Stack`.
     pub(crate) fn takes(&self, needs: &[Need<'_>]) -> Result<(), RuleFault>
-        ensures { TakesNeeds (row_scope self.now.rules.now) self.now.before.now (map need_meant needs.now) result }
+        ensures { TakesNeeds (row_scope self.now.rules.now) self.now.before.now
+            (map need_meant needs.now) result }
     {
         let rules = self.rules;
         if all_fit(rules, needs, self.before.stack.as_slice()) {
@@ -61,7 +62,8 @@ impl Step<'_> {
         further: bool,
         access: bool,
     ) -> Result<Ruled, RuleFault>
-        ensures { Concludes (row_scope self.now.rules.now) self.now.before.now stack locals (IsTrue further) (IsTrue access) result }
+        ensures { Concludes (row_scope self.now.rules.now) self.now.before.now stack locals
+            (IsTrue further) (IsTrue access) result }
     {
         self.holds(stack.as_slice(), further, access)?;
         Ok(Ruled {
@@ -76,7 +78,8 @@ impl Step<'_> {
     /// # Errors
     /// `Depth`, and then `Kind`.
     pub(crate) fn end(&self, count: usize, further: bool) -> Result<Ruled, RuleFault>
-        ensures { Ends (row_scope self.now.rules.now) self.now.before.now (under count self.now.before.now.stack) (IsTrue further) result }
+        ensures { Ends (row_scope self.now.rules.now) self.now.before.now
+            (under count self.now.before.now.stack) (IsTrue further) result }
     {
         self.holds(
             entries_under(self.before.stack.as_slice(), count),
@@ -91,7 +94,8 @@ impl Step<'_> {
 
     /// The rule of an instruction that takes operands and pushes a value, or none.
     pub(crate) fn plain(&self, needs: &[Need<'_>], gives: Option<VType>) -> Result<Ruled, RuleFault>
-        ensures { RowRules (row_scope self.now.rules.now) self.now.before.now (plain self.now.before.now (map need_meant needs.now) (given gives)) result }
+        ensures { RowRules (row_scope self.now.rules.now) self.now.before.now
+            (plain self.now.before.now (map need_meant needs.now) (given gives)) result }
     {
         self.conditional(needs, gives, true, true)
     }
@@ -104,7 +108,9 @@ impl Step<'_> {
         further: bool,
         access: bool,
     ) -> Result<Ruled, RuleFault>
-        ensures { RowRules (row_scope self.now.rules.now) self.now.before.now (conditional self.now.before.now (map need_meant needs.now) (given gives) (IsTrue further) (IsTrue access)) result }
+        ensures { RowRules (row_scope self.now.rules.now) self.now.before.now
+            (conditional self.now.before.now (map need_meant needs.now) (given gives)
+            (IsTrue further) (IsTrue access)) result }
     {
         self.takes(needs)?;
         let stack = self.replaced(needs.len(), gives)?;
@@ -114,14 +120,16 @@ impl Step<'_> {
 
     /// The rule of what is no instruction.
     pub(crate) fn no_row(&self) -> Result<Ruled, RuleFault>
-        ensures { RowRules (row_scope self.now.rules.now) self.now.before.now (no_row self.now.before.now) result }
+        ensures { RowRules (row_scope self.now.rules.now) self.now.before.now
+            (no_row self.now.before.now) result }
     {
         Err(RuleFault::Fails(TypeRule::Stack))
     }
 
     /// A copy of the stack in which a value, or none, stands for the topmost entries, so many.
     pub(crate) fn replaced(&self, count: usize, gives: Option<VType>) -> Result<VTypeList, NoMemory>
-        ensures { IfOk result (λ stack. stack ≡ under count self.now.before.now.stack ++ given gives) }
+        ensures { IfOk result
+            (λ stack. stack ≡ under count self.now.before.now.stack ++ given gives) }
     {
         let mut stack = self.under(count)?;
         if let Some(value) = gives {

@@ -18,16 +18,22 @@ use Rattle.class_tree.specs.Subtype.{IsArray, IsDirectlyBelow, superclass, inter
 use Rattle.class_tree.specs.declared.place.Place.{Place}
 
 -- what is above a class is above those below it
-pub below_more : {headers : Headers} {low middle high : Name} → IsBelow headers low middle → IsBelow headers middle high → IsBelow headers low high
+pub below_more :
+    {headers : Headers} {low middle high : Name}
+    → IsBelow headers low middle
+    → IsBelow headers middle high
+    → IsBelow headers low high
 below_more (directly low middle step) rest = onwards low middle _ step rest
 below_more (onwards low other middle step more) rest = onwards low other _ step (below_more more rest)
 
-directly_named : {headers : Headers} {low high : Name} → IsDirectlyBelow headers low high → IsThere headers low
+directly_named :
+    {headers : Headers} {low high : Name} → IsDirectlyBelow headers low high → IsThere headers low
 directly_named (superclass low high header is some) = ap is_some is
 directly_named (interface low high header is one) = ap is_some is
 
 -- what is below another is there
-pub low_is_there : {headers : Headers} {low high : Name} → IsBelow headers low high → IsThere headers low
+pub low_is_there :
+    {headers : Headers} {low high : Name} → IsBelow headers low high → IsThere headers low
 low_is_there (directly low high step) = directly_named step
 low_is_there (onwards low middle high step rest) = directly_named step
 
@@ -38,8 +44,14 @@ IsReached headers (Some place) name = (header : Header) × (header_at headers pl
 
 -- The classes that each class names are there and of the right kinds, and no class is above itself.
 pub record IsSound (headers : Headers) : Type 0 where
-  pub above : (name : Name) (header : Header) → class_named headers name ≡ Some header → AllByRecursion (IsThere headers) (supers header)
-  pub kinds : (name : Name) (header : Header) → class_named headers name ≡ Some header → FitsKinds headers header
+  pub above :
+      (name : Name) (header : Header)
+      → class_named headers name ≡ Some header
+      → AllByRecursion (IsThere headers) (supers header)
+  pub kinds :
+      (name : Name) (header : Header)
+      → class_named headers name ≡ Some header
+      → FitsKinds headers header
   pub acyclic : (name : Name) → ¬ IsBelow headers name name
 
 pub hierarchy_is_sound : (headers : Headers) → IsHierarchy headers → IsSound headers
@@ -56,24 +68,52 @@ module _ (headers : Headers) (sound : IsSound headers) where
 
   -- ---- kinds
 
-  pub superclass_kind : (low : Name) (header : Header) → class_named headers low ≡ Some header → (name : Name) → header.super_name ≡ Some name → (above : Header) → class_named headers name ≡ Some above → IsFalse (is_interface above)
+  pub superclass_kind :
+      (low : Name) (header : Header)
+      → class_named headers low ≡ Some header
+      → (name : Name)
+      → header.super_name ≡ Some name
+      → (above : Header)
+      → class_named headers name ≡ Some above
+      → IsFalse (is_interface above)
   superclass_kind low header is name some above above_is =
       let at = subst (λ super. IfSome super (λ name. IfSome (class_named headers name) (λ above. IsFalse (is_interface above)))) some (sound.kinds low header is).superclass in
       subst (λ found. IfSome found (λ above. IsFalse (is_interface above))) above_is at
 
-  pub interface_kind : (low : Name) (header : Header) → class_named headers low ≡ Some header → (name : Name) → IsOneName header.interfaces name → (above : Header) → class_named headers name ≡ Some above → IsTrue (is_interface above)
+  pub interface_kind :
+      (low : Name) (header : Header)
+      → class_named headers low ≡ Some header
+      → (name : Name)
+      → IsOneName header.interfaces name
+      → (above : Header)
+      → class_named headers name ≡ Some above
+      → IsTrue (is_interface above)
   interface_kind low header is name one above above_is =
       let kind = each_of_names (λ name. IfSome (class_named headers name) (λ above. IsTrue (is_interface above))) header.interfaces (sound.kinds low header is).interfaces name one in
       subst (λ found. IfSome found (λ above. IsTrue (is_interface above))) above_is kind
 
   -- the superclass of an interface is java/lang/Object
-  pub above_interface : (low : Name) (header : Header) → class_named headers low ≡ Some header → IsTrue (is_interface header) → (class : Header) → class_named headers low ≡ Some class → (name : Name) → class.super_name ≡ Some name → name ≡ object
+  pub above_interface :
+      (low : Name) (header : Header)
+      → class_named headers low ≡ Some header
+      → IsTrue (is_interface header)
+      → (class : Header)
+      → class_named headers low ≡ Some class
+      → (name : Name)
+      → class.super_name ≡ Some name
+      → name ≡ object
   above_interface low header is kind class class_is name some =
       same_Some name object (sym some ∙ ap (λ (h : Header). h.super_name) (same_class headers low class header class_is is) ∙ (sound.kinds low header is).of_interface kind)
 
   -- ---- java/lang/Object
 
-  none_of_object : (top : Header) → class_named headers object ≡ Some top → (names : List Name) → top.interfaces ≡ names → AllByRecursion (IsThere headers) names → names ≡ []
+  none_of_object :
+      (top : Header)
+      → class_named headers object ≡ Some top
+      → (names : List Name)
+      → top.interfaces ≡ names
+      → AllByRecursion (IsThere headers) names
+      → names ≡ []
   none_of_object top is [] same there = refl
   none_of_object top is (name ∷ names) same there =
       let found = class_there headers name there.0 in
@@ -82,11 +122,15 @@ module _ (headers : Headers) (sound : IsSound headers) where
       absurd (sound.acyclic object (onwards object name object (interface object name top is one) (directly name object (superclass name object found.0 found.1 ((sound.kinds name found.0 found.1).of_interface kind)))))
 
   -- it names no interface
-  pub no_interfaces_of_object : (top : Header) → class_named headers object ≡ Some top → top.interfaces ≡ []
+  pub no_interfaces_of_object :
+      (top : Header) → class_named headers object ≡ Some top → top.interfaces ≡ []
   no_interfaces_of_object top is = none_of_object top is top.interfaces refl (interfaces_there headers top (sound.above object top is))
 
   -- it is upwards of each class that has a walk
-  pub walked_is_rooted : {name : Name} {walk : List Name} → IsInterfaceWalk headers name walk → (name ≡ object) ⊎ IsBelow headers name object
+  pub walked_is_rooted :
+      {name : Name} {walk : List Name}
+      → IsInterfaceWalk headers name walk
+      → (name ≡ object) ⊎ IsBelow headers name object
   walked_is_rooted (of_root name header walk is none walked) = inl (sym (own_name headers name header is) ∙ (sound.kinds name header is).root none)
   walked_is_rooted (below name above header front rest is some walked more) =
       let step = superclass name above header is some in
@@ -101,7 +145,11 @@ module _ (headers : Headers) (sound : IsSound headers) where
   walk_of_none done none = refl
   walk_of_none (next name header more own rest is walked others) none = absurd cc
 
-  walk_of_object : {name : Name} {walk : List Name} → IsInterfaceWalk headers name walk → name ≡ object → walk ≡ []
+  walk_of_object :
+      {name : Name} {walk : List Name}
+      → IsInterfaceWalk headers name walk
+      → name ≡ object
+      → walk ≡ []
   walk_of_object (of_root name header walk is none walked) top =
       walk_of_none walked (no_interfaces_of_object header (subst (λ n. class_named headers n ≡ Some header) top is))
   walk_of_object (below name above header front rest is some walked more) top =
@@ -112,7 +160,13 @@ module _ (headers : Headers) (sound : IsSound headers) where
       ]))
 
   -- what is walked of an interface is walked of those that it names
-  pub walk_of_interface : {name : Name} {walk : List Name} → IsInterfaceWalk headers name walk → (header : Header) → class_named headers name ≡ Some header → IsTrue (is_interface header) → IsWalk headers header.interfaces walk
+  pub walk_of_interface :
+      {name : Name} {walk : List Name}
+      → IsInterfaceWalk headers name walk
+      → (header : Header)
+      → class_named headers name ≡ Some header
+      → IsTrue (is_interface header)
+      → IsWalk headers header.interfaces walk
   walk_of_interface (of_root name other walk other_is none walked) header is kind =
       subst (λ h. IsWalk headers h.interfaces walk) (same_class headers name other header other_is is) walked
   walk_of_interface (below name above other front rest other_is some walked more) header is kind =
@@ -129,7 +183,8 @@ module _ (headers : Headers) (sound : IsSound headers) where
       | inr more ↦ below_more up more
     ])
 
-    pub object_no_superclass : (top : Header) → class_named headers object ≡ Some top → top.super_name ≡ None
+    pub object_no_superclass :
+        (top : Header) → class_named headers object ≡ Some top → top.super_name ≡ None
     object_no_superclass top is = by top.super_name refl
       where
         by : (super : Option Name) → top.super_name ≡ super → top.super_name ≡ None
@@ -137,7 +192,15 @@ module _ (headers : Headers) (sound : IsSound headers) where
         by (Some above) some = absurd (nothing_above_object (directly object above (superclass object above top is some)))
 
     -- no class but java/lang/Object is above an interface
-    pub class_above_interface : {low high : Name} → IsBelow headers low high → (header above : Header) → class_named headers low ≡ Some header → IsTrue (is_interface header) → class_named headers high ≡ Some above → IsFalse (is_interface above) → high ≡ object
+    pub class_above_interface :
+        {low high : Name}
+        → IsBelow headers low high
+        → (header above : Header)
+        → class_named headers low ≡ Some header
+        → IsTrue (is_interface header)
+        → class_named headers high ≡ Some above
+        → IsFalse (is_interface above)
+        → high ≡ object
     class_above_interface (directly low high (superclass _ _ class class_is some)) header above is kind above_is above_kind = above_interface low header is kind class class_is high some
     class_above_interface (directly low high (interface _ _ class class_is one)) header above is kind above_is above_kind =
         absurd (both_ways (is_interface above) above_kind (interface_kind low class class_is high one above above_is))
@@ -148,7 +211,16 @@ module _ (headers : Headers) (sound : IsSound headers) where
         class_above_interface rest there.0 above there.1 (interface_kind low class class_is middle one there.0 there.1) above_is above_kind
 
     -- what is above a class and is no interface is its superclass or above that
-    pub class_is_climbed : {low high : Name} → IsBelow headers low high → (header above : Header) → class_named headers low ≡ Some header → class_named headers high ≡ Some above → IsFalse (is_interface above) → (name : Name) × (header.super_name ≡ Some name) × ((name ≡ high) ⊎ IsBelow headers name high)
+    pub class_is_climbed :
+        {low high : Name}
+        → IsBelow headers low high
+        → (header above : Header)
+        → class_named headers low ≡ Some header
+        → class_named headers high ≡ Some above
+        → IsFalse (is_interface above)
+        → (name : Name)
+        × (header.super_name ≡ Some name)
+        × ((name ≡ high) ⊎ IsBelow headers name high)
     class_is_climbed (directly low high (superclass _ _ class class_is some)) header above is above_is kind =
         (high, ap (λ (h : Header). h.super_name) (same_class headers low header class is class_is) ∙ some, inl refl)
     class_is_climbed (directly low high (interface _ _ class class_is one)) header above is above_is kind =
@@ -161,7 +233,14 @@ module _ (headers : Headers) (sound : IsSound headers) where
         let top = class_above_interface rest there.0 above there.1 (interface_kind low class class_is middle one there.0 there.1) above_is kind in
         by header.super_name refl top (onwards low middle high step rest)
       where
-        by : (super : Option Name) → header.super_name ≡ super → high ≡ object → IsBelow headers low high → (name : Name) × (header.super_name ≡ Some name) × ((name ≡ high) ⊎ IsBelow headers name high)
+        by :
+            (super : Option Name)
+            → header.super_name ≡ super
+            → high ≡ object
+            → IsBelow headers low high
+            → (name : Name)
+            × (header.super_name ≡ Some name)
+            × ((name ≡ high) ⊎ IsBelow headers name high)
         by None none top up = absurd (nothing_above_object (subst (λ name. IsBelow headers name high) (sym (own_name headers low header is) ∙ (sound.kinds low header is).root none) up))
         by (Some name) some top up =
             (name, some, subst (λ n. (name ≡ n) ⊎ IsBelow headers name n) (sym top) (rooted name (directly_there (superclass low name header is some))))
@@ -176,7 +255,11 @@ module _ (headers : Headers) (sound : IsSound headers) where
     class_is_subtype (directly low high step) = subtype_below low high high step (itself high)
     class_is_subtype (onwards low middle high step rest) = subtype_below low middle high step (class_is_subtype rest)
 
-    subtype_of_class : {low high : Name} → IsSubtype headers low high → ¬ IsArray low → (low ≡ high) ⊎ IsBelow headers low high
+    subtype_of_class :
+        {low high : Name}
+        → IsSubtype headers low high
+        → ¬ IsArray low
+        → (low ≡ high) ⊎ IsBelow headers low high
     subtype_of_class (itself name) flat = inl refl
     subtype_of_class (subtype_below low middle high step rest) flat =
         elim (subtype_of_class rest (there_is_no_array middle (directly_there step))) [
@@ -186,14 +269,22 @@ module _ (headers : Headers) (sound : IsSound headers) where
     subtype_of_class (of_arrays low high is above) flat = absurd (flat is)
     subtype_of_class (components low high one other is also sub) flat = absurd (flat (is_array_of is))
 
-    pub class_decides : (low high : Name) → ¬ IsArray low → IsSubtype headers low high ↔ ((low ≡ high) ⊎ IsBelow headers low high)
+    pub class_decides :
+        (low high : Name)
+        → ¬ IsArray low
+        → IsSubtype headers low high ↔ ((low ≡ high) ⊎ IsBelow headers low high)
     class_decides low high flat = (
       λ sub. subtype_of_class sub flat,
       λ up. elim up [ inl same ↦ subst (IsSubtype headers low) same (itself low) | inr above ↦ class_is_subtype above ],
     )
 
 -- upwards of each class of a hierarchy is java/lang/Object
-pub hierarchy_is_rooted : (headers : Headers) → IsHierarchy headers → (name : Name) → IsThere headers name → (name ≡ object) ⊎ IsBelow headers name object
+pub hierarchy_is_rooted :
+    (headers : Headers)
+    → IsHierarchy headers
+    → (name : Name)
+    → IsThere headers name
+    → (name ≡ object) ⊎ IsBelow headers name object
 hierarchy_is_rooted headers hierarchy name there =
     let class = class_there headers name there in
     walked_is_rooted headers (hierarchy_is_sound headers hierarchy) (hierarchy.walked name class.0 class.1).1

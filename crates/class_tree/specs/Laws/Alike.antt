@@ -30,7 +30,8 @@ alike_shape one other alike =
     ∙ ap (λ super. bare other.name other.flags super one.interfaces) (sym alike.same_super)
     ∙ ap (bare other.name other.flags other.super_name) (sym alike.same_interfaces)
 
-all_shapes : (ones others : List Header) → AreAllAlike ones others → map shape_of ones ≡ map shape_of others
+all_shapes :
+    (ones others : List Header) → AreAllAlike ones others → map shape_of ones ≡ map shape_of others
 all_shapes [] [] alike = refl
 all_shapes [] (other ∷ others) alike = absurd alike
 all_shapes (one ∷ ones) [] alike = absurd alike
@@ -48,31 +49,53 @@ alike_shapes one other alike =
 
 -- ---- the class of a name
 
-named_shape : (name : Name) (list : List Header) → option_map shape_of (named name list) ≡ named name (map shape_of list)
+named_shape :
+    (name : Name) (list : List Header)
+    → option_map shape_of (named name list) ≡ named name (map shape_of list)
 named_shape name [] = refl
 named_shape name (first ∷ list) = by (bytes_eq name first.name) (named_shape name list)
   where
-    by : (b : Bool) → option_map shape_of (named name list) ≡ named name (map shape_of list) → option_map shape_of (cond b (Some first) (named name list)) ≡ cond b (Some (shape_of first)) (named name (map shape_of list))
+    by :
+        (b : Bool)
+        → option_map shape_of (named name list) ≡ named name (map shape_of list)
+        → option_map shape_of (cond b (Some first) (named name list))
+        ≡ cond b (Some (shape_of first)) (named name (map shape_of list))
     by true rest = refl
     by false rest = rest
 
-class_shape : (headers : Headers) (name : Name) → option_map shape_of (class_named headers name) ≡ class_named (shapes headers) name
+class_shape :
+    (headers : Headers) (name : Name)
+    → option_map shape_of (class_named headers name) ≡ class_named (shapes headers) name
 class_shape headers name = named_shape name (headers.folder ++ headers.library) ∙ ap (named name) (map-append shape_of headers.folder headers.library)
 
-pub option_twin : (one other : Option Header) → option_map shape_of one ≡ option_map shape_of other → (header : Header) → one ≡ Some header → (twin : Header) × (other ≡ Some twin) × (shape_of header ≡ shape_of twin)
+pub option_twin :
+    (one other : Option Header)
+    → option_map shape_of one ≡ option_map shape_of other
+    → (header : Header)
+    → one ≡ Some header
+    → (twin : Header) × (other ≡ Some twin) × (shape_of header ≡ shape_of twin)
 option_twin one None same header is = absurd (none-some (shape_of header) (sym same ∙ ap (option_map shape_of) is))
 option_twin one (Some twin) same header is = (twin, refl, same_Some (shape_of header) (shape_of twin) (sym (ap (option_map shape_of) is) ∙ same))
 
-pub option_no_twin : (one other : Option Header) → option_map shape_of one ≡ option_map shape_of other → one ≡ None → other ≡ None
+pub option_no_twin :
+    (one other : Option Header)
+    → option_map shape_of one ≡ option_map shape_of other
+    → one ≡ None
+    → other ≡ None
 option_no_twin one None same none = refl
 option_no_twin one (Some twin) same none = absurd (none-some (shape_of twin) (sym (ap (option_map shape_of) none) ∙ same))
 
 module _ (one other : Headers) (same : shapes one ≡ shapes other) where
-  pub class_same : (name : Name) → option_map shape_of (class_named one name) ≡ option_map shape_of (class_named other name)
+  pub class_same :
+      (name : Name)
+      → option_map shape_of (class_named one name) ≡ option_map shape_of (class_named other name)
   class_same name = class_shape one name ∙ ap (λ headers. class_named headers name) same ∙ sym (class_shape other name)
 
   -- the class of the same name
-  pub twin : (name : Name) (header : Header) → class_named one name ≡ Some header → (twin : Header) × (class_named other name ≡ Some twin) × (shape_of header ≡ shape_of twin)
+  pub twin :
+      (name : Name) (header : Header)
+      → class_named one name ≡ Some header
+      → (twin : Header) × (class_named other name ≡ Some twin) × (shape_of header ≡ shape_of twin)
   twin name header is = option_twin (class_named one name) (class_named other name) (class_same name) header is
 
   pub no_twin : (name : Name) → class_named one name ≡ None → class_named other name ≡ None
@@ -85,7 +108,8 @@ module _ (one other : Headers) (same : shapes one ≡ shapes other) where
 
   -- ---- what is above a class
 
-  pub directly_alike : {low high : Name} → IsDirectlyBelow one low high → IsDirectlyBelow other low high
+  pub directly_alike :
+      {low high : Name} → IsDirectlyBelow one low high → IsDirectlyBelow other low high
   directly_alike (superclass low high header is some) =
       let class = twin low header is in
       superclass low high class.0 class.1 (sym (ap (λ (h : Header). h.super_name) class.2) ∙ some)
@@ -111,7 +135,10 @@ module _ (one other : Headers) (same : shapes one ≡ shapes other) where
       let class = twin name header is in
       next name class.0 names own rest class.1 (subst (λ interfaces. IsWalk other interfaces own) (ap (λ (h : Header). h.interfaces) class.2) (walk_alike inner)) (walk_alike outer)
 
-  pub interface_walk_alike : {name : Name} {walk : List Name} → IsInterfaceWalk one name walk → IsInterfaceWalk other name walk
+  pub interface_walk_alike :
+      {name : Name} {walk : List Name}
+      → IsInterfaceWalk one name walk
+      → IsInterfaceWalk other name walk
   interface_walk_alike (of_root name header walk is none inner) =
       let class = twin name header is in
       of_root name class.0 walk class.1 (sym (ap (λ (h : Header). h.super_name) class.2) ∙ none) (subst (λ interfaces. IsWalk other interfaces walk) (ap (λ (h : Header). h.interfaces) class.2) (walk_alike inner))
@@ -119,5 +146,8 @@ module _ (one other : Headers) (same : shapes one ≡ shapes other) where
       let class = twin name header is in
       below name above class.0 walk rest class.1 (sym (ap (λ (h : Header). h.super_name) class.2) ∙ some) (subst (λ interfaces. IsWalk other interfaces walk) (ap (λ (h : Header). h.interfaces) class.2) (walk_alike inner)) (interface_walk_alike outer)
 
-  pub superinterfaces_alike : (class : Name) (names : List Name) → AreSuperinterfaces one class names → AreSuperinterfaces other class names
+  pub superinterfaces_alike :
+      (class : Name) (names : List Name)
+      → AreSuperinterfaces one class names
+      → AreSuperinterfaces other class names
   superinterfaces_alike class names are = record { walk = are.walk; walked = interface_walk_alike are.walked; once = are.once }

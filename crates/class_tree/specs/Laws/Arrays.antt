@@ -6,7 +6,10 @@ use Rattle.class_tree.specs.Headers.{Name, Headers, class_named}
 use Rattle.class_tree.specs.Subtype.{IsArray, IsReferenceComponent, array, class, IsAboveArrays, IsDirectlyBelow, superclass, interface, IsBelow, directly, onwards}
 
 -- how an array of references is spelled
-pub component_forms : {name component : Name} → IsReferenceComponent name component → (IsArray component × (name ≡ 91 ∷ component)) ⊎ (name ≡ 91 ∷ 76 ∷ component ++ 59 ∷ [])
+pub component_forms :
+    {name component : Name}
+    → IsReferenceComponent name component
+    → (IsArray component × (name ≡ 91 ∷ component)) ⊎ (name ≡ 91 ∷ 76 ∷ component ++ 59 ∷ [])
 component_forms (array component is) = inl (is, refl)
 component_forms (class component) = inr refl
 
@@ -14,13 +17,21 @@ pub is_array_of : {name component : Name} → IsReferenceComponent name componen
 is_array_of (array component is) = (component, refl)
 is_array_of (class component) = (76 ∷ component ++ 59 ∷ [], refl)
 
-not_both : (name one other : Name) → (IsArray one × (name ≡ 91 ∷ one)) → name ≡ 91 ∷ 76 ∷ other ++ 59 ∷ [] → ⊥
+not_both :
+    (name one other : Name)
+    → (IsArray one × (name ≡ 91 ∷ one))
+    → name ≡ 91 ∷ 76 ∷ other ++ 59 ∷ []
+    → ⊥
 not_both name one other deep flat =
     let e : 91 ≡ 76 = ap (λ (bytes : List ℕ). get_or bytes 1 0) (sym (deep.1 ∙ ap (λ (bytes : List ℕ). 91 ∷ bytes) deep.0.1) ∙ flat) in
     omega (arith, e)
 
 -- an array has one component
-pub same_component : {name one other : Name} → IsReferenceComponent name one → IsReferenceComponent name other → one ≡ other
+pub same_component :
+    {name one other : Name}
+    → IsReferenceComponent name one
+    → IsReferenceComponent name other
+    → one ≡ other
 same_component {name} {one} {other} is also = elim (component_forms is) [
   | inl deep ↦ elim (component_forms also) [
     | inl deeper ↦ ap (drop 1) (sym deep.1 ∙ deeper.1)

@@ -39,7 +39,13 @@ array_decided (first ∷ rest) = elim (cases_eq first 91) [
 
 module _ (headers : Headers) (hierarchy : IsHierarchy headers) where
   -- a class that is no interface
-  class_above : {low : Name} {walk : List Name} → IsInterfaceWalk headers low walk → (high : Name) (above : Header) → class_named headers high ≡ Some above → IsFalse (is_interface above) → Decision (IsBelow headers low high)
+  class_above :
+      {low : Name} {walk : List Name}
+      → IsInterfaceWalk headers low walk
+      → (high : Name) (above : Header)
+      → class_named headers high ≡ Some above
+      → IsFalse (is_interface above)
+      → Decision (IsBelow headers low high)
   class_above (of_root low header walk is none inner) high above above_is kind =
       inr (λ up.
       let climbed = class_is_climbed headers (hierarchy_is_sound headers hierarchy) (hierarchy_is_rooted headers hierarchy) up header above is above_is kind in
@@ -58,7 +64,11 @@ module _ (headers : Headers) (hierarchy : IsHierarchy headers) where
       ]
 
   -- a class that is there
-  there_above : (low high : Name) (header above : Header) → class_named headers low ≡ Some header → class_named headers high ≡ Some above → Decision (IsBelow headers low high)
+  there_above :
+      (low high : Name) (header above : Header)
+      → class_named headers low ≡ Some header
+      → class_named headers high ≡ Some above
+      → Decision (IsBelow headers low high)
   there_above low high header above is above_is =
       let walk = hierarchy.walked low header is in
       elim (cases_Bool (is_interface above)) [
@@ -72,7 +82,12 @@ module _ (headers : Headers) (hierarchy : IsHierarchy headers) where
   pub below_decided : (low high : Name) → Decision (IsBelow headers low high)
   below_decided low high = by (class_named headers low) refl (class_named headers high) refl
     where
-      by : (found : Option Header) → class_named headers low ≡ found → (other : Option Header) → class_named headers high ≡ other → Decision (IsBelow headers low high)
+      by :
+          (found : Option Header)
+          → class_named headers low ≡ found
+          → (other : Option Header)
+          → class_named headers high ≡ other
+          → Decision (IsBelow headers low high)
       by None none other other_is = inr (λ up. none-some (class_there headers low (low_is_there up)).0 (sym none ∙ (class_there headers low (low_is_there up)).1))
       by (Some header) is None none = inr (λ up.
           let there = class_there headers high (above_is_there headers (hierarchy_is_sound headers hierarchy) up) in

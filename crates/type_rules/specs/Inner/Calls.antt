@@ -24,15 +24,19 @@ receiver_needs None = []
 receiver_needs (Some need) = need_meant need ∷ []
 
 abbrev pub operand_needs : Option code.Need → List FieldType → List Need
-operand_needs receiver params = receiver_needs receiver ++ map (λ param. assignable_to (verification_type param)) params
+operand_needs receiver params =
+    receiver_needs receiver ++ map (λ param. assignable_to (verification_type param)) params
 
 abbrev pub signature_row : Frame → Option code.Need → Descriptor → Type 0 → Type 0 → Row
-signature_row f receiver d Further Access = conditional f (operand_needs receiver d.params) (result_types d.result) Further Access
+signature_row f receiver d Further Access =
+    conditional f (operand_needs receiver d.params) (result_types d.result) Further Access
 
 -- the operands fit, and are so many
 abbrev pub TakesSo : RowScope → Frame → List Need → Result ℕ RuleFault → Type 0
-TakesSo s f needs (Ok count) = AllFit s needs (topmost (length needs) f.stack) × (count ≡ length needs)
-TakesSo s f needs (Err (faults.Fails rules.Stack)) = ¬ AllFit s needs (topmost (length needs) f.stack)
+TakesSo s f needs (Ok count) =
+    AllFit s needs (topmost (length needs) f.stack) × (count ≡ length needs)
+TakesSo s f needs (Err (faults.Fails rules.Stack)) =
+    ¬ AllFit s needs (topmost (length needs) f.stack)
 TakesSo s f needs (Err other) = ⊥
 
 -- a call of an instance initialiser with these parameters and this result
@@ -46,5 +50,6 @@ init_signature s f reference params result =
 
 -- the name of the class that a type becomes one of, or the type stays
 abbrev pub Becomes : RowScope → Reference → VType → VType → Option Name → Type 0
-Becomes s reference receiver type (Some name) = initialised_type s reference receiver type ≡ types.Object name
+Becomes s reference receiver type (Some name) =
+    initialised_type s reference receiver type ≡ types.Object name
 Becomes s reference receiver type None = initialised_type s reference receiver type ≡ type

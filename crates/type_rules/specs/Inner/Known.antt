@@ -11,7 +11,9 @@ use Rattle.type_rules.specs.Inner.CodedScopes.{coded_of}
 use Rattle.type_rules.specs.Rule.{FitsPool}
 use Rattle.member_link.specs.Scope.{Scope, instructions}
 
-pub record IsKnown (classes : Classes) (s : Scope) (place : Place) (header : Header) (body : CodedMethod) : Type 0 where
+pub record IsKnown (classes : Classes) (s : Scope) (place : Place) (header : Header)
+    (body : CodedMethod)
+    : Type 0 where
   pub headers : s.headers ≡ headers_of classes
   pub class_file : IsClassFile s.class
   pub stands : header_at s.headers place ≡ Some header

@@ -17,16 +17,21 @@ IsCloneOfArray reference other = ⊥
 
 -- the receiver lends its protected members
 abbrev pub Lends : RowScope → Reference → VType → Type 0
-Lends s reference receiver = IsAssignableIn s.headers s.major receiver (types.Object s.own.name) ⊎ IsCloneOfArray reference receiver
+Lends s reference receiver =
+    IsAssignableIn s.headers s.major receiver (types.Object s.own.name)
+    ⊎ IsCloneOfArray reference receiver
 
 -- it need not, since the named class is not above the current one
 abbrev pub IsFree : RowScope → Reference → VType → Type 0
-IsFree s reference receiver = Lends s reference receiver ⊎ (¬ IsAtOrBelow s.headers s.own.name reference.class)
+IsFree s reference receiver =
+    Lends s reference receiver ⊎ (¬ IsAtOrBelow s.headers s.own.name reference.class)
 
 abbrev pub IsBound : RowScope → Reference → VType → Type 0
-IsBound s reference receiver = (¬ Lends s reference receiver) × IsAtOrBelow s.headers s.own.name reference.class
+IsBound s reference receiver =
+    (¬ Lends s reference receiver) × IsAtOrBelow s.headers s.own.name reference.class
 
 -- a protected member of another package
 abbrev pub IsForeign : RowScope → Option Declared → Type 0
 IsForeign s None = ⊥
-IsForeign s (Some member) = IsTrue (has member.member.flags PROTECTED) × (package_of member.class ≢ package_of s.own.name)
+IsForeign s (Some member) =
+    IsTrue (has member.member.flags PROTECTED) × (package_of member.class ≢ package_of s.own.name)
