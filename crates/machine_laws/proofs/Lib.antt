@@ -1,9 +1,11 @@
 mod Grows
+mod Rises
 mod WorkGrows
 mod ShownGrows
 mod TurnGrows
 mod StepGrows
 mod ActGrows
+mod FewDimensions
 mod RunLaws
 mod OneLinks
 mod WorkedProgramsRuns

@@ -1,5 +1,6 @@
 pub mod Growth
 pub mod Replacing
+pub mod CodesOfBytes
 pub mod TestPrograms
 pub mod WorkedProgramsCases
 pub mod ArraysCases

@@ -1,9 +1,15 @@
 //! Laws of the bounded machine that member_link defines: functions that do nothing, whose contracts say what always holds.
 #![tactic(auto)]
 
+mod bounds;
 mod cases;
 mod laws;
 
+pub use bounds::{
+    a_run_takes_no_more_steps_than_turns, a_step_keeps_counts_within_bounds,
+    a_turn_keeps_counts_within_bounds, an_action_keeps_counts_within_bounds,
+    class_files_make_few_arrays, counts_of_a_run_are_within_bounds,
+};
 pub use cases::{
     programs_show_what_calls_run, programs_show_what_the_library_is_asked,
     programs_show_which_actions_are_faults, programs_show_which_stores_are_final,
