@@ -17,3 +17,7 @@ mod OutsideRuns
 mod FaultsRuns
 mod NothingReplaced
 mod CallsRuns
+mod ArithmeticRuns
+mod NarrowingRuns
+mod HandlersRuns
+mod StuckRuns

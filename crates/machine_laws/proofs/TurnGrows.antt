@@ -9,7 +9,7 @@ use Rattle.machine_values.specs.declared.value.Value.{Value}
 use Rattle.machine_laws.proofs.Rises.{Rises, rises_through, rises_if, memory_same, prefix_same, made_rises, left_rises, entered_rises, constant_rises, statics_rise, begun_rises}
 use Rattle.machine_laws.proofs.ShownGrows.{Goes, Quiet, more, goes_more, quiet_through, asked_grows, result_grows, threw_grows}
 use Rattle.machine_laws.proofs.WorkGrows.{GrownIf}
-use Rattle.member_link.specs.Machine.Beginnings.{with_start, with_starts, begun_memory, begun_on, beginning_step, starts_of, initialised, begun_next, beginning_of, initialiser_of, first_unbegun, come_first}
+use Rattle.member_link.specs.Machine.Beginnings.{with_start, with_starts, begun_memory, begun_on, beginning_step, starts_of, past_beginning, begun_next, beginning_of, initialiser_of, first_unbegun, come_first}
 use Rattle.member_link.specs.Machine.Completions.{Completion, gives, raises, throws, begins, calls, asks, ends}
 use Rattle.member_link.specs.Machine.Performing.{Locked, Locking, locked_by, locked, called, unlocked, is_initialiser, returned_to, returned_by, returned, past_method, past_handler, handler_at, Landing, lands_in, lands_in_library, leaves_initialiser, lands_nowhere, unwind, landed, thrown, thrown_in, raised, perform}
 use Rattle.member_link.specs.Machine.Programs.{Program, StaticStart, RunMethod, RunClass, StartValue, start_value, start_string, run_method, point_at}
@@ -130,7 +130,7 @@ begun_on_grows P c w fs = of_memory w _ _ _ (begun_memory_grows P c w.memory)
 
 pub beginning_grows : (P : Program) (c : ℕ) (w : World) (rest : List RunFrame) → Quiet w (beginning_step P c w rest)
 beginning_grows P c w rest = by (slice_get P.classes c) where
-  by_initialiser : (m : Option MethodAt) → Quiet w (initialised P w rest m)
+  by_initialiser : (m : Option MethodAt) → Quiet w (past_beginning P w rest m)
   by_initialiser None = of_frames w _
   by_initialiser (Some at) = of_frames w _
 

@@ -10,3 +10,7 @@ pub mod FinalFieldsCases
 pub mod OutsideCases
 pub mod FaultsCases
 pub mod CallsCases
+pub mod ArithmeticCases
+pub mod NarrowingCases
+pub mod HandlersCases
+pub mod StuckCases
