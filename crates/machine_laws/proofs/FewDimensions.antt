@@ -7,7 +7,7 @@ use Rattle.std.proofs.lemmas.Option.{slice_get-map}
 use Rattle.class_model.specs.Checks.{Fault, ◌>>=◌}
 use Rattle.class_model.specs.Cutting.{IsBytes}
 use Rattle.class_model.specs.Laws.Cuts.{IsBytes-drop}
-use Rattle.class_model.specs.Laws.Lists.{at_index}
+use Rattle.class_model.specs.Laws.Lists.{AllByRecursion-weaker, at_index}
 use Rattle.class_model.specs.Instructions.{Read, Operands, OpcodeRow, Alone, U1, U2, S1, S2, U1S1, U2U1, U2U1Zero, U2ZeroZero, Jump2, Jump4, TableSwitch, LookupSwitch, Wide, rows, wide_rows, operands_in, with_operands, wide_operands, table_switch_at, lookup_switch_at, sized, sized_if, instr_at, instrs_at, decoded, u1_in}
 use Rattle.class_model.specs.Members.{has, NATIVE}
 use Rattle.class_model.specs.MethodCode.{code_of}
@@ -28,7 +28,7 @@ use Rattle.machine_laws.specs.CodesOfBytes.{HasCodeOfBytes, HasCodesOfBytes, Hav
 use Rattle.member_link.specs.Bodies.{item_instr}
 use Rattle.member_link.specs.Machine.Bounds.{HasFewDimensions, MakesFewArrays, MOST_DIMENSIONS}
 use Rattle.member_link.specs.Machine.Classes.{program_of, run_class_of, run_method_of}
-use Rattle.member_link.specs.Machine.Codes.{constant_op, referring, or_meaningless, dynamic_op, return_op, if_between, call_op, instr_op, number_at, method_code, code_points}
+use Rattle.member_link.specs.Machine.Codes.{CodePoint, item_op, constant_op, referring, or_meaningless, dynamic_op, return_op, if_between, call_op, instr_op, number_at, method_code, code_points}
 use Rattle.member_link.specs.Machine.Ops.{Op, meaningless}
 use Rattle.member_link.specs.Machine.Programs.{Code, Links, Point, RunClass, RunMethod, code_run, code_at, point_at}
 use Rattle.member_link.specs.References.{Reference}
@@ -96,7 +96,75 @@ wide_rows_few : AllByRecursion RowMakesFew wide_rows
 wide_rows_few = (λ o n. tt, (λ o n. tt, tt))
 
 rows_few : AllByRecursion RowMakesFew rows
-rows_few = search arith
+rows_few =
+    ((λ o. tt),
+    ((λ o. tt),
+    ((λ o. tt),
+    ((λ o. tt),
+    ((λ o. tt),
+    ((λ o. tt),
+    ((λ o. tt),
+    ((λ o n. tt),
+    ((λ o n. tt),
+    ((λ o n. tt),
+    ((λ o n. tt),
+    ((λ o n. tt),
+    ((λ o n. tt),
+    ((λ o. tt),
+    ((λ o. tt),
+    ((λ o n. tt),
+    ((λ o. tt),
+    ((λ o. tt),
+    ((λ o. tt),
+    ((λ o. tt),
+    ((λ o. tt),
+    ((λ o. tt),
+    ((λ o. tt),
+    ((λ o. tt),
+    ((λ o. tt),
+    ((λ o. tt),
+    ((λ o. tt),
+    ((λ o. tt),
+    ((λ o. tt),
+    ((λ o. tt),
+    ((λ o. tt),
+    ((λ o. tt),
+    ((λ o n k. tt),
+    ((λ o. tt),
+    ((λ o. tt),
+    ((λ o. tt),
+    ((λ o. tt),
+    ((λ o. tt),
+    ((λ o. tt),
+    ((λ o n. tt),
+    ((λ o n. tt),
+    ((λ o n. tt),
+    ((λ o n. tt),
+    ((λ o. tt),
+    ((λ o. tt),
+    ((λ o. tt),
+    ((λ o. tt),
+    ((λ o n. tt),
+    ((λ o n. tt),
+    ((λ o n. tt),
+    ((λ o n. tt),
+    ((λ o n. tt),
+    ((λ o n k. tt),
+    ((λ o n. tt),
+    ((λ o n. tt),
+    ((λ o n. tt),
+    ((λ o n. tt),
+    ((λ o. tt),
+    ((λ o. tt),
+    ((λ o n. tt),
+    ((λ o n. tt),
+    ((λ o. tt),
+    ((λ o. tt),
+    ((λ o. tt),
+    ((λ o n k few. few),
+    ((λ o n. tt),
+    ((λ o n. tt),
+    tt)))))))))))))))))))))))))))))))))))))))))))))))))))))))))))))))))))
 
 -- ---- what is read
 
@@ -105,10 +173,10 @@ wide_few at bytes (Some (U2 makes)) few = sized_few at bytes 4 _ (few _)
 wide_few at bytes o few = if_few (u1_in bytes 1 == 132) _ _ (sized_few at bytes 6 _ tt) tt
 
 table_few : (at : ℕ) (bytes : List ℕ) → ReadFew (table_switch_at at bytes)
-table_few at bytes = if_few _ _ _ tt (if_few _ _ _ tt (if_few _ _ _ tt tt))
+table_few at bytes = grind arith
 
 lookup_few : (at : ℕ) (bytes : List ℕ) → ReadFew (lookup_switch_at at bytes)
-lookup_few at bytes = if_few _ _ _ tt (if_few _ _ _ tt (if_few _ _ _ tt (if_few _ _ _ tt tt)))
+lookup_few at bytes = grind arith
 
 operands_few : (at : ℕ) (bytes : List ℕ) → IsBytes bytes → (o : Option Operands) → IfMakesFew o → ReadFew (with_operands at bytes o)
 operands_few at bytes are None few = tt
@@ -139,8 +207,8 @@ ListFew (Ok placed) = AllFew placed
 ListFew (Err fault) = Unit {0}
 
 bind_few : (r : Read) (f : Instr × ℕ → Result (List Placed) Fault) → ReadFew r → ((read : Instr × ℕ) → FewIn read.0 → ListFew (f read)) → ListFew (r >>= f)
-bind_few (Ok read) f few then = then read few
-bind_few (Err fault) f few then = tt
+bind_few (Ok read) f few next = next read few
+bind_few (Err fault) f few next = tt
 
 behind_few : (p : Placed) (r : Result (List Placed) Fault) → FewIn p.instr → ListFew r → ListFew (r >>= λ others. Ok (p ∷ others))
 behind_few p (Ok others) few all = (few, all)
@@ -217,18 +285,25 @@ instructions_few s are = by (decoded s.part.code) refl (instrs_few (length s.par
   by (Ok placed) e few = rw e few
   by (Err fault) e few = rw e tt
 
-two_few : {B : Type 0} (f : B → Point) (g : Placed → B) (xs : List Placed) (k : ℕ) → AllFew xs → ((p : Placed) → FewIn p.instr → HasFewDimensions (f (g p)).op)
-    → PointFew (option_map f (option_map g (slice_get xs k)))
-two_few f g xs k all few = by (slice_get xs k) refl where
-  by : (o : Option Placed) → slice_get xs k ≡ o → PointFew (option_map f (option_map g o))
-  by None e = tt
-  by (Some p) e = few p (at_index (λ (q : Placed). FewIn q.instr) xs k p all e)
+all_mapped : {A B : Type 0} (Q : B → Type 0) (f : A → B) (xs : List A) → AllByRecursion (λ (x : A). Q (f x)) xs → AllByRecursion Q (map f xs)
+all_mapped Q f [] all = tt
+all_mapped Q f (x ∷ xs) all = (all.0, all_mapped Q f xs all.1)
+
+code_points_few : (links : Links) (number : ℕ → ℕ) (s : Scope) → IsBytes s.part.code
+    → AllByRecursion (λ (p : CodePoint). HasFewDimensions (item_op links number p.scope p.item)) (code_points s)
+code_points_few links number s are =
+    all_mapped (λ (p : CodePoint). HasFewDimensions (item_op links number p.scope p.item)) _ (instructions s)
+    (AllByRecursion-weaker (λ (p : Placed). FewIn p.instr) (λ (p : Placed). HasFewDimensions (item_op links number (row_scope s) (item_instr p.instr)))
+    (λ p few. instr_op_few links number (row_scope s) p.instr few) (instructions s) (instructions_few s are))
+
+points_few : (links : Links) (s : Scope) → IsBytes s.part.code → AllByRecursion (λ (p : Point). HasFewDimensions p.op) (method_code links s).points
+points_few links s are = all_mapped (λ (p : Point). HasFewDimensions p.op) _ (code_points s) (code_points_few links (number_at (code_points s)) s are)
 
 code_few : (links : Links) (s : Scope) → IsBytes s.part.code → (place : ℕ) → PointFew (slice_get (method_code links s).points place)
-code_few links s are place =
-    map_at PointFew _ (code_points s) place
-    (map_at (λ o. PointFew (option_map _ o)) _ (instructions s) place
-    (two_few _ _ (instructions s) place (instructions_few s are) (λ p few. instr_op_few links (number_at (code_points s)) (row_scope s) p.instr few)))
+code_few links s are place = by (slice_get (method_code links s).points place) refl where
+  by : (p : Option Point) → slice_get (method_code links s).points place ≡ p → PointFew p
+  by None e = tt
+  by (Some p) e = at_index (λ (q : Point). HasFewDimensions q.op) (method_code links s).points place p (points_few links s are) e
 
 -- the point of a code that may be there
 abbrev pub AtFew : ℕ → Option Code → Type 0
