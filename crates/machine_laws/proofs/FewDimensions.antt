@@ -96,75 +96,208 @@ wide_rows_few : AllByRecursion RowMakesFew wide_rows
 wide_rows_few = (λ o n. tt, (λ o n. tt, tt))
 
 rows_few : AllByRecursion RowMakesFew rows
-rows_few =
-    ((λ o. tt),
-    ((λ o. tt),
-    ((λ o. tt),
-    ((λ o. tt),
-    ((λ o. tt),
-    ((λ o. tt),
-    ((λ o. tt),
-    ((λ o n. tt),
-    ((λ o n. tt),
-    ((λ o n. tt),
-    ((λ o n. tt),
-    ((λ o n. tt),
-    ((λ o n. tt),
-    ((λ o. tt),
-    ((λ o. tt),
-    ((λ o n. tt),
-    ((λ o. tt),
-    ((λ o. tt),
-    ((λ o. tt),
-    ((λ o. tt),
-    ((λ o. tt),
-    ((λ o. tt),
-    ((λ o. tt),
-    ((λ o. tt),
-    ((λ o. tt),
-    ((λ o. tt),
-    ((λ o. tt),
-    ((λ o. tt),
-    ((λ o. tt),
-    ((λ o. tt),
-    ((λ o. tt),
-    ((λ o. tt),
-    ((λ o n k. tt),
-    ((λ o. tt),
-    ((λ o. tt),
-    ((λ o. tt),
-    ((λ o. tt),
-    ((λ o. tt),
-    ((λ o. tt),
-    ((λ o n. tt),
-    ((λ o n. tt),
-    ((λ o n. tt),
-    ((λ o n. tt),
-    ((λ o. tt),
-    ((λ o. tt),
-    ((λ o. tt),
-    ((λ o. tt),
-    ((λ o n. tt),
-    ((λ o n. tt),
-    ((λ o n. tt),
-    ((λ o n. tt),
-    ((λ o n. tt),
-    ((λ o n k. tt),
-    ((λ o n. tt),
-    ((λ o n. tt),
-    ((λ o n. tt),
-    ((λ o n. tt),
-    ((λ o. tt),
-    ((λ o. tt),
-    ((λ o n. tt),
-    ((λ o n. tt),
-    ((λ o. tt),
-    ((λ o. tt),
-    ((λ o. tt),
-    ((λ o n k few. few),
-    ((λ o n. tt),
-    ((λ o n. tt),
-    tt)))))))))))))))))))))))))))))))))))))))))))))))))))))))))))))))))))
+rows_few = (
+  (λ o. tt),
+  (
+    (λ o. tt),
+    (
+      (λ o. tt),
+      (
+        (λ o. tt),
+        (
+          (λ o. tt),
+          (
+            (λ o. tt),
+            (
+              (λ o. tt),
+              (
+                (λ o n. tt),
+                (
+                  (λ o n. tt),
+                  (
+                    (λ o n. tt),
+                    (
+                      (λ o n. tt),
+                      (
+                        (λ o n. tt),
+                        (
+                          (λ o n. tt),
+                          (
+                            (λ o. tt),
+                            (
+                              (λ o. tt),
+                              (
+                                (λ o n. tt),
+                                (
+                                  (λ o. tt),
+                                  (
+                                    (λ o. tt),
+                                    (
+                                      (λ o. tt),
+                                      (
+                                        (λ o. tt),
+                                        (
+                                          (λ o. tt),
+                                          (
+                                            (λ o. tt),
+                                            (
+                                              (λ o. tt),
+                                              (
+                                                (λ o. tt),
+                                                (
+                                                  (λ o. tt),
+                                                  (
+                                                    (λ o. tt),
+                                                    (
+                                                      (λ o. tt),
+                                                      (
+                                                        (λ o. tt),
+                                                        (
+                                                          (λ o. tt),
+                                                          (
+                                                            (λ o. tt),
+                                                            (
+                                                              (λ o. tt),
+                                                              (
+                                                                (λ o. tt),
+                                                                (
+                                                                  (λ o n k. tt),
+                                                                  (
+                                                                    (λ o. tt),
+                                                                    (
+                                                                      (λ o. tt),
+                                                                      (
+                                                                        (λ o. tt),
+                                                                        (
+                                                                          (λ o. tt),
+                                                                          (
+                                                                            (λ o. tt),
+                                                                            (
+                                                                              (λ o. tt),
+                                                                              (
+                                                                                (λ o n. tt),
+                                                                                (
+                                                                                  (λ o n. tt),
+                                                                                  (
+                                                                                    (λ o n. tt),
+                                                                                    (
+                                                                                      (λ o n. tt),
+                                                                                      (
+                                                                                        (λ o. tt),
+                                                                                        (
+                                                                                          (λ o. tt),
+                                                                                          (
+                                                                                            (λ o. tt),
+                                                                                            (
+                                                                                              (λ o. tt),
+                                                                                              (
+                                                                                                (λ o n. tt),
+                                                                                                (
+                                                                                                  (λ o n. tt),
+                                                                                                  (
+                                                                                                    (λ o n. tt),
+                                                                                                    (
+                                                                                                      (λ o n. tt),
+                                                                                                      (
+                                                                                                        (λ o n. tt),
+                                                                                                        (
+                                                                                                          (λ o n k. tt),
+                                                                                                          (
+                                                                                                            (λ o n. tt),
+                                                                                                            (
+                                                                                                              (λ o n. tt),
+                                                                                                              (
+                                                                                                                (λ o n. tt),
+                                                                                                                (
+                                                                                                                  (λ o n. tt),
+                                                                                                                  (
+                                                                                                                    (λ o. tt),
+                                                                                                                    (
+                                                                                                                      (λ o. tt),
+                                                                                                                      (
+                                                                                                                        (λ o n. tt),
+                                                                                                                        (
+                                                                                                                          (λ o n. tt),
+                                                                                                                          (
+                                                                                                                            (λ o. tt),
+                                                                                                                            (
+                                                                                                                              (λ o. tt),
+                                                                                                                              (
+                                                                                                                                (λ o. tt),
+                                                                                                                                (
+                                                                                                                                  (λ o n k few. few),
+                                                                                                                                  (
+                                                                                                                                    (λ o n. tt),
+                                                                                                                                    (
+                                                                                                                                      (λ o n. tt),
+                                                                                                                                      tt,
+                                                                                                                                    ),
+                                                                                                                                  ),
+                                                                                                                                ),
+                                                                                                                              ),
+                                                                                                                            ),
+                                                                                                                          ),
+                                                                                                                        ),
+                                                                                                                      ),
+                                                                                                                    ),
+                                                                                                                  ),
+                                                                                                                ),
+                                                                                                              ),
+                                                                                                            ),
+                                                                                                          ),
+                                                                                                        ),
+                                                                                                      ),
+                                                                                                    ),
+                                                                                                  ),
+                                                                                                ),
+                                                                                              ),
+                                                                                            ),
+                                                                                          ),
+                                                                                        ),
+                                                                                      ),
+                                                                                    ),
+                                                                                  ),
+                                                                                ),
+                                                                              ),
+                                                                            ),
+                                                                          ),
+                                                                        ),
+                                                                      ),
+                                                                    ),
+                                                                  ),
+                                                                ),
+                                                              ),
+                                                            ),
+                                                          ),
+                                                        ),
+                                                      ),
+                                                    ),
+                                                  ),
+                                                ),
+                                              ),
+                                            ),
+                                          ),
+                                        ),
+                                      ),
+                                    ),
+                                  ),
+                                ),
+                              ),
+                            ),
+                          ),
+                        ),
+                      ),
+                    ),
+                  ),
+                ),
+              ),
+            ),
+          ),
+        ),
+      ),
+    ),
+  ),
+)
 
 -- ---- what is read
 

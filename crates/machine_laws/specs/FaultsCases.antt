@@ -79,6 +79,10 @@ asking_add = with_code 9 (codes "add") (codes "()F") 0 (
     ∷ []
     )
 
+-- static int one(DESC a) { return 1; }, of an argument of a type
+abbrev pub taking : List ℕ → RunMethod
+taking desc = with_code 9 (codes "one") desc 1 (int (pos 1) ∷ ops.return_value types.Int ∷ [])
+
 -- class Abstract is abstract and has a handle to its constructor; Below inherits a method of T
 abbrev pub asking_program : Program
 asking_program = program (
@@ -89,6 +93,10 @@ asking_program = program (
     ∷ asking_put
     ∷ asking_add
     ∷ without_code 265 (codes "native") (codes "()V")
+    ∷ taking (codes "(LI;)I")
+    ∷ taking (codes "([LI;)I")
+    ∷ taking (codes "([Ljava/lang/Object;)I")
+    ∷ taking (codes "([[Ljava/lang/Object;)I")
     ∷ []
     )
     ∷ made_by_library (codes "Abstract") (class 1057 (codes "Abstract") [] (super_init object ∷ []))
@@ -136,6 +144,22 @@ refuses_array action = shows asking_program (actions.NewArray (codes "[I") (pos 
 abbrev pub refuses_object : Action → Type 0
 refuses_object action = shows asking_program (actions.NewExternal object [] ∷ action ∷ [])
     (made 0 object 0 0 (0 ∷ []) ∷ []) (ends.LibraryFault 1)
+
+-- an array of a descriptor conforms to the parameter of a method, or does not
+abbrev pub takes : List ℕ → List ℕ → Type 0
+takes given_desc desc = shows asking_program (
+    actions.NewArray given_desc (pos 1)
+    ∷ call_T (codes "one") desc (given.Known 0 ∷ [])
+    ∷ actions.Stop
+    ∷ []
+    ) (made 0 given_desc 0 0 (0 ∷ []) ∷ result_int (pos 1) 0 0 (0 ∷ []) ∷ []) ends.Stopped
+
+abbrev pub takes_none : List ℕ → List ℕ → Type 0
+takes_none given_desc desc = shows asking_program (
+    actions.NewArray given_desc (pos 1)
+    ∷ call_T (codes "one") desc (given.Known 0 ∷ [])
+    ∷ []
+    ) (made 0 given_desc 0 0 (0 ∷ []) ∷ []) (ends.LibraryFault 1)
 
 abbrev pub arithmetic_class : Name
 arithmetic_class = codes "java/lang/ArithmeticException"
@@ -229,6 +253,21 @@ pub record RunFaults : Type 0 where
   pub no_receiver : refuses (actions.Call (codes "P") (codes "y") (codes "()I") [])
   pub value_too_many : refuses (call_T (codes "use") (codes "()V") (given.Null ∷ []))
   pub element_of_other_kind : refuses_array (actions.ArraySet 0 (pos 0) given.Null)
+  -- every reference conforms to an interface, and arrays by their components
+  pub interface_takes_array : takes (codes "[I") (codes "(LI;)I")
+  pub interfaces_take_classes : takes (codes "[LP;") (codes "([LI;)I")
+  pub interfaces_take_arrays : takes (codes "[[I") (codes "([LI;)I")
+  pub interfaces_take_no_numbers : takes_none (codes "[I") (codes "([LI;)I")
+  pub objects_take_classes : takes (codes "[LP;") (codes "([Ljava/lang/Object;)I")
+  pub objects_take_arrays : takes (codes "[[I") (codes "([Ljava/lang/Object;)I")
+  pub objects_take_no_numbers : takes_none (codes "[I") (codes "([Ljava/lang/Object;)I")
+  pub deep_arrays_take_classes : takes (codes "[[LP;") (codes "([[Ljava/lang/Object;)I")
+  pub deep_arrays_take_no_numbers : takes_none (codes "[[I") (codes "([[Ljava/lang/Object;)I")
+  pub null_conforms : shows asking_program (
+      call_T (codes "one") (codes "([LI;)I") (given.Null ∷ [])
+      ∷ actions.Stop
+      ∷ []
+      ) (result_int (pos 1) 0 0 [] ∷ []) ends.Stopped
   -- ---- methods and constructors
   pub native_method : refuses (call_T (codes "native") (codes "()V") [])
   pub inherited_method : refuses (actions.Call (codes "Below") (codes "use") (codes "()V") [])
