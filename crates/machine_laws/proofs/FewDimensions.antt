@@ -4,14 +4,17 @@ use Rattle.std.specs.List.{AllByRecursion}
 use Rattle.std.proofs.Common.{arith, sym, subst}
 use Rattle.std.proofs.lemmas.List.Elements.{recursion_from_All}
 use Rattle.std.proofs.lemmas.Option.{slice_get-map}
-use Rattle.class_model.specs.Checks.{Fault, ◌>>=◌}
+use Rattle.class_model.specs.Checks.{Fault, fault, ◌>>=◌}
+use Rattle.class_model.specs.declared.fault.FileRule.TheVariants as rules
+use Rattle.class_model.specs.declared.opcodes.TheConstants.{IALOAD, SALOAD, IASTORE, SASTORE, IFEQ, IFLE, IF_ICMPEQ, IF_ICMPLE, IF_ACMPEQ, IF_ACMPNE, IFNULL, IFNONNULL, IINC}
 use Rattle.class_model.specs.Cutting.{IsBytes}
 use Rattle.class_model.specs.Laws.Cuts.{IsBytes-drop}
 use Rattle.class_model.specs.Laws.Lists.{AllByRecursion-weaker, at_index}
-use Rattle.class_model.specs.Instructions.{Read, Operands, OpcodeRow, Alone, U1, U2, S1, S2, U1S1, U2U1, U2U1Zero, U2ZeroZero, Jump2, Jump4, TableSwitch, LookupSwitch, Wide, rows, wide_rows, operands_in, with_operands, wide_operands, table_switch_at, lookup_switch_at, sized, sized_if, instr_at, instrs_at, decoded, u1_in}
+use Rattle.class_model.specs.Instructions.{Read, Operands, OpcodeRow, Alone, U1, U2, S1, S2, U1S1, U2U1, U2U1Zero, U2ZeroZero, Jump2, Jump4, TableSwitch, LookupSwitch, Wide, rows, wide_rows, operands_in, with_operands, wide_operands, table_switch_at, lookup_switch_at, sized, sized_if, is_array_code, has_dimensions, target_of, instr_at, instrs_at, decoded, u1_in, u2_in, s1_in, s2_in, s4_in}
 use Rattle.class_model.specs.Members.{has, NATIVE}
 use Rattle.class_model.specs.MethodCode.{code_of}
-use Rattle.class_model.specs.Pool.{Constants}
+use Rattle.class_model.specs.Pool.{Constants, constant_at}
+use Rattle.class_model.specs.PoolChecks.{class_at}
 use Rattle.class_model.specs.declared.class_file.ClassFile.{ClassFile}
 use Rattle.class_model.specs.declared.class_file.CodePart.{CodePart}
 use Rattle.class_model.specs.declared.class_file.Method.{Method}
@@ -28,10 +31,12 @@ use Rattle.machine_laws.specs.CodesOfBytes.{HasCodeOfBytes, HasCodesOfBytes, Hav
 use Rattle.member_link.specs.Bodies.{item_instr}
 use Rattle.member_link.specs.Machine.Bounds.{HasFewDimensions, MakesFewArrays, MOST_DIMENSIONS}
 use Rattle.member_link.specs.Machine.Classes.{program_of, run_class_of, run_method_of}
-use Rattle.member_link.specs.Machine.Codes.{CodePoint, item_op, constant_op, referring, or_meaningless, dynamic_op, return_op, if_between, call_op, instr_op, number_at, method_code, code_points}
-use Rattle.member_link.specs.Machine.Ops.{Op, meaningless}
+use Rattle.member_link.specs.Machine.Codes.{CodePoint, item_op, constant_op, or_meaningless, initialises, dynamic_op, return_op, if_between, call_op, instr_op, number_at, method_code, code_points}
+use Rattle.member_link.specs.Machine.Ops.{Op, meaningless, load_element, store_element, jump_by_int, jump_by_ints, jump_by_references, jump_by_null, get_static, put_static, get_field, put_field, new_object, new_array, new_arrays, check_cast, instance_of}
 use Rattle.member_link.specs.Machine.Programs.{Code, Links, Point, RunClass, RunMethod, code_run, code_at, point_at}
 use Rattle.member_link.specs.References.{Reference}
+use Rattle.member_link.specs.Rows.ArrayRows.{primitive_array, array_of}
+use Rattle.member_link.specs.Signatures.{reference_of}
 use Rattle.member_link.specs.RowScope.{RowScope}
 use Rattle.member_link.specs.Scope.{Scope, scope_of, row_scope, instructions}
 
@@ -67,10 +72,12 @@ if_few true c d p q = p
 if_few false c d p q = q
 
 sized_few : (at : ℕ) (bytes : List ℕ) (len : ℕ) (instr : Instr) → FewIn instr → ReadFew (sized at bytes len instr)
-sized_few at bytes len instr few = if_few (nat_lt (length bytes) len) _ _ tt few
+sized_few at bytes len instr few = if_few (nat_lt (length bytes) len) (Err (fault at rules.Operand)) (Ok (instr, len)) tt few
 
 sized_if_few : (allowed : Bool) (at : ℕ) (bytes : List ℕ) (len : ℕ) (instr : Instr) → FewIn instr → ReadFew (sized_if allowed at bytes len instr)
-sized_if_few allowed at bytes len instr few = if_few (nat_lt (length bytes) len) _ _ tt (if_few allowed _ _ few tt)
+sized_if_few allowed at bytes len instr few =
+    if_few (nat_lt (length bytes) len) (Err (fault at rules.Operand)) (if allowed then Ok (instr, len) else Err (fault at rules.Operand)) tt
+    (if_few allowed (Ok (instr, len)) (Err (fault at rules.Operand)) few tt)
 
 first_byte : (bytes : List ℕ) → IsBytes bytes → from_be_bytes w16 (0 ∷ take 1 bytes) ≤ 255
 first_byte [] are = omega arith
@@ -85,225 +92,51 @@ RowMakesFew row = (opcode : ℕ) → MakesFew (row.operands opcode)
 abbrev pub IfMakesFew : Option Operands → Type 0
 IfMakesFew operands = IfSome operands MakesFew
 
-some_few : (rows : List OpcodeRow) → AllByRecursion RowMakesFew rows → (opcode : ℕ) → IfMakesFew (operands_in rows opcode)
+row_few : (b : Bool) (row : OpcodeRow) (opcode : ℕ) (others : Option Operands) → RowMakesFew row → IfMakesFew others → IfMakesFew (if b then Some (row.operands opcode) else others)
+row_few true row opcode others few rest = few opcode
+row_few false row opcode others few rest = rest
+
+some_few : (table : List OpcodeRow) → AllByRecursion RowMakesFew table → (opcode : ℕ) → IfMakesFew (operands_in table opcode)
 some_few [] all opcode = tt
-some_few (row ∷ others) all opcode = by (nat_le row.low opcode && nat_le opcode row.high) where
-  by : (b : Bool) → IfMakesFew (if b then Some (row.operands opcode) else operands_in others opcode)
-  by true = all.0 opcode
-  by false = some_few others all.1 opcode
+some_few (row ∷ others) all opcode =
+    row_few (nat_le row.low opcode && nat_le opcode row.high) row opcode (operands_in others opcode) all.0 (some_few others all.1 opcode)
 
 wide_rows_few : AllByRecursion RowMakesFew wide_rows
-wide_rows_few = (λ o n. tt, (λ o n. tt, tt))
+wide_rows_few = ((λ o n. tt), ((λ o n. tt), tt))
+
+rows_from_64 : AllByRecursion RowMakesFew (drop 64 rows)
+rows_from_64 = ((λ o n k few. few), ((λ o n. tt), ((λ o n. tt), tt)))
+
+rows_from_56 : AllByRecursion RowMakesFew (drop 56 rows)
+rows_from_56 = ((λ o n. tt), ((λ o. tt), ((λ o. tt), ((λ o n. tt), ((λ o n. tt), ((λ o. tt), ((λ o. tt), ((λ o. tt), rows_from_64))))))))
+
+rows_from_48 : AllByRecursion RowMakesFew (drop 48 rows)
+rows_from_48 = ((λ o n. tt), ((λ o n. tt), ((λ o n. tt), ((λ o n. tt), ((λ o n k. tt), ((λ o n. tt), ((λ o n. tt), ((λ o n. tt), rows_from_56))))))))
+
+rows_from_40 : AllByRecursion RowMakesFew (drop 40 rows)
+rows_from_40 = ((λ o n. tt), ((λ o n. tt), ((λ o n. tt), ((λ o. tt), ((λ o. tt), ((λ o. tt), ((λ o. tt), ((λ o n. tt), rows_from_48))))))))
+
+rows_from_32 : AllByRecursion RowMakesFew (drop 32 rows)
+rows_from_32 = ((λ o n k. tt), ((λ o. tt), ((λ o. tt), ((λ o. tt), ((λ o. tt), ((λ o. tt), ((λ o. tt), ((λ o n. tt), rows_from_40))))))))
+
+rows_from_24 : AllByRecursion RowMakesFew (drop 24 rows)
+rows_from_24 = ((λ o. tt), ((λ o. tt), ((λ o. tt), ((λ o. tt), ((λ o. tt), ((λ o. tt), ((λ o. tt), ((λ o. tt), rows_from_32))))))))
+
+rows_from_16 : AllByRecursion RowMakesFew (drop 16 rows)
+rows_from_16 = ((λ o. tt), ((λ o. tt), ((λ o. tt), ((λ o. tt), ((λ o. tt), ((λ o. tt), ((λ o. tt), ((λ o. tt), rows_from_24))))))))
+
+rows_from_8 : AllByRecursion RowMakesFew (drop 8 rows)
+rows_from_8 = ((λ o n. tt), ((λ o n. tt), ((λ o n. tt), ((λ o n. tt), ((λ o n. tt), ((λ o. tt), ((λ o. tt), ((λ o n. tt), rows_from_16))))))))
 
 rows_few : AllByRecursion RowMakesFew rows
-rows_few = (
-  (λ o. tt),
-  (
-    (λ o. tt),
-    (
-      (λ o. tt),
-      (
-        (λ o. tt),
-        (
-          (λ o. tt),
-          (
-            (λ o. tt),
-            (
-              (λ o. tt),
-              (
-                (λ o n. tt),
-                (
-                  (λ o n. tt),
-                  (
-                    (λ o n. tt),
-                    (
-                      (λ o n. tt),
-                      (
-                        (λ o n. tt),
-                        (
-                          (λ o n. tt),
-                          (
-                            (λ o. tt),
-                            (
-                              (λ o. tt),
-                              (
-                                (λ o n. tt),
-                                (
-                                  (λ o. tt),
-                                  (
-                                    (λ o. tt),
-                                    (
-                                      (λ o. tt),
-                                      (
-                                        (λ o. tt),
-                                        (
-                                          (λ o. tt),
-                                          (
-                                            (λ o. tt),
-                                            (
-                                              (λ o. tt),
-                                              (
-                                                (λ o. tt),
-                                                (
-                                                  (λ o. tt),
-                                                  (
-                                                    (λ o. tt),
-                                                    (
-                                                      (λ o. tt),
-                                                      (
-                                                        (λ o. tt),
-                                                        (
-                                                          (λ o. tt),
-                                                          (
-                                                            (λ o. tt),
-                                                            (
-                                                              (λ o. tt),
-                                                              (
-                                                                (λ o. tt),
-                                                                (
-                                                                  (λ o n k. tt),
-                                                                  (
-                                                                    (λ o. tt),
-                                                                    (
-                                                                      (λ o. tt),
-                                                                      (
-                                                                        (λ o. tt),
-                                                                        (
-                                                                          (λ o. tt),
-                                                                          (
-                                                                            (λ o. tt),
-                                                                            (
-                                                                              (λ o. tt),
-                                                                              (
-                                                                                (λ o n. tt),
-                                                                                (
-                                                                                  (λ o n. tt),
-                                                                                  (
-                                                                                    (λ o n. tt),
-                                                                                    (
-                                                                                      (λ o n. tt),
-                                                                                      (
-                                                                                        (λ o. tt),
-                                                                                        (
-                                                                                          (λ o. tt),
-                                                                                          (
-                                                                                            (λ o. tt),
-                                                                                            (
-                                                                                              (λ o. tt),
-                                                                                              (
-                                                                                                (λ o n. tt),
-                                                                                                (
-                                                                                                  (λ o n. tt),
-                                                                                                  (
-                                                                                                    (λ o n. tt),
-                                                                                                    (
-                                                                                                      (λ o n. tt),
-                                                                                                      (
-                                                                                                        (λ o n. tt),
-                                                                                                        (
-                                                                                                          (λ o n k. tt),
-                                                                                                          (
-                                                                                                            (λ o n. tt),
-                                                                                                            (
-                                                                                                              (λ o n. tt),
-                                                                                                              (
-                                                                                                                (λ o n. tt),
-                                                                                                                (
-                                                                                                                  (λ o n. tt),
-                                                                                                                  (
-                                                                                                                    (λ o. tt),
-                                                                                                                    (
-                                                                                                                      (λ o. tt),
-                                                                                                                      (
-                                                                                                                        (λ o n. tt),
-                                                                                                                        (
-                                                                                                                          (λ o n. tt),
-                                                                                                                          (
-                                                                                                                            (λ o. tt),
-                                                                                                                            (
-                                                                                                                              (λ o. tt),
-                                                                                                                              (
-                                                                                                                                (λ o. tt),
-                                                                                                                                (
-                                                                                                                                  (λ o n k few. few),
-                                                                                                                                  (
-                                                                                                                                    (λ o n. tt),
-                                                                                                                                    (
-                                                                                                                                      (λ o n. tt),
-                                                                                                                                      tt,
-                                                                                                                                    ),
-                                                                                                                                  ),
-                                                                                                                                ),
-                                                                                                                              ),
-                                                                                                                            ),
-                                                                                                                          ),
-                                                                                                                        ),
-                                                                                                                      ),
-                                                                                                                    ),
-                                                                                                                  ),
-                                                                                                                ),
-                                                                                                              ),
-                                                                                                            ),
-                                                                                                          ),
-                                                                                                        ),
-                                                                                                      ),
-                                                                                                    ),
-                                                                                                  ),
-                                                                                                ),
-                                                                                              ),
-                                                                                            ),
-                                                                                          ),
-                                                                                        ),
-                                                                                      ),
-                                                                                    ),
-                                                                                  ),
-                                                                                ),
-                                                                              ),
-                                                                            ),
-                                                                          ),
-                                                                        ),
-                                                                      ),
-                                                                    ),
-                                                                  ),
-                                                                ),
-                                                              ),
-                                                            ),
-                                                          ),
-                                                        ),
-                                                      ),
-                                                    ),
-                                                  ),
-                                                ),
-                                              ),
-                                            ),
-                                          ),
-                                        ),
-                                      ),
-                                    ),
-                                  ),
-                                ),
-                              ),
-                            ),
-                          ),
-                        ),
-                      ),
-                    ),
-                  ),
-                ),
-              ),
-            ),
-          ),
-        ),
-      ),
-    ),
-  ),
-)
+rows_few = ((λ o. tt), ((λ o. tt), ((λ o. tt), ((λ o. tt), ((λ o. tt), ((λ o. tt), ((λ o. tt), ((λ o n. tt), rows_from_8))))))))
 
 -- ---- what is read
 
 wide_few : (at : ℕ) (bytes : List ℕ) (o : Option Operands) → IfMakesFew o → ReadFew (wide_operands at bytes o)
-wide_few at bytes (Some (U2 makes)) few = sized_few at bytes 4 _ (few _)
-wide_few at bytes o few = if_few (u1_in bytes 1 == 132) _ _ (sized_few at bytes 6 _ tt) tt
+wide_few at bytes (Some (U2 makes)) few = sized_few at bytes 4 (makes (u2_in bytes 2)) (few (u2_in bytes 2))
+wide_few at bytes o few =
+    if_few (u1_in bytes 1 == IINC) (sized at bytes 6 (instrs.Iinc (u2_in bytes 2) (s2_in bytes 4))) (Err (fault at rules.Opcode)) (sized_few at bytes 6 (instrs.Iinc (u2_in bytes 2) (s2_in bytes 4)) tt) tt
 
 table_few : (at : ℕ) (bytes : List ℕ) → ReadFew (table_switch_at at bytes)
 table_few at bytes = grind arith
@@ -314,23 +147,27 @@ lookup_few at bytes = grind arith
 operands_few : (at : ℕ) (bytes : List ℕ) → IsBytes bytes → (o : Option Operands) → IfMakesFew o → ReadFew (with_operands at bytes o)
 operands_few at bytes are None few = tt
 operands_few at bytes are (Some (Alone instr)) few = few
-operands_few at bytes are (Some (U1 makes)) few = sized_if_few _ at bytes 2 _ (few _)
-operands_few at bytes are (Some (U2 makes)) few = sized_few at bytes 3 _ (few _)
-operands_few at bytes are (Some (S1 makes)) few = sized_few at bytes 2 _ (few _)
-operands_few at bytes are (Some (S2 makes)) few = sized_few at bytes 3 _ (few _)
-operands_few at bytes are (Some (U1S1 makes)) few = sized_few at bytes 3 _ (few _ _)
-operands_few at bytes are (Some (U2U1 makes)) few = sized_if_few _ at bytes 4 _ (few _ _ (first_byte (drop 3 bytes) (IsBytes-drop 3 bytes are)))
-operands_few at bytes are (Some (U2U1Zero makes)) few = sized_if_few _ at bytes 5 _ (few _ _)
-operands_few at bytes are (Some (U2ZeroZero makes)) few = sized_if_few _ at bytes 5 _ (few _)
-operands_few at bytes are (Some (Jump2 makes)) few = sized_few at bytes 3 _ (few _)
-operands_few at bytes are (Some (Jump4 makes)) few = sized_few at bytes 5 _ (few _)
+operands_few at bytes are (Some (U1 makes)) few = sized_if_few (is_array_code (makes (u1_in bytes 1))) at bytes 2 (makes (u1_in bytes 1)) (few (u1_in bytes 1))
+operands_few at bytes are (Some (U2 makes)) few = sized_few at bytes 3 (makes (u2_in bytes 1)) (few (u2_in bytes 1))
+operands_few at bytes are (Some (S1 makes)) few = sized_few at bytes 2 (makes (s1_in bytes 1)) (few (s1_in bytes 1))
+operands_few at bytes are (Some (S2 makes)) few = sized_few at bytes 3 (makes (s2_in bytes 1)) (few (s2_in bytes 1))
+operands_few at bytes are (Some (U1S1 makes)) few = sized_few at bytes 3 (makes (u1_in bytes 1) (s1_in bytes 2)) (few (u1_in bytes 1) (s1_in bytes 2))
+operands_few at bytes are (Some (U2U1 makes)) few =
+    sized_if_few (has_dimensions (makes (u2_in bytes 1) (u1_in bytes 3))) at bytes 4 (makes (u2_in bytes 1) (u1_in bytes 3))
+    (few (u2_in bytes 1) (u1_in bytes 3) (first_byte (drop 3 bytes) (IsBytes-drop 3 bytes are)))
+operands_few at bytes are (Some (U2U1Zero makes)) few = sized_if_few (u1_in bytes 4 == 0) at bytes 5 (makes (u2_in bytes 1) (u1_in bytes 3)) (few (u2_in bytes 1) (u1_in bytes 3))
+operands_few at bytes are (Some (U2ZeroZero makes)) few = sized_if_few (u2_in bytes 3 == 0) at bytes 5 (makes (u2_in bytes 1)) (few (u2_in bytes 1))
+operands_few at bytes are (Some (Jump2 makes)) few = sized_few at bytes 3 (makes (target_of at (s2_in bytes 1))) (few (target_of at (s2_in bytes 1)))
+operands_few at bytes are (Some (Jump4 makes)) few = sized_few at bytes 5 (makes (target_of at (s4_in bytes 1))) (few (target_of at (s4_in bytes 1)))
 operands_few at bytes are (Some TableSwitch) few = table_few at bytes
 operands_few at bytes are (Some LookupSwitch) few = lookup_few at bytes
-operands_few at bytes are (Some Wide) few = if_few (nat_lt (length bytes) 2) _ _ tt (wide_few at bytes _ (some_few wide_rows wide_rows_few (u1_in bytes 1)))
+operands_few at bytes are (Some Wide) few =
+    if_few (nat_lt (length bytes) 2) (Err (fault at rules.Operand)) (wide_operands at bytes (operands_in wide_rows (u1_in bytes 1))) tt
+    (wide_few at bytes (operands_in wide_rows (u1_in bytes 1)) (some_few wide_rows wide_rows_few (u1_in bytes 1)))
 
 instr_few : (at : ℕ) (bytes : List ℕ) → IsBytes bytes → ReadFew (instr_at at bytes)
 unfolding instr_at
-instr_few at bytes are = operands_few at bytes are _ (some_few rows rows_few (u1_in bytes 0))
+instr_few at bytes are = operands_few at bytes are (operands_in rows (u1_in bytes 0)) (some_few rows rows_few (u1_in bytes 0))
 
 abbrev pub AllFew : List Placed → Type 0
 AllFew placed = AllByRecursion (λ (p : Placed). FewIn p.instr) placed
@@ -380,27 +217,27 @@ call_few : (links : Links) (s : RowScope) (opcode : ℕ) (r : Reference) → Has
 call_few links s opcode r = grind arith
 
 instr_op_few : (links : Links) (number : ℕ → ℕ) (s : RowScope) (instr : Instr) → FewIn instr → HasFewDimensions (instr_op links number s instr)
-instr_op_few links number s (instrs.Ldc index) few = constant_few s.pool _
-instr_op_few links number s (instrs.Ldc2 index) few = constant_few s.pool _
-instr_op_few links number s (instrs.ArrayLoad opcode) few = between_few _ _ opcode _ tt
-instr_op_few links number s (instrs.ArrayStore opcode) few = between_few _ _ opcode _ tt
-instr_op_few links number s (instrs.If opcode target) few = between_few _ _ opcode _ tt
-instr_op_few links number s (instrs.If2 opcode target) few = between_few _ _ opcode _ tt
-instr_op_few links number s (instrs.IfSame opcode target) few = between_few _ _ opcode _ tt
-instr_op_few links number s (instrs.IfNull opcode target) few = between_few _ _ opcode _ tt
+instr_op_few links number s (instrs.Ldc index) few = constant_few s.pool (constant_at s.pool index)
+instr_op_few links number s (instrs.Ldc2 index) few = constant_few s.pool (constant_at s.pool index)
+instr_op_few links number s (instrs.ArrayLoad opcode) few = between_few IALOAD SALOAD opcode (load_element opcode) tt
+instr_op_few links number s (instrs.ArrayStore opcode) few = between_few IASTORE SASTORE opcode (store_element opcode) tt
+instr_op_few links number s (instrs.If opcode target) few = between_few IFEQ IFLE opcode (jump_by_int opcode (number target)) tt
+instr_op_few links number s (instrs.If2 opcode target) few = between_few IF_ICMPEQ IF_ICMPLE opcode (jump_by_ints opcode (number target)) tt
+instr_op_few links number s (instrs.IfSame opcode target) few = between_few IF_ACMPEQ IF_ACMPNE opcode (jump_by_references opcode (number target)) tt
+instr_op_few links number s (instrs.IfNull opcode target) few = between_few IFNULL IFNONNULL opcode (jump_by_null opcode (number target)) tt
 instr_op_few links number s (instrs.Return kind) few = return_few s.result kind
-instr_op_few links number s (instrs.GetStatic index) few = maybe_few _ _ (λ r. tt)
-instr_op_few links number s (instrs.PutStatic index) few = maybe_few _ _ (λ r. tt)
-instr_op_few links number s (instrs.GetField index) few = maybe_few _ _ (λ r. tt)
-instr_op_few links number s (instrs.PutField index) few = maybe_few _ _ (λ r. tt)
-instr_op_few links number s (instrs.Invoke opcode index count) few = maybe_few _ _ (call_few links s opcode)
-instr_op_few links number s (instrs.Dynamic index) few = dynamic_few s _
-instr_op_few links number s (instrs.New index) few = maybe_few _ _ (λ n. tt)
-instr_op_few links number s (instrs.NewArray code) few = maybe_few _ _ (λ n. tt)
-instr_op_few links number s (instrs.NewRefArray index) few = maybe_few _ _ (λ n. tt)
-instr_op_few links number s (instrs.NewMulti index dimensions) few = maybe_few _ _ (λ n. few)
-instr_op_few links number s (instrs.Cast index) few = maybe_few _ _ (λ n. tt)
-instr_op_few links number s (instrs.InstanceOf index) few = maybe_few _ _ (λ n. tt)
+instr_op_few links number s (instrs.GetStatic index) few = maybe_few (reference_of s.pool (constant_at s.pool index)) get_static (λ r. tt)
+instr_op_few links number s (instrs.PutStatic index) few = maybe_few (reference_of s.pool (constant_at s.pool index)) (λ r. put_static r (initialises s.is_clinit s.own)) (λ r. tt)
+instr_op_few links number s (instrs.GetField index) few = maybe_few (reference_of s.pool (constant_at s.pool index)) get_field (λ r. tt)
+instr_op_few links number s (instrs.PutField index) few = maybe_few (reference_of s.pool (constant_at s.pool index)) (λ r. put_field r (initialises s.is_init s.own)) (λ r. tt)
+instr_op_few links number s (instrs.Invoke opcode index count) few = maybe_few (reference_of s.pool (constant_at s.pool index)) (call_op links s opcode) (call_few links s opcode)
+instr_op_few links number s (instrs.Dynamic index) few = dynamic_few s (constant_at s.pool index)
+instr_op_few links number s (instrs.New index) few = maybe_few (class_at s.pool index) new_object (λ n. tt)
+instr_op_few links number s (instrs.NewArray code) few = maybe_few (primitive_array code) new_array (λ n. tt)
+instr_op_few links number s (instrs.NewRefArray index) few = maybe_few (array_of (class_at s.pool index)) new_array (λ n. tt)
+instr_op_few links number s (instrs.NewMulti index dimensions) few = maybe_few (class_at s.pool index) (λ name. new_arrays name dimensions) (λ n. few)
+instr_op_few links number s (instrs.Cast index) few = maybe_few (class_at s.pool index) check_cast (λ n. tt)
+instr_op_few links number s (instrs.InstanceOf index) few = maybe_few (class_at s.pool index) instance_of (λ n. tt)
 instr_op_few links number s instr few = tt
 
 -- ---- programs
