@@ -25,4 +25,14 @@ arrays_run = record {
   narrow_boolean = refl;
   narrow_char = refl;
   narrow_short = refl;
+  field_of_null = refl;
+  store_into_null = refl;
+  length_of_null = refl;
+  exit_null = refl;
+  clone_null = refl;
+  instance_of_also = refl;
+  no_instance = refl;
+  nine_arrays = refl;
+  three_arrays_of_none = refl;
+  product_too_long = refl;
 }

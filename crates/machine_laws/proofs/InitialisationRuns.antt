@@ -7,4 +7,13 @@ unfolding descriptors.types_before
 initialisation_run = record {
   superclass_first = refl;
   initialiser_throws = refl;
+  by_new = refl;
+  by_putstatic = refl;
+  by_invokestatic = refl;
+  by_getstatic = refl;
+  by_declaring_class = refl;
+  by_call = refl;
+  by_construct = refl;
+  interface_alone = refl;
+  initialiser_divides = refl;
 }

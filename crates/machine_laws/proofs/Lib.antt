@@ -1,9 +1,11 @@
 mod Grows
+mod Rises
 mod WorkGrows
 mod ShownGrows
 mod TurnGrows
 mod StepGrows
 mod ActGrows
+mod FewDimensions
 mod RunLaws
 mod OneLinks
 mod WorkedProgramsRuns
@@ -15,3 +17,7 @@ mod OutsideRuns
 mod FaultsRuns
 mod NothingReplaced
 mod CallsRuns
+mod ArithmeticRuns
+mod NarrowingRuns
+mod HandlersRuns
+mod StuckRuns

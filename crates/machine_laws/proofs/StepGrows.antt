@@ -1,14 +1,17 @@
-use Rattle.std.specs.Prelude.{◌+◌, nat_le, ℕ, ℤ, Bool, true, false, List, [], ◌∷◌, length, take, drop, reverse, Option, Some, None, if◌then◌else◌}
-use Rattle.std.proofs.Common.{arith}
+use Rattle.std.specs.Prelude.{◌≤◌, ◌+◌, nat_le, IfSome, ℕ, ℤ, Bool, true, false, List, [], ◌∷◌, length, take, drop, reverse, Option, Some, None, if◌then◌else◌}
+use Rattle.std.proofs.Common.{arith, sym, subst}
+use Rattle.std.proofs.lemmas.List.{length-reverse, length-take}
 use Rattle.class_model.specs.declared.descriptor.FieldType.{FieldType}
 use Rattle.class_model.specs.declared.descriptor.Kind.{Kind}
 use Rattle.machine_values.specs.Frames.{MethodState}
 use Rattle.machine_values.specs.declared.frame.RunFrame.{RunFrame}
 use Rattle.machine_values.specs.declared.frame.RunFrame.TheVariants as frames
 use Rattle.machine_values.specs.declared.value.Value.{Value}
-use Rattle.machine_laws.proofs.ShownGrows.{prefix_same, world_same, world_through}
+use Rattle.machine_laws.proofs.Rises.{rises_grows, rises_bounded}
+use Rattle.machine_laws.proofs.ShownGrows.{Goes, world_same, world_grows, goes_more, more}
 use Rattle.machine_laws.proofs.TurnGrows.{of_frames, of_halt, returned_grows, raised_grows, beginning_grows, perform_grows}
-use Rattle.machine_laws.proofs.WorkGrows.{memory_same, work_grows}
+use Rattle.machine_laws.proofs.WorkGrows.{FewOperands, work_grows}
+use Rattle.member_link.specs.Machine.Bounds.{IsBounded, HasBoundedCounts, HasFewDimensions, NextHasFewDimensions}
 use Rattle.machine_laws.specs.Growth.{WorldGrows}
 use Rattle.class_model.specs.Descriptors.{kind_of}
 use Rattle.class_model.specs.declared.descriptor.Kind.TheVariants as kinds
@@ -22,62 +25,68 @@ use Rattle.member_link.specs.Machine.Ops.{Op}
 use Rattle.member_link.specs.Machine.Programs.{Program, Point, point_at}
 use Rattle.member_link.specs.Machine.Stepping.{ends_stuck, load_step, store_units, store_step, increment_step, test_step, shuffle_step, jump_step, switch_step, return_step, work_step, op_step, point_step, frames_step, is_library_turn, step}
 use Rattle.member_link.specs.Machine.Work.{arity, work}
-use Rattle.member_link.specs.Machine.Worlds.{World}
+use Rattle.member_link.specs.Machine.Worlds.{World, Halt}
 
-pub load_grows : (w : World) (f : MethodState) (rest : List RunFrame) (v : Option Value) → WorldGrows w (load_step w f rest v)
+pub load_grows : (w : World) (f : MethodState) (rest : List RunFrame) (v : Option Value) → Goes (Unit {0}) 1 w (load_step w f rest v)
 load_grows w f rest None = of_halt w _
 load_grows w f rest (Some v) = of_frames w _
 
-pub store_units_grows : (w : World) (f : MethodState) (rest : List RunFrame) (s : List Value) (u : Option (List (Option Value))) → WorldGrows w (store_units w f rest s u)
+pub store_units_grows : (w : World) (f : MethodState) (rest : List RunFrame) (s : List Value) (u : Option (List (Option Value))) → Goes (Unit {0}) 1 w (store_units w f rest s u)
 store_units_grows w f rest s None = of_halt w _
 store_units_grows w f rest s (Some u) = of_frames w _
 
-pub either_grows : {w : World} (b : Bool) (c d : World) → WorldGrows w c → WorldGrows w d → WorldGrows w (if b then c else d)
+pub either_grows : {F : Type 0} {k : ℕ} {w : World} (b : Bool) (c d : World) → Goes F k w c → Goes F k w d → Goes F k w (if b then c else d)
 either_grows true c d g h = g
 either_grows false c d g h = h
 
-pub stuck_grows : (w : World) → WorldGrows w (ends_stuck w)
+pub stuck_grows : {F : Type 0} (w : World) → Goes F 1 w (ends_stuck w)
 stuck_grows w = of_halt w _
 
-pub store_grows : (w : World) (f : MethodState) (rest : List RunFrame) (k : Kind) (at : ℕ) (s : List Value) → WorldGrows w (store_step w f rest k at s)
+pub store_grows : (w : World) (f : MethodState) (rest : List RunFrame) (k : Kind) (at : ℕ) (s : List Value) → Goes (Unit {0}) 1 w (store_step w f rest k at s)
 store_grows w f rest k at [] = of_halt w _
 store_grows w f rest k at (v ∷ s) =
     either_grows (has_kind k v) (store_units w f rest s (stored at v f.locals)) (ends_stuck w) (store_units_grows w f rest s (stored at v f.locals)) (stuck_grows w)
 
-pub increment_grows : (w : World) (f : MethodState) (rest : List RunFrame) (at : ℕ) (by : ℤ) (v : Option Value) → WorldGrows w (increment_step w f rest at by v)
+pub increment_grows : (w : World) (f : MethodState) (rest : List RunFrame) (at : ℕ) (by : ℤ) (v : Option Value) → Goes (Unit {0}) 1 w (increment_step w f rest at by v)
 increment_grows w f rest at by None = of_halt w _
 increment_grows w f rest at by (Some v) = store_units_grows w f rest f.stack (stored at (incremented by v) f.locals)
 
-pub test_grows : (P : Program) (w : World) (f : MethodState) (rest : List RunFrame) (v : Option Value) → WorldGrows w (test_step P w f rest v)
-test_grows P w f rest (Some values.Null) = raised_grows P w null_pointer (frames.Method f ∷ rest)
+pub test_grows : (P : Program) (w : World) (f : MethodState) (rest : List RunFrame) (v : Option Value) → Goes (Unit {0}) 1 w (test_step P w f rest v)
+test_grows P w f rest (Some values.Null) = more (raised_grows P w null_pointer (frames.Method f ∷ rest))
 test_grows P w f rest (Some (values.Ref r)) = of_frames w _
 test_grows P w f rest other = stuck_grows w
 
-pub shuffle_grows : (w : World) (f : MethodState) (rest : List RunFrame) (s : Option (List Value)) → WorldGrows w (shuffle_step w f rest s)
+pub shuffle_grows : (w : World) (f : MethodState) (rest : List RunFrame) (s : Option (List Value)) → Goes (Unit {0}) 1 w (shuffle_step w f rest s)
 shuffle_grows w f rest None = of_halt w _
 shuffle_grows w f rest (Some s) = of_frames w _
 
-pub jump_grows : (w : World) (f : MethodState) (rest : List RunFrame) (to : ℕ) (j : Jump) → WorldGrows w (jump_step w f rest to j)
+pub jump_grows : (w : World) (f : MethodState) (rest : List RunFrame) (to : ℕ) (j : Jump) → Goes (Unit {0}) 1 w (jump_step w f rest to j)
 jump_grows w f rest to None = of_halt w _
 jump_grows w f rest to (Some j) = of_frames w _
 
-pub switch_grows : (w : World) (f : MethodState) (rest : List RunFrame) (target : ℤ → ℕ) (s : List Value) → WorldGrows w (switch_step w f rest target s)
+pub switch_grows : (w : World) (f : MethodState) (rest : List RunFrame) (target : ℤ → ℕ) (s : List Value) → Goes (Unit {0}) 1 w (switch_step w f rest target s)
 switch_grows w f rest target (values.Int key ∷ s) = of_frames w _
 switch_grows w f rest target other = stuck_grows w
 
-pub return_grows : (P : Program) (w : World) (f : MethodState) (rest : List RunFrame) (t : FieldType) (s : List Value) → WorldGrows w (return_step P w f rest t s)
+pub return_grows : (P : Program) (w : World) (f : MethodState) (rest : List RunFrame) (t : FieldType) (s : List Value) → Goes (Unit {0}) 1 w (return_step P w f rest t s)
 return_grows P w f rest t [] = of_halt w _
 return_grows P w f rest t (v ∷ s) =
-    either_grows (has_kind (kind_of t) v) (returned_value P w f rest t v) (ends_stuck w) (returned_grows P w f rest (narrowed t v ∷ [])) (stuck_grows w)
+    either_grows (has_kind (kind_of t) v) (returned_value P w f rest t v) (ends_stuck w) (more (returned_grows P w f rest (narrowed t v ∷ []))) (stuck_grows w)
 
-pub work_step_grows : (P : Program) (w : World) (f : MethodState) (rest : List RunFrame) (op : Op) → WorldGrows w (work_step P w f rest op)
+-- an operation takes no more operands than its array of arrays has dimensions
+pub few_operands : (op : Op) (stack : List Value) → HasFewDimensions op → FewOperands op (reverse (take (arity op) stack))
+few_operands (ops.new_arrays d n) stack few = omega (arith, few, length-reverse (take n stack), length-take n stack)
+few_operands op stack few = tt
+
+pub work_step_grows : (P : Program) (w : World) (f : MethodState) (rest : List RunFrame) (op : Op) → Goes (HasFewDimensions op) 1 w (work_step P w f rest op)
 work_step_grows P w f rest op =
     either_grows (nat_le (arity op) (length f.stack))
     (perform P w f (record f { stack = drop (arity op) f.stack }) rest (work P w.memory op (reverse (take (arity op) f.stack)))) (ends_stuck w)
-    (perform_grows P w f (record f { stack = drop (arity op) f.stack }) rest (work P w.memory op (reverse (take (arity op) f.stack))) (work_grows P w.memory op _))
+    (goes_more 1 (omega arith) (few_operands op f.stack)
+    (perform_grows P w f (record f { stack = drop (arity op) f.stack }) rest (work P w.memory op (reverse (take (arity op) f.stack))) (work_grows P w.memory op _)))
     (stuck_grows w)
 
-pub op_grows : (P : Program) (w : World) (f : MethodState) (rest : List RunFrame) (op : Op) → WorldGrows w (op_step P w f rest op)
+pub op_grows : (P : Program) (w : World) (f : MethodState) (rest : List RunFrame) (op : Op) → Goes (HasFewDimensions op) 1 w (op_step P w f rest op)
 op_grows P w f rest ops.no_operation = of_frames w _
 op_grows P w f rest ops.meaningless = stuck_grows w
 op_grows P w f rest (ops.load_local kind at) = load_grows w f rest (local_value kind f.locals at)
@@ -92,24 +101,53 @@ op_grows P w f rest (ops.jump_by_null opcode to) = jump_grows w f rest to (jump_
 op_grows P w f rest (ops.jump_to to) = of_frames w _
 op_grows P w f rest (ops.table_switch low other targets) = switch_grows w f rest (table_target low other targets) f.stack
 op_grows P w f rest (ops.lookup_switch other pairs) = switch_grows w f rest (lookup_target other pairs) f.stack
-op_grows P w f rest ops.return_nothing = returned_grows P w f rest []
+op_grows P w f rest ops.return_nothing = more (returned_grows P w f rest [])
 op_grows P w f rest (ops.return_value type) = return_grows P w f rest type f.stack
 op_grows P w f rest op = work_step_grows P w f rest op
 
-pub point_grows : (P : Program) (w : World) (f : MethodState) (rest : List RunFrame) (p : Option Point) → WorldGrows w (point_step P w f rest p)
+pub point_grows : (P : Program) (w : World) (f : MethodState) (rest : List RunFrame) (p : Option Point) → Goes (IfSome p (λ point. HasFewDimensions point.op)) 1 w (point_step P w f rest p)
 point_grows P w f rest None = stuck_grows w
 point_grows P w f rest (Some p) = op_grows P w f rest p.op
 
-pub frames_grows : (P : Program) (w : World) (fs : List RunFrame) → WorldGrows w (frames_step P w fs)
+pub frames_grows : (P : Program) (w : World) (fs : List RunFrame) → Goes (NextHasFewDimensions P fs) 1 w (frames_step P w fs)
 frames_grows P w [] = stuck_grows w
-frames_grows P w (frames.Library made ∷ rest) = world_same w
-frames_grows P w (frames.Beginning class ∷ rest) = beginning_grows P class w rest
+frames_grows P w (frames.Library made ∷ rest) = world_same 1 w
+frames_grows P w (frames.Beginning class ∷ rest) = more (beginning_grows P class w rest)
 frames_grows P w (frames.Method f ∷ rest) = point_grows P w f rest (point_at P f.at f.place)
 
-pub counted_grows : (w : World) → WorldGrows w (record w { steps = w.steps + 1 })
-counted_grows w = record { memory = memory_same _; known = prefix_same _; events = prefix_same _; steps = omega arith }
+-- ---- a step
 
-pub step_grows : (P : Program) (w : World) → WorldGrows w (step P w)
+-- What a turn does: the world grows, a step more is counted at most, and if a premise holds the counts stay within bounds.
+pub record Turned (F : Type 0) (before after : World) : Type 0 where
+  pub grows : WorldGrows before after
+  pub bounded : F → HasBoundedCounts before → HasBoundedCounts after
+  pub steps : after.steps ≤ before.steps + 1
+
+pub turned_same : {F : Type 0} (w : World) → Turned F w w
+turned_same w = record { grows = world_grows (world_same {F = Unit {0}} 0 w); bounded = λ f is. is; steps = omega arith }
+
+-- the run ends, and all else is as it was
+pub turned_halt : {F : Type 0} (w : World) (h : Halt) → Turned F w (record w { halt = h })
+turned_halt w h = record { grows = world_grows (of_halt {F = Unit {0}} {k = 0} w h); bounded = λ f is. is; steps = omega arith }
+
+-- a step is counted, and then what it does
+pub turned_step : {F : Type 0} (w v : World) → Goes F 1 (record w { steps = w.steps + 1 }) v → Turned F w v
+turned_step {F = F} w v p = record {
+  grows = record {
+    memory = rises_grows p.memory;
+    known = p.known;
+    events = p.events;
+    steps = omega (arith, p.steps);
+  };
+  bounded = λ f is. subst (IsBounded v.memory) (sym p.steps) (rises_bounded w.steps f p.memory is);
+  steps = omega (arith, p.steps);
+}
+
+pub either_turned : {F : Type 0} {w : World} (b : Bool) (c d : World) → Turned F w c → Turned F w d → Turned F w (if b then c else d)
+either_turned true c d p q = p
+either_turned false c d p q = q
+
+pub step_grows : (P : Program) (w : World) → Turned (NextHasFewDimensions P w.frames) w (step P w)
 step_grows P w =
-    either_grows (is_library_turn w.frames) w (frames_step P (record w { steps = w.steps + 1 }) w.frames) (world_same w)
-    (world_through (counted_grows w) (frames_grows P _ w.frames))
+    either_turned (is_library_turn w.frames) w (frames_step P (record w { steps = w.steps + 1 }) w.frames) (turned_same w)
+    (turned_step w _ (frames_grows P (record w { steps = w.steps + 1 }) w.frames))

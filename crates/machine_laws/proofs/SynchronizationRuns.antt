@@ -9,4 +9,8 @@ synchronization_run = record {
   sync_holds = refl;
   sync_throw_leaves = refl;
   sync_static = refl;
+  class_monitor = refl;
+  class_monitor_thrown = refl;
+  entered_twice = refl;
+  enter_null = refl;
 }

@@ -19,6 +19,8 @@ pub record IsPrefix {A : Type 0} (before after : List A) : Type 0 where
 
 pub record MemoryGrows (before after : Memory) : Type 0 where
   pub objects : KeepShapes before.heap.objects after.heap.objects
+  pub constants : IsPrefix before.heap.constants after.heap.constants
+  pub begun : IsPrefix before.begun after.begun
   pub allocations : before.allocations ≤ after.allocations
   pub entries : before.entries ≤ after.entries
 

@@ -1,5 +1,6 @@
 pub mod Growth
 pub mod Replacing
+pub mod CodesOfBytes
 pub mod TestPrograms
 pub mod WorkedProgramsCases
 pub mod ArraysCases
@@ -9,3 +10,7 @@ pub mod FinalFieldsCases
 pub mod OutsideCases
 pub mod FaultsCases
 pub mod CallsCases
+pub mod ArithmeticCases
+pub mod NarrowingCases
+pub mod HandlersCases
+pub mod StuckCases

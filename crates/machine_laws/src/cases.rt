@@ -1,4 +1,8 @@
 //! What small programs show, computed from the definitions alone.
+ghost use Rattle.machine_laws.specs.ArithmeticCases.{RunArithmetic};
+ghost use Rattle.machine_laws.specs.HandlersCases.{RunHandlers};
+ghost use Rattle.machine_laws.specs.NarrowingCases.{RunNarrowing};
+ghost use Rattle.machine_laws.specs.StuckCases.{RunStuck};
 ghost use Rattle.machine_laws.specs.ArraysCases.{RunArrays};
 ghost use Rattle.machine_laws.specs.CallsCases.{RunCalls};
 ghost use Rattle.machine_laws.specs.FaultsCases.{RunFaults};
@@ -46,4 +50,24 @@ pub fn programs_show_what_calls_run()
 /// Actions that are faults, and the ends of runs.
 pub fn programs_show_which_actions_are_faults()
     ensures { RunFaults }
+{}
+
+/// Arithmetic, conversions and comparisons of int and long.
+pub fn programs_show_what_arithmetic_gives()
+    ensures { RunArithmetic }
+{}
+
+/// Narrowing to byte, short, char and boolean.
+pub fn programs_show_where_values_are_narrowed()
+    ensures { RunNarrowing }
+{}
+
+/// Exception handlers.
+pub fn programs_show_which_handler_catches()
+    ensures { RunHandlers }
+{}
+
+/// Programs that do not verify.
+pub fn programs_show_what_is_stuck()
+    ensures { RunStuck }
 {}

@@ -25,3 +25,4 @@ pub mod Codes
 pub mod Classes
 pub mod Links
 pub mod Replaced
+pub mod Bounds

@@ -149,7 +149,7 @@ abbrev pub with_made : ℕ → List RunFrame → List RunFrame
 with_made reference (Library made ∷ rest) = Library (Some reference) ∷ rest
 with_made reference frames = frames
 
--- the initialiser runs on the new object
+-- the instance initialiser runs on the new object
 abbrev pub constructed : Program → World → Name → MethodAt → List Value → Made → World
 constructed P w class at values made =
     beginning_if P class

@@ -1,5 +1,5 @@
 -- Initialisation of classes (JVM Specification SE 8, 5.5): a class is begun, those above it that are to come first are begun in their
--- turn, and then its initialiser runs. Classes of the library count as initialised.
+-- turn, and then its class initialiser runs. Classes of the library count as begun.
 use Rattle.std.specs.Prelude.{◌&&◌, ◌-◌, not, ℕ, zero, suc, Bool, false, List, [], ◌∷◌, ◌++◌, length, slice_get, codes, replicate, filter, Option, Some, None, option_and_then, is_some, if◌then◌else◌}
 use Rattle.std.specs.List.{list_any, flat_map}
 use Rattle.class_model.specs.Descriptors.{type_of}
@@ -98,7 +98,7 @@ first_unbegun P memory (name ∷ names) =
       of_number None others = others
       of_number (Some number) others = if is_begun memory number then others else Some number
 
--- ---- the initialiser
+-- ---- the class initialiser
 
 -- the class initialiser of a class, if it has one with code
 abbrev pub initialiser_of : Program → ℕ → Option MethodAt
@@ -117,15 +117,15 @@ frame_with P at units held =
       padded None = units
       padded (Some code) = units ++ replicate (code.locals - length units) None
 
--- the initialiser takes the place of the beginning; without one the beginning is over
-abbrev pub initialised : Program → World → List RunFrame → Option MethodAt → World
-initialised P w rest None = record w { frames = rest }
-initialised P w rest (Some at) = record w { frames = Method (frame_with P at [] None) ∷ rest }
+-- the class initialiser takes the place of the beginning; without one the beginning is over
+abbrev pub past_beginning : Program → World → List RunFrame → Option MethodAt → World
+past_beginning P w rest None = record w { frames = rest }
+past_beginning P w rest (Some at) = record w { frames = Method (frame_with P at [] None) ∷ rest }
 
--- the first class that comes before it is begun, and where none is left its initialiser runs
+-- the first class that comes before it is begun, and where none is left its class initialiser runs
 abbrev pub begun_next : Program → ℕ → World → List RunFrame → Option ℕ → World
 begun_next P class w rest (Some first) = begun_on P first w (Beginning class ∷ rest)
-begun_next P class w rest None = initialised P w rest (initialiser_of P class)
+begun_next P class w rest None = past_beginning P w rest (initialiser_of P class)
 
 abbrev pub beginning_of : Program → ℕ → World → List RunFrame → Option RunClass → World
 beginning_of P class w rest None = record w { halt = stuck }

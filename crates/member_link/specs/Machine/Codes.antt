@@ -81,7 +81,7 @@ referring s index op =
 abbrev pub naming : Option Name → (Name → Op) → Op
 naming name op = or_meaningless (option_map op name)
 
--- the class whose initialiser the code is
+-- the class whose instance initialiser the code is, for a store into an instance field, or class initialiser, for one into a static field
 abbrev pub initialises : Bool → Header → Option Name
 initialises is own = if is then Some own.name else None
 

@@ -27,7 +27,8 @@ begun_first P memory class otherwise = of_number (folder_number P class) where
   of_number None = otherwise
   of_number (Some number) = if is_begun memory number then otherwise else begins number
 
--- a store into a final field outside an initialiser of the class that declares it; of a class of the library always
+-- A store into a final instance field outside an instance initialiser of the class that declares it, and into a final static field
+-- outside its class initialiser; of a class of the library always.
 abbrev pub is_barred : Program → Reference → Option Name → Bool
 is_barred P field initialises =
     has_flag (field_of P field) FINAL && not (is_inside initialises) where

@@ -41,7 +41,8 @@ pub data Op : Type 0 where
   -- a value of the method's declared result
   return_value : FieldType → Op
   throw_reference : Op
-  -- ---- fields: a store names the class whose initialiser the code is, if it is one
+  -- ---- fields: a store into an instance field names the class whose instance initialiser the code is, one into a static field the
+  -- class whose class initialiser it is
   get_static : Reference → Op
   put_static : Reference → Option Name → Op
   get_field : Reference → Op

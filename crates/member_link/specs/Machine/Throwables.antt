@@ -30,7 +30,8 @@ class_cast = codes "java/lang/ClassCastException"
 abbrev pub illegal_monitor : Name
 illegal_monitor = codes "java/lang/IllegalMonitorStateException"
 
--- a store into a final field outside an initialiser of its class, and a selected method that is not public
+-- a store into a final instance field outside an instance initialiser of its class, and into a final static field outside its class
+-- initialiser; a selected method that is not public
 abbrev pub illegal_access : Name
 illegal_access = codes "java/lang/IllegalAccessError"
 
