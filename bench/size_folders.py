@@ -1,13 +1,13 @@
-"""size_folders.py SHAPE NUMBER FOLDER: makes a folder of class files of one shape, each as large as a class file can be or so many
+"""size_folders.py FOLDER SHAPE COUNT: makes a folder of class files of one shape, each as large as a class file can be or so many
 times over. `SHAPES` below says which there are; bench/sizes.sh verifies them."""
 import os
 import struct
 import sys
 
-NOP, ACONST_NULL, ICONST_0, FCONST_0, DUP = b"\0", b"\1", b"\3", b"\x0b", b"\x59"
+NOP, ACONST_NULL, ICONST_0, FCONST_0 = b"\0", b"\1", b"\3", b"\x0b"
 ISTORE_0, FSTORE_0, RETURN, ATHROW = b"\x3b", b"\x43", b"\xb1", b"\xbf"
-GETSTATIC, INVOKESTATIC, POP, TABLESWITCH, LOOKUPSWITCH = b"\xb2", b"\xb8", b"\x57", b"\xaa", b"\xab"
-PUBLIC, STATIC, SUPER, INTERFACE, ABSTRACT = 1, 8, 0x20, 0x200, 0x400
+INVOKESTATIC, POP, TABLESWITCH, LOOKUPSWITCH = b"\xb8", b"\x57", b"\xaa", b"\xab"
+PUBLIC, STATIC, SUPER, ABSTRACT = 1, 8, 0x20, 0x400
 MOST = 65_535
 INT, FLOAT, OBJECT = b"\1", b"\2", b"\7"
 
@@ -105,7 +105,7 @@ def targets(count, folder, body=NOP * (MOST // 2), local_units=0):
     made = ClassFile()
     begin = len(body) + 1
     places = min(count, MOST - begin)
-    types = [0, made.type("java/lang/Throwable"), made.type("java/lang/Exception")]
+    types = [0, made.type("java/lang/Throwable"), made.type("java/lang/ArithmeticException")]
     table = [(0, begin, begin + number % places, types[number // places]) for number in range(count)]
     made.method("m", "()V", body + RETURN + ATHROW * places, 1, local_units, table, caught_frames(made, begin, places))
     made.write(folder, "M.class")
@@ -156,7 +156,7 @@ def full(count, folder):
     made, frames = ClassFile(), []
     for number in range(count):
         kinds = [FLOAT if number >> place & 1 else INT for place in range(8)]
-        frames.append(full_frame(0, (kinds * (MOST // 8 + 1))[:MOST]))
+        frames.append(full_frame(0 if frames else 1, (kinds * (MOST // 8 + 1))[:MOST]))
     made.method("m", "()V", RETURN * (count + 1), 0, MOST, frames=frames)
     made.write(folder, "M.class")
 
@@ -190,10 +190,10 @@ def methods(count, folder):
 def constants(count, folder):
     """So many constants, and a method that loads some of them."""
     made = ClassFile()
-    code = made.text("()V"), made.text("m"), made.text("Code")
+    for name in ("m", "()V", "Code"):
+        made.text(name)
     numbers = [made.constant(b"\3" + u4(number)) for number in range(count - len(made.entries))]
     made.method("m", "()V", b"".join(b"\x13" + u2(index) + POP for index in numbers[:16_000]) + RETURN)
-    assert code
     made.write(folder, "M.class")
 
 
@@ -258,5 +258,5 @@ SHAPES = {
 }
 
 if __name__ == "__main__":
-    os.makedirs(sys.argv[3], exist_ok=True)
-    SHAPES[sys.argv[1]](int(sys.argv[2]), sys.argv[3])
+    os.makedirs(sys.argv[1], exist_ok=True)
+    SHAPES[sys.argv[2]](int(sys.argv[3]), sys.argv[1])

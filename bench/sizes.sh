@@ -1,7 +1,7 @@
 #!/usr/bin/env bash
 # Verifies folders of the greatest legal sizes, each made by bench/size_folders.py or bench/hierarchy_sizes.py: one class with the most and the
 # largest methods, tables, frames, handlers, members, constants and texts, and many classes. Processor time and peak memory are
-# judged: what a row states, and where it states "-" what its input's bytes allow, a second and two more for each 10 MB, and 64 MB
+# judged: what a row states, and where it states "-" what its input's bytes allow, a second and one more for each 5 MB, and 64 MB
 # and 16 bytes for each byte. Prints what is wanted and what came, the least of some runs each, and fails where a want is
 # not met. PEA=FILE times another program; RUNS=1 is enough for a look; words are the shapes to try, all where there is none.
 set -eu
@@ -26,13 +26,14 @@ verify() {
 judge() {
     local shape=$1 number=$2 most_ms=$3 most_mb=$4 answer=$5 maker=size_folders bytes ms=999999 kb=999999999 took
     case $shape in
-    interfaces | overriding | circle | diamonds) maker=hierarchy_sizes ;;
+    interfaces | diamonds | crossed | inherited | overriding | finals | private | elsewhere | circle) maker=hierarchy_sizes ;;
     esac
     if [ ! -f "$root/bench/$maker.py" ]; then
         echo "$shape $number: skipped, since bench/$maker.py is missing"
         return
     fi
-    python3 "$root/bench/$maker.py" "$shape" "$number" in
+    mkdir in
+    python3 "$root/bench/$maker.py" in "$shape" "$number"
     bytes=$(find in -type f -printf '%s\n' | awk '{ sum += $1 } END { print sum }')
     if [ "$most_ms" = - ]; then most_ms=$((1000 + bytes / 5000)); fi
     if [ "$most_mb" = - ]; then most_mb=$((64 + 16 * bytes / 1048576)); fi
@@ -58,7 +59,12 @@ done <<'SIZES'
 interfaces 40000 3000 200 verified
 overriding 20000 3000 - verified
 circle 39000 2000 - refused
-diamonds 10000 - - verified
+diamonds 20000 - - verified
+crossed 20000 - - verified
+inherited 20000 - - verified
+finals 20000 - - verified
+private 20000 - - verified
+elsewhere 20000 - - verified
 nops 200 2000 100 verified
 handlers 1000 1000 - verified
 handlers 65535 3000 - verified
