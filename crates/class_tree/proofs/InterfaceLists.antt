@@ -1,29 +1,32 @@
 -- The numbers of superinterfaces that a class has from those that it names.
 use Rattle.std.proofs.Common.{◌≡◌, ◌⊎◌, ◌+◌, ◌<◌, ◌≤◌, ◌∙◌, ℕ, Bool, List, [], ◌∷◌, ◌++◌, length, map, filter_map, get_or, set, take, drop, slice_get, Option, Some, None, IsSome, IfSome, IsTrue, is_some, unwrap_or, option_map, option_to_list, refl, sym, ap, subst, inl, inr, arith}
 use Rattle.std.specs.List.{All, AllByRecursion}
-use Rattle.std.proofs.lemmas.Bool.{or_left, or_right, eq-eqb, cases_eq}
+use Rattle.std.proofs.lemmas.Bool.{false≢true, or_left, or_right, or_cases, eqb-true, eq-eqb, cases_eq}
 use Rattle.std.proofs.lemmas.List.{append-nil, drop_more, take_more, take_all, take-append-drop, length-map, get_or-map, length-set, get_or-set_same, get_or-set_other}
 use Rattle.std.proofs.lemmas.List.Elements.{All-nil, All-cons, All-head, All-tail, All-set}
-use Rattle.std.proofs.lemmas.Option.{slice_get-map, slice_get_within, get_or_from_slice_get, same_Some}
+use Rattle.std.proofs.lemmas.Option.{slice_get-map, slice_get_cases, slice_get_within, get_or_from_slice_get, same_Some}
 use Rattle.class_model.specs.Checks.{AllHold}
 use Rattle.class_model.specs.declared.header.Header.{Header}
 use Rattle.class_tree.specs.Inner.Graphs.{Graph, IsOneOf, IsTopological}
 use Rattle.class_tree.specs.Headers.{Name, Headers, all_headers, class_named}
-use Rattle.class_tree.specs.Inner.InterfaceNumbers.{with_number, with_numbers, with_lists, AreMarks, AreLists, AreNumbersOf, AreNumberLists}
+use Rattle.class_tree.specs.Inner.InterfaceNumbers.{with_number, with_numbers, with_lists, AreMarks, AreLists, AreNumbersOf, AreNumberLists, IsOnce}
 use Rattle.class_tree.specs.Interfaces.{each_once, IsWalk, done, next, of_root, below}
 use Rattle.class_tree.specs.Laws.Above.{walk_of_interface}
+use Rattle.class_tree.specs.Laws.Names.{IsOneName, one_name_first}
 use Rattle.class_tree.specs.Names.{is_interface}
 use Rattle.class_tree.specs.Inner.Nodes.{number_of, graph_of, place_at, AreInterfaceLists}
 use Rattle.class_tree.specs.Steps.{supers, hierarchy_checks}
+use Rattle.class_tree.specs.Subtype.{IsBelow}
 use Rattle.class_tree.specs.Trees.{IsInOrder}
 use Rattle.class_tree.specs.declared.place.Place.{Place}
 use Rattle.class_tree.proofs.ClassHolds.{ClassHolds, class_holds, is_sound}
 use Rattle.class_tree.proofs.EachOnce.{joined_same, once_numbered, names_placed}
-use Rattle.class_tree.proofs.NewNumbers.{with_numbers-append, as_made, all_with_numbers}
+use Rattle.class_tree.proofs.NewNumbers.{with_numbers-append, as_made, all_with_numbers, made_once, made_behind}
 use Rattle.class_tree.proofs.OneOf.{one_at, one_of_parts, one_of_single}
 use Rattle.class_tree.proofs.Places.{class_of_number, number_of_itself}
 use Rattle.class_tree.proofs.SuperNumbers.{have_numbers}
 use Rattle.class_tree.proofs.HierarchyChecks.{as_many_nodes}
+use Rattle.class_tree.proofs.WalkedNames.{walked_is_above}
 
 -- ---- names and their numbers
 
@@ -224,6 +227,63 @@ superclass_within P (Some number) interfaces all = All-head P number interfaces 
 pub interfaces_within : (P : ℕ → Type 0) (superclass : Option ℕ) (interfaces : List ℕ) → All P (option_to_list superclass ++ interfaces) → All P interfaces
 interfaces_within P None interfaces all = all
 interfaces_within P (Some number) interfaces all = All-tail P number interfaces all
+
+interface_listed : (P : ℕ → Type 0) (superclass : Option ℕ) (interfaces : List ℕ) → ((one : ℕ) → IsOneOf (option_to_list superclass ++ interfaces) one → P one) → (one : ℕ) → IsOneOf interfaces one → P one
+interface_listed P None interfaces listed one is = listed one is
+interface_listed P (Some number) interfaces listed one is = listed one (or_right _ _ is)
+
+-- ---- lists that have each number once
+
+-- a number that was met is that of a name that was walked
+number_walked : (headers : Headers) (walk : List Name) (met : List ℕ) → map (number_of headers) walk ≡ map Some met → (number : ℕ) → IsOneOf met number → (name : Name) × IsOneName walk name × (number_of headers name ≡ Some number)
+number_walked headers [] [] same number one = absurd (false≢true one)
+number_walked headers [] (first ∷ met) same number one = absurd cc
+number_walked headers (name ∷ walk) [] same number one = absurd (false≢true one)
+number_walked headers (name ∷ walk) (first ∷ met) same number one =
+    let is : number_of headers name ≡ Some first = cc in
+    let rest : map (number_of headers) walk ≡ map Some met = cc in
+    elim (or_cases _ _ one) [
+      | inl here ↦ (name, one_name_first name name walk refl, subst (λ n. number_of headers name ≡ Some n) (eqb-true first number here) is)
+      | inr there ↦ let later = number_walked headers walk met rest number there in (later.0, or_right _ _ later.1, later.2)
+    ]
+
+module _ (headers : Headers) (hold : AllHold (hierarchy_checks headers)) (lists : List (List ℕ)) where
+  -- no class is among its superinterfaces
+  once_behind : (number : ℕ) (header : Header) → slice_get (all_headers headers) number ≡ Some header → AreNumbersOf headers header.name (get_or lists number []) → IsOnce (number ∷ get_or lists number [])
+  once_behind number header there are =
+      made_behind number are.met (get_or lists number []) are.once (λ one.
+      let walked = number_walked headers are.walk are.met are.same number one in
+      let class = class_of_number headers walked.0 number walked.2 in
+      let same : class.0 ≡ header = same_Some class.0 header (sym class.1.there ∙ there) in
+      let name : walked.0 ≡ header.name = sym class.1.same ∙ ap (λ (h : Header). h.name) same in
+      (class_holds headers hold number header there).circle (subst (IsBelow headers header.name) name (walked_is_above headers are.walked walked.0 walked.1)))
+
+  one_once : (number : ℕ) → number < length (all_headers headers) → IsListed headers lists number → IsOnce (number ∷ get_or lists number []) × IsOnce (get_or lists number [])
+  one_once number low listed =
+      elim (slice_get_cases (all_headers headers) number).1 [
+        | inl found ↦
+            let are = listed.are found.0 found.2 in
+            (once_behind number found.0 found.2 are, made_once are.met (get_or lists number []) are.once)
+        | inr past ↦ absurd (omega (arith, past.0, low))
+      ]
+
+  each_once_behind : (numbers : List ℕ) → All (λ one. one < length (all_headers headers)) numbers → ((one : ℕ) → IsOneOf numbers one → IsListed headers lists one) → All (λ one. IsOnce (one ∷ get_or lists one [])) numbers
+  each_once_behind [] low listed = All-nil (λ one. IsOnce (one ∷ get_or lists one []))
+  each_once_behind (number ∷ numbers) low listed =
+      All-cons (λ one. IsOnce (one ∷ get_or lists one [])) number numbers
+      (one_once number (All-head (λ one. one < length (all_headers headers)) number numbers low) (listed number (or_left _ _ (eq-eqb number number refl)))).0
+      (each_once_behind numbers (All-tail (λ one. one < length (all_headers headers)) number numbers low) (λ one is. listed one (or_right _ _ is)))
+
+  -- the lists of the interfaces that a class names
+  pub interfaces_once : (superclass : Option ℕ) (interfaces : List ℕ) → All (λ one. one < length (all_headers headers)) (option_to_list superclass ++ interfaces) → ((one : ℕ) → IsOneOf (option_to_list superclass ++ interfaces) one → IsListed headers lists one) → All (λ one. IsOnce (one ∷ get_or lists one [])) interfaces
+  interfaces_once superclass interfaces low listed =
+      each_once_behind interfaces (interfaces_within (λ one. one < length (all_headers headers)) superclass interfaces low) (interface_listed (IsListed headers lists) superclass interfaces listed)
+
+  -- that of its superclass
+  pub superclass_once : (superclass : Option ℕ) (interfaces : List ℕ) → All (λ one. one < length (all_headers headers)) (option_to_list superclass ++ interfaces) → ((one : ℕ) → IsOneOf (option_to_list superclass ++ interfaces) one → IsListed headers lists one) → IfSome superclass (λ above. IsOnce (get_or lists above []))
+  superclass_once None interfaces low listed = tt
+  superclass_once (Some number) interfaces low listed =
+      (one_once number (All-head (λ one. one < length (all_headers headers)) number interfaces low) (listed number (or_left _ _ (eq-eqb number number refl)))).1
 
 -- ---- places
 

@@ -1,11 +1,11 @@
 -- Numbers appended to a list that does not have them yet.
-use Rattle.std.proofs.Common.{◌≡◌, ◌+◌, ◌<◌, ◌≤◌, ◌==◌, ◌∙◌, ℕ, Bool, true, false, List, [], ◌∷◌, ◌++◌, length, get_or, take, drop, set, Option, Some, None, unwrap_or, option_map, refl, sym, ap, subst, inl, inr}
+use Rattle.std.proofs.Common.{◌≡◌, ◌+◌, ◌<◌, ◌≤◌, ◌==◌, ◌||◌, ◌∙◌, ℕ, Bool, true, false, List, [], ◌∷◌, ◌++◌, length, get_or, take, drop, set, Option, Some, None, unwrap_or, option_map, refl, sym, ap, subst, inl, inr}
 use Rattle.std.specs.List.{All, list_any}
 use Rattle.std.proofs.lemmas.Bool.{cases_Bool, or_left, or_right, or_cases, eqb-true, eq-eqb, cases_eq, false_from_ne_true, false≢true}
 use Rattle.std.proofs.lemmas.List.{append-nil, flat_map_more, take_more, drop_more, drop_all, length-set, get_or-set_same, get_or-set_other}
 use Rattle.std.proofs.lemmas.List.Elements.{All-append, All-cons, All-head, All-tail, All-nil}
 use Rattle.std.proofs.lemmas.List.Folds.{list_any-append}
-use Rattle.class_tree.specs.Inner.InterfaceNumbers.{with_number, with_numbers, with_lists, AreMarks}
+use Rattle.class_tree.specs.Inner.InterfaceNumbers.{with_number, with_numbers, with_lists, AreMarks, IsOnce}
 
 -- the list has the number
 abbrev pub has : List ℕ → ℕ → Bool
@@ -120,3 +120,26 @@ list_above lists walk superclass number is = rw is (sym (with_numbers-append [] 
 
 pub none_above : (lists : List (List ℕ)) (walk : List ℕ) (superclass : Option ℕ) → superclass ≡ None → with_numbers [] walk ≡ with_numbers [] (walk ++ unwrap_or (option_map (λ one. get_or lists one []) superclass) [])
 none_above lists walk superclass is = rw is (ap (with_numbers []) (sym (append-nil walk)))
+
+-- ---- lists that have each number once
+
+in_front : (one : ℕ) (list : List ℕ) (number : ℕ) → (one == number) ≡ false → with_number (one ∷ list) number ≡ one ∷ with_number list number
+in_front one list number differs = elim (cases_Bool (has list number)) [
+  | inl got ↦ known (one ∷ list) number (or_right _ _ got) ∙ ap (λ l. one ∷ l) (sym (known list number got))
+  | inr lacks ↦ new (one ∷ list) number (ap (λ b. b || has list number) differs ∙ lacks) ∙ ap (λ l. one ∷ l) (sym (new list number lacks))
+]
+
+all_in_front : (one : ℕ) (list numbers : List ℕ) → ¬ (has numbers one ≡ true) → with_numbers (one ∷ list) numbers ≡ one ∷ with_numbers list numbers
+all_in_front one list [] none = refl
+all_in_front one list (number ∷ numbers) none = elim (cases_Bool (one == number)) [
+  | inl same ↦ absurd (none (or_left _ _ (eq-eqb number one (sym (eqb-true one number same)))))
+  | inr differs ↦ ap (λ l. with_numbers l numbers) (in_front one list number differs) ∙ all_in_front one (with_number list number) numbers (λ later. none (or_right _ _ later))
+]
+
+pub made_once : (met list : List ℕ) → list ≡ with_numbers [] met → IsOnce list
+made_once met list is = ap (with_numbers []) is ∙ as_made [] met ∙ sym is
+
+-- and with one more in front
+pub made_behind : (one : ℕ) (met list : List ℕ) → list ≡ with_numbers [] met → ¬ (has met one ≡ true) → IsOnce (one ∷ list)
+made_behind one met list is none =
+    ap (with_numbers (one ∷ [])) is ∙ as_made (one ∷ []) met ∙ all_in_front one [] met none ∙ ap (λ l. one ∷ l) (sym is)

@@ -1,14 +1,15 @@
 //! The superinterfaces of each class, in depth-first order.
-ghost use Rattle.std.specs.Prelude.{◌≡◌, ◌<◌, ◌++◌, ℕ, [], length, map, unwrap_or, option_map, option_to_list, is_some, replicate, slice_index_or, IfOk, IfSome, IsSome, OnOk};
+ghost use Rattle.std.specs.Prelude.{◌≡◌, ◌<◌, ◌∷◌, ◌++◌, ℕ, [], length, map, set, unwrap_or, option_map, option_to_list, is_some, replicate, slice_index_or, IfOk, IfSome, IsSome, IsTrue, OnOk};
 ghost use Rattle.std.specs.List.{All};
 ghost use Rattle.class_model.specs.Checks.{AllHold};
 ghost use Rattle.class_tree.specs.Inner.Graphs.{IsTopological, IsOneOf};
-ghost use Rattle.class_tree.specs.Inner.InterfaceNumbers.{with_number, with_numbers, with_lists, AreMarks, AreLists, AreNumberLists};
+ghost use Rattle.class_tree.specs.Inner.InterfaceNumbers.{with_number, with_numbers, with_lists, AreMarks, AreLists, AreNumberLists, IsOnce};
 ghost use Rattle.class_tree.specs.Inner.Nodes.{graph_of, place_at, AreInterfaceLists};
 ghost use Rattle.class_tree.specs.Steps.{hierarchy_checks};
 ghost use Rattle.class_tree.specs.Trees.{IsInOrder};
 
 use crate::headers::Headers;
+use crate::list_hints::{ListHints, list_hints, start_of};
 use crate::lists::Lists;
 use crate::place::Place;
 use class_model::{Header, ListOf, NoMemory};
@@ -30,15 +31,12 @@ pub(crate) fn interface_lists(
     ensures { IfOk result (λ lists. AreInterfaceLists headers.now lists) }
 {
     let numbers = number_lists(alloc, headers, graph, order)?;
-    let mut lists = Lists::new(alloc, numbers.len())?;
-    for number in 0..numbers.len() {
-        lists.push(places(alloc, headers, numbers.get(number))?.as_slice())?;
-    }
-    Ok(lists)
+    let places = numbers.into_places(alloc, headers)?;
+    Ok(places)
 }
 
-// The places of the classes of these numbers.
-fn places(
+/// The places of the classes of these numbers.
+pub(crate) fn places(
     alloc: Global,
     headers: &Headers<'_>,
     numbers: &[usize],
@@ -66,23 +64,26 @@ fn number_lists(
     requires hierarchy { AllHold (hierarchy_checks headers.now) }
     ensures { IfOk result (λ lists. AreNumberLists headers.now lists) }
 {
-    let mut lists = empty_lists(alloc, headers.len())?;
+    let ListHints { items, starts } = list_hints(alloc, headers, graph, order)?;
+    let mut lists = empty_lists(alloc, items, headers.len())?;
     let mut table = vec![in alloc; false; headers.len()]?;
     let marks = table.as_mut_slice();
     for number in order {
         let header = headers.get(*number).unwrap();
         let (superclass, interfaces) = split_supers(header, graph.get(*number));
-        let list = list_of_class(alloc, superclass, interfaces, &lists, marks)?;
-        lists.replace(*number, list.as_slice())?;
+        let guess = start_of(starts.as_slice(), *number);
+        put_list(
+            alloc, *number, superclass, interfaces, guess, &mut lists, marks,
+        )?;
     }
     Ok(lists)
 }
 
-// As many empty lists.
-fn empty_lists(alloc: Global, count: usize) -> Result<Lists<usize>, NoMemory>
+// As many empty lists, and items that lists may be found among.
+fn empty_lists(alloc: Global, items: Vec<usize>, count: usize) -> Result<Lists<usize>, NoMemory>
     ensures { IfOk result (λ lists. lists ≡ replicate count []) }
 {
-    let mut lists = Lists::new(alloc, count)?;
+    let mut lists = Lists::among(alloc, items, count)?;
     for _ in 0..count {
         lists.push(&[])?;
     }
@@ -98,6 +99,52 @@ fn split_supers<'a>(header: &Header, supers: &'a [usize]) -> (Option<usize>, &'a
     match (&header.super_name, supers) {
         (Some(_), [superclass, interfaces @ ..]) => (Some(*superclass), interfaces),
         _ => (None, supers),
+    }
+}
+
+// Puts the superinterfaces of a class in the place of the list of its number. A class that names no interface shares the list of
+// its superclass; what stands already among the items from the guessed place on is shared too.
+fn put_list(
+    alloc: Global,
+    number: usize,
+    superclass: Option<usize>,
+    interfaces: &[usize],
+    guess: usize,
+    lists: &mut Lists<usize>,
+    marks: &mut [bool],
+) -> Result<(), NoMemory>
+    requires lists { AreLists (length marks.old) lists.old }
+    requires marks { AreMarks marks.old [] }
+    requires number { number < length marks.old }
+    requires superclass { IfSome superclass (λ above. above < length marks.old) }
+    requires interfaces { All (λ one. one < length marks.old) interfaces.now }
+    requires above { IfSome superclass (λ above. IsOnce (slice_index_or lists.old above [])) }
+    requires only { All (λ one. IsOnce (one ∷ slice_index_or lists.old one [])) interfaces.now }
+    ensures list { OnOk result (lists.new ≡ set lists.old number (with_numbers [] (with_lists lists.old interfaces.now ++ unwrap_or (option_map (λ above. slice_index_or lists.old above []) superclass) []))) }
+    ensures marks { OnOk result (AreMarks marks.new []) }
+{
+    if let (Some(above), []) = (superclass, interfaces) {
+        lists.share(number, above);
+        return Ok(());
+    }
+    if let [only] = interfaces {
+        if has_none(lists, superclass) && lists.share_behind(number, *only, *only, guess) {
+            return Ok(());
+        }
+    }
+    let list = list_of_class(alloc, superclass, interfaces, lists, marks)?;
+    lists.replace(number, list.as_slice(), guess)?;
+    Ok(())
+}
+
+// Whether the list of a superclass, if there is one, is empty.
+fn has_none(lists: &Lists<usize>, superclass: Option<usize>) -> bool
+    requires { IfSome superclass (λ number. number < length lists.now) }
+    ensures { IsTrue result → unwrap_or (option_map (λ number. slice_index_or lists.now number []) superclass) [] ≡ [] }
+{
+    match superclass {
+        Some(number) => lists.get(number).is_empty(),
+        None => true,
     }
 }
 

@@ -14,6 +14,7 @@ mod hierarchy;
 mod interfaces;
 mod laws;
 mod links;
+mod list_hints;
 mod lists;
 mod members;
 mod names;

@@ -1,6 +1,11 @@
 //! Many lists in one piece of memory.
-ghost use Rattle.std.specs.Prelude.{◌≡◌, ◌<◌, [], ◌∷◌, ◌++◌, length, set, slice_get, Some, IfOk, OnOk};
+ghost use Rattle.std.specs.Prelude.{◌≡◌, ◌<◌, ◌≤◌, ◌+◌, [], ◌∷◌, ◌++◌, length, map, set, slice_get, slice_index_or, Some, IfOk, OnOk, IsTrue, IsFalse};
+ghost use Rattle.class_tree.specs.Inner.Nodes.{place_at};
+ghost use Rattle.class_tree.specs.Inner.Parts.{StandsFrom};
 
+use crate::headers::Headers;
+use crate::interfaces::places;
+use crate::place::Place;
 use class_model::NoMemory;
 use std::alloc::Global;
 use std::marker::Model;
@@ -70,12 +75,36 @@ impl<T: Copy> Lists<T> {
         self.parts.push(part)?;
         Ok(())
     }
+}
 
-    /// Puts a list in the place of that of a number.
-    pub(crate) fn replace(&mut self, number: usize, list: &[T]) -> Result<(), NoMemory>
+impl Lists<usize> {
+    /// No list, room for so many, and items that lists may be found among.
+    pub(crate) fn among(alloc: Global, items: Vec<usize>, count: usize) -> Result<Self, NoMemory>
+        ensures { IfOk result (λ lists. lists ≡ []) }
+    {
+        Ok(Lists {
+            items,
+            parts: Vec::with_capacity(alloc, count)?,
+        })
+    }
+
+    /// Puts a list in the place of that of a number. Where it stands among the items from the guessed place on, these are its own.
+    pub(crate) fn replace(
+        &mut self,
+        number: usize,
+        list: &[usize],
+        guess: usize,
+    ) -> Result<(), NoMemory>
         requires { number < length self.old }
         ensures { OnOk result (self.new ≡ set self.old number list.now) }
     {
+        if stands_from(self.items.as_slice(), list, guess) {
+            self.parts[number] = Part {
+                start: guess,
+                len: list.len(),
+            };
+            return Ok(());
+        }
         let part = Part {
             start: self.items.len(),
             len: list.len(),
@@ -84,4 +113,63 @@ impl<T: Copy> Lists<T> {
         self.parts[number] = part;
         Ok(())
     }
+
+    /// Puts the list of another number in the place of that of a number.
+    pub(crate) fn share(&mut self, number: usize, of: usize)
+        requires number { number < length self.old }
+        requires of { of < length self.old }
+        ensures { self.new ≡ set self.old number (slice_index_or self.old of []) }
+    {
+        self.parts[number] = self.parts[of];
+    }
+
+    /// Puts an item with the list of another number behind it in the place of a number's list, where they stand so among the
+    /// items from the guessed place on. Answers whether they do.
+    pub(crate) fn share_behind(
+        &mut self,
+        number: usize,
+        first: usize,
+        of: usize,
+        guess: usize,
+    ) -> bool
+        requires number { number < length self.old }
+        requires of { of < length self.old }
+        ensures done { IsTrue result → self.new ≡ set self.old number (first ∷ slice_index_or self.old of []) }
+        ensures left { IsFalse result → self.new ≡ self.old }
+    {
+        let behind = self.parts[of];
+        if guess >= self.items.len() || self.items[guess] != first || behind.start != guess + 1 {
+            return false;
+        }
+        self.parts[number] = Part {
+            start: guess,
+            len: behind.len + 1,
+        };
+        true
+    }
+
+    /// The lists of the places of the classes of these numbers.
+    pub(crate) fn into_places(
+        self,
+        alloc: Global,
+        headers: &Headers<'_>,
+    ) -> Result<Lists<Place>, NoMemory>
+        ensures { IfOk result (λ lists. lists ≡ map (map (place_at headers.now)) self) }
+    {
+        let items = places(alloc, headers, self.items.as_slice())?.into_vec();
+        Ok(Lists {
+            items,
+            parts: self.parts,
+        })
+    }
+}
+
+// Whether a list stands among items from a place on.
+fn stands_from(items: &[usize], list: &[usize], start: usize) -> bool
+    ensures { IsTrue result → StandsFrom items.now list.now start }
+{
+    if start > items.len() {
+        return false;
+    }
+    items[start..].starts_with(list)
 }

@@ -19,6 +19,7 @@ pub mod DefaultMethods
 pub mod DefaultsSoFar
 pub mod LastSlash
 pub mod ClassesAbove
+pub mod MarkedMethods
 pub mod MembersSeen
 pub mod SpelledTypes
 pub mod OwnAnswers

@@ -5,6 +5,7 @@ pub mod Counting
 pub mod DefaultsAt
 pub mod DefaultsOf
 pub mod FieldSearch
+pub mod FinalMarks
 pub mod FinalMethods
 pub mod NeededForms
 pub mod OpenMethods

@@ -11,11 +11,13 @@ ghost use Rattle.class_tree.specs.Steps.{supers};
 ghost use Rattle.member_link.specs.Access.{IsClassAccessible};
 ghost use Rattle.member_link.specs.Declarations.{declaration_checks, declared_field_checks, declared_method_checks, OverridesNoFinal};
 ghost use Rattle.member_link.specs.DeclaredMembers.{Declared, declared_by};
+ghost use Rattle.member_link.specs.Inner.FinalMarks.{AreFinalMarks};
 ghost use Rattle.member_link.specs.Inner.FinalMethods.{IsFolderPlace, IsOverriddenFinal};
 ghost use Rattle.member_link.specs.Found.{IsMethodFound};
 
 use crate::access::is_class_accessible;
 use crate::ask::ask_at;
+use crate::final_methods::{final_marks, may_be_final};
 use crate::flags::is_inherited;
 use crate::found::Found;
 use crate::names::{is_descriptor_there, is_field_type_there};
@@ -30,17 +32,17 @@ pub(crate) fn check_declarations(alloc: Global, tree: &Tree) -> Result<(), LinkF
     ensures { Answers (asked_each (declaration_checks (headers_of tree.now))
         (headers_of tree.now).folder) result }
 {
+    let finals = final_marks(alloc, tree)?;
     for index in 0..tree.folder().len() {
-        check_class(alloc, tree, Place::Folder(index))?;
+        check_class(alloc, tree, finals.as_slice(), Place::Folder(index))?;
     }
     Ok(())
 }
 
 // Asks the class at a place.
-fn check_class(alloc: Global, tree: &Tree, place: Place) -> Result<(), LinkFault>
-    ensures { (header : Header)
-        → header_at (headers_of tree.now) place ≡ Some header
-        → Answers (declaration_checks (headers_of tree.now) header) result }
+fn check_class(alloc: Global, tree: &Tree, finals: &[bool], place: Place) -> Result<(), LinkFault>
+    requires { AreFinalMarks (headers_of tree.now) finals.now }
+    ensures { (header : Header) → header_at (headers_of tree.now) place ≡ Some header → Answers (declaration_checks (headers_of tree.now) header) result }
 {
     a_tree_is_a_hierarchy(tree);
     let Some(header) = tree.header(place) else {
@@ -53,7 +55,7 @@ fn check_class(alloc: Global, tree: &Tree, place: Place) -> Result<(), LinkFault
         LinkRule::NoAccess,
     )?;
     check_fields(alloc, tree, header)?;
-    check_methods(alloc, tree, place, header)
+    check_methods(alloc, tree, finals, place, header)
 }
 
 // Whether the superclass and the interfaces of a class are accessible from it.
@@ -104,10 +106,16 @@ fn check_fields(alloc: Global, tree: &Tree, header: &Header) -> Result<(), LinkF
 
 // Asks that the classes in the descriptors of the methods of the class at a place are there, and that its methods override
 // no final method of the folder.
-fn check_methods(alloc: Global, tree: &Tree, place: Place, header: &Header) -> Result<(), LinkFault>
-    requires { StandsAt (headers_of tree.now) header.now.name place header.now }
-    ensures { Answers (asked_each
-        (declared_method_checks (headers_of tree.now) header.now) header.now.methods) result }
+fn check_methods(
+    alloc: Global,
+    tree: &Tree,
+    finals: &[bool],
+    place: Place,
+    header: &Header,
+) -> Result<(), LinkFault>
+    requires finals { AreFinalMarks (headers_of tree.now) finals.now }
+    requires place { StandsAt (headers_of tree.now) header.now.name place header.now }
+    ensures { Answers (asked_each (declared_method_checks (headers_of tree.now) header.now) header.now.methods) result }
 {
     for member in header.methods.as_slice() {
         let is_there = is_descriptor_there(alloc, tree, &member.desc)?;
@@ -119,7 +127,7 @@ fn check_methods(alloc: Global, tree: &Tree, place: Place, header: &Header) -> R
         };
         ask_at(
             alloc,
-            overrides_no_final(tree, method),
+            overrides_no_final(tree, finals, method),
             &header.name,
             member,
             LinkRule::FinalOverridden,
@@ -129,13 +137,13 @@ fn check_methods(alloc: Global, tree: &Tree, place: Place, header: &Header) -> R
 }
 
 // Whether a method overrides no final method of the folder.
-fn overrides_no_final(tree: &Tree, low: Method<'_>) -> bool
-    requires { StandsAt (headers_of tree.now) low.header.now.name low.place low.header.now }
-    ensures { IsTrue result
-        ↔ OverridesNoFinal (headers_of tree.now)
-        (declared_by low.entry.header.now.name low.entry.member.now) }
+fn overrides_no_final(tree: &Tree, finals: &[bool], low: Method<'_>) -> bool
+    requires finals { AreFinalMarks (headers_of tree.now) finals.now }
+    requires place { StandsAt (headers_of tree.now) low.header.now.name low.place low.header.now }
+    ensures { IsTrue result ↔ OverridesNoFinal (headers_of tree.now) (declared_by low.entry.header.now.name low.entry.member.now) }
 {
     !is_inherited(low.member.flags)
+        || !may_be_final(tree, finals, low.member)
         || !any_above(tree, low, |high| overrides_final(tree, low, high))
 }
 

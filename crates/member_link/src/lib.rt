@@ -11,6 +11,7 @@ mod constants;
 mod declarations;
 mod defaults;
 mod fields;
+mod final_methods;
 mod flags;
 mod forms;
 mod found;

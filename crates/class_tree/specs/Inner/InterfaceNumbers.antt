@@ -15,6 +15,10 @@ abbrev pub with_numbers : List ℕ → List ℕ → List ℕ
 with_numbers list [] = list
 with_numbers list (number ∷ numbers) = with_numbers (with_number list number) numbers
 
+-- no number stands twice in the list
+abbrev pub IsOnce : List ℕ → Type 0
+IsOnce list = with_numbers [] list ≡ list
+
 -- marks tell of each number below so many whether a list has it
 pub record AreMarks (marks : List Bool) (list : List ℕ) : Type 0 where
   pub within : All (λ number. number < length marks) list

@@ -1,15 +1,16 @@
-use Rattle.std.proofs.Common.{◌≡◌, ◌+◌, ◌<◌, ◌∙◌, ℕ, List, ◌++◌, length, filter_map, get_or, set, slice_get, Option, Some, None, IsSome, option_to_list, Bor, refl, sym, ap, subst, inl, inr, arith}
+use Rattle.std.proofs.Common.{◌≡◌, ◌+◌, ◌<◌, ◌∙◌, ℕ, List, [], ◌++◌, length, filter_map, get_or, slice_get, unwrap_or, option_map, Option, Some, None, IsSome, option_to_list, Bor, refl, sym, ap, subst, inl, inr, arith}
 use Rattle.std.specs.List.{All}
 use Rattle.std.specs.Option.{option_copied}
 use Rattle.std.proofs.lemmas.Option.{slice_get_cases, none-some}
 use Rattle.class_model.specs.declared.header.Header.{Header}
 use Rattle.class_tree.specs.Headers.{Headers, all_headers}
-use Rattle.class_tree.specs.Inner.InterfaceNumbers.{AreNumbersOf}
+use Rattle.class_tree.specs.Inner.Graphs.{IsOneOf}
+use Rattle.class_tree.specs.Inner.InterfaceNumbers.{AreNumbersOf, with_numbers, with_lists}
 use Rattle.class_tree.specs.Inner.Nodes.{number_of}
 use Rattle.class_tree.specs.Steps.{supers}
-use Rattle.class_tree.proofs.InterfaceLists.{Made, class_numbers, one_made, all_made, targets_are, some_target, targets_below, next_below, targets_listed, superclass_within, interfaces_within}
+use Rattle.class_tree.proofs.InterfaceLists.{Made, class_numbers, one_made, all_made, targets_are, some_target, targets_below, next_below, targets_listed, superclass_within, interfaces_within, IsListed, superclass_once, interfaces_once}
 use Rattle.class_tree.proofs.interfaces.number_lists.Goals as goal
-use Rattle.class_tree.proofs.interfaces.number_lists.Goals.{After-get-in-loop-number, After-split_supers-superclass, In_ok-list}
+use Rattle.class_tree.proofs.interfaces.number_lists.Goals.{After-get-in-loop-number, After-split_supers-superclass}
 use Rattle.class_tree.proofs.HierarchyChecks.{as_many_nodes}
 
 -- a number below the length is that of a class
@@ -57,23 +58,49 @@ parts_below c n =
     subst (λ (count : ℕ). All (λ number. number < count) (option_to_list c.split_supers-superclass.result.0 ++ c.split_supers-superclass.result.1.now)) (sym c.loop-number.invariant.count)
     (subst (All (λ number. number < length (all_headers c.args.headers.now))) (sym n.targets ∙ c.split_supers-superclass.ensures.parts) below)
 
-pub list_of_class-requires-clause-superclass : goal.list_of_class-requires-clause-superclass
-list_of_class-requires-clause-superclass c =
-    let at = goal.at.list_of_class-requires-clause-superclass c in
+-- those that the class names have their lists
+listed : (c : After-split_supers-superclass) → Next c.args.headers.now (get_or c.args.order.now c.loop-number.number-index 0) c.unwrap-header.result.now c.get-in-loop-number.result.now → (one : ℕ) → IsOneOf (option_to_list c.split_supers-superclass.result.0 ++ c.split_supers-superclass.result.1.now) one → IsListed c.args.headers.now c.loop-number.lists one
+listed c n = λ one is.
+    targets_listed c.args.headers.now c.requires.hierarchy c.args.graph.now c.requires.graph c.args.order.now c.requires.topological c.loop-number.number-index c.loop-number-test.true c.loop-number.lists c.loop-number.marks c.loop-number.invariant c.unwrap-header.result.now n.there one
+    (subst (λ (numbers : List ℕ). IsOneOf numbers one) (sym (sym n.targets ∙ c.split_supers-superclass.ensures.parts)) is)
+
+classes_below : (c : After-split_supers-superclass) → Next c.args.headers.now (get_or c.args.order.now c.loop-number.number-index 0) c.unwrap-header.result.now c.get-in-loop-number.result.now → All (λ number. number < length (all_headers c.args.headers.now)) (option_to_list c.split_supers-superclass.result.0 ++ c.split_supers-superclass.result.1.now)
+classes_below c n =
+    subst (All (λ number. number < length (all_headers c.args.headers.now))) (sym n.targets ∙ c.split_supers-superclass.ensures.parts)
+    (targets_below c.args.headers.now c.requires.hierarchy c.args.graph.now c.requires.graph (get_or c.args.order.now c.loop-number.number-index 0) c.unwrap-header.result.now n.there)
+
+pub put_list-requires-clause-number : goal.put_list-requires-clause-number
+put_list-requires-clause-number c =
+    let below = next_below c.args.headers.now c.requires.hierarchy c.args.graph.now c.requires.graph c.args.order.now c.requires.topological c.loop-number.number-index c.loop-number-test.true in
+    omega (arith, below, c.loop-number.invariant.count)
+
+pub put_list-requires-clause-superclass : goal.put_list-requires-clause-superclass
+put_list-requires-clause-superclass c =
+    let at = goal.at.put_list-requires-clause-superclass c in
     superclass_within (λ number. number < length c.loop-number.marks) c.split_supers-superclass.result.0 c.split_supers-superclass.result.1.now (parts_below at.After-split_supers-superclass (next_class at.After-get-in-loop-number))
 
-pub list_of_class-requires-clause-interfaces : goal.list_of_class-requires-clause-interfaces
-list_of_class-requires-clause-interfaces c =
-    let at = goal.at.list_of_class-requires-clause-interfaces c in
+pub put_list-requires-clause-interfaces : goal.put_list-requires-clause-interfaces
+put_list-requires-clause-interfaces c =
+    let at = goal.at.put_list-requires-clause-interfaces c in
     interfaces_within (λ number. number < length c.loop-number.marks) c.split_supers-superclass.result.0 c.split_supers-superclass.result.1.now (parts_below at.After-split_supers-superclass (next_class at.After-get-in-loop-number))
 
-pub replace-requires : goal.replace-requires
-replace-requires c =
-    let below = next_below c.args.headers.now c.requires.hierarchy c.args.graph.now c.requires.graph c.args.order.now c.requires.topological c.loop-number.number-index c.loop-number-test.true in
-    omega (arith, below, c.loop-number.invariant.fit.len, c.loop-number.invariant.count)
+pub put_list-requires-clause-above : goal.put_list-requires-clause-above
+put_list-requires-clause-above c =
+    let at = goal.at.put_list-requires-clause-above c in
+    let n = next_class at.After-get-in-loop-number in
+    superclass_once c.args.headers.now c.requires.hierarchy c.loop-number.lists c.split_supers-superclass.result.0 c.split_supers-superclass.result.1.now (classes_below at.After-split_supers-superclass n) (listed at.After-split_supers-superclass n)
 
--- the list that was made
-list_is : (c : In_ok-list) → Next c.args.headers.now (get_or c.args.order.now c.loop-number.number-index 0) c.unwrap-header.result.now c.get-in-loop-number.result.now → AreNumbersOf c.args.headers.now c.unwrap-header.result.now.name c.in_ok-list.list
+pub put_list-requires-clause-only : goal.put_list-requires-clause-only
+put_list-requires-clause-only c =
+    let at = goal.at.put_list-requires-clause-only c in
+    let n = next_class at.After-get-in-loop-number in
+    interfaces_once c.args.headers.now c.requires.hierarchy c.loop-number.lists c.split_supers-superclass.result.0 c.split_supers-superclass.result.1.now (classes_below at.After-split_supers-superclass n) (listed at.After-split_supers-superclass n)
+
+-- the list that is put
+abbrev put_of : List (List ℕ) → Option ℕ → List ℕ → List ℕ
+put_of lists superclass interfaces = with_numbers [] (with_lists lists interfaces ++ unwrap_or (option_map (λ one. get_or lists one []) superclass) [])
+
+list_is : (c : After-split_supers-superclass) → Next c.args.headers.now (get_or c.args.order.now c.loop-number.number-index 0) c.unwrap-header.result.now c.get-in-loop-number.result.now → AreNumbersOf c.args.headers.now c.unwrap-header.result.now.name (put_of c.loop-number.lists c.split_supers-superclass.result.0 c.split_supers-superclass.result.1.now)
 list_is c n =
     let headers = c.args.headers.now in
     let order = c.args.order.now in
@@ -81,18 +108,16 @@ list_is c n =
     let lists = c.loop-number.lists in
     let superclass = c.split_supers-superclass.result.0 in
     let interfaces = c.split_supers-superclass.result.1.now in
-    let listed = targets_listed headers c.requires.hierarchy c.args.graph.now c.requires.graph order c.requires.topological at c.loop-number-test.true lists c.loop-number.marks c.loop-number.invariant c.unwrap-header.result.now n.there in
-    let are = class_numbers headers c.requires.hierarchy lists c.requires.in_order (get_or order at 0) c.unwrap-header.result.now n.there superclass interfaces (sym n.targets ∙ c.split_supers-superclass.ensures.parts) c.split_supers-superclass.ensures.superclass listed in
-    subst (AreNumbersOf headers c.unwrap-header.result.now.name)
-    (sym c.in_ok-list.ensures.list)
-    are
+    let each = targets_listed headers c.requires.hierarchy c.args.graph.now c.requires.graph order c.requires.topological at c.loop-number-test.true lists c.loop-number.marks c.loop-number.invariant c.unwrap-header.result.now n.there in
+    class_numbers headers c.requires.hierarchy lists c.requires.in_order (get_or order at 0) c.unwrap-header.result.now n.there superclass interfaces (sym n.targets ∙ c.split_supers-superclass.ensures.parts) c.split_supers-superclass.ensures.superclass each
 
 pub loop-number-preserved : goal.loop-number-preserved
 loop-number-preserved c =
     let at = goal.at.loop-number-preserved c in
     let n = next_class at.After-get-in-loop-number in
-    subst (λ (lists : List (List ℕ)). Made c.args.headers.now c.args.order.now (c.loop-number.number-index + 1) lists c.list_of_class.new.marks) (sym (c.in_ok-replace.ensures ∙ ap (set c.loop-number.lists (get_or c.args.order.now c.loop-number.number-index 0)) c.as_slice.ensures))
-    (one_made c.args.headers.now c.args.order.now c.loop-number.number-index c.loop-number.lists c.loop-number.marks c.loop-number.invariant c.loop-number-test.true c.unwrap-header.result.now n.there c.in_ok-list.list (list_is at.In_ok-list n) c.list_of_class.new.marks c.list_of_class.auto.marks c.in_ok-list.ensures.marks)
+    let list = put_of c.loop-number.lists c.split_supers-superclass.result.0 c.split_supers-superclass.result.1.now in
+    subst (λ (lists : List (List ℕ)). Made c.args.headers.now c.args.order.now (c.loop-number.number-index + 1) lists c.put_list.new.marks) (sym c.in_ok-put_list.ensures.list)
+    (one_made c.args.headers.now c.args.order.now c.loop-number.number-index c.loop-number.lists c.loop-number.marks c.loop-number.invariant c.loop-number-test.true c.unwrap-header.result.now n.there list (list_is at.After-split_supers-superclass n) c.put_list.new.marks c.put_list.auto.marks c.in_ok-put_list.ensures.marks)
 
 pub returns : goal.returns
 returns c =

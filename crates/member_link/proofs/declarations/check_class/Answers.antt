@@ -19,8 +19,8 @@ returns-in_err-check_fields c = λ header at.
     let told = refused (asked_each (declared_field_checks headers class) class.fields) (asked_each (declared_method_checks headers class) class.methods) _ left c.in_err-check_fields.ensures in
     subst (λ (header : Header). Answers (declaration_checks headers header) c.from_residual-in_err-check_fields.result) (same_Some class header (c.in-Some.ensures ∙ at)) (rw (p.1, p.2) told)
 
-pub check_methods-requires : goal.check_methods-requires
-check_methods-requires c = c.a_tree_is_a_hierarchy.ensures.of_place c.args.place c.in-Some.header.now (sym c.in-Some.ensures)
+pub check_methods-requires-clause-place : goal.check_methods-requires-clause-place
+check_methods-requires-clause-place c = c.a_tree_is_a_hierarchy.ensures.of_place c.args.place c.in-Some.header.now (sym c.in-Some.ensures)
 
 pub returns : goal.returns
 returns c = λ header at.

@@ -15,7 +15,7 @@ returns-in_err-check_class c =
     let headers = headers_of c.args.tree.now in
     let within = subst (λ len. c.loop-index.index < len) (c.len-index-end.ensures ∙ ap length c.folder.ensures.same ∙ sym (length-map c.args.tree.now.folder header_of)) c.loop-index-test.true in
     let class = item_at headers.folder c.loop-index.index within in
-    let p = err_from_is_err_and c.from_residual.result c.from_residual.ensures.1 in
+    let p = err_from_is_err_and c.from_residual-in_err-check_class.result c.from_residual-in_err-check_class.ensures.1 in
     rw (p.1, p.2) (refused (declaration_checks headers class.0) (asked_each (declaration_checks headers) (drop (c.loop-index.index + 1) headers.folder)) _ (asked_at (declaration_checks headers) headers.folder c.loop-index.index class.0 within class.2 c.loop-index.invariant) (c.in_err-check_class.ensures class.0 class.1))
 
 pub loop-index-preserved : goal.loop-index-preserved

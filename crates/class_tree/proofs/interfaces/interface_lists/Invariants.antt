@@ -1,6 +1,0 @@
-use Rattle.std.proofs.Common.{◌≡◌, map, take}
-use Rattle.class_tree.specs.Inner.Nodes.{place_at}
-use Rattle.class_tree.proofs.interfaces.interface_lists.Given as goal
-
-abbrev pub invariant-loop-number : goal.invariant-loop-number
-invariant-loop-number l = l.lists ≡ map (map (place_at l.headers)) (take l.number l.numbers)
