@@ -120,7 +120,14 @@ fn put_list(
     requires interfaces { All (λ one. one < length marks.old) interfaces.now }
     requires above { IfSome superclass (λ above. IsOnce (slice_index_or lists.old above [])) }
     requires only { All (λ one. IsOnce (one ∷ slice_index_or lists.old one [])) interfaces.now }
-    ensures list { OnOk result (lists.new ≡ set lists.old number (with_numbers [] (with_lists lists.old interfaces.now ++ unwrap_or (option_map (λ above. slice_index_or lists.old above []) superclass) []))) }
+    ensures list { OnOk result
+        (lists.new
+        ≡ set lists.old number
+        (with_numbers []
+        (with_lists lists.old interfaces.now
+        ++ unwrap_or
+        (option_map (λ above. slice_index_or lists.old above []) superclass)
+        []))) }
     ensures marks { OnOk result (AreMarks marks.new []) }
 {
     if let (Some(above), []) = (superclass, interfaces) {
@@ -140,7 +147,8 @@ fn put_list(
 // Whether the list of a superclass, if there is one, is empty.
 fn has_none(lists: &Lists<usize>, superclass: Option<usize>) -> bool
     requires { IfSome superclass (λ number. number < length lists.now) }
-    ensures { IsTrue result → unwrap_or (option_map (λ number. slice_index_or lists.now number []) superclass) [] ≡ [] }
+    ensures { IsTrue result
+        → unwrap_or (option_map (λ number. slice_index_or lists.now number []) superclass) [] ≡ [] }
 {
     match superclass {
         Some(number) => lists.get(number).is_empty(),

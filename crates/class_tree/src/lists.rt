@@ -134,7 +134,8 @@ impl Lists<usize> {
     ) -> bool
         requires number { number < length self.old }
         requires of { of < length self.old }
-        ensures done { IsTrue result → self.new ≡ set self.old number (first ∷ slice_index_or self.old of []) }
+        ensures done { IsTrue result
+            → self.new ≡ set self.old number (first ∷ slice_index_or self.old of []) }
         ensures left { IsFalse result → self.new ≡ self.old }
     {
         let behind = self.parts[of];

@@ -42,7 +42,9 @@ pub(crate) fn check_declarations(alloc: Global, tree: &Tree) -> Result<(), LinkF
 // Asks the class at a place.
 fn check_class(alloc: Global, tree: &Tree, finals: &[bool], place: Place) -> Result<(), LinkFault>
     requires { AreFinalMarks (headers_of tree.now) finals.now }
-    ensures { (header : Header) → header_at (headers_of tree.now) place ≡ Some header → Answers (declaration_checks (headers_of tree.now) header) result }
+    ensures { (header : Header)
+        → header_at (headers_of tree.now) place ≡ Some header
+        → Answers (declaration_checks (headers_of tree.now) header) result }
 {
     a_tree_is_a_hierarchy(tree);
     let Some(header) = tree.header(place) else {
@@ -115,7 +117,9 @@ fn check_methods(
 ) -> Result<(), LinkFault>
     requires finals { AreFinalMarks (headers_of tree.now) finals.now }
     requires place { StandsAt (headers_of tree.now) header.now.name place header.now }
-    ensures { Answers (asked_each (declared_method_checks (headers_of tree.now) header.now) header.now.methods) result }
+    ensures { Answers
+        (asked_each (declared_method_checks (headers_of tree.now) header.now) header.now.methods)
+        result }
 {
     for member in header.methods.as_slice() {
         let is_there = is_descriptor_there(alloc, tree, &member.desc)?;
@@ -140,7 +144,9 @@ fn check_methods(
 fn overrides_no_final(tree: &Tree, finals: &[bool], low: Method<'_>) -> bool
     requires finals { AreFinalMarks (headers_of tree.now) finals.now }
     requires place { StandsAt (headers_of tree.now) low.header.now.name low.place low.header.now }
-    ensures { IsTrue result ↔ OverridesNoFinal (headers_of tree.now) (declared_by low.entry.header.now.name low.entry.member.now) }
+    ensures { IsTrue result
+        ↔ OverridesNoFinal (headers_of tree.now)
+        (declared_by low.entry.header.now.name low.entry.member.now) }
 {
     !is_inherited(low.member.flags)
         || !may_be_final(tree, finals, low.member)

@@ -37,9 +37,11 @@ HasFewDimensions op = Unit {0}
 
 -- the instruction that a step does
 abbrev pub NextHasFewDimensions : Program → List RunFrame → Type 0
-NextHasFewDimensions P (Method f ∷ rest) = IfSome (point_at P f.at f.place) (λ point. HasFewDimensions point.op)
+NextHasFewDimensions P (Method f ∷ rest) =
+    IfSome (point_at P f.at f.place) (λ point. HasFewDimensions point.op)
 NextHasFewDimensions P frames = Unit {0}
 
 -- each instruction of a program
 abbrev pub MakesFewArrays : Program → Type 0
-MakesFewArrays P = (at : MethodAt) (place : ℕ) → IfSome (point_at P at place) (λ point. HasFewDimensions point.op)
+MakesFewArrays P =
+    (at : MethodAt) (place : ℕ) → IfSome (point_at P at place) (λ point. HasFewDimensions point.op)
