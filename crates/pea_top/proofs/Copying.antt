@@ -13,8 +13,9 @@ use Rattle.host_tree.specs.Host.{Bytes, Folder, Files, times}
 use Rattle.host_tree.specs.Laws.Names.{times-cons}
 use Rattle.pea_top.specs.declared.folder.NamedFile.{NamedFile}
 use Rattle.pea_top.specs.Effects.{IsCopied, IsPartlyCopied}
-use Rattle.pea_top.specs.Folders.{AreFiles, IsBytesBefore}
-use Rattle.pea_top.specs.Writing.{content_after, Puts, PutsSome}
+use Rattle.pea_top.specs.Folders.{IsBytesBefore}
+use Rattle.pea_top.specs.Inner.Reading.{AreFiles}
+use Rattle.pea_top.specs.Inner.Writing.{content_after, Puts, PutsSome}
 use Rattle.pea_top.proofs.NamesInOrder.{IsBytesBefore-other, later_not_before, earlier_not_after}
 
 abbrev names_of : List NamedFile → List Bytes

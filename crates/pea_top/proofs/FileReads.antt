@@ -9,8 +9,8 @@ use Rattle.class_model.specs.declared.class_file.ClassFile.{ClassFile}
 use Rattle.host_tree.specs.Host.{Bytes, Folder}
 use Rattle.pea_top.specs.Folders.{AreNames, names_class_file}
 use Rattle.pea_top.specs.Answer.{Refusal, broken, other_version, IsRefusedClass, IsFirstRefused}
-use Rattle.pea_top.specs.Reading.{AreGoodFiles, IsReadOrWhy}
-use Rattle.pea_top.specs.ReadingSteps.{IsClassOf, IsGoodFile, IsFileOrWhy}
+use Rattle.pea_top.specs.Inner.Reading.{AreGoodFiles, IsReadOrWhy}
+use Rattle.pea_top.specs.Inner.ReadingSteps.{IsClassOf, IsGoodFile, IsFileOrWhy}
 use Rattle.pea_top.specs.declared.reading.ReadStop.{ReadStop}
 use Rattle.pea_top.specs.declared.reading.ReadStop.TheVariants.{Fault, NoMemory, Malformed, Version}
 use Rattle.pea_top.specs.declared.folder.NamedFile.{NamedFile}

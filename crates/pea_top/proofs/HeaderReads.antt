@@ -6,8 +6,8 @@ use Rattle.class_model.specs.declared.header.Header.{Header}
 use Rattle.host_tree.specs.Host.{Bytes, Folder}
 use Rattle.pea_top.specs.Folders.{AreNames, names_class_file, HasClassFiles, AreReadAs}
 use Rattle.pea_top.specs.Answer.{broken, other_version, IsRefusedHeader, IsFirstRefused}
-use Rattle.pea_top.specs.Reading.{IsLibraryOrWhy}
-use Rattle.pea_top.specs.ReadingSteps.{IsGoodHeader, IsHeaderOrWhy}
+use Rattle.pea_top.specs.Inner.Reading.{IsLibraryOrWhy}
+use Rattle.pea_top.specs.Inner.ReadingSteps.{IsGoodHeader, IsHeaderOrWhy}
 use Rattle.pea_top.specs.declared.reading.ReadStop.{ReadStop}
 use Rattle.pea_top.specs.declared.reading.ReadStop.TheVariants.{Fault, NoMemory, Malformed, Version}
 use Rattle.pea_top.proofs.FolderReads.{HasRead, nothing_read, one_more_class, one_more_other, all_names, first_refused}

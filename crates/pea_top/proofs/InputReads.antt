@@ -2,7 +2,7 @@
 use Rattle.std.proofs.Common.{Err}
 use Rattle.host_tree.specs.Host.{Folder}
 use Rattle.pea_top.specs.Answer.{IsRefusedClass, NoneRefused, of_input, of_library}
-use Rattle.pea_top.specs.Reading.{IsReadOrWhy, IsLibraryOrWhy, IsInputOrWhy}
+use Rattle.pea_top.specs.Inner.Reading.{IsReadOrWhy, IsLibraryOrWhy, IsInputOrWhy}
 use Rattle.pea_top.specs.declared.reading.ReadStop.{ReadStop}
 use Rattle.pea_top.specs.declared.reading.ReadStop.TheVariants.{Fault, NoMemory, Malformed, Version}
 

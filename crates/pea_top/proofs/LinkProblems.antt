@@ -8,7 +8,8 @@ use Rattle.class_tree.specs.Trees.{IsArranged, IsTree}
 use Rattle.class_tree.specs.declared.fault.LinkFault.{LinkFault}
 use Rattle.class_tree.specs.declared.fault.LinkFault.TheVariants.{Unlinked, NoMemory}
 use Rattle.member_link.specs.Linked.{link_checks}
-use Rattle.pea_top.specs.Linking.{of_links, IsLinkedOrWhy}
+use Rattle.pea_top.specs.Inner.Linking.{IsLinkedOrWhy}
+use Rattle.pea_top.specs.Linking.{of_links}
 
 -- a hierarchy whose links do not hold
 pub unlinked : (X : Type 0) (folder : List ClassFile) (library : List Header) (classes : Classes) → IsArranged folder library classes × IsTree classes

@@ -10,14 +10,15 @@ use Rattle.host_tree.specs.Host.{Bytes, Folder, Files, SameFiles, IsPrefixPrinte
 use Rattle.host_tree.specs.declared.call.HostCall.{HostCall}
 use Rattle.host_tree.specs.declared.call.HostCall.TheVariants as calls
 use Rattle.pea_top.specs.Answer.{AreRead, IsFirstOf, MustRefuse, CanDo, IsAnswer, CauseOf, HasCause}
-use Rattle.pea_top.specs.CommandEffects.{WrittenSome, some_files, all_files, LeavesWritten, LeavesPrinted}
-use Rattle.pea_top.specs.Deciding.{AreInput, AreReady, IsOutcome, Stands, IsStop}
+use Rattle.pea_top.specs.Inner.CommandEffects.{WrittenSome, some_files, all_files, LeavesWritten, LeavesPrinted}
+use Rattle.pea_top.specs.Inner.Deciding.{AreInput, AreReady, IsOutcome, Stands, IsStop}
 use Rattle.pea_top.specs.Effects.{LeavesDone, LeavesPart, method_count, done_line, IsSummary, PrintsPart, PrintsLine, before_work, in_refusal, in_writes, in_print, Leaves}
 use Rattle.pea_top.specs.Folders.{HasClassFiles}
-use Rattle.pea_top.specs.Reading.{AreGoodFiles, StopsAt, status_of}
-use Rattle.pea_top.specs.Status.{Ending, completed, refused, failed, out_of_memory, ending, is_refused, line_of, ended}
+use Rattle.pea_top.specs.Inner.Reading.{AreGoodFiles, StopsAt, status_of}
+use Rattle.pea_top.specs.Status.{Ending, completed, refused, failed, out_of_memory, ending, is_refused, line_of}
+use Rattle.pea_top.specs.Inner.Ended.{ended}
 use Rattle.pea_top.specs.Words.{Word, Command, Optimise, Verify, input_of, library_of, Spells}
-use Rattle.pea_top.specs.Writing.{Puts, PutsSome}
+use Rattle.pea_top.specs.Inner.Writing.{Puts, PutsSome}
 use Rattle.pea_top.specs.declared.folder.NamedFile.{NamedFile}
 use Rattle.pea_top.specs.declared.reading.ReadStop.{ReadStop}
 use Rattle.pea_top.specs.declared.reading.ReadStop.TheVariants as stops

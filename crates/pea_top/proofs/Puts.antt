@@ -5,7 +5,7 @@ use Rattle.std.proofs.lemmas.List.{drop_more, take_more, take-append-drop}
 use Rattle.std.proofs.lemmas.Bool.{false≢true}
 use Rattle.host_tree.specs.Host.{Bytes, Files, SameElsewhere}
 use Rattle.pea_top.specs.declared.folder.NamedFile.{NamedFile}
-use Rattle.pea_top.specs.Writing.{content_after, Puts, PutsSome}
+use Rattle.pea_top.specs.Inner.Writing.{content_after, Puts, PutsSome}
 
 -- what stands under a name after one more file
 content_after-push : (done : List NamedFile) (file : NamedFile) (name : Bytes) (old : Option Bytes)

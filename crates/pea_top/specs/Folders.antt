@@ -1,6 +1,5 @@
 -- The files of a folder as a list in byte order of their names.
-use Rattle.std.specs.Prelude.{◌≡◌, ◌-◌, Bool, List, [], ◌∷◌, map, drop, length, codes, bytes_eq, Some, IsSorted, IsTrue}
-use Rattle.std.specs.List.{AllByRecursion}
+use Rattle.std.specs.Prelude.{◌≡◌, ◌-◌, Bool, List, [], ◌∷◌, drop, length, codes, bytes_eq, Some, IsSorted, IsTrue}
 use Rattle.std.specs.Ordering.{nat_cmp}
 use Rattle.std.specs.Cmp.Lexicographic.{slice_cmp}
 use Rattle.std.specs.declared.cmp.Ordering.TheVariants.{Less}
@@ -15,11 +14,6 @@ IsBytesBefore one other = slice_cmp nat_cmp one other ≡ Less
 pub record AreNames (folder : Folder) (names : List Bytes) : Type 0 where
   pub once : HasEachOnce folder names
   pub in_order : IsSorted (slice_cmp nat_cmp) names
-
--- the files of the folder, in byte order of their names
-pub record AreFiles (folder : Folder) (files : List NamedFile) : Type 0 where
-  pub names : AreNames folder (map (λ file. file.name) files)
-  pub contents : AllByRecursion (λ file. folder file.name ≡ Some file.bytes) files
 
 -- the name is that of a class file: its last six bytes are .class
 abbrev pub names_class_file : Bytes → Bool

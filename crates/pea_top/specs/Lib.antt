@@ -6,10 +6,6 @@ pub mod Linking
 pub mod Verifying
 pub mod Answer
 pub mod Effects
-pub mod Reading
-pub mod Writing
 pub mod CommandView
-pub mod CommandEffects
-pub mod Deciding
-pub mod ReadingSteps
 pub mod Seen
+pub mod Inner

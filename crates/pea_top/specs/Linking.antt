@@ -1,22 +1,14 @@
 -- What linking the class files of a folder with the headers of a library answers.
-use Rattle.std.specs.Prelude.{List, Result, Ok, Err}
+use Rattle.std.specs.Prelude.{List}
 use Rattle.class_model.specs.Checks.{IsFirstFault}
 use Rattle.class_model.specs.declared.class_file.ClassFile.{ClassFile}
 use Rattle.class_model.specs.declared.header.Header.{Header}
 use Rattle.class_tree.specs.Headers.{Classes}
 use Rattle.class_tree.specs.Problems.{Problem}
 use Rattle.class_tree.specs.Trees.{IsArranged, IsTree, IsProblem}
-use Rattle.class_tree.specs.declared.fault.LinkFault.{LinkFault}
-use Rattle.class_tree.specs.declared.fault.LinkFault.TheVariants as faults
-use Rattle.member_link.specs.Linked.{link_checks, IsLinked}
+use Rattle.member_link.specs.Linked.{link_checks}
 
 -- the first problem: they are no hierarchy, or one that is not linked
 pub data IsLinkProblem (folder : List ClassFile) (library : List Header) (problem : Problem) : Type 0 where
   of_hierarchy : IsProblem folder library problem → IsLinkProblem folder library problem
   of_links : (classes : Classes) → IsArranged folder library classes → IsTree classes → IsFirstFault (link_checks classes) problem → IsLinkProblem folder library problem
-
--- the hierarchy, which is linked, or the first problem
-abbrev pub IsLinkedOrWhy : List ClassFile → List Header → Result Classes LinkFault → Type 0
-IsLinkedOrWhy folder library (Ok classes) = IsArranged folder library classes × IsTree classes × IsLinked classes
-IsLinkedOrWhy folder library (Err (faults.Unlinked class member rule)) = IsLinkProblem folder library (record { class = class; member = member; rule = rule })
-IsLinkedOrWhy folder library (Err faults.NoMemory) = Unit {0}

@@ -1,5 +1,5 @@
 -- How calls end: the ways, their exit statuses, and the lines of refusals.
-use Rattle.std.specs.Prelude.{ℕ, Bool, true, false, List, [], ◌++◌, codes, decimal, Result, Ok, Err}
+use Rattle.std.specs.Prelude.{ℕ, Bool, true, false, List, [], ◌++◌, codes, decimal}
 use Rattle.class_model.specs.RuleNames.{file_rule_name}
 use Rattle.class_tree.specs.RuleNames.{link_rule_name}
 use Rattle.host_tree.specs.Host.{Bytes}
@@ -70,8 +70,3 @@ line_of out_of_memory = []
 
 abbrev pub refusal_line : Status → Bytes
 refusal_line status = line_of (ending status)
-
--- the status of what was done, or stopped with a status
-abbrev pub ended : {X : Type 0} → Result X Status → Status
-ended (Ok done) = Done
-ended (Err stop) = stop

@@ -1,7 +1,7 @@
 //! Linking the class files of the input with those of the library.
 ghost use Rattle.std.specs.List.{AllByRecursion};
 ghost use Rattle.class_tree.specs.Headers.{IsClassFile, IsLibraryClass};
-ghost use Rattle.pea_top.specs.Linking.{IsLinkedOrWhy};
+ghost use Rattle.pea_top.specs.Inner.Linking.{IsLinkedOrWhy};
 
 use class_tree::{ClassFileList, HeaderList, LinkFault, Tree, build_tree};
 use member_link::check_links;

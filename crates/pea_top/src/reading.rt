@@ -8,8 +8,8 @@ ghost use Rattle.host_tree.specs.Counts.{NeverFalls, Rose, CountsOnly};
 ghost use Rattle.class_model.specs.ClassOf.{ClassOf};
 ghost use Rattle.pea_top.specs.Answer.{Refusal, IsRefusedClass};
 ghost use Rattle.pea_top.specs.Folders.{AreNames, names_class_file};
-ghost use Rattle.pea_top.specs.Reading.{IsReadOrWhy, IsLibraryOrWhy, IsInputOrWhy, status_of};
-ghost use Rattle.pea_top.specs.ReadingSteps.{IsCallStop, IsFileOrWhy, IsHeaderOrWhy, IsWhyNot, stop_at};
+ghost use Rattle.pea_top.specs.Inner.Reading.{IsReadOrWhy, IsLibraryOrWhy, IsInputOrWhy, status_of};
+ghost use Rattle.pea_top.specs.Inner.ReadingSteps.{IsCallStop, IsFileOrWhy, IsHeaderOrWhy, IsWhyNot, stop_at};
 ghost use Rattle.pea_top.specs.declared.reading.ReadStop.TheVariants.{NoMemory as no_memory};
 
 use crate::folder::{NamedFile, is_class_file};

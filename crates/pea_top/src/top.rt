@@ -8,11 +8,12 @@ ghost use Rattle.host_tree.specs.Counts.{NeverFalls, Rose, CountsOnly};
 ghost use Rattle.member_link.specs.Linked.{IsLinked};
 ghost use Rattle.pea_top.specs.Words.{Word, Spells, IsUsage};
 ghost use Rattle.pea_top.specs.CommandView.{command_view};
-ghost use Rattle.pea_top.specs.Status.{ending, ended};
+ghost use Rattle.pea_top.specs.Inner.Ended.{ended};
+ghost use Rattle.pea_top.specs.Status.{ending};
 ghost use Rattle.pea_top.specs.Answer.{HasCause};
 ghost use Rattle.pea_top.specs.Effects.{method_count, done_line, IsWriting, SpellNoWrite, Leaves};
-ghost use Rattle.pea_top.specs.CommandEffects.{LeavesWritten, LeavesPrinted};
-ghost use Rattle.pea_top.specs.Deciding.{AreInput, AreArranged, AreReady, IsOutcome, IsStop};
+ghost use Rattle.pea_top.specs.Inner.CommandEffects.{LeavesWritten, LeavesPrinted};
+ghost use Rattle.pea_top.specs.Inner.Deciding.{AreInput, AreArranged, AreReady, IsOutcome, IsStop};
 
 use crate::folder::NamedFile;
 use crate::lines::{refusal, summary, verified};

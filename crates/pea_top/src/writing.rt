@@ -2,7 +2,7 @@
 ghost use Rattle.std.specs.Prelude.{◌≡◌, List, map, IsTrue, OnOk, OnErr, IsErrOf};
 ghost use Rattle.host_tree.specs.declared.call.HostCall.{HostCall};
 ghost use Rattle.host_tree.specs.Counts.{CountsOnly, Rose};
-ghost use Rattle.pea_top.specs.Writing.{Puts, PutsSome};
+ghost use Rattle.pea_top.specs.Inner.Writing.{Puts, PutsSome};
 
 use crate::folder::NamedFile;
 use host_tree::{Host, HostFail};

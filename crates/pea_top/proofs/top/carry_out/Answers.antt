@@ -1,4 +1,4 @@
-use Rattle.pea_top.specs.Status.{ended}
+use Rattle.pea_top.specs.Inner.Ended.{ended}
 use Rattle.pea_top.proofs.Outcomes.{stop_written, stop_finished}
 use Rattle.pea_top.proofs.top.carry_out.Goals as goal
 

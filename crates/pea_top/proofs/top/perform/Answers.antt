@@ -1,7 +1,7 @@
 use Rattle.std.proofs.Common.{◌∙◌}
 use Rattle.host_tree.specs.Host.{Files}
 use Rattle.pea_top.specs.CommandView.{command_view}
-use Rattle.pea_top.specs.Deciding.{AreInput}
+use Rattle.pea_top.specs.Inner.Deciding.{AreInput}
 use Rattle.pea_top.proofs.Outcomes.{said_of_same, stop_behind, stop_reading}
 use Rattle.pea_top.proofs.top.perform.Goals as goal
 

@@ -1,7 +1,7 @@
 use Rattle.std.proofs.Common.{◌≡◌, IsTrue, take}
 use Rattle.host_tree.specs.declared.call.HostCall.TheVariants.{Write}
 use Rattle.host_tree.specs.Counts.{CountsOnly}
-use Rattle.pea_top.specs.Writing.{Puts}
+use Rattle.pea_top.specs.Inner.Writing.{Puts}
 use Rattle.pea_top.proofs.writing.write_files.Given as goal
 
 abbrev pub invariant-loop-file : goal.invariant-loop-file

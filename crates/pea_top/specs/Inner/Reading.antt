@@ -1,5 +1,6 @@
 -- What reading the input and the library of a command gives.
-use Rattle.std.specs.Prelude.{List, map, Vec, Result, Ok, Err}
+use Rattle.std.specs.Prelude.{◌≡◌, List, map, Vec, Some, Result, Ok, Err}
+use Rattle.std.specs.List.{AllByRecursion}
 use Rattle.std.specs.declared.alloc.Global.{Global}
 use Rattle.class_model.specs.Checks.{fault}
 use Rattle.class_model.specs.ClassOf.{ClassOf}
@@ -7,7 +8,7 @@ use Rattle.class_model.specs.Header.{HeaderOf}
 use Rattle.class_model.specs.declared.class_file.ClassFile.{ClassFile}
 use Rattle.class_model.specs.declared.header.Header.{Header}
 use Rattle.host_tree.specs.Host.{Bytes, Folder}
-use Rattle.pea_top.specs.Folders.{AreFiles, AreReadAs, HasClassFiles}
+use Rattle.pea_top.specs.Folders.{AreNames, AreReadAs, HasClassFiles}
 use Rattle.pea_top.specs.Answer.{Refusal, broken, other_version, IsRefusedClass, IsRefusedHeader, NoneRefused, IsFirstRefused, IsFirstOf}
 use Rattle.pea_top.specs.declared.folder.NamedFile.{NamedFile}
 use Rattle.pea_top.specs.declared.reading.Input.{Input}
@@ -15,6 +16,11 @@ use Rattle.pea_top.specs.declared.reading.ReadStop.{ReadStop}
 use Rattle.pea_top.specs.declared.reading.ReadStop.TheVariants.{Fault, NoMemory, Malformed, Version}
 use Rattle.pea_top.specs.declared.status.Status.{Status}
 use Rattle.pea_top.specs.declared.status.Status.TheVariants as statuses
+
+-- the files of the folder, in byte order of their names
+pub record AreFiles (folder : Folder) (files : List NamedFile) : Type 0 where
+  pub names : AreNames folder (map (λ file. file.name) files)
+  pub contents : AllByRecursion (λ file. folder file.name ≡ Some file.bytes) files
 
 -- all files of the folder, and what its class files are, none of which is refused
 pub record AreGoodFiles (folder : Folder) (files : List NamedFile) (classes : List ClassFile) : Type 0 where

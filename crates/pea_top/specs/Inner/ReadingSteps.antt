@@ -11,7 +11,7 @@ use Rattle.host_tree.specs.Host.{Folder, Bytes}
 use Rattle.host_tree.specs.declared.call.HostCall.{HostCall}
 use Rattle.pea_top.specs.Answer.{Refusal, broken, other_version, IsRefusedClass, IsRefusedHeader, IsRefused}
 use Rattle.pea_top.specs.Folders.{names_class_file}
-use Rattle.pea_top.specs.Reading.{StopsAt}
+use Rattle.pea_top.specs.Inner.Reading.{StopsAt}
 use Rattle.pea_top.specs.declared.folder.NamedFile.{NamedFile}
 use Rattle.pea_top.specs.declared.reading.ReadStop.{ReadStop}
 use Rattle.pea_top.specs.declared.reading.ReadStop.TheVariants.{Fault, NoMemory, Malformed, Version}

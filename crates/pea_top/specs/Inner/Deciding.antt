@@ -9,7 +9,7 @@ use Rattle.host_tree.specs.Host.{Bytes, Files, SameFiles}
 use Rattle.pea_top.specs.Answer.{HasCause}
 use Rattle.pea_top.specs.Effects.{method_count, done_line, Leaves}
 use Rattle.pea_top.specs.Folders.{HasClassFiles}
-use Rattle.pea_top.specs.Reading.{AreGoodFiles}
+use Rattle.pea_top.specs.Inner.Reading.{AreGoodFiles}
 use Rattle.pea_top.specs.Status.{Ending, completed, refused, failed, out_of_memory, ending}
 use Rattle.pea_top.specs.Verifying.{AreVerified}
 use Rattle.pea_top.specs.Words.{Word, Command, input_of, library_of}

@@ -3,7 +3,7 @@ use Rattle.std.specs.Prelude.{◌≡◌, List, ◌++◌}
 use Rattle.host_tree.specs.Host.{Bytes, Files, SameFiles, IsPrefixPrinted}
 use Rattle.host_tree.specs.declared.call.HostCall.TheVariants as calls
 use Rattle.pea_top.specs.Status.{Ending, completed, refused, failed, out_of_memory}
-use Rattle.pea_top.specs.Writing.{Puts, PutsSome}
+use Rattle.pea_top.specs.Inner.Writing.{Puts, PutsSome}
 use Rattle.pea_top.specs.declared.folder.NamedFile.{NamedFile}
 
 -- what is left where memory ran out

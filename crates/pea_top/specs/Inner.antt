@@ -1,0 +1,9 @@
+-- Words for private functions and the steps of the code: no public contract cites them. What the code is proved to do is said
+-- without them, so a reader of the definitions may pass them over.
+pub mod Reading
+pub mod ReadingSteps
+pub mod Linking
+pub mod Writing
+pub mod CommandEffects
+pub mod Deciding
+pub mod Ended
