@@ -1,5 +1,6 @@
 //! The frames of a run (JVM Specification SE 8, 2.6).
-use crate::value::{Ref, Value, ValueList};
+use crate::value::{Ref, Value};
+use crate::value_list::ValueList;
 use class_model::{ListOf, MethodAt};
 use std::marker::Model;
 

@@ -7,6 +7,7 @@ mod event;
 mod frame;
 mod object;
 mod value;
+mod value_list;
 
 pub use action::{Action, ActionList, Given, GivenList};
 pub use event::{
@@ -14,4 +15,5 @@ pub use event::{
 };
 pub use frame::{LocalList, MethodFrame, RunFrame, RunFrameList};
 pub use object::{Constant, Object, Shape};
-pub use value::{Ref, RefList, Value, ValueList};
+pub use value::{Ref, RefList, Value};
+pub use value_list::ValueList;

@@ -1,6 +1,8 @@
 //! Objects and constants of a heap (JVM Specification SE 8, 2.4 and 5.1).
-use crate::value::ValueList;
-use class_model::{Text, TextList};
+ghost use Rattle.std.specs.Prelude.{◌≡◌, ◌↔◌, IfOk, IsTrue};
+
+use crate::value_list::ValueList;
+use class_model::{NoMemory, Text, TextList};
 
 /// What an object is.
 #[derive(Debug, Drop)]
@@ -24,10 +26,37 @@ pub struct Object {
 
 /// A constant that is an object: a string, a class, a method type by its descriptor, or a method handle by its kind and the
 /// class, name and descriptor of the member that it refers to.
-#[derive(Debug, Drop)]
+#[derive(PartialEq, Eq, Hash, Debug, Drop)]
 pub enum Constant {
     Str(Text),
     Class(Text),
     MethodType(Text),
     Handle(u8, Text, Text, Text),
+}
+
+impl Constant {
+    /// Whether another constant has the same value: what `==` answers, said of the values.
+    pub fn is_same(&self, other: &Constant) -> bool
+        ensures { IsTrue result ↔ (self.now ≡ other.now) }
+    {
+        self == other
+    }
+
+    /// An equal constant, which shares the bytes of its texts.
+    ///
+    /// # Errors
+    ///
+    /// `NoMemory` where memory runs out.
+    pub fn copy(&self) -> Result<Constant, NoMemory>
+        ensures { IfOk result (λ copy. copy ≡ self.now) }
+    {
+        Ok(match self {
+            Constant::Str(text) => Constant::Str(text.copy()?),
+            Constant::Class(name) => Constant::Class(name.copy()?),
+            Constant::MethodType(desc) => Constant::MethodType(desc.copy()?),
+            Constant::Handle(kind, class, name, desc) => {
+                Constant::Handle(*kind, class.copy()?, name.copy()?, desc.copy()?)
+            }
+        })
+    }
 }

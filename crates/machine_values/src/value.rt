@@ -33,6 +33,3 @@ pub enum Value {
     Null,
     Ref(Ref),
 }
-
-/// A list of values.
-pub type ValueList = ListOf<Value>;
