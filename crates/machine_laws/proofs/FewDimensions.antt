@@ -1,4 +1,4 @@
-use Rattle.std.specs.Prelude.{◌≡◌, ◌≤◌, ◌+◌, ◌&&◌, ◌==◌, nat_le, nat_lt, not, refl, All, IfSome, ℕ, ℤ, zero, suc, int_lt, Bool, true, false, List, [], ◌∷◌, length, take, drop, map, slice_get, Option, Some, None, Result, Ok, Err, option_map, option_and_then, is_some, if◌then◌else◌}
+use Rattle.std.specs.Prelude.{◌≡◌, ◌≤◌, ◌+◌, ◌&&◌, ◌==◌, nat_le, nat_lt, refl, IfSome, ℕ, ℤ, zero, suc, Bool, true, false, List, [], ◌∷◌, length, take, drop, map, slice_get, Option, Some, None, Result, Ok, Err, option_map, option_and_then, if◌then◌else◌}
 use Rattle.std.specs.Int.{w16, from_be_bytes}
 use Rattle.std.specs.List.{AllByRecursion}
 use Rattle.std.proofs.Common.{arith, sym, subst}
@@ -18,22 +18,20 @@ use Rattle.class_model.specs.PoolChecks.{class_at}
 use Rattle.class_model.specs.declared.class_file.ClassFile.{ClassFile}
 use Rattle.class_model.specs.declared.class_file.CodePart.{CodePart}
 use Rattle.class_model.specs.declared.class_file.Method.{Method}
-use Rattle.class_model.specs.declared.class_file.MethodAt.{MethodAt}
 use Rattle.class_model.specs.declared.descriptor.FieldType.{FieldType}
 use Rattle.class_model.specs.declared.descriptor.Kind.{Kind}
 use Rattle.class_model.specs.declared.instr.Instr.{Instr}
 use Rattle.class_model.specs.declared.instr.Instr.TheVariants as instrs
 use Rattle.class_model.specs.declared.instr.Placed.{Placed}
 use Rattle.class_model.specs.declared.pool.Const.{Const}
-use Rattle.class_model.specs.declared.pool.Const.TheVariants as consts
-use Rattle.class_tree.specs.Headers.{Name, Classes, Headers, headers_of}
+use Rattle.class_tree.specs.Headers.{Classes, Headers, headers_of}
 use Rattle.machine_laws.specs.CodesOfBytes.{HasCodeOfBytes, HasCodesOfBytes, HaveCodesOfBytes}
 use Rattle.member_link.specs.Bodies.{item_instr}
 use Rattle.member_link.specs.Machine.Bounds.{HasFewDimensions, MakesFewArrays, MOST_DIMENSIONS}
 use Rattle.member_link.specs.Machine.Classes.{program_of, run_class_of, run_method_of}
 use Rattle.member_link.specs.Machine.Codes.{CodePoint, item_op, constant_op, or_meaningless, initialises, dynamic_op, return_op, if_between, call_op, instr_op, number_at, method_code, code_points}
 use Rattle.member_link.specs.Machine.Ops.{Op, meaningless, load_element, store_element, jump_by_int, jump_by_ints, jump_by_references, jump_by_null, get_static, put_static, get_field, put_field, new_object, new_array, new_arrays, check_cast, instance_of}
-use Rattle.member_link.specs.Machine.Programs.{Code, Links, Point, RunClass, RunMethod, code_run, code_at, point_at}
+use Rattle.member_link.specs.Machine.Programs.{Code, Links, Point, RunClass, code_run}
 use Rattle.member_link.specs.References.{Reference}
 use Rattle.member_link.specs.Rows.ArrayRows.{primitive_array, array_of}
 use Rattle.member_link.specs.Signatures.{reference_of}

@@ -1,4 +1,4 @@
-use Rattle.std.specs.Prelude.{◌≤◌, ◌+◌, ◌*◌, All, refl, ℕ, List, [], ◌∷◌, ◌++◌}
+use Rattle.std.specs.Prelude.{◌≤◌, ◌+◌, ◌*◌, refl, ℕ, List, [], ◌∷◌, ◌++◌}
 use Rattle.std.proofs.Common.{arith, sym, ap, ◌∙◌, append_assoc}
 use Rattle.std.proofs.lemmas.List.{append-nil}
 use Rattle.std.proofs.lemmas.List.Elements.{All-from_recursion, recursion_from_All}
@@ -9,7 +9,7 @@ use Rattle.machine_values.specs.declared.value.Value.{Value}
 use Rattle.machine_laws.proofs.Grows.{KeepObjects, all_raised, keep_same, keep_through, keep_more, keep_shapes, keep_added, keep_value, keep_entered, keep_left, keep_constant}
 use Rattle.machine_laws.specs.Growth.{IsPrefix, MemoryGrows}
 use Rattle.member_link.specs.Machine.Bounds.{IsBounded, MOST_ALLOCATED}
-use Rattle.member_link.specs.Machine.Heaps.{Heap, Kept, allocated, with_value, left, constant_made}
+use Rattle.member_link.specs.Machine.Heaps.{Heap, allocated, with_value, left, constant_made}
 use Rattle.member_link.specs.Machine.ObjectSteps.{with_entered}
 use Rattle.member_link.specs.Machine.Worlds.{Memory, StaticValue, with_heap}
 

@@ -1,4 +1,4 @@
-use Rattle.std.specs.Prelude.{◌≡◌, ◌≤◌, ◌+◌, refl, ℕ, List, [], ◌∷◌, ◌++◌, Option, Some, None}
+use Rattle.std.specs.Prelude.{◌≡◌, ◌≤◌, ◌+◌, refl, ℕ, List, [], ◌∷◌, Option, Some, None}
 use Rattle.std.proofs.Common.{arith, ◌∙◌}
 use Rattle.machine_values.specs.declared.event.EventKind.{EventKind}
 use Rattle.machine_values.specs.declared.value.Value.{Value}

@@ -1,4 +1,4 @@
-use Rattle.std.specs.Prelude.{◌≤◌, refl, ℕ, Bool, true, false, List, [], ◌∷◌, ◌++◌, slice_get, Option, Some, None, if◌then◌else◌}
+use Rattle.std.specs.Prelude.{refl, ℕ, Bool, true, false, List, [], ◌∷◌, ◌++◌, slice_get, Option, Some, None, if◌then◌else◌}
 use Rattle.std.proofs.Common.{arith}
 use Rattle.class_model.specs.declared.class_file.MethodAt.{MethodAt}
 use Rattle.class_tree.specs.Headers.{Name}
@@ -11,7 +11,7 @@ use Rattle.machine_laws.proofs.ShownGrows.{Goes, Quiet, more, goes_more, quiet_t
 use Rattle.machine_laws.proofs.WorkGrows.{GrownIf}
 use Rattle.member_link.specs.Machine.Beginnings.{with_start, with_starts, begun_memory, begun_on, beginning_step, starts_of, past_beginning, begun_next, beginning_of, initialiser_of, first_unbegun, come_first}
 use Rattle.member_link.specs.Machine.Completions.{Completion, gives, raises, throws, begins, calls, asks, ends}
-use Rattle.member_link.specs.Machine.Performing.{Locked, Locking, locked_by, locked, called, unlocked, is_initialiser, returned_to, returned_by, returned, past_method, past_handler, handler_at, Landing, lands_in, lands_in_library, leaves_initialiser, lands_nowhere, unwind, landed, thrown, thrown_in, raised, perform}
+use Rattle.member_link.specs.Machine.Performing.{Locking, locked_by, called, unlocked, is_initialiser, returned_to, returned_by, returned, past_method, past_handler, handler_at, Landing, lands_in, lands_in_library, leaves_initialiser, lands_nowhere, unwind, landed, thrown, thrown_in, raised, perform}
 use Rattle.member_link.specs.Machine.Programs.{Program, StaticStart, RunMethod, RunClass, StartValue, start_value, start_string, run_method, point_at}
 use Rattle.member_link.specs.Machine.Performing as performing
 use Rattle.member_link.specs.Machine.Heaps.{constant_made}

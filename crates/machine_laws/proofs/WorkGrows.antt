@@ -13,7 +13,7 @@ use Rattle.machine_laws.proofs.Rises.{Rises, rises_more, prefix_same, prefix_thr
 use Rattle.member_link.specs.Machine.ArraySteps.{new_array_work, array_length_work, load_element_work, store_element_work, put_element, nested, made_times, most_elements, is_too_long, arrays_made, gives_arrays, new_arrays_work, arrays_of_counts, counts_of, Counts, all_counts, negative_count, no_counts}
 use Rattle.member_link.specs.Machine.CallSteps.{call_static_work, call_virtual_work, call_interface_work, call_special_work, call_dynamic_work, run_call, run_chosen, on_receiver, with_receiver, virtual_on, if_conforms, interface_on, is_object_init, special_choice, special_on, call_found_special}
 use Rattle.member_link.specs.Machine.Completions.{Completion, gives, raises, throws, begins, calls, asks, ends}
-use Rattle.member_link.specs.Machine.FieldSteps.{get_static_work, put_static_work, get_field_work, put_field_work, begun_first, if_fits, put_static_value, put_static_begun, put_field_value, put_into, put_field_in, put_field_tested}
+use Rattle.member_link.specs.Machine.FieldSteps.{get_static_work, put_static_work, get_field_work, put_field_work, begun_first, if_fits, static_number, put_static_value, put_static_begun, put_field_value, put_into, put_field_in, put_field_tested}
 use Rattle.machine_laws.specs.Growth.{IsPrefix}
 use Rattle.member_link.specs.Machine.Bounds.{MOST_DIMENSIONS}
 use Rattle.member_link.specs.Machine.Heaps.{Heap, Made, allocated}
@@ -24,7 +24,7 @@ use Rattle.class_model.specs.Members.{STATIC}
 use Rattle.member_link.specs.Machine.Shapes.{component_text}
 use Rattle.member_link.specs.Machine.Programs.{Program, Chosen, has_flag, field_of}
 use Rattle.member_link.specs.Machine.Work.{work}
-use Rattle.member_link.specs.Machine.Worlds.{Memory, stuck, array_too_long}
+use Rattle.member_link.specs.Machine.Worlds.{Memory, stuck, array_too_long, put_static_in}
 use Rattle.member_link.specs.References.{Reference}
 
 -- where an operation gives values, the memory rose as in one step, if a premise holds
@@ -53,7 +53,11 @@ if_grows m true c d g h = g
 if_grows m false c d g h = h
 
 pub put_static_value_grows : (P : Program) (m : Memory) (f : Reference) (v : Value) (c : Option ℕ) → Grown m (put_static_value P m f v c)
-put_static_value_grows P m f v c = record { is = grind (arith, statics_rise) }
+put_static_value_grows P m f v None = record { is = tt }
+put_static_value_grows P m f v (Some c) = by (static_number P c f) refl where
+  by : (n : Option ℕ) → static_number P c f ≡ n → Grown m (put_static_value P m f v (Some c))
+  by None e = record { is = rw e tt }
+  by (Some n) e = record { is = rw e (statics_rise 1 m (put_static_in m.statics c n v)) }
 
 pub put_static_begun_grows : (P : Program) (m : Memory) (f : Reference) (i : Option Name) (v : Value) → Grown m (put_static_begun P m f i v)
 put_static_begun_grows P m f i v = grind (arith, put_static_value_grows)

@@ -13,8 +13,8 @@ ghost use Rattle.machine_laws.specs.Replacing.{ReplacesNothing};
 
 use member_link::{a_look_up_finds_one_field, a_look_up_finds_one_method, a_selection_chooses_one};
 
-/// A turn keeps what was shown and is known, the objects and what they are, and counts no less: events and known references are
-/// added at the end alone, and no reference is used for another object.
+/// A turn keeps what was shown and is known, the objects and what they are, the references of constants and the classes that are
+/// begun, and counts no less: events and known references are added at the end alone, and no reference is used for another object.
 pub fn a_turn_keeps_what_was_shown()
     ensures { (P : Program) (r : Run) → WorldGrows r.world (turn P r).world }
 {}
