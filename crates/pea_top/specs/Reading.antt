@@ -27,15 +27,15 @@ pub record AreGoodFiles (folder : Folder) (files : List NamedFile) (classes : Li
 abbrev pub StopsAt : (Bytes → Refusal → Type 0) → ReadStop → Type 0
 StopsAt Holds (Fault call) = Unit {0}
 StopsAt Holds NoMemory = Unit {0}
-StopsAt Holds (Malformed name at rule) = Holds name (broken (fault at rule))
-StopsAt Holds (Version name major minor) = Holds name (other_version (record { minor = minor; major = major }))
+StopsAt Holds (Malformed name at rule file) = Holds name (broken (fault at rule))
+StopsAt Holds (Version name major minor side) = Holds name (other_version (record { minor = minor; major = major }))
 
 -- the status of a command whose reading stops
 abbrev pub status_of : ReadStop → Status
 status_of (Fault call) = statuses.HostFault call
 status_of NoMemory = statuses.NoMemory
-status_of (Malformed name at rule) = statuses.Malformed name at rule
-status_of (Version name major minor) = statuses.Version name major minor
+status_of (Malformed name at rule file) = statuses.Malformed name at rule
+status_of (Version name major minor side) = statuses.Version name major minor
 
 -- the files and class files of the folder, or its first file that is refused
 abbrev pub IsReadOrWhy : Folder → Result (Vec NamedFile Global × List ClassFile) ReadStop → Type 0

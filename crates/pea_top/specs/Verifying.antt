@@ -6,7 +6,11 @@ use Rattle.class_tree.specs.Headers.{Classes, headers_of}
 use Rattle.class_tree.specs.Trees.{IsArranged, IsTree}
 use Rattle.member_link.specs.Linked.{IsLinked}
 use Rattle.type_rules.specs.Verified.{IsVerified}
+use Rattle.type_rules.specs.declared.fault.VerifyFault.{VerifyFault}
+use Rattle.type_rules.specs.declared.fault.VerifyFault.TheVariants as faults
 use Rattle.verify_folder.specs.Verifying.{Failure, ClassesFail}
+use Rattle.pea_top.specs.declared.status.Status.{Status}
+use Rattle.pea_top.specs.declared.status.Status.TheVariants as statuses
 
 -- arranged, they are a folder that verifies
 pub record AreVerified (folder : List ClassFile) (library : List Header) : Type 0 where
@@ -21,3 +25,8 @@ pub record IsTypeFailure (folder : List ClassFile) (library : List Header) (fail
   pub tree : IsTree classes
   pub linked : IsLinked classes
   pub fails : ClassesFail (headers_of classes) classes.folder failure
+
+-- the status of a command whose class files do not verify
+abbrev pub verify_status : VerifyFault → Status
+verify_status (faults.Unverified class method offset rule) = statuses.Unverified class method offset rule
+verify_status faults.NoMemory = statuses.NoMemory

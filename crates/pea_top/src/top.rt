@@ -12,17 +12,20 @@ ghost use Rattle.pea_top.specs.Status.{ending, ended};
 ghost use Rattle.pea_top.specs.Answer.{HasCause};
 ghost use Rattle.pea_top.specs.Effects.{method_count, done_line, IsWriting, SpellNoWrite, Leaves};
 ghost use Rattle.pea_top.specs.CommandEffects.{LeavesWritten, LeavesPrinted};
+ghost use Rattle.pea_top.specs.Verifying.{verify_status};
 ghost use Rattle.pea_top.specs.Deciding.{AreInput, AreArranged, AreReady, IsOutcome, IsStop};
 
+use crate::explaining::{explain_linking, explain_reading, explain_verifying, note_input};
 use crate::folder::NamedFile;
 use crate::lines::{refusal, summary, verified};
-use crate::linking::link;
+use crate::linking::{link, link_status};
 use crate::reading::{Input, read_input, status_of};
 use crate::status::Status;
 use crate::words::{Command, command_of};
 use crate::writing::write_files;
 use class_model::{ClassFile, NoMemory};
-use class_tree::{LinkFault, Tree};
+use class_tree::Tree;
+use explain::outlines;
 use host_tree::{Host, HostCall, HostFail};
 use std::alloc::Global;
 use type_rules::VerifyFault;
@@ -86,8 +89,14 @@ fn perform<H: Host>(alloc: Global, command: Command<'_>, host: &mut H) -> Result
         IsStop words (H.file host.old) (H.file host.new) (H.printed host.old) (H.printed host.new) (ended result) }
 {
     match read_input(alloc, host, command.input(), command.library()) {
-        Ok(input) => decide(alloc, command, host, input),
-        Err(stop) => Err(status_of(stop)),
+        Ok(input) => {
+            note_input(alloc, host, &input);
+            decide(alloc, command, host, input)
+        }
+        Err(stop) => {
+            explain_reading(alloc, host, &stop);
+            Err(status_of(stop))
+        }
     }
 }
 
@@ -111,6 +120,7 @@ fn decide<H: Host>(
     let Ok(line) = line_of(alloc, command, &input) else {
         return Err(Status::NoMemory);
     };
+    let library = outlines(alloc, input.headers.as_slice());
     match link(alloc, input.classes, input.headers) {
         Ok(tree) => verify(
             alloc,
@@ -120,18 +130,10 @@ fn decide<H: Host>(
             input.files.as_slice(),
             line.as_slice(),
         ),
-        Err(LinkFault::NoMemory) => Err(Status::NoMemory),
-        Err(
-            LinkFault::Unlinked {
-                class,
-                member,
-                rule,
-            },
-        ) => Err(Status::Unlinked {
-            class,
-            member,
-            rule,
-        }),
+        Err(stop) => {
+            explain_linking(alloc, host, input.files.as_slice(), &library, &stop);
+            Err(link_status(stop.fault))
+        }
     }
 }
 
@@ -155,20 +157,30 @@ fn verify<H: Host>(
 {
     match check_all(alloc, tree) {
         Ok(()) => carry_out(alloc, command, host, files, line),
-        Err(VerifyFault::NoMemory) => Err(Status::NoMemory),
-        Err(
-            VerifyFault::Unverified {
-                class,
-                method,
-                offset,
-                rule,
-            },
-        ) => Err(Status::Unverified {
+        Err(fault) => {
+            explain_verifying(alloc, host, tree, &fault);
+            Err(verify_status(fault))
+        }
+    }
+}
+
+/// The status of a command whose class files do not verify.
+fn verify_status(fault: VerifyFault) -> Status
+    ensures { result ≡ verify_status fault }
+{
+    match fault {
+        VerifyFault::Unverified {
             class,
             method,
             offset,
             rule,
-        }),
+        } => Status::Unverified {
+            class,
+            method,
+            offset,
+            rule,
+        },
+        VerifyFault::NoMemory => Status::NoMemory,
     }
 }
 
