@@ -11,7 +11,10 @@ use crate::reading::{Input, ReadStop};
 use class_bytes::read_class;
 use class_model::NoMemory;
 use class_tree::{ClassFileList, LinkFault, Tree};
-use explain::{Folders, Outlines, Side};
+use explain::{
+    Folders, Outlines, class_counts, explain_hierarchy, explain_links, explain_malformed,
+    explain_verification, explain_version,
+};
 use host_tree::Host;
 use std::alloc::Global;
 use type_rules::VerifyFault;
@@ -35,7 +38,7 @@ pub(crate) fn note_input<H: Host>(alloc: Global, host: &mut H, input: &Input)
 {
     show(
         host,
-        explain::class_counts(alloc, input.classes.len(), input.headers.len()),
+        class_counts(alloc, input.classes.len(), input.headers.len()),
     );
 }
 
@@ -57,14 +60,14 @@ fn lines_of_reading(alloc: Global, stop: &ReadStop) -> Result<String, NoMemory> 
             file,
         } => {
             let bytes = file.bytes.as_slice();
-            explain::malformed(alloc, file.side, name.as_str(), bytes, *at, *rule)
+            explain_malformed(alloc, file.side, name.as_str(), bytes, *at, *rule)
         }
         ReadStop::Version {
             name,
             major,
             minor,
             side,
-        } => explain::version(alloc, *side, name.as_str(), *major, *minor),
+        } => explain_version(alloc, *side, name.as_str(), *major, *minor),
         ReadStop::Fault(_) | ReadStop::NoMemory => Err(NoMemory),
     }
 }
@@ -74,7 +77,7 @@ pub(crate) fn explain_linking<H: Host>(
     alloc: Global,
     host: &mut H,
     files: &[NamedFile],
-    library: &Outlines,
+    library: &Result<Outlines, NoMemory>,
     stop: &LinkStop,
 )
     ensures files { IsTrue H.tells → SameFiles (H.file host.old) (H.file host.new) }
@@ -87,7 +90,7 @@ pub(crate) fn explain_linking<H: Host>(
 fn lines_of_linking(
     alloc: Global,
     files: &[NamedFile],
-    library: &Outlines,
+    library: &Result<Outlines, NoMemory>,
     stop: &LinkStop,
 ) -> Result<String, NoMemory> {
     let LinkFault::Unlinked {
@@ -98,14 +101,17 @@ fn lines_of_linking(
         return Err(NoMemory);
     };
     match &stop.tree {
-        Some(tree) => explain::links(alloc, tree, class, member, *rule),
+        Some(tree) => explain_links(alloc, tree, class, member, *rule),
         None => {
+            let Ok(library) = library else {
+                return Err(NoMemory);
+            };
             let input = class_files(alloc, files)?;
             let folders = Folders {
                 input: input.as_slice(),
                 library,
             };
-            explain::hierarchy(alloc, &folders, class, *rule)
+            explain_hierarchy(alloc, &folders, class, *rule)
         }
     }
 }
@@ -151,7 +157,7 @@ fn lines_of_verifying(
             method,
             offset,
             rule,
-        } => explain::verification(alloc, tree, class, method, *offset, *rule),
+        } => explain_verification(alloc, tree, class, method, *offset, *rule),
         VerifyFault::NoMemory => Err(NoMemory),
     }
 }

@@ -25,7 +25,7 @@ use crate::words::{Command, command_of};
 use crate::writing::write_files;
 use class_model::{ClassFile, NoMemory};
 use class_tree::Tree;
-use explain::outlines;
+use explain::Outlines;
 use host_tree::{Host, HostCall, HostFail};
 use std::alloc::Global;
 use type_rules::VerifyFault;
@@ -120,7 +120,7 @@ fn decide<H: Host>(
     let Ok(line) = line_of(alloc, command, &input) else {
         return Err(Status::NoMemory);
     };
-    let library = outlines(alloc, input.headers.as_slice());
+    let library = Outlines::of(alloc, input.headers.as_slice());
     match link(alloc, input.classes, input.headers) {
         Ok(tree) => verify(
             alloc,
