@@ -6,6 +6,7 @@ use class_tree::{LinkRule, OBJECT};
 use std::alloc::Global;
 
 /// The class files of the input, and what is kept of the library.
+#[derive(Clone, Copy)]
 pub struct Folders<'a> {
     pub input: &'a [ClassFile],
     pub library: &'a Outlines,

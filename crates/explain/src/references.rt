@@ -11,6 +11,7 @@ use member_link::{Found, find_field, find_method};
 use std::alloc::Global;
 
 /// Where references stand: a class of a hierarchy with its constants; and the rule that one of them breaks.
+#[derive(Clone, Copy)]
 pub(crate) struct Use<'a> {
     pub tree: &'a Tree,
     pub from: &'a Text,

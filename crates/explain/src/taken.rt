@@ -1,7 +1,7 @@
 //! What instructions take from the stack and from locals (JVM Specification SE 8, 6.5).
 use crate::frames::kind_word;
 use crate::taken_objects::taken_of_objects;
-use class_model::{ClassFile, Instr, Kind, NoMemory};
+use class_model::{ClassFile, Instr, NoMemory};
 use std::alloc::Global;
 
 /// What an instruction takes, in words behind `it`; empty where it takes nothing.

@@ -1,7 +1,7 @@
 //! What instructions take that name fields, methods and classes (JVM Specification SE 8, 6.5).
-use crate::references::{Reference, name_and_type, reference_at};
-use crate::shown::{shown, shown_text};
-use class_model::{ClassFile, Const, Instr, Kind, NoMemory, Text};
+use crate::references::{name_and_type, reference_at};
+use crate::shown::shown_text;
+use class_model::{ClassFile, Const, Instr, NoMemory};
 use std::alloc::Global;
 
 /// What such an instruction takes, in words behind `it`; empty where it takes nothing.

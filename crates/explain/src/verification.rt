@@ -4,7 +4,7 @@ use crate::mnemonics::mnemonic_at;
 use crate::places::{code_at, method_at};
 use crate::shown::shown_member;
 use crate::wanted::{Failing, push_wanted};
-use class_model::{ClassFile, CodePart, Member, MethodAt, NoMemory, Text};
+use class_model::{Member, MethodAt, NoMemory, Text};
 use class_tree::Tree;
 use std::alloc::Global;
 use type_rules::TypeRule;

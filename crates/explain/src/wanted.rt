@@ -1,11 +1,9 @@
 //! What a rule of types wants of an instruction.
-use crate::frames::{kind_word, push_difference, push_frame};
+use crate::frames::push_difference;
 use crate::hierarchy::class_name;
 use crate::shown::shown;
 use crate::taken::taken;
-use class_model::{
-    ClassFile, CodePart, Frame, Handler, Instr, Kind, NoMemory, Placed, PlacedList, TargetList,
-};
+use class_model::{ClassFile, CodePart, Handler, Instr, Kind, NoMemory};
 use class_tree::{THROWABLE, Tree, is_below};
 use code_bytes::decode;
 use std::alloc::Global;
@@ -13,6 +11,7 @@ use type_rules::TypeRule;
 use verify_folder::FrameBefore;
 
 /// The code of a method that does not verify, the offset of the instruction, in bytes, and the frame before it.
+#[derive(Clone, Copy)]
 pub(crate) struct Failing<'a> {
     pub tree: &'a Tree,
     pub file: &'a ClassFile,

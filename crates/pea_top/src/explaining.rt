@@ -13,7 +13,7 @@ use class_model::NoMemory;
 use class_tree::{ClassFileList, LinkFault, Tree};
 use explain::{
     Folders, Outlines, class_counts, explain_hierarchy, explain_links, explain_malformed,
-    explain_verification, explain_version,
+    explain_verification, explain_version, usage,
 };
 use host_tree::Host;
 use std::alloc::Global;
@@ -28,6 +28,15 @@ pub(crate) fn show<H: Host>(host: &mut H, lines: Result<String, NoMemory>)
     if let Ok(lines) = lines {
         host.explain(lines.as_bytes());
     }
+}
+
+/// Explains how the program is called.
+pub(crate) fn explain_usage<H: Host>(alloc: Global, host: &mut H)
+    ensures files { IsTrue H.tells → SameFiles (H.file host.old) (H.file host.new) }
+    ensures printed { IsTrue H.tells → H.printed host.new ≡ H.printed host.old }
+    ensures counts { (call : HostCall) → H.faults host.new call ≡ H.faults host.old call }
+{
+    show(host, usage(alloc));
 }
 
 /// Notes where the input or the library has no class files.

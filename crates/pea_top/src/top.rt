@@ -15,7 +15,9 @@ ghost use Rattle.pea_top.specs.CommandEffects.{LeavesWritten, LeavesPrinted};
 ghost use Rattle.pea_top.specs.Verifying.{verify_status};
 ghost use Rattle.pea_top.specs.Deciding.{AreInput, AreArranged, AreReady, IsOutcome, IsStop};
 
-use crate::explaining::{explain_linking, explain_reading, explain_verifying, note_input};
+use crate::explaining::{
+    explain_linking, explain_reading, explain_usage, explain_verifying, note_input,
+};
 use crate::folder::NamedFile;
 use crate::lines::{refusal, summary, verified};
 use crate::linking::{link, link_status};
@@ -75,7 +77,10 @@ fn run<H: Host>(alloc: Global, words: &[String], host: &mut H) -> Result<(), Sta
 {
     match command_of(words) {
         Some(command) => perform(alloc, command, host),
-        None => Err(Status::Usage),
+        None => {
+            explain_usage(alloc, host);
+            Err(Status::Usage)
+        }
     }
 }
 
