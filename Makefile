@@ -27,3 +27,4 @@ bench: bin/pea
 	bash bench/links.sh
 	bash bench/library.sh
 	bash bench/verify.sh
+	bash bench/jar.sh
