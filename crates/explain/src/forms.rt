@@ -1,6 +1,8 @@
 //! The form that an instruction needs of what it names (JVM Specification SE 8, 6.5).
 use crate::references::{MemberRef, Reference};
-use class_model::{ACC_ABSTRACT, ACC_INTERFACE, ACC_PRIVATE, ACC_STATIC, Header, INIT, Instr, Text, has};
+use class_model::{
+    ACC_ABSTRACT, ACC_INTERFACE, ACC_PRIVATE, ACC_STATIC, Header, INIT, Instr, Text, has,
+};
 use class_tree::Tree;
 
 /// Why `new` makes no objects of a class; empty where it does, and for other instructions.

@@ -1,72 +1,63 @@
 //! Frames as they are shown.
-use crate::shown::shown_text;
-use class_model::{Frame, Kind, NoMemory, VType};
+use crate::lines::Lines;
+use class_model::{Frame, Kind, VType};
 use class_tree::Tree;
-use std::alloc::Global;
 use type_rules::assignable;
 
 // How many types of the locals or of the stack are shown.
 const MOST_SHOWN: usize = 20;
 
-/// Appends a line with a frame: its locals, but for the unused ones at their end, and its stack, the top last.
-pub(crate) fn push_frame(
-    alloc: Global,
-    lines: &mut String,
-    words: &str,
-    frame: &Frame,
-) -> Result<(), NoMemory> {
-    let locals = shown_locals(alloc, frame)?;
-    let stack = shown_stack(alloc, frame)?;
-    let line = format!(in alloc; "  {words}: locals [{locals}], stack [{stack}]\n")?;
-    lines.push_str(line.as_str())?;
-    Ok(())
+/// Writes a line with a frame: its locals, but for the unused ones at their end, and its stack, the top last.
+pub(crate) fn put_frame(lines: &mut Lines, words: &str, frame: &Frame) {
+    lines.put(words);
+    lines.put(": locals [");
+    put_locals(lines, frame);
+    lines.put("], stack [");
+    put_stack(lines, frame);
+    lines.put("]\n");
 }
 
-fn shown_locals(alloc: Global, frame: &Frame) -> Result<String, NoMemory> {
-    let mut text = String::new(alloc);
+fn put_locals(lines: &mut Lines, frame: &Frame) {
     let count = frame.locals.listed();
     for at in 0..count.min(MOST_SHOWN) {
         if let Some(local) = frame.locals.get(at) {
-            push_type(alloc, &mut text, at, local)?;
+            put_next(lines, at, local);
         }
     }
     if count > MOST_SHOWN {
-        text.push_str(", ..")?;
+        lines.put(", ..");
     }
-    Ok(text)
 }
 
 // The topmost types of the stack.
-fn shown_stack(alloc: Global, frame: &Frame) -> Result<String, NoMemory> {
-    let mut text = String::new(alloc);
+fn put_stack(lines: &mut Lines, frame: &Frame) {
     let count = frame.stack.len();
     let first = count.saturating_sub(MOST_SHOWN);
     if first > 0 {
-        text.push_str("..")?;
+        lines.put("..");
     }
     for at in first..count {
         if let Some(entry) = frame.stack.get(at) {
-            push_type(alloc, &mut text, at, entry)?;
+            put_next(lines, at, entry);
         }
     }
-    Ok(text)
 }
 
-fn push_type(alloc: Global, text: &mut String, at: usize, shown: &VType) -> Result<(), NoMemory> {
+fn put_next(lines: &mut Lines, at: usize, shown: &VType) {
     if at > 0 {
-        text.push_str(", ")?;
+        lines.put(", ");
     }
-    let name = shown_type(alloc, shown)?;
-    text.push_str(name.as_str())?;
-    Ok(())
+    put_type(lines, shown);
 }
 
-/// A verification type in words.
-pub(crate) fn shown_type(alloc: Global, shown: &VType) -> Result<String, NoMemory> {
+fn put_type(lines: &mut Lines, shown: &VType) {
     match shown {
-        VType::Object(name) => shown_text(alloc, name),
-        VType::Uninit(at) => Ok(format!(in alloc; "uninitialised (new at {at})")?),
-        _ => Ok(String::from_str(alloc, plain_type(shown))?),
+        VType::Object(name) => lines.name(name.bytes()),
+        VType::Uninit(at) => {
+            lines.put("uninitialised from ");
+            lines.number(u64::from(*at));
+        }
+        _ => lines.put(plain_type(shown)),
     }
 }
 
@@ -83,7 +74,7 @@ fn plain_type(shown: &VType) -> &'static str {
     }
 }
 
-/// What a local or an entry of the stack of a kind is called.
+/// What a value of a kind is called.
 pub(crate) fn kind_word(kind: Kind) -> &'static str {
     match kind {
         Kind::Int => "int",
@@ -94,49 +85,48 @@ pub(crate) fn kind_word(kind: Kind) -> &'static str {
     }
 }
 
-/// Appends where a frame is not assignable to another: the first local, the depths of the stacks, else the first entry.
-pub(crate) fn push_difference(
-    alloc: Global,
-    lines: &mut String,
-    tree: &Tree,
-    from: &Frame,
-    to: &Frame,
-) -> Result<(), NoMemory> {
+/// Writes where a frame is not assignable to another: the first local, the depths of the stacks, else the first entry.
+pub(crate) fn put_difference(lines: &mut Lines, tree: &Tree, from: &Frame, to: &Frame) {
+    if put_local(lines, tree, from, to) {
+        return;
+    }
+    if from.stack.len() != to.stack.len() {
+        lines.put("  the stacks are not of one depth\n");
+    } else if !put_entry(lines, tree, from, to) {
+        lines.put("  the one has a this that is not initialised, which the other loses\n");
+    }
+}
+
+fn put_local(lines: &mut Lines, tree: &Tree, from: &Frame, to: &Frame) -> bool {
     for at in 0..to.locals.len() {
         if let (Some(low), Some(high)) = (from.locals.get(at), to.locals.get(at)) {
             if !assignable(tree, low, high) {
-                return push_one(alloc, lines, "local", at, low, high);
+                put_pair(lines, "  local ", at, low, high);
+                return true;
             }
         }
     }
-    if from.stack.len() != to.stack.len() {
-        let (one, other) = (from.stack.len(), to.stack.len());
-        let line = format!(in alloc; "  the stack has {one} entries, and {other} are stated\n")?;
-        lines.push_str(line.as_str())?;
-        return Ok(());
-    }
+    false
+}
+
+fn put_entry(lines: &mut Lines, tree: &Tree, from: &Frame, to: &Frame) -> bool {
     for at in 0..to.stack.len() {
         if let (Some(low), Some(high)) = (from.stack.get(at), to.stack.get(at)) {
             if !assignable(tree, low, high) {
-                return push_one(alloc, lines, "stack entry", at, low, high);
+                put_pair(lines, "  stack entry ", at, low, high);
+                return true;
             }
         }
     }
-    lines.push_str("  this is not initialised yet in the one and may not be lost in the other\n")?;
-    Ok(())
+    false
 }
 
-fn push_one(
-    alloc: Global,
-    lines: &mut String,
-    words: &str,
-    at: usize,
-    low: &VType,
-    high: &VType,
-) -> Result<(), NoMemory> {
-    let low = shown_type(alloc, low)?;
-    let high = shown_type(alloc, high)?;
-    let line = format!(in alloc; "  {words} {at} is {low}, and {high} is stated\n")?;
-    lines.push_str(line.as_str())?;
-    Ok(())
+fn put_pair(lines: &mut Lines, words: &str, at: usize, low: &VType, high: &VType) {
+    lines.put(words);
+    lines.number(at as u64);
+    lines.put(" is ");
+    put_type(lines, low);
+    lines.put(", and stated as ");
+    put_type(lines, high);
+    lines.put("\n");
 }

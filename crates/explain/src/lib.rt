@@ -2,12 +2,12 @@
 //! UTF-8. Nothing is proved of what they say but that making them is safe and ends; cases compare them.
 #![tactic(auto)]
 
-mod accessed;
-mod code_spot;
+mod access;
 mod descriptors;
 mod forms;
 mod frames;
 mod hierarchy;
+mod lines;
 mod links;
 mod malformed;
 mod mnemonics;
@@ -15,13 +15,13 @@ mod notes;
 mod outlines;
 mod places;
 mod pool_spot;
+mod pool_texts;
+mod reasons;
 mod references;
-mod shown;
 mod side;
 mod spot;
-mod spot_text;
+mod spot_words;
 mod taken;
-mod taken_objects;
 mod verification;
 mod version;
 mod wanted;

@@ -1,11 +1,12 @@
 //! Members and classes of a hierarchy that are not linked.
 use crate::descriptors::missing_of_descriptor;
-use crate::hierarchy::{class_name, push_nowhere};
+use crate::lines::Lines;
+use crate::mnemonics::mnemonic_at;
 use crate::places::{class_of, code_at, method_at};
-use crate::references::{Use, broken_use};
-use crate::accessed::push_inaccessible;
-use crate::shown::{shown_member, shown_text};
-use class_model::{ACC_FINAL, ClassFile, CodePart, Member, NoMemory, Text, has};
+use crate::pool_texts::class_name;
+use crate::reasons::{names_badly, put_bad_name, put_broken, put_missing};
+use crate::references::Use;
+use class_model::{ACC_FINAL, CodePart, Header, Member, NoMemory, Placed, Text, has};
 use class_tree::{LinkRule, Place, Tree};
 use code_bytes::decode;
 use member_link::class_accessible;
@@ -20,161 +21,112 @@ pub fn explain_links(
     member: &Member,
     rule: LinkRule,
 ) -> Result<String, NoMemory> {
-    let name = shown_member(
-        alloc,
-        class.bytes(),
-        member.name.bytes(),
-        member.desc.bytes(),
-    )?;
-    let text = rule.text();
-    let mut lines = format!(in alloc; "pea: error: {name} is not linked: {text}\n")?;
+    let mut lines = Lines::new(alloc);
+    lines.put("pea: error: ");
+    lines.member(class.bytes(), member.name.bytes(), member.desc.bytes());
+    lines.put(" is not linked: ");
+    lines.put(rule.text());
+    lines.put("\n");
     if member.name.bytes().is_empty() {
-        push_supers(alloc, &mut lines, tree, class)?;
-    } else if !push_declared(alloc, &mut lines, tree, class, member, rule)? {
-        push_used(alloc, &mut lines, tree, class, member, rule)?;
+        put_supers(&mut lines, tree, class);
+    } else if !put_declared(&mut lines, tree, class, member, rule) {
+        put_used(alloc, &mut lines, tree, class, member, rule);
     }
-    Ok(lines)
+    lines.finish()
 }
 
 // The classes above a class that are not accessible from it.
-fn push_supers(
-    alloc: Global,
-    lines: &mut String,
-    tree: &Tree,
-    class: &Text,
-) -> Result<(), NoMemory> {
+fn put_supers(lines: &mut Lines, tree: &Tree, class: &Text) {
     let Some(place) = tree.place(class) else {
-        return Ok(());
+        return;
     };
     let Some(header) = tree.header(place) else {
-        return Ok(());
+        return;
     };
     if let Some(name) = &header.super_name {
-        push_hidden(alloc, lines, tree, class, name)?;
+        put_hidden_super(lines, tree, class, name);
     }
     for name in header.interfaces.as_slice() {
-        push_hidden(alloc, lines, tree, class, name)?;
+        put_hidden_super(lines, tree, class, name);
     }
-    Ok(())
 }
 
-fn push_hidden(
-    alloc: Global,
-    lines: &mut String,
-    tree: &Tree,
-    class: &Text,
-    name: &Text,
-) -> Result<(), NoMemory> {
-    if class_accessible(tree, class, name) {
-        return Ok(());
+fn put_hidden_super(lines: &mut Lines, tree: &Tree, class: &Text, name: &Text) {
+    if !class_accessible(tree, class, name) {
+        lines.put("  it is below ");
+        lines.name(name.bytes());
+        lines.put(", which is not public and is of another package\n");
     }
-    let name = shown_text(alloc, name)?;
-    let line = format!(in alloc;
-        "  it is below {name}, which is not public and is of another package\n"
-    )?;
-    lines.push_str(line.as_str())?;
-    Ok(())
 }
 
 // Whether it is the declaration of a member that breaks a rule, which is then said.
-fn push_declared(
-    alloc: Global,
-    lines: &mut String,
+fn put_declared(
+    lines: &mut Lines,
     tree: &Tree,
     class: &Text,
     member: &Member,
     rule: LinkRule,
-) -> Result<bool, NoMemory> {
-    match rule {
-        LinkRule::Missing => match missing_of_descriptor(tree, member.desc.bytes()) {
-            Some(name) => {
-                push_missing(alloc, lines, tree, name)?;
-                Ok(true)
-            }
-            None => Ok(false),
-        },
-        LinkRule::FinalOverridden => {
-            push_overridden(alloc, lines, tree, class, member)?;
-            Ok(true)
+) -> bool {
+    match (rule, missing_of_descriptor(tree, member.desc.bytes())) {
+        (LinkRule::Missing, Some(name)) => {
+            put_missing(lines, tree, name);
+            true
         }
-        _ => Ok(false),
+        (LinkRule::FinalOverridden, _) => {
+            put_overridden(lines, tree, class, member);
+            true
+        }
+        _ => false,
     }
-}
-
-fn push_missing(
-    alloc: Global,
-    lines: &mut String,
-    tree: &Tree,
-    name: &[u8],
-) -> Result<(), NoMemory> {
-    push_nowhere(
-        alloc,
-        lines,
-        name,
-        tree.folder().len(),
-        tree.library().len(),
-    )
 }
 
 // The classes above that declare the method as final.
-fn push_overridden(
-    alloc: Global,
-    lines: &mut String,
-    tree: &Tree,
-    class: &Text,
-    member: &Member,
-) -> Result<(), NoMemory> {
+fn put_overridden(lines: &mut Lines, tree: &Tree, class: &Text, member: &Member) {
     let mut next = tree.place(class);
     for _ in 0..tree.folder().len() {
-        let Some(place) = next else {
-            break;
-        };
-        next = tree.superclass(place);
+        if let Some(place) = next {
+            next = tree.superclass(place);
+        }
         if let Some(above) = next {
-            push_final(alloc, lines, tree, above, member)?;
+            put_final(lines, tree, above, member);
         }
     }
-    Ok(())
 }
 
-fn push_final(
-    alloc: Global,
-    lines: &mut String,
-    tree: &Tree,
-    above: Place,
-    member: &Member,
-) -> Result<(), NoMemory> {
-    let Some(number) = tree.method(above, &member.name, &member.desc) else {
-        return Ok(());
-    };
-    let Some(header) = tree.header(above) else {
-        return Ok(());
-    };
-    let Some(method) = header.methods.get(number) else {
-        return Ok(());
-    };
-    if has(method.flags, ACC_FINAL) {
-        let name = shown_text(alloc, &header.name)?;
-        let line = format!(in alloc; "  {name} declares it as final\n")?;
-        lines.push_str(line.as_str())?;
+fn put_final(lines: &mut Lines, tree: &Tree, above: Place, member: &Member) {
+    if let Some(header) = tree.header(above) {
+        if is_final_in(tree, above, header, member) {
+            lines.put("  it is final in ");
+            lines.name(header.name.bytes());
+            lines.put("\n");
+        }
     }
-    Ok(())
+}
+
+fn is_final_in(tree: &Tree, above: Place, header: &Header, member: &Member) -> bool {
+    let Some(number) = tree.method(above, &member.name, &member.desc) else {
+        return false;
+    };
+    match header.methods.get(number) {
+        Some(method) => has(method.flags, ACC_FINAL),
+        None => false,
+    }
 }
 
 // Which instruction or table of a method's code refers to what breaks a rule.
-fn push_used(
+fn put_used(
     alloc: Global,
-    lines: &mut String,
+    lines: &mut Lines,
     tree: &Tree,
     class: &Text,
     member: &Member,
     rule: LinkRule,
-) -> Result<(), NoMemory> {
+) {
     let Some(at) = method_at(tree, class, member) else {
-        return Ok(());
+        return;
     };
-    let (Some(file), Some(part)) = (class_of(tree, at), code_at(tree, at)) else {
-        return Ok(());
+    let Some(file) = class_of(tree, at) else {
+        return;
     };
     let user = Use {
         tree,
@@ -182,67 +134,62 @@ fn push_used(
         pool: &file.pool,
         rule,
     };
-    if push_instruction(alloc, lines, &user, part)? {
-        return Ok(());
+    if let Some(part) = code_at(tree, at) {
+        if !put_instruction(alloc, lines, &user, part) {
+            put_named(lines, &user, part);
+        }
     }
-    push_caught(alloc, lines, &user, file, part)
 }
 
 // Whether an instruction refers to what breaks a rule, which is then said.
-fn push_instruction(
-    alloc: Global,
-    lines: &mut String,
-    user: &Use<'_>,
-    part: &CodePart,
-) -> Result<bool, NoMemory> {
-    let code = part.code.as_slice();
-    let Ok(instructions) = decode(alloc, code) else {
-        return Ok(false);
+fn put_instruction(alloc: Global, lines: &mut Lines, user: &Use<'_>, part: &CodePart) -> bool {
+    let Ok(instructions) = decode(alloc, part.code.as_slice()) else {
+        return false;
     };
-    for placed in instructions.as_slice() {
-        if let Some(broken) = broken_use(alloc, user, code, placed)? {
-            lines.push_str(broken.as_str())?;
-            return Ok(true);
-        }
-    }
-    Ok(false)
+    put_first(lines, user, part, instructions.as_slice())
 }
 
-// The first class of the exception table that is missing or not accessible, else the first of the constant pool.
-fn push_caught(
-    alloc: Global,
-    lines: &mut String,
-    user: &Use<'_>,
-    file: &ClassFile,
-    part: &CodePart,
-) -> Result<(), NoMemory> {
+fn put_first(lines: &mut Lines, user: &Use<'_>, part: &CodePart, instructions: &[Placed]) -> bool {
+    for placed in instructions {
+        if put_broken(lines, user, "  an instruction of it names ", &placed.instr) {
+            lines.put("  the instruction is ");
+            lines.put(mnemonic_at(part.code.as_slice(), placed.at as usize));
+            lines.put(" at offset ");
+            lines.number(u64::from(placed.at));
+            lines.put("\n");
+            return true;
+        }
+    }
+    false
+}
+
+// The first class of the exception table that breaks the rule, else the first of the constant pool.
+fn put_named(lines: &mut Lines, user: &Use<'_>, part: &CodePart) {
     for handler in part.handlers.as_slice() {
-        if let Some(name) = class_name(&file.pool, handler.catch_type) {
-            if user.names_badly(name) {
-                lines.push_str("  a handler of its exception table catches it:\n")?;
-                return push_class(alloc, lines, user, name);
-            }
+        if is_bad(user, handler.catch_type) {
+            lines.put("  its exception table names a class:\n");
+            put_bad(lines, user, handler.catch_type);
+            return;
         }
     }
-    for index in 1..file.pool.count() {
-        if let Some(name) = class_name(&file.pool, index) {
-            if user.names_badly(name) {
-                lines.push_str("  a stack map frame of its code names it:\n")?;
-                return push_class(alloc, lines, user, name);
-            }
+    for index in 1..user.pool.count() {
+        if is_bad(user, index) {
+            lines.put("  a stack map frame of it names a class:\n");
+            put_bad(lines, user, index);
+            return;
         }
     }
-    Ok(())
 }
 
-fn push_class(
-    alloc: Global,
-    lines: &mut String,
-    user: &Use<'_>,
-    name: &[u8],
-) -> Result<(), NoMemory> {
-    match user.missing(name) {
-        Some(name) => push_missing(alloc, lines, user.tree, name),
-        None => push_inaccessible(alloc, lines, name),
+fn is_bad(user: &Use<'_>, index: u16) -> bool {
+    match class_name(user.pool, index) {
+        Some(name) => names_badly(user, name.bytes()),
+        None => false,
+    }
+}
+
+fn put_bad(lines: &mut Lines, user: &Use<'_>, index: u16) {
+    if let Some(name) = class_name(user.pool, index) {
+        put_bad_name(lines, user, name.bytes());
     }
 }

@@ -1,8 +1,8 @@
 //! Class files that break the format.
-use crate::shown::shown;
+use crate::lines::Lines;
 use crate::side::Side;
 use crate::spot::part_of;
-use crate::spot_text::words_of;
+use crate::spot_words::put_part;
 use class_model::{FileRule, NoMemory};
 use std::alloc::Global;
 
@@ -15,11 +15,17 @@ pub fn explain_malformed(
     at: u64,
     rule: FileRule,
 ) -> Result<String, NoMemory> {
-    let word = side.word();
-    let file = shown(alloc, name.as_bytes())?;
-    let text = rule.text();
-    let part = words_of(alloc, bytes, at, part_of(bytes, at))?;
-    Ok(format!(in alloc;
-        "pea: error: {word}/{file} breaks the class file format: {text}\n  at byte {at}, in {part}\n"
-    )?)
+    let mut lines = Lines::new(alloc);
+    lines.put("pea: error: ");
+    lines.put(side.word());
+    lines.put("/");
+    lines.name(name.as_bytes());
+    lines.put(" breaks the class file format: ");
+    lines.put(rule.text());
+    lines.put("\n  at byte ");
+    lines.number(at);
+    lines.put(", in ");
+    put_part(&mut lines, bytes, at, part_of(bytes, at));
+    lines.put("\n");
+    lines.finish()
 }

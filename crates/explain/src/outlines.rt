@@ -51,11 +51,17 @@ impl Outlines {
 
     /// Whether it has a class of this name.
     pub(crate) fn has(&self, name: &[u8]) -> bool {
+        self.copies(name) > 0
+    }
+
+    /// How many classes of this name it has.
+    pub(crate) fn copies(&self, name: &[u8]) -> u64 {
+        let mut count: u64 = 0;
         for class in self.classes.as_slice() {
             if class.bytes() == name {
-                return true;
+                count = count.saturating_add(1);
             }
         }
-        false
+        count
     }
 }

@@ -59,29 +59,29 @@ fn constant_of<'a>(cursor: &mut Cursor<'a>) -> Option<RawConstant<'a>> {
     Some(RawConstant { tag, content })
 }
 
-/// The name of a tag (JVM Specification SE 8, 4.4), and `?` where it is unknown.
+/// The name of a tag (JVM Specification SE 8, 4.4), in brackets; empty where it is unknown.
 pub(crate) fn tag_name(tag: u8) -> &'static str {
     match tag {
-        1 => "Utf8",
-        3 => "Integer",
-        4 => "Float",
-        5 => "Long",
-        6 => "Double",
-        7 => "Class",
-        8 => "String",
+        1 => " (Utf8)",
+        3 => " (Integer)",
+        4 => " (Float)",
+        5 => " (Long)",
+        6 => " (Double)",
+        7 => " (Class)",
+        8 => " (String)",
         _ => member_tag_name(tag),
     }
 }
 
 fn member_tag_name(tag: u8) -> &'static str {
     match tag {
-        9 => "Fieldref",
-        10 => "Methodref",
-        11 => "InterfaceMethodref",
-        12 => "NameAndType",
-        15 => "MethodHandle",
-        16 => "MethodType",
-        18 => "InvokeDynamic",
-        _ => "?",
+        9 => " (Fieldref)",
+        10 => " (Methodref)",
+        11 => " (InterfaceMethodref)",
+        12 => " (NameAndType)",
+        15 => " (MethodHandle)",
+        16 => " (MethodType)",
+        18 => " (InvokeDynamic)",
+        _ => "",
     }
 }

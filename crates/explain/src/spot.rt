@@ -11,7 +11,11 @@ pub(crate) enum Part {
     /// A constant, by its index.
     Constant(u16),
     /// A field or method, which begins at this place.
-    Member { is_method: bool, at: u64, inner: Inner },
+    Member {
+        is_method: bool,
+        at: u64,
+        inner: Inner,
+    },
     /// An attribute of the class, which begins at this place.
     Attribute(u64),
     /// What is behind the last attribute.
@@ -31,6 +35,8 @@ pub(crate) enum Inner {
     Limits,
     /// The code, which begins at this place.
     Code(u64),
+    /// The count of the exception table.
+    Handlers,
     /// An entry of the exception table, by its number.
     Handler(u16),
     /// An attribute of a Code attribute, which begins at this place.
@@ -179,6 +185,7 @@ impl Walk<'_> {
         let start = self.cursor.at();
         self.enter(at, Inner::Code(start));
         self.take(length as usize)?;
+        self.enter(at, Inner::Handlers);
         let count = self.u2()?;
         for number in 0..count {
             self.enter(at, Inner::Handler(number));

@@ -1,32 +1,63 @@
 //! What instructions take from the stack and from locals (JVM Specification SE 8, 6.5).
 use crate::frames::kind_word;
-use crate::taken_objects::taken_of_objects;
-use class_model::{ClassFile, Instr, NoMemory};
-use std::alloc::Global;
+use crate::lines::Lines;
+use crate::references::{descriptor_of, reference_at};
+use class_model::{ClassFile, Instr};
 
-/// What an instruction takes, in words behind `it`; empty where it takes nothing.
-pub(crate) fn taken(
-    alloc: Global,
-    file: &ClassFile,
-    instr: &Instr,
-) -> Result<String, NoMemory> {
+/// Writes what an instruction takes, if it takes something.
+pub(crate) fn put_taken(lines: &mut Lines, file: &ClassFile, instr: &Instr) {
     match instr {
-        Instr::Load(kind, at) => {
-            let word = kind_word(*kind);
-            Ok(format!(in alloc; "loads local {at}, which must be {word}")?)
-        }
-        Instr::Iinc(at, _) => Ok(format!(in alloc; "adds to local {at}, which must be int")?),
-        Instr::Store(kind, _) => {
-            let word = kind_word(*kind);
-            Ok(format!(in alloc; "takes {word} from the stack")?)
-        }
+        Instr::Load(kind, at) => put_local(lines, *at, kind_word(*kind)),
+        Instr::Iinc(at, _) => put_local(lines, *at, "int"),
+        Instr::Store(kind, _) => put_words(lines, kind_word(*kind)),
+        Instr::PutStatic(index)
+        | Instr::GetField(index)
+        | Instr::PutField(index)
+        | Instr::Invoke(_, index, _) => put_member(lines, file, *index),
+        Instr::Dynamic(index) => put_dynamic(lines, file, *index),
+        Instr::Return(_) => lines.put("  it must return what the method's descriptor says\n"),
         _ => {
             let words = plain(instr);
-            if words.is_empty() {
-                taken_of_objects(alloc, file, instr)
-            } else {
-                Ok(format!(in alloc; "takes {words} from the stack, the last from the top")?)
+            if !words.is_empty() {
+                put_words(lines, words);
             }
+        }
+    }
+}
+
+fn put_local(lines: &mut Lines, at: u16, words: &str) {
+    lines.put("  local ");
+    lines.number(u64::from(at));
+    lines.put(" must be ");
+    lines.put(words);
+    lines.put("\n");
+}
+
+fn put_words(lines: &mut Lines, words: &str) {
+    lines.put("  it takes ");
+    lines.put(words);
+    lines.put(" from the stack, the last from the top\n");
+}
+
+// Of a field or a call the descriptor says what is taken.
+fn put_member(lines: &mut Lines, file: &ClassFile, index: u16) {
+    if let Some(reference) = reference_at(&file.pool, index) {
+        lines.put("  it names ");
+        lines.member(
+            reference.class.bytes(),
+            reference.name.bytes(),
+            reference.desc.bytes(),
+        );
+        lines.put(", and takes the object unless that is static, and the value or the arguments\n");
+    }
+}
+
+fn put_dynamic(lines: &mut Lines, file: &ClassFile, index: u16) {
+    if let Some(constant) = file.pool.get(index) {
+        if let Some(desc) = descriptor_of(&file.pool, constant) {
+            lines.put("  it takes the arguments of ");
+            lines.name(desc.bytes());
+            lines.put("\n");
         }
     }
 }
@@ -51,9 +82,10 @@ fn plain_one(instr: &Instr) -> &'static str {
     match instr {
         Instr::If(..) | Instr::Table { .. } | Instr::Lookup { .. } => "int",
         Instr::NewArray(_) | Instr::NewRefArray(_) => "int",
+        Instr::NewMulti(..) => "an int for each dimension",
         Instr::Length => "an array",
         Instr::Throw => "a throwable",
-        Instr::Cast(_) | Instr::InstanceOf(_) => "a reference that is initialised",
+        Instr::Cast(_) | Instr::InstanceOf(_) => "a reference",
         Instr::Enter | Instr::Leave => "a reference",
         _ => "",
     }

@@ -1,16 +1,16 @@
 //! Methods that do not verify.
-use crate::frames::push_frame;
+ghost use Rattle.member_link.specs.Linked.{IsLinked};
+
+use crate::frames::put_frame;
+use crate::lines::Lines;
 use crate::mnemonics::mnemonic_at;
-use crate::places::{code_at, method_at};
-use crate::shown::shown_member;
-use crate::wanted::{Failing, push_wanted};
+use crate::places::{class_of, code_at, method_at};
+use crate::wanted::{Failing, put_wanted};
 use class_model::{Member, MethodAt, NoMemory, Text};
 use class_tree::Tree;
 use std::alloc::Global;
 use type_rules::TypeRule;
 use verify_folder::{FrameBefore, frame_before};
-
-ghost use Rattle.member_link.specs.Linked.{IsLinked};
 
 /// Explains why a method of a linked folder does not verify: the instruction, the frame before it, and what the rule wants.
 pub fn explain_verification(
@@ -23,68 +23,66 @@ pub fn explain_verification(
 ) -> Result<String, NoMemory>
     requires { IsLinked tree.now }
 {
-    let name = shown_member(
-        alloc,
-        class.bytes(),
-        method.name.bytes(),
-        method.desc.bytes(),
-    )?;
-    let text = rule.text();
-    let Some(at) = method_at(tree, class, method) else {
-        return Ok(format!(in alloc;
-            "pea: error: {name} does not verify at offset {offset}: {text}\n"
-        )?);
-    };
-    let mnemonic = match code_at(tree, at) {
-        Some(part) => mnemonic_at(part.code.as_slice(), offset as usize),
-        None => "?",
-    };
-    let mut lines = format!(in alloc;
-        "pea: error: {name} does not verify at offset {offset}, {mnemonic}: {text}\n"
-    )?;
-    push_reason(alloc, &mut lines, tree, at, offset, rule)?;
-    Ok(lines)
+    let mut lines = Lines::new(alloc);
+    lines.put("pea: error: ");
+    lines.member(class.bytes(), method.name.bytes(), method.desc.bytes());
+    lines.put(" does not verify at offset ");
+    lines.number(u64::from(offset));
+    if let Some(at) = method_at(tree, class, method) {
+        put_mnemonic(&mut lines, tree, at, offset);
+        lines.put(rule.text());
+        lines.put("\n");
+        put_reason(alloc, &mut lines, tree, at, offset, rule);
+    }
+    lines.finish()
 }
 
-fn push_reason(
+fn put_mnemonic(lines: &mut Lines, tree: &Tree, at: MethodAt, offset: u32) {
+    if let Some(part) = code_at(tree, at) {
+        if (offset as usize) < part.code.len() {
+            lines.put(", ");
+            lines.put(mnemonic_at(part.code.as_slice(), offset as usize));
+        }
+    }
+    lines.put(": ");
+}
+
+fn put_reason(
     alloc: Global,
-    lines: &mut String,
+    lines: &mut Lines,
     tree: &Tree,
     at: MethodAt,
     offset: u32,
     rule: TypeRule,
-) -> Result<(), NoMemory>
+)
     requires { IsLinked tree.now }
 {
-    let before = frame_before(alloc, tree, at, offset)?;
-    push_before(alloc, lines, &before, rule)?;
-    let (Some(file), Some(part)) = (tree.folder().get(at.class), code_at(tree, at)) else {
-        return Ok(());
+    let Ok(before) = frame_before(alloc, tree, at, offset) else {
+        return;
     };
-    let failing = Failing {
-        tree,
-        file,
-        part,
-        before: &before,
-        offset,
-    };
-    push_wanted(alloc, lines, &failing, rule)
+    put_before(lines, &before, rule);
+    if let (Some(file), Some(part)) = (class_of(tree, at), code_at(tree, at)) {
+        let failing = Failing {
+            tree,
+            file,
+            part,
+            before: &before,
+            offset,
+        };
+        put_wanted(alloc, lines, &failing, rule);
+    }
 }
 
 // The frame before the instruction: the stated one, else what flows in; both where they differ.
-fn push_before(
-    alloc: Global,
-    lines: &mut String,
-    before: &FrameBefore,
-    rule: TypeRule,
-) -> Result<(), NoMemory> {
-    match (&before.stated, &before.flows) {
-        (Some(stated), Some(flows)) if rule == TypeRule::Mismatch => {
-            push_frame(alloc, lines, "flows in", flows)?;
-            push_frame(alloc, lines, "stated", stated)
+fn put_before(lines: &mut Lines, before: &FrameBefore, rule: TypeRule) {
+    if rule == TypeRule::Mismatch {
+        if let Some(flows) = &before.flows {
+            put_frame(lines, "  what flows in", flows);
         }
-        (Some(stated), _) => push_frame(alloc, lines, "the frame before it", stated),
-        (None, Some(flows)) => push_frame(alloc, lines, "the frame before it", flows),
-        (None, None) => Ok(()),
+    }
+    match (&before.stated, &before.flows) {
+        (Some(stated), _) => put_frame(lines, "  the stated frame", stated),
+        (None, Some(flows)) => put_frame(lines, "  the frame before it", flows),
+        (None, None) => {}
     }
 }

@@ -1,5 +1,5 @@
 //! Versions that are not read.
-use crate::shown::shown;
+use crate::lines::Lines;
 use crate::side::Side;
 use class_model::NoMemory;
 use std::alloc::Global;
@@ -12,44 +12,52 @@ pub fn explain_version(
     major: u16,
     minor: u16,
 ) -> Result<String, NoMemory> {
-    let word = side.word();
-    let file = shown(alloc, name.as_bytes())?;
-    let java = java_of(alloc, major, minor)?;
-    let read = read_versions(side);
-    let hint = hint(name);
-    Ok(format!(in alloc;
-        "pea: error: {word}/{file} is a class file of version {major}.{minor}, {java}\n{hint}  {read}\n"
-    )?)
+    let mut lines = Lines::new(alloc);
+    lines.put("pea: error: ");
+    lines.put(side.word());
+    lines.put("/");
+    lines.name(name.as_bytes());
+    lines.put(" is a class file of version ");
+    lines.number(u64::from(major));
+    lines.put(".");
+    lines.number(u64::from(minor));
+    put_java(&mut lines, major, minor);
+    lines.put(hint(name));
+    lines.put(read_versions(side));
+    lines.finish()
 }
 
 // Which Java a version is of (JVM Specification SE 8, 4.1, and those of later editions).
-fn java_of(alloc: Global, major: u16, minor: u16) -> Result<String, NoMemory> {
+fn put_java(lines: &mut Lines, major: u16, minor: u16) {
     if major < 45 {
-        return Ok(String::from_str(alloc, "which is of no Java")?);
+        lines.put(", which is of no Java\n");
+        return;
     }
-    let number = major - 44;
+    let number = u64::from(major - 44);
     if number == 1 {
-        return Ok(String::from_str(alloc, "which is of Java 1.0 or 1.1")?);
+        lines.put(", which is of Java 1.0 or 1.1\n");
+        return;
     }
-    let preview = if minor == 0 || major < 56 {
-        ""
+    lines.put(if number < 5 {
+        ", which is of Java 1."
     } else {
-        " with preview features"
-    };
-    if number < 5 {
-        Ok(format!(in alloc; "which is of Java 1.{number}")?)
+        ", which is of Java "
+    });
+    lines.number(number);
+    lines.put(if minor == 0 || number < 12 {
+        "\n"
     } else {
-        Ok(format!(in alloc; "which is of Java {number}{preview}")?)
-    }
+        " with preview features\n"
+    });
 }
 
 fn read_versions(side: Side) -> &'static str {
     match side {
         Side::Input => {
-            "in IN those of Java 6 to 8 are read, of versions 50.0 to 52.0: javac --release 8 makes them"
+            "  in IN those of Java 6 to 8 are read, of versions 50.0 to 52.0: javac --release 8 makes them\n"
         }
         Side::Library => {
-            "in LIB those up to Java 8 are read, of versions 45.0 to 52.0: scripts/library.sh LIB JAR.. takes the headers of later ones"
+            "  in LIB those up to Java 8 are read, of versions 45.0 to 52.0: scripts/library.sh LIB JAR.. takes the headers of later ones\n"
         }
     }
 }

@@ -1,9 +1,9 @@
 //! What a rule of types wants of an instruction.
-use crate::frames::push_difference;
-use crate::hierarchy::class_name;
-use crate::shown::shown;
-use crate::taken::taken;
-use class_model::{ClassFile, CodePart, Handler, Instr, Kind, NoMemory};
+use crate::frames::put_difference;
+use crate::lines::Lines;
+use crate::pool_texts::class_name;
+use crate::taken::put_taken;
+use class_model::{ClassFile, CodePart, Handler, Instr, Placed};
 use class_tree::{THROWABLE, Tree, is_below};
 use code_bytes::decode;
 use std::alloc::Global;
@@ -20,166 +20,108 @@ pub(crate) struct Failing<'a> {
     pub offset: u32,
 }
 
-/// Appends what the rule that is broken wants.
-pub(crate) fn push_wanted(
-    alloc: Global,
-    lines: &mut String,
-    failing: &Failing<'_>,
-    rule: TypeRule,
-) -> Result<(), NoMemory> {
+/// Writes what the rule that is broken wants.
+pub(crate) fn put_wanted(alloc: Global, lines: &mut Lines, failing: &Failing<'_>, rule: TypeRule) {
     match rule {
-        TypeRule::CatchType => push_caught(alloc, lines, failing),
-        TypeRule::Mismatch => push_mismatch(alloc, lines, failing),
-        TypeRule::Handler => push_handlers(alloc, lines, failing),
-        TypeRule::Stack | TypeRule::Local | TypeRule::Kind => push_taken(alloc, lines, failing),
-        TypeRule::Depth => push_depth(alloc, lines, failing),
-        TypeRule::Target => push_targets(alloc, lines, failing),
-        TypeRule::NoFrame => Ok(lines.push_str(
-            "  behind a goto, a switch, a return or an athrow a stack map frame must be stated\n",
-        )?),
-        TypeRule::FallsOff => Ok(lines.push_str(
-            "  the last instruction must be a goto, a switch, a return or an athrow\n",
-        )?),
+        TypeRule::CatchType => put_caught(lines, failing),
+        TypeRule::Mismatch => put_mismatch(lines, failing),
+        TypeRule::Handler => put_handlers(lines, failing),
+        TypeRule::Depth => put_depth(lines, failing.part),
+        TypeRule::NoFrame | TypeRule::FallsOff => {
+            lines.put(
+                "  a goto, switch, return or athrow lets nothing flow on, and all else does\n",
+            );
+        }
+        TypeRule::Stack | TypeRule::Local | TypeRule::Kind | TypeRule::Target => {
+            put_instruction(alloc, lines, failing);
+        }
     }
 }
 
 // The handlers whose range begins at the offset and whose class is no throwable.
-fn push_caught(
-    alloc: Global,
-    lines: &mut String,
-    failing: &Failing<'_>,
-) -> Result<(), NoMemory> {
+fn put_caught(lines: &mut Lines, failing: &Failing<'_>) {
     for handler in failing.part.handlers.as_slice() {
-        if u32::from(handler.start) == failing.offset {
-            if let Some(name) = class_name(&failing.file.pool, handler.catch_type) {
-                push_no_throwable(alloc, lines, failing.tree, name, handler.at)?;
-            }
+        if u32::from(handler.start) == failing.offset && !catches(failing, handler) {
+            put_handler(lines, failing.file, handler);
         }
     }
-    Ok(())
 }
 
-fn push_no_throwable(
-    alloc: Global,
-    lines: &mut String,
-    tree: &Tree,
-    name: &[u8],
-    at: u16,
-) -> Result<(), NoMemory> {
-    if name == THROWABLE || is_below(tree, name, THROWABLE) {
-        return Ok(());
+// Whether the class that a handler catches is a throwable.
+fn catches(failing: &Failing<'_>, handler: &Handler) -> bool {
+    match class_name(&failing.file.pool, handler.catch_type) {
+        Some(name) => {
+            name.bytes() == THROWABLE || is_below(failing.tree, name.bytes(), THROWABLE)
+        }
+        None => true,
     }
-    let name = shown(alloc, name)?;
-    let line = format!(in alloc; "  the handler at offset {at} catches {name}\n")?;
-    lines.push_str(line.as_str())?;
-    Ok(())
 }
 
-fn push_mismatch(
-    alloc: Global,
-    lines: &mut String,
-    failing: &Failing<'_>,
-) -> Result<(), NoMemory> {
-    match (&failing.before.flows, &failing.before.stated) {
-        (Some(flows), Some(stated)) => push_difference(alloc, lines, failing.tree, flows, stated),
-        _ => Ok(()),
+fn put_mismatch(lines: &mut Lines, failing: &Failing<'_>) {
+    if let Some(flows) = &failing.before.flows {
+        if let Some(stated) = &failing.before.stated {
+            put_difference(lines, failing.tree, flows, stated);
+        }
     }
 }
 
 // The handlers around the instruction.
-fn push_handlers(
-    alloc: Global,
-    lines: &mut String,
-    failing: &Failing<'_>,
-) -> Result<(), NoMemory> {
+fn put_handlers(lines: &mut Lines, failing: &Failing<'_>) {
     for handler in failing.part.handlers.as_slice() {
         if covers(handler, failing.offset) {
-            push_handler(alloc, lines, failing, handler)?;
+            put_handler(lines, failing.file, handler);
         }
     }
-    Ok(())
 }
 
 fn covers(handler: &Handler, offset: u32) -> bool {
     u32::from(handler.start) <= offset && offset < u32::from(handler.end)
 }
 
-fn push_handler(
-    alloc: Global,
-    lines: &mut String,
-    failing: &Failing<'_>,
-    handler: &Handler,
-) -> Result<(), NoMemory> {
-    let at = handler.at;
-    let caught = match class_name(&failing.file.pool, handler.catch_type) {
-        Some(name) => shown(alloc, name)?,
-        None => String::from_str(alloc, "every throwable")?,
-    };
-    let line = format!(in alloc;
-        "  the handler at offset {at} catches {caught}: its frame has these locals, and the caught class alone on the stack\n"
-    )?;
-    lines.push_str(line.as_str())?;
-    Ok(())
+fn put_handler(lines: &mut Lines, file: &ClassFile, handler: &Handler) {
+    lines.put("  the handler at offset ");
+    lines.number(u64::from(handler.at));
+    lines.put(" catches ");
+    match class_name(&file.pool, handler.catch_type) {
+        Some(name) => lines.name(name.bytes()),
+        None => lines.put("every throwable"),
+    }
+    lines.put("\n");
 }
 
-// What the instruction takes from the stack or from a local.
-fn push_taken(alloc: Global, lines: &mut String, failing: &Failing<'_>) -> Result<(), NoMemory> {
-    let Ok(instructions) = decode(alloc, failing.part.code.as_slice()) else {
-        return Ok(());
-    };
-    for placed in instructions.as_slice() {
+fn put_depth(lines: &mut Lines, part: &CodePart) {
+    lines.put("  max_stack is ");
+    lines.number(u64::from(part.max_stack));
+    lines.put(", where a long or a double counts as 2\n");
+}
+
+// What the instruction takes, and where it goes to.
+fn put_instruction(alloc: Global, lines: &mut Lines, failing: &Failing<'_>) {
+    if let Ok(instructions) = decode(alloc, failing.part.code.as_slice()) {
+        put_at(lines, failing, instructions.as_slice());
+    }
+}
+
+fn put_at(lines: &mut Lines, failing: &Failing<'_>, instructions: &[Placed]) {
+    for placed in instructions {
         if placed.at == failing.offset {
-            let words = taken(alloc, failing.file, &placed.instr)?;
-            if !words.is_empty() {
-                let line = format!(in alloc; "  it {words}\n")?;
-                lines.push_str(line.as_str())?;
-            }
+            put_taken(lines, failing.file, &placed.instr);
+            put_target(lines, &placed.instr);
         }
     }
-    Ok(())
 }
 
-fn push_depth(alloc: Global, lines: &mut String, failing: &Failing<'_>) -> Result<(), NoMemory> {
-    let most = failing.part.max_stack;
-    let line = format!(in alloc;
-        "  max_stack is {most}, where a long or a double counts as 2\n"
-    )?;
-    lines.push_str(line.as_str())?;
-    Ok(())
-}
-
-// The offsets that the instruction may go to.
-fn push_targets(
-    alloc: Global,
-    lines: &mut String,
-    failing: &Failing<'_>,
-) -> Result<(), NoMemory> {
-    let Ok(instructions) = decode(alloc, failing.part.code.as_slice()) else {
-        return Ok(());
-    };
-    for placed in instructions.as_slice() {
-        if placed.at == failing.offset {
-            push_targets_of(alloc, lines, &placed.instr)?;
-        }
-    }
-    Ok(())
-}
-
-fn push_targets_of(alloc: Global, lines: &mut String, instr: &Instr) -> Result<(), NoMemory> {
+fn put_target(lines: &mut Lines, instr: &Instr) {
     match instr {
         Instr::If(_, to)
         | Instr::If2(_, to)
         | Instr::IfSame(_, to)
         | Instr::IfNull(_, to)
         | Instr::Goto(to) => {
-            let line = format!(in alloc;
-                "  it goes to offset {to}, where a frame must be stated that fits what is behind it\n"
-            )?;
-            lines.push_str(line.as_str())?;
+            lines.put("  its target is offset ");
+            lines.number(u64::from(*to));
+            lines.put("\n");
         }
-        _ => lines.push_str(
-            "  at each of its targets a frame must be stated that fits what is behind it\n",
-        )?,
+        _ => {}
     }
-    Ok(())
 }

@@ -1,13 +1,12 @@
 //! Why a class or member is not accessible (JVM Specification SE 8, 5.4.4).
 use crate::descriptors::element;
-use crate::shown::shown;
-use class_model::{ACC_PRIVATE, ACC_PROTECTED, ACC_PUBLIC, ACC_STATIC, NoMemory, Text, has};
+use crate::lines::Lines;
+use class_model::{ACC_PRIVATE, ACC_PROTECTED, ACC_PUBLIC, ACC_STATIC, Text, has};
 use class_tree::{Tree, is_sub};
 use member_link::is_same_package;
-use std::alloc::Global;
 
 /// Whether the class that a name names is there and not accessible from a class.
-pub(crate) fn inaccessible_class(tree: &Tree, from: &[u8], name: &[u8]) -> bool {
+pub(crate) fn is_hidden(tree: &Tree, from: &[u8], name: &[u8]) -> bool {
     let class = element(name);
     let Some(place) = tree.find(class) else {
         return false;
@@ -18,46 +17,36 @@ pub(crate) fn inaccessible_class(tree: &Tree, from: &[u8], name: &[u8]) -> bool 
     }
 }
 
-/// Appends that a class is not accessible.
-pub(crate) fn push_inaccessible(
-    alloc: Global,
-    lines: &mut String,
-    name: &[u8],
-) -> Result<(), NoMemory> {
-    let name = shown(alloc, element(name))?;
-    let line = format!(in alloc; "  {name} is not public and is of another package\n")?;
-    lines.push_str(line.as_str())?;
-    Ok(())
+/// Writes that a class is not accessible.
+pub(crate) fn put_hidden(lines: &mut Lines, name: &[u8]) {
+    lines.put("  ");
+    lines.name(element(name));
+    lines.put(" is not public and is of another package\n");
 }
 
 /// Why a member that a class declares is not accessible from another, through a class that is named; empty where it is.
-pub(crate) fn inaccessible_member(
+pub(crate) fn why_hidden(
     tree: &Tree,
     from: &Text,
     named: &Text,
     class: &Text,
     flags: u16,
 ) -> &'static str {
-    let is_near = is_same_package(from.bytes(), class.bytes());
-    if has(flags, ACC_PUBLIC) {
+    if has(flags, ACC_PUBLIC) || (has(flags, ACC_PRIVATE) && from.bytes() == class.bytes()) {
         ""
     } else if has(flags, ACC_PRIVATE) {
-        if from.bytes() == class.bytes() {
-            ""
-        } else {
-            "private"
-        }
-    } else if is_near {
+        "private"
+    } else if is_same_package(from.bytes(), class.bytes()) {
         ""
     } else if has(flags, ACC_PROTECTED) {
-        inaccessible_below(tree, from, named, class, has(flags, ACC_STATIC))
+        why_protected(tree, from, named, class, has(flags, ACC_STATIC))
     } else {
         "accessible in its own package alone"
     }
 }
 
 // Of a protected member of another package.
-fn inaccessible_below(
+fn why_protected(
     tree: &Tree,
     from: &Text,
     named: &Text,
