@@ -29,7 +29,13 @@ module _ (words : List Word) (command : Command) (spelled : Spells command words
 
   pub stop_verifying : (tree : Classes) → IsArranged classes headers tree → IsTree tree → IsLinked tree → (fault : VerifyFault) → FolderIsTyped tree (Err fault) → IsStop words old new before after (verify_status fault)
   stop_verifying tree arranged is_tree linked (failures.Unverified class method offset rule) fails =
-      let first = record { classes = tree; arranged = arranged; tree = is_tree; linked = linked; fails = fails } in
       stop_refused words old new before after same none (Unverified class method offset rule) refl
-      (record { command = command; spelled = spelled; classes = classes; headers = headers; read = read; first = first })
+      (record {
+        command = command;
+        spelled = spelled;
+        classes = classes;
+        headers = headers;
+        read = read;
+        first = record { classes = tree; arranged = arranged; tree = is_tree; linked = linked; fails = fails };
+      })
   stop_verifying tree arranged is_tree linked failures.NoMemory fails = stop_no_memory words old new before after same none

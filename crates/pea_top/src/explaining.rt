@@ -106,7 +106,8 @@ fn lines_of_linking(
         class,
         member,
         rule,
-    } = &stop.fault else {
+    } = &stop.fault
+    else {
         return Err(NoMemory);
     };
     match &stop.tree {
@@ -153,11 +154,7 @@ pub(crate) fn explain_verifying<H: Host>(
     show(host, lines_of_verifying(alloc, tree, fault));
 }
 
-fn lines_of_verifying(
-    alloc: Global,
-    tree: &Tree,
-    fault: &VerifyFault,
-) -> Result<String, NoMemory>
+fn lines_of_verifying(alloc: Global, tree: &Tree, fault: &VerifyFault) -> Result<String, NoMemory>
     requires { IsLinked tree.now }
 {
     match fault {

@@ -98,7 +98,10 @@ pub(crate) fn status_of(stop: ReadStop) -> Status
         ReadStop::NoMemory => Status::NoMemory,
         ReadStop::Malformed { name, at, rule, .. } => Status::Malformed { name, at, rule },
         ReadStop::Version {
-            name, major, minor, ..
+            name,
+            major,
+            minor,
+            ..
         } => Status::Version { name, major, minor },
     }
 }
