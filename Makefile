@@ -28,3 +28,4 @@ bench: bin/pea
 	bash bench/library.sh
 	bash bench/verify.sh
 	bash bench/sizes.sh
+	bash bench/jar.sh

@@ -16,14 +16,15 @@ run() {
     status=$?
 }
 
-# What the last run wrote to standard error explains a failed call of the system where the status is 6, and else has notes alone.
+# What the last run wrote to standard error explains a refusal or a failed call of the system by its status, and has notes beside.
 explained() {
-    local first='^pea: note: '
-    if [ "$status" = 6 ]; then
-        first='^pea: cannot '
-        grep -q "$first" "$work/errors" || return 1
-    fi
-    ! grep -v '^  ' "$work/errors" | grep -qv "$first"
+    local said='pea: note: '
+    case $status in
+        1 | 2 | 3 | 4 | 5) said='pea: error: ' ;;
+        6) said='pea: cannot ' ;;
+    esac
+    if [ "$said" != 'pea: note: ' ]; then grep -q "^$said" "$work/errors" || return 1; fi
+    ! grep -v '^  ' "$work/errors" | grep -Eqv "^($said|pea: note: )"
 }
 
 # check NAME STATUS LINE TEST..: the last run has this status and printed this line (none where it is

@@ -9,6 +9,7 @@
 //! - `host`, a new host without files; `host failing 3`, one whose calls of these numbers fail, counted from 0;
 //! - `base ROOT`, which puts the class files of the base library there; `base ROOT 2`, its first two;
 //! - `put ROOT/FILE CONTENT`, which puts a file there;
+//! - `class ROOT/FILE CLASS`, which puts a class file there, written in the notation of cases_notation;
 //! - `bytes NAME CONTENT`, which names a content.
 //!
 //! A content is words, each of which appends bytes to those before: hex digits; `"first`, a text; `'first`, the Utf8 constant

@@ -2,7 +2,7 @@
 use crate::base_library::put_first;
 use crate::contents::Contents;
 use crate::texts::root_and_name;
-use cases_notation::word_and_rest;
+use cases_notation::{class_file, word_and_rest};
 use class_model::ListOf;
 use host_tree::MemoryHost;
 use std::alloc::Global;
@@ -30,6 +30,7 @@ impl Setting {
             "host" => self.host = host_failing(alloc, said)?,
             "base" => self.put_library(alloc, said)?,
             "put" => self.put_file(alloc, said)?,
+            "class" => self.put_class(alloc, said)?,
             "bytes" => self.name_content(alloc, said)?,
             _ => return Some(false),
         }
@@ -50,6 +51,14 @@ impl Setting {
         let (path, content) = said.split_once(' ')?;
         let (root, name) = root_and_name(alloc, path)?;
         let bytes = self.contents.written(alloc, content)?;
+        self.host.put(alloc, &root, &name, &bytes).ok()
+    }
+
+    // Puts the class file of a notation into a root.
+    fn put_class(&mut self, alloc: Global, said: &str) -> Option<()> {
+        let (path, notation) = said.split_once(' ')?;
+        let (root, name) = root_and_name(alloc, path)?;
+        let bytes = class_file(alloc, notation).ok()?;
         self.host.put(alloc, &root, &name, &bytes).ok()
     }
 

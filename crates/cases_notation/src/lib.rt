@@ -18,5 +18,5 @@ pub use case::{difference, print_difference, question_of};
 pub use head::Head;
 pub use input::Input;
 pub use lines::{Line, lines_of, word_and_rest};
-pub use notation::OBJECT;
+pub use notation::{OBJECT, class_file};
 pub use questions::{last_method, superclasses};

@@ -18,7 +18,7 @@ pub(crate) fn name_of(text: &str) -> &str {
 }
 
 /// The bytes of the class file that a text says.
-pub(crate) fn class_file(alloc: Global, text: &str) -> Result<Vec<u8>, NoMemory> {
+pub fn class_file(alloc: Global, text: &str) -> Result<Vec<u8>, NoMemory> {
     let (major, text) = match text.strip_prefix("51:") {
         Some(text) => (51, text),
         None => (52, text),

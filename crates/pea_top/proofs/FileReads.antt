@@ -74,6 +74,6 @@ pub why_from_file : {folder : Folder} {names left : List Bytes} {files : List Na
     → AreNames folder names → HasReadFiles folder names (name ∷ left) files classes → (stop : ReadStop) → IsFileOrWhy folder name (Err stop) → IsReadOrWhy folder (Err stop)
 why_from_file are read (Fault call) why = tt
 why_from_file are read NoMemory why = tt
-why_from_file {folder} are read (Malformed refused at rule) why = subst (λ (name : Bytes). IsFirstRefused IsRefusedClass folder name (broken (fault at rule))) (sym why.0) (first_refused are read.read why.1)
-why_from_file {folder} are read (Version refused major minor) why =
+why_from_file {folder} are read (Malformed refused at rule file) why = subst (λ (name : Bytes). IsFirstRefused IsRefusedClass folder name (broken (fault at rule))) (sym why.0) (first_refused are read.read why.1)
+why_from_file {folder} are read (Version refused major minor side) why =
     subst (λ (name : Bytes). IsFirstRefused IsRefusedClass folder name (other_version (record { minor = minor; major = major }))) (sym why.0) (first_refused are read.read why.1)

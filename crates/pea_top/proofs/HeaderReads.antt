@@ -50,6 +50,6 @@ pub why_from_header : {library : Folder} {names left : List Bytes} {headers : Li
     → AreNames library names → HasReadHeaders library names (name ∷ left) headers → (stop : ReadStop) → IsHeaderOrWhy library name (Err stop) → IsLibraryOrWhy library (Err stop)
 why_from_header are read (Fault call) why = tt
 why_from_header are read NoMemory why = tt
-why_from_header {library} are read (Malformed refused at rule) why = subst (λ (name : Bytes). IsFirstRefused IsRefusedHeader library name (broken (fault at rule))) (sym why.0) (first_refused are read.read why.1)
-why_from_header {library} are read (Version refused major minor) why =
+why_from_header {library} are read (Malformed refused at rule file) why = subst (λ (name : Bytes). IsFirstRefused IsRefusedHeader library name (broken (fault at rule))) (sym why.0) (first_refused are read.read why.1)
+why_from_header {library} are read (Version refused major minor side) why =
     subst (λ (name : Bytes). IsFirstRefused IsRefusedHeader library name (other_version (record { minor = minor; major = major }))) (sym why.0) (first_refused are read.read why.1)

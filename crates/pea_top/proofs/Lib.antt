@@ -2,6 +2,7 @@ pub mod Puts
 pub mod NamesInOrder
 pub mod Copying
 pub mod Outcomes
+pub mod Stopping
 pub mod MemberLines
 pub mod CallCounts
 pub mod FolderReads

@@ -76,8 +76,8 @@ module _ (words : List Word) (old new : Files) (before after : Bytes) (same : Sa
       → StopsAt (IsFirstOf (old (input_of command)) (old (library_of command))) stop → IsStop words old new before after (status_of stop)
   stop_reading command spelled (stops.Fault call) kind why = stop_failed call (kind call refl)
   stop_reading command spelled stops.NoMemory kind why = stop_no_memory
-  stop_reading command spelled (stops.Malformed name at rule) kind why = stop_refused (Malformed name at rule) refl (record { command = command; spelled = spelled; first = why })
-  stop_reading command spelled (stops.Version name major minor) kind why = stop_refused (Version name major minor) refl (record { command = command; spelled = spelled; first = why })
+  stop_reading command spelled (stops.Malformed name at rule file) kind why = stop_refused (Malformed name at rule) refl (record { command = command; spelled = spelled; first = why })
+  stop_reading command spelled (stops.Version name major minor side) kind why = stop_refused (Version name major minor) refl (record { command = command; spelled = spelled; first = why })
 
 -- a refusal before anything was done
 pub stop_at_once : (words : List Word) (old : Files) (before : Bytes) (status : Status) → is_refused (ending status) ≡ true → IsAnswer words old status → IsStop words old old before before status

@@ -36,7 +36,9 @@ IsRefusedHeader bytes (broken fault) = FirstHeaderFault bytes fault
 IsRefusedHeader bytes (other_version version) = IsNoLibraryVersion bytes version
 
 -- a file of the folder that is refused: its name is that of a class file, and its bytes are refused for this
-pub record IsRefused (Refused : Bytes → Refusal → Type 0) (folder : Folder) (name : Bytes) (why : Refusal) : Type 0 where
+pub record IsRefused (Refused : Bytes → Refusal → Type 0) (folder : Folder) (name : Bytes)
+    (why : Refusal)
+    : Type 0 where
   pub named : IsTrue (names_class_file name)
   pub bytes : Bytes
   pub there : folder name ≡ Some bytes
@@ -47,19 +49,28 @@ abbrev pub NoneRefused : (Bytes → Refusal → Type 0) → Folder → Type 0
 NoneRefused Refused folder = (name : Bytes) (why : Refusal) → ¬ IsRefused Refused folder name why
 
 -- the first of them in byte order, whatever the others are refused for
-pub record IsFirstRefused (Refused : Bytes → Refusal → Type 0) (folder : Folder) (name : Bytes) (why : Refusal) : Type 0 where
+pub record IsFirstRefused (Refused : Bytes → Refusal → Type 0) (folder : Folder) (name : Bytes)
+    (why : Refusal)
+    : Type 0 where
   pub refused : IsRefused Refused folder name why
-  pub none_before : (other : Bytes) → IsBytesBefore other name → (other_why : Refusal) → ¬ IsRefused Refused folder other other_why
+  pub none_before :
+      (other : Bytes)
+      → IsBytesBefore other name
+      → (other_why : Refusal)
+      → ¬ IsRefused Refused folder other other_why
 
 -- The first refused file: one of the input, or where none of the input is refused one of the library.
 pub data IsFirstOf (input library : Folder) (name : Bytes) (why : Refusal) : Type 0 where
   of_input : IsFirstRefused IsRefusedClass input name why → IsFirstOf input library name why
-  of_library : NoneRefused IsRefusedClass input → IsFirstRefused IsRefusedHeader library name why → IsFirstOf input library name why
+  of_library :
+      NoneRefused IsRefusedClass input → IsFirstRefused IsRefusedHeader library name why
+      → IsFirstOf input library name why
 
 -- ---- what is read
 
 -- the class files of the input and the headers of the library, of which no file is refused
-pub record AreRead (input library : Folder) (classes : List ClassFile) (headers : List Header) : Type 0 where
+pub record AreRead (input library : Folder) (classes : List ClassFile) (headers : List Header)
+    : Type 0 where
   pub classes_read : HasClassFiles ClassOf input classes
   pub headers_read : HasClassFiles HeaderOf library headers
 
@@ -76,7 +87,8 @@ pub record CanDo (words : List Word) (files : Files) : Type 0 where
   pub verified : AreVerified classes headers
 
 -- the words spell a command whose first refused file has this name, and is refused for this
-pub record MustRefuse (words : List Word) (files : Files) (name : Bytes) (why : Refusal) : Type 0 where
+pub record MustRefuse (words : List Word) (files : Files) (name : Bytes) (why : Refusal)
+    : Type 0 where
   pub command : Command
   pub spelled : Spells command words
   pub first : IsFirstOf (files (input_of command)) (files (library_of command)) name why
@@ -104,9 +116,13 @@ abbrev pub IsAnswer : List Word → Files → Status → Type 0
 IsAnswer words files Done = CanDo words files
 IsAnswer words files Usage = IsUsage words
 IsAnswer words files (Malformed name at rule) = MustRefuse words files name (broken (fault at rule))
-IsAnswer words files (Version name major minor) = MustRefuse words files name (other_version (record { minor = minor; major = major }))
-IsAnswer words files (Unlinked class member rule) = CannotLink words files (record { class = class; member = member; rule = rule })
-IsAnswer words files (Unverified class method offset rule) = CannotVerify words files (record { class = class; method = method; offset = offset; rule = rule })
+IsAnswer words files (Version name major minor) =
+    MustRefuse words files name (other_version (record { minor = minor; major = major }))
+IsAnswer words files (Unlinked class member rule) =
+    CannotLink words files (record { class = class; member = member; rule = rule })
+IsAnswer words files (Unverified class method offset rule) =
+    CannotVerify words files
+    (record { class = class; method = method; offset = offset; rule = rule })
 IsAnswer words files (HostFault call) = ⊥
 IsAnswer words files NoMemory = ⊥
 

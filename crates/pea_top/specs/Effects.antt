@@ -22,9 +22,14 @@ pub record IsCopied (input output : Bytes) (old new : Files) : Type 0 where
 pub record IsPartlyCopied (input output : Bytes) (old new : Files) : Type 0 where
   pub failing : Bytes
   pub is_input : IsSome (old input failing)
-  pub before : (name bytes : Bytes) → IsBytesBefore name failing → old input name ≡ Some bytes → new output name ≡ Some bytes
+  pub before :
+      (name bytes : Bytes)
+      → IsBytesBefore name failing
+      → old input name ≡ Some bytes
+      → new output name ≡ Some bytes
   pub after : (name : Bytes) → IsBytesBefore failing name → new output name ≡ old output name
-  pub kept : (name : Bytes) → old input name ≡ None → name ≢ failing → new output name ≡ old output name
+  pub kept :
+      (name : Bytes) → old input name ≡ None → name ≢ failing → new output name ≡ old output name
   pub others : (root name : Bytes) → root ≢ output → new root name ≡ old root name
 
 -- the files after a command that was done
@@ -87,19 +92,35 @@ PrintsLine line PrintRose old new = (new ≡ old ++ line) ⊎ (PrintRose × IsPr
 -- command can be done, some of its files, or all of them and a prefix of the summary.
 pub data Unfinished (words : List Word) (old new : Files) (before after : Bytes) : Type 0 where
   before_work : SameFiles old new → after ≡ before → Unfinished words old new before after
-  in_refusal : (answer : Status) → IsAnswer words old answer → SameFiles old new → IsPrefixPrinted (refusal_line answer) before after
+  in_refusal :
+      (answer : Status)
+      → IsAnswer words old answer
+      → SameFiles old new
+      → IsPrefixPrinted (refusal_line answer) before after
       → Unfinished words old new before after
-  in_writes : CanDo words old → LeavesPart words old new → after ≡ before → Unfinished words old new before after
-  in_print : CanDo words old → LeavesDone words old new → PrintsPart words old before after → Unfinished words old new before after
+  in_writes :
+      CanDo words old
+      → LeavesPart words old new
+      → after ≡ before
+      → Unfinished words old new before after
+  in_print :
+      CanDo words old → LeavesDone words old new → PrintsPart words old before after
+      → Unfinished words old new before after
 
 -- the files after a call that ended in this way, and what it printed
 abbrev pub Leaves : List Word → Files → Files → Type 0 → Bytes → Bytes → Ending → Type 0
-Leaves words old new PrintRose before after completed = LeavesDone words old new × PrintsSummary words old before after
-Leaves words old new PrintRose before after (refused refusal) = SameFiles old new × PrintsLine (line_of (refused refusal)) PrintRose before after
-Leaves words old new PrintRose before after (failed calls.List) = SameFiles old new × (after ≡ before)
-Leaves words old new PrintRose before after (failed calls.Read) = SameFiles old new × (after ≡ before)
-Leaves words old new PrintRose before after (failed calls.Write) = LeavesPart words old new × (after ≡ before)
-Leaves words old new PrintRose before after (failed calls.Print) = LeavesDone words old new × PrintsPart words old before after
+Leaves words old new PrintRose before after completed =
+    LeavesDone words old new × PrintsSummary words old before after
+Leaves words old new PrintRose before after (refused refusal) =
+    SameFiles old new × PrintsLine (line_of (refused refusal)) PrintRose before after
+Leaves words old new PrintRose before after (failed calls.List) =
+    SameFiles old new × (after ≡ before)
+Leaves words old new PrintRose before after (failed calls.Read) =
+    SameFiles old new × (after ≡ before)
+Leaves words old new PrintRose before after (failed calls.Write) =
+    LeavesPart words old new × (after ≡ before)
+Leaves words old new PrintRose before after (failed calls.Print) =
+    LeavesDone words old new × PrintsPart words old before after
 Leaves words old new PrintRose before after out_of_memory = Unfinished words old new before after
 
 -- the command writes files

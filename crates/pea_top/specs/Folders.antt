@@ -20,14 +20,25 @@ abbrev pub names_class_file : Bytes → Bool
 names_class_file name = bytes_eq (drop (length name - 6) name) (codes ".class")
 
 -- The class files among these names, in their order, are read as these values. The relation says what bytes are read as.
-pub data AreReadAs {X : Type 0} (Of : Bytes → X → Type 0) (folder : Folder) : List Bytes → List X → Type 0 where
+pub data AreReadAs {X : Type 0} (Of : Bytes → X → Type 0) (folder : Folder)
+    : List Bytes → List X → Type 0 where
   no_name : AreReadAs Of folder [] []
-  class_file : (name bytes : Bytes) (names : List Bytes) (value : X) (values : List X) → IsTrue (names_class_file name) → folder name ≡ Some bytes → Of bytes value → AreReadAs Of folder names values
+  class_file :
+      (name bytes : Bytes) (names : List Bytes) (value : X) (values : List X)
+      → IsTrue (names_class_file name)
+      → folder name ≡ Some bytes
+      → Of bytes value
+      → AreReadAs Of folder names values
       → AreReadAs Of folder (name ∷ names) (value ∷ values)
-  other_file : (name : Bytes) (names : List Bytes) (values : List X) → ¬ IsTrue (names_class_file name) → AreReadAs Of folder names values → AreReadAs Of folder (name ∷ names) values
+  other_file :
+      (name : Bytes) (names : List Bytes) (values : List X)
+      → ¬ IsTrue (names_class_file name)
+      → AreReadAs Of folder names values
+      → AreReadAs Of folder (name ∷ names) values
 
 -- the class files of the folder, in byte order of file names, are read as these values
-pub record HasClassFiles {X : Type 0} (Of : Bytes → X → Type 0) (folder : Folder) (values : List X) : Type 0 where
+pub record HasClassFiles {X : Type 0} (Of : Bytes → X → Type 0) (folder : Folder) (values : List X)
+    : Type 0 where
   pub names : List Bytes
   pub are_names : AreNames folder names
   pub are_read : AreReadAs Of folder names values

@@ -3,6 +3,7 @@
 pub mod Reading
 pub mod ReadingSteps
 pub mod Linking
+pub mod Verifying
 pub mod Writing
 pub mod CommandEffects
 pub mod Deciding

@@ -9,7 +9,10 @@ hex_digit digit = if nat_lt digit 10 then 48 + digit else 87 + digit
 
 -- a visible ASCII byte other than % stands for itself, and every other byte is % and two digits
 abbrev pub printed_byte : ℕ → List ℕ
-printed_byte byte = if nat_le 0x21 byte && nat_le byte 0x7E && not (byte == 0x25) then byte ∷ [] else 0x25 ∷ hex_digit (byte / 16) ∷ hex_digit (byte % 16) ∷ []
+printed_byte byte =
+    if nat_le 0x21 byte && nat_le byte 0x7E && not (byte == 0x25)
+    then byte ∷ []
+    else 0x25 ∷ hex_digit (byte / 16) ∷ hex_digit (byte % 16) ∷ []
 
 -- The empty text prints as a dash, and so the text of a dash does not.
 abbrev pub printed_text : Bytes → Bytes
@@ -24,8 +27,12 @@ line text = text ++ 10 ∷ []
 -- what is printed where a folder was optimised: how many files were written, how many of them are class files, and how
 -- many methods these have, all of which are kept as they were
 unfoldable pub summary_line : ℕ → ℕ → ℕ → Bytes
-summary_line files classes kept = line (codes "done files=" ++ decimal files ++ codes " classes=" ++ decimal classes ++ codes " rewritten=0 kept=" ++ decimal kept)
+summary_line files classes kept =
+    line
+    (codes "done files=" ++ decimal files ++ codes " classes=" ++ decimal classes
+    ++ codes " rewritten=0 kept=" ++ decimal kept)
 
 -- what is printed where a folder was verified: how many class files it has, and how many methods these have
 unfoldable pub verified_line : ℕ → ℕ → Bytes
-verified_line classes methods = line (codes "verified " ++ decimal classes ++ codes " " ++ decimal methods)
+verified_line classes methods =
+    line (codes "verified " ++ decimal classes ++ codes " " ++ decimal methods)

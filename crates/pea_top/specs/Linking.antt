@@ -9,6 +9,12 @@ use Rattle.class_tree.specs.Trees.{IsArranged, IsTree, IsProblem}
 use Rattle.member_link.specs.Linked.{link_checks}
 
 -- the first problem: they are no hierarchy, or one that is not linked
-pub data IsLinkProblem (folder : List ClassFile) (library : List Header) (problem : Problem) : Type 0 where
+pub data IsLinkProblem (folder : List ClassFile) (library : List Header) (problem : Problem)
+    : Type 0 where
   of_hierarchy : IsProblem folder library problem → IsLinkProblem folder library problem
-  of_links : (classes : Classes) → IsArranged folder library classes → IsTree classes → IsFirstFault (link_checks classes) problem → IsLinkProblem folder library problem
+  of_links :
+      (classes : Classes)
+      → IsArranged folder library classes
+      → IsTree classes
+      → IsFirstFault (link_checks classes) problem
+      → IsLinkProblem folder library problem

@@ -27,7 +27,8 @@ awaiting Awaited = codes "--lib" ∷ []
 awaiting (Given folder) = []
 
 -- Behind these positional words and these values of the option, the words complete the command.
-pub record Completes (seen_folders seen_libraries words : List Word) (command : Command) : Type 0 where
+pub record Completes (seen_folders seen_libraries words : List Word) (command : Command)
+    : Type 0 where
   pub parts : List Part
   pub spelled : words ≡ flat_map words_of parts
   pub each : AllByRecursion IsPart parts
@@ -37,11 +38,15 @@ pub record Completes (seen_folders seen_libraries words : List Word) (command : 
 
 -- Behind the words seen, the rest completes the command.
 abbrev pub EndsCommand : Seen → List Word → Command → Type 0
-EndsCommand seen rest command = Completes (folder_words seen.folders) (library_words seen.library) (awaiting seen.library ++ rest) command
+EndsCommand seen rest command =
+    Completes (folder_words seen.folders) (library_words seen.library)
+    (awaiting seen.library ++ rest) command
 
 -- With this word behind the words seen, the words seen are next.
 abbrev pub Leads : Seen → Word → Seen → Type 0
-Leads seen word next = (rest : List Word) (command : Command) → EndsCommand next rest command ↔ EndsCommand seen (word ∷ rest) command
+Leads seen word next =
+    (rest : List Word) (command : Command)
+    → EndsCommand next rest command ↔ EndsCommand seen (word ∷ rest) command
 
 -- This word cannot stand behind the words seen.
 abbrev pub Fails : Seen → Word → Type 0
@@ -51,4 +56,8 @@ Fails seen word = (rest : List Word) (command : Command) → ¬ EndsCommand seen
 pub record MayBeFolder (seen : Seen) (word : Word) : Type 0 where
   pub none_awaited : awaiting seen.library ≡ []
   pub separate : word ≡ codes "--lib" → length (library_words seen.library) ≡ 1
-  pub joined : (value : Word) → value ≢ [] → word ≡ codes "--lib=" ++ value → length (library_words seen.library) ≡ 1
+  pub joined :
+      (value : Word)
+      → value ≢ []
+      → word ≡ codes "--lib=" ++ value
+      → length (library_words seen.library) ≡ 1

@@ -39,7 +39,9 @@ ending (Unlinked class member rule) = refused (record {
 })
 ending (Unverified class method offset rule) = refused (record {
   code = 5;
-  text = codes "5 Unverified " ++ printed_text class ++ codes " " ++ printed_text method.name ++ codes " " ++ printed_text method.desc ++ codes " " ++ decimal offset ++ codes " "
+  text =
+      codes "5 Unverified " ++ printed_text class ++ codes " " ++ printed_text method.name
+      ++ codes " " ++ printed_text method.desc ++ codes " " ++ decimal offset ++ codes " "
       ++ type_rule_name rule;
 })
 ending (HostFault call) = failed call

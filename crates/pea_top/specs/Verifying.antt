@@ -15,7 +15,8 @@ pub record AreVerified (folder : List ClassFile) (library : List Header) : Type 
   pub verified : IsVerified classes
 
 -- they are a hierarchy that is linked, and the folder fails first in this
-pub record IsTypeFailure (folder : List ClassFile) (library : List Header) (failure : Failure) : Type 0 where
+pub record IsTypeFailure (folder : List ClassFile) (library : List Header) (failure : Failure)
+    : Type 0 where
   pub classes : Classes
   pub arranged : IsArranged folder library classes
   pub tree : IsTree classes

@@ -14,12 +14,18 @@ use verify_folder::a_folder_fails_once;
 
 /// Words spell one command at most.
 pub fn words_spell_one_command()
-    ensures { (words : List Word) (one other : Command) → Spells one words → Spells other words → one ≡ other }
+    ensures { (words : List Word) (one other : Command)
+        → Spells one words
+        → Spells other words
+        → one ≡ other }
 {}
 
 /// Words and the files that a host tells have one answer at most.
 pub fn words_and_files_have_one_answer()
-    ensures { (words : List Word) (files : Files) (one other : Status) → IsAnswer words files one → IsAnswer words files other → one ≡ other }
+    ensures { (words : List Word) (files : Files) (one other : Status)
+        → IsAnswer words files one
+        → IsAnswer words files other
+        → one ≡ other }
 {
     one_first_fault();
     a_class_file_has_no_fault();

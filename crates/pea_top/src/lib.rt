@@ -1,6 +1,7 @@
 //! The top call: from the words of a command to files, a printed line and a status.
 #![tactic(auto)]
 
+mod explaining;
 mod folder;
 mod laws;
 mod lines;

@@ -85,7 +85,8 @@ fn unlinked(
     member: &Member,
     rule: LinkRule,
 ) -> Result<Vec<u8>, NoMemory>
-    ensures { IfOk result (λ line. line.items ≡ refusal_line (Status.Unlinked class.now member.now rule)) }
+    ensures { IfOk result
+        (λ line. line.items ≡ refusal_line (Status.Unlinked class.now member.now rule)) }
 {
     let rule = rule.name();
     let back = format!(in alloc; " {rule}\n")?;
@@ -100,7 +101,8 @@ fn unverified(
     offset: u32,
     rule: TypeRule,
 ) -> Result<Vec<u8>, NoMemory>
-    ensures { IfOk result (λ line. line.items ≡ refusal_line (Status.Unverified class.now method.now offset rule)) }
+    ensures { IfOk result
+        (λ line. line.items ≡ refusal_line (Status.Unverified class.now method.now offset rule)) }
 {
     let rule = rule.name();
     let back = format!(in alloc; " {offset} {rule}\n")?;
@@ -121,7 +123,10 @@ fn member_refusal(
     member: &Member,
     back: &str,
 ) -> Result<Vec<u8>, NoMemory>
-    ensures { IfOk result (λ line. line.items ≡ front.now ++ printed_text class.now ++ codes " " ++ printed_text member.now.name ++ codes " " ++ printed_text member.now.desc ++ back.now) }
+    ensures { IfOk result (λ line.
+        line.items
+        ≡ front.now ++ printed_text class.now ++ codes " " ++ printed_text member.now.name
+        ++ codes " " ++ printed_text member.now.desc ++ back.now) }
 {
     let mut line = Vec::from_slice(alloc, front)?;
     push_text(&mut line, class.bytes())?;

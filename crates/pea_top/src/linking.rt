@@ -1,11 +1,21 @@
 //! Linking the class files of the input with those of the library.
+ghost use Rattle.std.specs.Prelude.{◌≡◌};
 ghost use Rattle.std.specs.List.{AllByRecursion};
 ghost use Rattle.class_tree.specs.Headers.{IsClassFile, IsLibraryClass};
+ghost use Rattle.pea_top.specs.Inner.Linking.{link_status};
 ghost use Rattle.pea_top.specs.Inner.Linking.{IsLinkedOrWhy};
 
+use crate::status::Status;
 use class_tree::{ClassFileList, HeaderList, LinkFault, Tree, build_tree};
 use member_link::check_links;
 use std::alloc::Global;
+
+/// Why class files are not linked, and their hierarchy, if they are one.
+#[derive(Drop)]
+pub(crate) struct LinkStop {
+    pub fault: LinkFault,
+    pub tree: Option<Tree>,
+}
 
 /// The hierarchy of the class files and headers, which is linked.
 ///
@@ -16,12 +26,38 @@ pub(crate) fn link(
     alloc: Global,
     classes: ClassFileList,
     headers: HeaderList,
-) -> Result<Tree, LinkFault>
+) -> Result<Tree, LinkStop>
     requires classes { AllByRecursion IsClassFile classes }
     requires headers { AllByRecursion IsLibraryClass headers }
     ensures { IsLinkedOrWhy classes headers result }
 {
-    let tree = build_tree(alloc, classes, headers)?;
-    check_links(alloc, &tree)?;
-    Ok(tree)
+    let tree = match build_tree(alloc, classes, headers) {
+        Ok(tree) => tree,
+        Err(fault) => return Err(LinkStop { fault, tree: None }),
+    };
+    match check_links(alloc, &tree) {
+        Ok(()) => Ok(tree),
+        Err(fault) => Err(LinkStop {
+            fault,
+            tree: Some(tree),
+        }),
+    }
+}
+
+/// The status of a command whose class files are not linked.
+pub(crate) fn link_status(fault: LinkFault) -> Status
+    ensures { result ≡ link_status fault }
+{
+    match fault {
+        LinkFault::Unlinked {
+            class,
+            member,
+            rule,
+        } => Status::Unlinked {
+            class,
+            member,
+            rule,
+        },
+        LinkFault::NoMemory => Status::NoMemory,
+    }
 }

@@ -5,11 +5,11 @@ ghost use Rattle.host_tree.specs.declared.call.HostCall.{HostCall};
 ghost use Rattle.host_tree.specs.Host.{Folder, SameFiles};
 ghost use Rattle.class_tree.specs.Headers.{IsClassFile, IsLibraryClass};
 ghost use Rattle.host_tree.specs.Counts.{NeverFalls, Rose, CountsOnly};
-ghost use Rattle.class_model.specs.ClassOf.{ClassOf};
-ghost use Rattle.pea_top.specs.Answer.{Refusal, IsRefusedClass};
+ghost use Rattle.class_bytes.specs.Counts.{FitsCounts};
+ghost use Rattle.class_model.specs.Spelling.{class_bytes};
 ghost use Rattle.pea_top.specs.Folders.{AreNames, names_class_file};
 ghost use Rattle.pea_top.specs.Inner.Reading.{IsReadOrWhy, IsLibraryOrWhy, IsInputOrWhy, status_of};
-ghost use Rattle.pea_top.specs.Inner.ReadingSteps.{IsCallStop, IsFileOrWhy, IsHeaderOrWhy, IsWhyNot, stop_at};
+ghost use Rattle.pea_top.specs.Inner.ReadingSteps.{IsCallStop, IsFileOrWhy, IsHeaderOrWhy, stop_at};
 ghost use Rattle.pea_top.specs.declared.reading.ReadStop.TheVariants.{NoMemory as no_memory};
 
 use crate::folder::{NamedFile, is_class_file};
@@ -21,6 +21,7 @@ use class_model::{
     a_library_file_is_told_once, another_version_is_no_class_file,
 };
 use class_tree::{ClassFileList, HeaderList};
+use explain::Side;
 use host_tree::{FileName, Host, HostCall, HostFail};
 use std::alloc::{AllocError, AllocFailed, Global};
 
@@ -46,13 +47,22 @@ pub(crate) enum ReadStop {
         name: FileName,
         at: u64,
         rule: FileRule,
+        file: Refused,
     },
     /// This file is of a version that is not read.
     Version {
         name: FileName,
         major: u16,
         minor: u16,
+        side: Side,
     },
+}
+
+/// A file that is refused, for what is explained of it.
+#[derive(Debug, Drop)]
+pub(crate) struct Refused {
+    pub side: Side,
+    pub bytes: ByteList,
 }
 
 impl From<AllocError> for ReadStop {
@@ -86,8 +96,13 @@ pub(crate) fn status_of(stop: ReadStop) -> Status
     match stop {
         ReadStop::Fault(call) => Status::HostFault(call),
         ReadStop::NoMemory => Status::NoMemory,
-        ReadStop::Malformed { name, at, rule } => Status::Malformed { name, at, rule },
-        ReadStop::Version { name, major, minor } => Status::Version { name, major, minor },
+        ReadStop::Malformed { name, at, rule, .. } => Status::Malformed { name, at, rule },
+        ReadStop::Version {
+            name,
+            major,
+            minor,
+            ..
+        } => Status::Version { name, major, minor },
     }
 }
 
@@ -101,14 +116,20 @@ pub(crate) fn read_input<H: Host>(
 ) -> Result<Input, ReadStop>
     ensures files { IsTrue H.tells → SameFiles (H.file host.old) (H.file host.new) }
     ensures printed { IsTrue H.tells → H.printed host.new ≡ H.printed host.old }
-    ensures counts { (call : HostCall) → NeverFalls (H.faults host.old call) (H.faults host.new call) }
+    ensures counts { (call : HostCall)
+        → NeverFalls (H.faults host.old call) (H.faults host.new call) }
     ensures print_count { H.faults host.new HostCall.Print ≡ H.faults host.old HostCall.Print }
     ensures write_count { H.faults host.new HostCall.Write ≡ H.faults host.old HostCall.Write }
-    ensures found { IsTrue H.tells → IsInputOrWhy (H.file host.old folder.now) (H.file host.old library.now) result }
+    ensures found { IsTrue H.tells
+        → IsInputOrWhy (H.file host.old folder.now) (H.file host.old library.now) result }
     ensures classes { IfOk result (λ input. AllByRecursion IsClassFile input.classes) }
     ensures headers { IfOk result (λ input. AllByRecursion IsLibraryClass input.headers) }
-    ensures fault { (call : HostCall) → IsErrOf result (ReadStop.Fault call) → ((call ≡ HostCall.List) ⊎ (call ≡ HostCall.Read)) }
-    ensures cause { (call : HostCall) → IsErrOf result (ReadStop.Fault call) → Rose (H.faults host.old call) (H.faults host.new call) }
+    ensures fault { (call : HostCall)
+        → IsErrOf result (ReadStop.Fault call)
+        → ((call ≡ HostCall.List) ⊎ (call ≡ HostCall.Read)) }
+    ensures cause { (call : HostCall)
+        → IsErrOf result (ReadStop.Fault call)
+        → Rose (H.faults host.old call) (H.faults host.new call) }
 {
     let names = list_names(alloc, host, folder)?;
     let library_names = list_names(alloc, host, library)?;
@@ -126,8 +147,11 @@ fn list_names<H: Host>(alloc: Global, host: &mut H, root: &str) -> Result<Vec<Fi
     ensures files { IsTrue H.tells → SameFiles (H.file host.old) (H.file host.new) }
     ensures printed { IsTrue H.tells → H.printed host.new ≡ H.printed host.old }
     ensures counts { CountsOnly HostCall.List (H.faults host.old) (H.faults host.new) }
-    ensures names { IsTrue H.tells → IfOk result (λ names. AreNames (H.file host.old root.now) names.items) }
-    ensures stop { IfErr result (IsCallStop HostCall.List (Rose (H.faults host.old HostCall.List) (H.faults host.new HostCall.List))) }
+    ensures names { IsTrue H.tells
+        → IfOk result (λ names. AreNames (H.file host.old root.now) names.items) }
+    ensures stop { IfErr result
+        (IsCallStop HostCall.List
+        (Rose (H.faults host.old HostCall.List) (H.faults host.new HostCall.List))) }
 {
     let mut names = match host.list(alloc, root, u64::MAX) {
         Ok(names) => names.into_vec(),
@@ -152,7 +176,10 @@ fn read_files<H: Host>(
     ensures counts { CountsOnly HostCall.Read (H.faults host.old) (H.faults host.new) }
     ensures found { IsTrue H.tells → IsReadOrWhy (H.file host.old root.now) result }
     ensures classes { IfOk result (λ read. AllByRecursion IsClassFile read.1) }
-    ensures cause { (call : HostCall) → IsErrOf result (ReadStop.Fault call) → (call ≡ HostCall.Read) × Rose (H.faults host.old HostCall.Read) (H.faults host.new HostCall.Read) }
+    ensures cause { (call : HostCall)
+        → IsErrOf result (ReadStop.Fault call)
+        → (call ≡ HostCall.Read)
+        × Rose (H.faults host.old HostCall.Read) (H.faults host.new HostCall.Read) }
 {
     let mut files = Vec::with_capacity(alloc, names.len())?;
     let mut classes = ClassFileList::new(alloc);
@@ -179,7 +206,10 @@ fn read_file<H: Host>(
     ensures counts { CountsOnly HostCall.Read (H.faults host.old) (H.faults host.new) }
     ensures found { IsTrue H.tells → IsFileOrWhy (H.file host.old root.now) name result }
     ensures class_file { IfOk result (λ read. IfSome read.1 IsClassFile) }
-    ensures cause { (call : HostCall) → IsErrOf result (ReadStop.Fault call) → (call ≡ HostCall.Read) × Rose (H.faults host.old HostCall.Read) (H.faults host.new HostCall.Read) }
+    ensures cause { (call : HostCall)
+        → IsErrOf result (ReadStop.Fault call)
+        → (call ≡ HostCall.Read)
+        × Rose (H.faults host.old HostCall.Read) (H.faults host.new HostCall.Read) }
 {
     let bytes = read_bytes(alloc, host, root, name.as_str())?;
     file_of(alloc, name, bytes)
@@ -196,8 +226,11 @@ fn read_bytes<H: Host>(
     ensures files { IsTrue H.tells → SameFiles (H.file host.old) (H.file host.new) }
     ensures printed { IsTrue H.tells → H.printed host.new ≡ H.printed host.old }
     ensures counts { CountsOnly HostCall.Read (H.faults host.old) (H.faults host.new) }
-    ensures bytes { IsTrue H.tells → IfOk result (λ bytes. H.file host.old root.now name.now ≡ Some bytes) }
-    ensures stop { IfErr result (IsCallStop HostCall.Read (Rose (H.faults host.old HostCall.Read) (H.faults host.new HostCall.Read))) }
+    ensures bytes { IsTrue H.tells
+        → IfOk result (λ bytes. H.file host.old root.now name.now ≡ Some bytes) }
+    ensures stop { IfErr result
+        (IsCallStop HostCall.Read
+        (Rose (H.faults host.old HostCall.Read) (H.faults host.new HostCall.Read))) }
 {
     match host.read(alloc, root, name, u64::MAX) {
         // A vector holds fewer than 2^63 bytes, so these are all.
@@ -220,38 +253,51 @@ fn file_of(
     if !is_class_file(&name) {
         return Ok((NamedFile { name, bytes }, None));
     }
-    match written_again(alloc, bytes) {
-        Ok((bytes, class)) => Ok((NamedFile { name, bytes }, Some(class))),
-        Err(fault) => Err(stop_of(name, fault)),
+    a_class_file_has_no_fault();
+    another_version_is_no_class_file();
+    match read_class(alloc, bytes.as_slice()) {
+        Ok(class) => {
+            let bytes = written_again(bytes, &class)?;
+            Ok((NamedFile { name, bytes }, Some(class)))
+        }
+        Err(fault) => Err(stop_of(Side::Input, name, bytes, fault)),
     }
 }
 
-/// Why reading stops at a file of this name.
-fn stop_of(name: FileName, fault: ClassFault) -> ReadStop
-    ensures { result ≡ stop_at name fault }
+/// Why reading stops at a file of this name and these bytes.
+fn stop_of(side: Side, name: FileName, bytes: ByteList, fault: ClassFault) -> ReadStop
+    ensures { result ≡ stop_at side name bytes fault }
 {
     match fault {
-        ClassFault::Malformed { at, rule } => ReadStop::Malformed { name, at, rule },
-        ClassFault::Version { major, minor } => ReadStop::Version { name, major, minor },
+        ClassFault::Malformed { at, rule } => {
+            let file = Refused { side, bytes };
+            ReadStop::Malformed {
+                name,
+                at,
+                rule,
+                file,
+            }
+        }
+        ClassFault::Version { major, minor } => ReadStop::Version {
+            name,
+            major,
+            minor,
+            side,
+        },
         ClassFault::NoMemory => ReadStop::NoMemory,
     }
 }
 
-/// The bytes of the class file that these bytes are read as, in their memory, and the class file.
-fn written_again(alloc: Global, bytes: ByteList) -> Result<(ByteList, ClassFile), ClassFault>
-    ensures same { IfOk result (λ written. written.0 ≡ bytes) }
-    ensures class { IfOk result (λ written. ClassOf bytes written.1) }
-    ensures spelled { IfOk result (λ written. IsClassFile written.1) }
-    ensures not_refused { IfOk result (λ _. (why : Refusal) → ¬ IsRefusedClass bytes why) }
-    ensures fault { IfErr result (IsWhyNot bytes) }
+/// The bytes of the class file that these bytes are read as, in their memory.
+fn written_again(bytes: ByteList, class: &ClassFile) -> Result<ByteList, NoMemory>
+    requires fits { FitsCounts class.now }
+    requires spelled { bytes ≡ class_bytes class.now }
+    ensures { IfOk result (λ written. written ≡ bytes) }
 {
-    let class = read_class(alloc, bytes.as_slice())?;
-    a_class_file_has_no_fault();
-    another_version_is_no_class_file();
     let mut written = bytes.into_vec();
     written.clear();
-    push_class(&mut written, &class)?;
-    Ok((ByteList::from_vec(written), class))
+    push_class(&mut written, class)?;
+    Ok(ByteList::from_vec(written))
 }
 
 /// The headers of the class files among these names, which are those of the library in byte order. The bytes of a file
@@ -268,7 +314,10 @@ fn read_library<H: Host>(
     ensures counts { CountsOnly HostCall.Read (H.faults host.old) (H.faults host.new) }
     ensures found { IsTrue H.tells → IsLibraryOrWhy (H.file host.old root.now) result }
     ensures headers { IfOk result (AllByRecursion IsLibraryClass) }
-    ensures cause { (call : HostCall) → IsErrOf result (ReadStop.Fault call) → (call ≡ HostCall.Read) × Rose (H.faults host.old HostCall.Read) (H.faults host.new HostCall.Read) }
+    ensures cause { (call : HostCall)
+        → IsErrOf result (ReadStop.Fault call)
+        → (call ≡ HostCall.Read)
+        × Rose (H.faults host.old HostCall.Read) (H.faults host.new HostCall.Read) }
 {
     let mut headers = HeaderList::new(alloc);
     let mut texts = SharedTexts::new(alloc)?;
@@ -295,7 +344,10 @@ fn read_library_file<H: Host>(
     ensures counts { CountsOnly HostCall.Read (H.faults host.old) (H.faults host.new) }
     ensures found { IsTrue H.tells → IsHeaderOrWhy (H.file host.old root.now) name result }
     ensures header { IfOk result IsLibraryClass }
-    ensures cause { (call : HostCall) → IsErrOf result (ReadStop.Fault call) → (call ≡ HostCall.Read) × Rose (H.faults host.old HostCall.Read) (H.faults host.new HostCall.Read) }
+    ensures cause { (call : HostCall)
+        → IsErrOf result (ReadStop.Fault call)
+        → (call ≡ HostCall.Read)
+        × Rose (H.faults host.old HostCall.Read) (H.faults host.new HostCall.Read) }
 {
     let bytes = read_bytes(alloc, host, root, name.as_str())?;
     header_of(alloc, name, bytes, texts)
@@ -309,13 +361,15 @@ fn header_of(
     texts: &mut SharedTexts,
 ) -> Result<Header, ReadStop>
     requires { IsTrue (names_class_file name) }
-    ensures found { (library : Folder) → library name ≡ Some bytes → IsHeaderOrWhy library name result }
+    ensures found { (library : Folder)
+        → library name ≡ Some bytes
+        → IsHeaderOrWhy library name result }
     ensures header { IfOk result IsLibraryClass }
     ensures no_fault { (call : HostCall) → ¬ IsErrOf result (ReadStop.Fault call) }
 {
     a_library_file_is_told_once();
     match read_header(alloc, bytes.as_slice()) {
         Ok(header) => Ok(texts.header(alloc, header)?),
-        Err(fault) => Err(stop_of(name, fault)),
+        Err(fault) => Err(stop_of(Side::Library, name, bytes, fault)),
     }
 }

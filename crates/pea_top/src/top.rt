@@ -8,22 +8,27 @@ ghost use Rattle.host_tree.specs.Counts.{NeverFalls, Rose, CountsOnly};
 ghost use Rattle.member_link.specs.Linked.{IsLinked};
 ghost use Rattle.pea_top.specs.Words.{Word, Spells, IsUsage};
 ghost use Rattle.pea_top.specs.CommandView.{command_view};
-ghost use Rattle.pea_top.specs.Inner.Ended.{ended};
 ghost use Rattle.pea_top.specs.Status.{ending};
+ghost use Rattle.pea_top.specs.Inner.Ended.{ended};
 ghost use Rattle.pea_top.specs.Answer.{HasCause};
 ghost use Rattle.pea_top.specs.Effects.{method_count, done_line, IsWriting, SpellNoWrite, Leaves};
 ghost use Rattle.pea_top.specs.Inner.CommandEffects.{LeavesWritten, LeavesPrinted};
+ghost use Rattle.pea_top.specs.Inner.Verifying.{verify_status};
 ghost use Rattle.pea_top.specs.Inner.Deciding.{AreInput, AreArranged, AreReady, IsOutcome, IsStop};
 
+use crate::explaining::{
+    explain_linking, explain_reading, explain_usage, explain_verifying, note_input,
+};
 use crate::folder::NamedFile;
 use crate::lines::{refusal, summary, verified};
-use crate::linking::link;
+use crate::linking::{link, link_status};
 use crate::reading::{Input, read_input, status_of};
 use crate::status::Status;
 use crate::words::{Command, command_of};
 use crate::writing::write_files;
 use class_model::{ClassFile, NoMemory};
-use class_tree::{LinkFault, Tree};
+use class_tree::Tree;
+use explain::Outlines;
 use host_tree::{Host, HostCall, HostFail};
 use std::alloc::Global;
 use type_rules::VerifyFault;
@@ -41,20 +46,29 @@ use verify_folder::check_all;
 pub fn pea<H: Host>(alloc: Global, words: &[String], host: &mut H) -> Status
     // Usage comes where the words are outside the grammar, and nowhere else.
     ensures usage { result ≡ Status.Usage → IsUsage (map string_bytes words.now) }
-    ensures outside { IsUsage (map string_bytes words.now) → (result ≡ Status.Usage) ⊎ (result ≡ Status.NoMemory) }
+    ensures outside { IsUsage (map string_bytes words.now)
+        → (result ≡ Status.Usage) ⊎ (result ≡ Status.NoMemory) }
 
     // A fault is answered only where the host's count of that kind rose in this call.
-    ensures fault { (call : HostCall) → result ≡ Status.HostFault call → Rose (H.faults host.old call) (H.faults host.new call) }
-    ensures counts { (call : HostCall) → NeverFalls (H.faults host.old call) (H.faults host.new call) }
+    ensures fault { (call : HostCall)
+        → result ≡ Status.HostFault call
+        → Rose (H.faults host.old call) (H.faults host.new call) }
+    ensures counts { (call : HostCall)
+        → NeverFalls (H.faults host.old call) (H.faults host.new call) }
 
     // Words outside the grammar list, read and write nothing; words that spell no command that writes write nothing.
-    ensures outside_counts { IsUsage (map string_bytes words.now) → CountsOnly HostCall.Print (H.faults host.old) (H.faults host.new) }
-    ensures write_count { SpellNoWrite (map string_bytes words.now) → H.faults host.new HostCall.Write ≡ H.faults host.old HostCall.Write }
+    ensures outside_counts { IsUsage (map string_bytes words.now)
+        → CountsOnly HostCall.Print (H.faults host.old) (H.faults host.new) }
+    ensures write_count { SpellNoWrite (map string_bytes words.now)
+        → H.faults host.new HostCall.Write ≡ H.faults host.old HostCall.Write }
 
     // Where the host tells: the cause of the status, the files that it leaves, and what was printed.
-    ensures cause { IsTrue H.tells → HasCause (map string_bytes words.now) (H.file host.old) result }
-    ensures left { IsTrue H.tells → Leaves (map string_bytes words.now) (H.file host.old) (H.file host.new)
-        (Rose (H.faults host.old HostCall.Print) (H.faults host.new HostCall.Print)) (H.printed host.old) (H.printed host.new) (ending result) }
+    ensures cause { IsTrue H.tells
+        → HasCause (map string_bytes words.now) (H.file host.old) result }
+    ensures left { IsTrue H.tells
+        → Leaves (map string_bytes words.now) (H.file host.old) (H.file host.new)
+        (Rose (H.faults host.old HostCall.Print) (H.faults host.new HostCall.Print))
+        (H.printed host.old) (H.printed host.new) (ending result) }
 {
     match run(alloc, words, host) {
         Ok(()) => Status::Done,
@@ -65,30 +79,54 @@ pub fn pea<H: Host>(alloc: Global, words: &[String], host: &mut H) -> Status
 /// Does what the words ask for, up to where it stops. Of a refusal no line is printed yet.
 fn run<H: Host>(alloc: Global, words: &[String], host: &mut H) -> Result<(), Status>
     ensures usage { IsErrOf result Status.Usage → IsUsage (map string_bytes words.now) }
-    ensures outside { IsUsage (map string_bytes words.now) → IsErrOf result Status.Usage × ((call : HostCall) → H.faults host.new call ≡ H.faults host.old call) }
-    ensures fault { (call : HostCall) → IsErrOf result (Status.HostFault call) → Rose (H.faults host.old call) (H.faults host.new call) }
-    ensures counts { (call : HostCall) → NeverFalls (H.faults host.old call) (H.faults host.new call) }
-    ensures write_count { SpellNoWrite (map string_bytes words.now) → H.faults host.new HostCall.Write ≡ H.faults host.old HostCall.Write }
-    ensures stop { IsTrue H.tells → IsStop (map string_bytes words.now) (H.file host.old) (H.file host.new) (H.printed host.old) (H.printed host.new) (ended result) }
+    ensures outside { IsUsage (map string_bytes words.now)
+        → IsErrOf result Status.Usage
+        × ((call : HostCall) → H.faults host.new call ≡ H.faults host.old call) }
+    ensures fault { (call : HostCall)
+        → IsErrOf result (Status.HostFault call)
+        → Rose (H.faults host.old call) (H.faults host.new call) }
+    ensures counts { (call : HostCall)
+        → NeverFalls (H.faults host.old call) (H.faults host.new call) }
+    ensures write_count { SpellNoWrite (map string_bytes words.now)
+        → H.faults host.new HostCall.Write ≡ H.faults host.old HostCall.Write }
+    ensures stop { IsTrue H.tells
+        → IsStop (map string_bytes words.now) (H.file host.old) (H.file host.new)
+        (H.printed host.old) (H.printed host.new) (ended result) }
 {
     match command_of(words) {
         Some(command) => perform(alloc, command, host),
-        None => Err(Status::Usage),
+        None => {
+            explain_usage(alloc, host);
+            Err(Status::Usage)
+        }
     }
 }
 
 /// Reads the input and the library of a command whole, and goes on with them.
 fn perform<H: Host>(alloc: Global, command: Command<'_>, host: &mut H) -> Result<(), Status>
     ensures not_usage { ¬ IsErrOf result Status.Usage }
-    ensures fault { (call : HostCall) → IsErrOf result (Status.HostFault call) → Rose (H.faults host.old call) (H.faults host.new call) }
-    ensures counts { (call : HostCall) → NeverFalls (H.faults host.old call) (H.faults host.new call) }
-    ensures write_count { ¬ IsWriting (command_view command.entry) → H.faults host.new HostCall.Write ≡ H.faults host.old HostCall.Write }
-    ensures stop { (words : List Word) → Spells (command_view command.entry) words → IsTrue H.tells →
-        IsStop words (H.file host.old) (H.file host.new) (H.printed host.old) (H.printed host.new) (ended result) }
+    ensures fault { (call : HostCall)
+        → IsErrOf result (Status.HostFault call)
+        → Rose (H.faults host.old call) (H.faults host.new call) }
+    ensures counts { (call : HostCall)
+        → NeverFalls (H.faults host.old call) (H.faults host.new call) }
+    ensures write_count { ¬ IsWriting (command_view command.entry)
+        → H.faults host.new HostCall.Write ≡ H.faults host.old HostCall.Write }
+    ensures stop { (words : List Word)
+        → Spells (command_view command.entry) words
+        → IsTrue H.tells
+        → IsStop words (H.file host.old) (H.file host.new) (H.printed host.old) (H.printed host.new)
+        (ended result) }
 {
     match read_input(alloc, host, command.input(), command.library()) {
-        Ok(input) => decide(alloc, command, host, input),
-        Err(stop) => Err(status_of(stop)),
+        Ok(input) => {
+            note_input(alloc, host, &input);
+            decide(alloc, command, host, input)
+        }
+        Err(stop) => {
+            explain_reading(alloc, host, &stop);
+            Err(status_of(stop))
+        }
     }
 }
 
@@ -99,19 +137,29 @@ fn decide<H: Host>(
     host: &mut H,
     input: Input,
 ) -> Result<(), Status>
-    requires read { IsTrue H.tells → AreInput (command_view command) (H.file host.old) input.files.items input.classes input.headers }
+    requires read { IsTrue H.tells
+        → AreInput (command_view command) (H.file host.old) input.files.items input.classes
+        input.headers }
     requires classes { AllByRecursion IsClassFile input.classes }
     requires headers { AllByRecursion IsLibraryClass input.headers }
     ensures not_usage { ¬ IsErrOf result Status.Usage }
-    ensures fault { (call : HostCall) → IsErrOf result (Status.HostFault call) → Rose (H.faults host.old call) (H.faults host.new call) }
-    ensures counts { (call : HostCall) → NeverFalls (H.faults host.old call) (H.faults host.new call) }
-    ensures write_count { ¬ IsWriting (command_view command.entry) → H.faults host.new HostCall.Write ≡ H.faults host.old HostCall.Write }
-    ensures stop { (words : List Word) → Spells (command_view command.entry) words → IsTrue H.tells →
-        IsStop words (H.file host.old) (H.file host.new) (H.printed host.old) (H.printed host.new) (ended result) }
+    ensures fault { (call : HostCall)
+        → IsErrOf result (Status.HostFault call)
+        → Rose (H.faults host.old call) (H.faults host.new call) }
+    ensures counts { (call : HostCall)
+        → NeverFalls (H.faults host.old call) (H.faults host.new call) }
+    ensures write_count { ¬ IsWriting (command_view command.entry)
+        → H.faults host.new HostCall.Write ≡ H.faults host.old HostCall.Write }
+    ensures stop { (words : List Word)
+        → Spells (command_view command.entry) words
+        → IsTrue H.tells
+        → IsStop words (H.file host.old) (H.file host.new) (H.printed host.old) (H.printed host.new)
+        (ended result) }
 {
     let Ok(line) = line_of(alloc, command, &input) else {
         return Err(Status::NoMemory);
     };
+    let library = Outlines::of(alloc, input.headers.as_slice());
     match link(alloc, input.classes, input.headers) {
         Ok(tree) => verify(
             alloc,
@@ -121,18 +169,10 @@ fn decide<H: Host>(
             input.files.as_slice(),
             line.as_slice(),
         ),
-        Err(LinkFault::NoMemory) => Err(Status::NoMemory),
-        Err(
-            LinkFault::Unlinked {
-                class,
-                member,
-                rule,
-            },
-        ) => Err(Status::Unlinked {
-            class,
-            member,
-            rule,
-        }),
+        Err(stop) => {
+            explain_linking(alloc, host, input.files.as_slice(), &library, &stop);
+            Err(link_status(stop.fault))
+        }
     }
 }
 
@@ -145,31 +185,49 @@ fn verify<H: Host>(
     files: &[NamedFile],
     line: &[u8],
 ) -> Result<(), Status>
-    requires arranged { IsTrue H.tells → AreArranged (command_view command) (H.file host.old) files.now line.now tree.now }
+    requires arranged { IsTrue H.tells
+        → AreArranged (command_view command) (H.file host.old) files.now line.now tree.now }
     requires linked { IsLinked tree.now }
     ensures not_usage { ¬ IsErrOf result Status.Usage }
-    ensures fault { (call : HostCall) → IsErrOf result (Status.HostFault call) → Rose (H.faults host.old call) (H.faults host.new call) }
-    ensures counts { (call : HostCall) → NeverFalls (H.faults host.old call) (H.faults host.new call) }
-    ensures write_count { ¬ IsWriting (command_view command.entry) → H.faults host.new HostCall.Write ≡ H.faults host.old HostCall.Write }
-    ensures stop { (words : List Word) → Spells (command_view command.entry) words → IsTrue H.tells →
-        IsStop words (H.file host.old) (H.file host.new) (H.printed host.old) (H.printed host.new) (ended result) }
+    ensures fault { (call : HostCall)
+        → IsErrOf result (Status.HostFault call)
+        → Rose (H.faults host.old call) (H.faults host.new call) }
+    ensures counts { (call : HostCall)
+        → NeverFalls (H.faults host.old call) (H.faults host.new call) }
+    ensures write_count { ¬ IsWriting (command_view command.entry)
+        → H.faults host.new HostCall.Write ≡ H.faults host.old HostCall.Write }
+    ensures stop { (words : List Word)
+        → Spells (command_view command.entry) words
+        → IsTrue H.tells
+        → IsStop words (H.file host.old) (H.file host.new) (H.printed host.old) (H.printed host.new)
+        (ended result) }
 {
     match check_all(alloc, tree) {
         Ok(()) => carry_out(alloc, command, host, files, line),
-        Err(VerifyFault::NoMemory) => Err(Status::NoMemory),
-        Err(
-            VerifyFault::Unverified {
-                class,
-                method,
-                offset,
-                rule,
-            },
-        ) => Err(Status::Unverified {
+        Err(fault) => {
+            explain_verifying(alloc, host, tree, &fault);
+            Err(verify_status(fault))
+        }
+    }
+}
+
+/// The status of a command whose class files do not verify.
+fn verify_status(fault: VerifyFault) -> Status
+    ensures { result ≡ verify_status fault }
+{
+    match fault {
+        VerifyFault::Unverified {
             class,
             method,
             offset,
             rule,
-        }),
+        } => Status::Unverified {
+            class,
+            method,
+            offset,
+            rule,
+        },
+        VerifyFault::NoMemory => Status::NoMemory,
     }
 }
 
@@ -181,13 +239,21 @@ fn carry_out<H: Host>(
     files: &[NamedFile],
     line: &[u8],
 ) -> Result<(), Status>
-    requires { IsTrue H.tells → AreReady (command_view command) (H.file host.old) files.now line.now }
+    requires { IsTrue H.tells
+        → AreReady (command_view command) (H.file host.old) files.now line.now }
     ensures not_usage { ¬ IsErrOf result Status.Usage }
-    ensures fault { (call : HostCall) → IsErrOf result (Status.HostFault call) → Rose (H.faults host.old call) (H.faults host.new call) }
-    ensures counts { (call : HostCall) → NeverFalls (H.faults host.old call) (H.faults host.new call) }
-    ensures write_count { ¬ IsWriting (command_view command.entry) → H.faults host.new HostCall.Write ≡ H.faults host.old HostCall.Write }
-    ensures stop { (words : List Word) → Spells (command_view command.entry) words → IsTrue H.tells →
-        IsStop words (H.file host.old) (H.file host.new) (H.printed host.old) (H.printed host.new) (ended result) }
+    ensures fault { (call : HostCall)
+        → IsErrOf result (Status.HostFault call)
+        → Rose (H.faults host.old call) (H.faults host.new call) }
+    ensures counts { (call : HostCall)
+        → NeverFalls (H.faults host.old call) (H.faults host.new call) }
+    ensures write_count { ¬ IsWriting (command_view command.entry)
+        → H.faults host.new HostCall.Write ≡ H.faults host.old HostCall.Write }
+    ensures stop { (words : List Word)
+        → Spells (command_view command.entry) words
+        → IsTrue H.tells
+        → IsStop words (H.file host.old) (H.file host.new) (H.printed host.old) (H.printed host.new)
+        (ended result) }
 {
     match command {
         Command::Optimise { output, .. } => write_out(alloc, host, output, files, line),
@@ -197,7 +263,10 @@ fn carry_out<H: Host>(
 
 /// The line of a command that was done.
 fn line_of(alloc: Global, command: Command<'_>, input: &Input) -> Result<Vec<u8>, NoMemory>
-    ensures { IfOk result (λ line. line.items ≡ done_line (command_view command.entry) (length input.now.files.items) (length input.now.classes) (method_count input.now.classes)) }
+    ensures { IfOk result (λ line.
+        line.items
+        ≡ done_line (command_view command.entry) (length input.now.files.items)
+        (length input.now.classes) (method_count input.now.classes)) }
 {
     let classes = input.classes.len();
     let methods = methods(input.classes.as_slice());
@@ -227,9 +296,14 @@ fn write_out<H: Host>(
     line: &[u8],
 ) -> Result<(), Status>
     ensures not_usage { ¬ IsErrOf result Status.Usage }
-    ensures fault { (call : HostCall) → IsErrOf result (Status.HostFault call) → Rose (H.faults host.old call) (H.faults host.new call) }
-    ensures counts { (call : HostCall) → NeverFalls (H.faults host.old call) (H.faults host.new call) }
-    ensures left { IsTrue H.tells → LeavesWritten root.now files.now line.now (H.file host.old) (H.file host.new) (H.printed host.old) (H.printed host.new) (ending (ended result)) }
+    ensures fault { (call : HostCall)
+        → IsErrOf result (Status.HostFault call)
+        → Rose (H.faults host.old call) (H.faults host.new call) }
+    ensures counts { (call : HostCall)
+        → NeverFalls (H.faults host.old call) (H.faults host.new call) }
+    ensures left { IsTrue H.tells
+        → LeavesWritten root.now files.now line.now (H.file host.old) (H.file host.new)
+        (H.printed host.old) (H.printed host.new) (ending (ended result)) }
 {
     match write_files(alloc, host, root, files) {
         Ok(()) => finish(alloc, host, line),
@@ -242,9 +316,13 @@ fn write_out<H: Host>(
 /// Prints the last line of a command that was done.
 fn finish<H: Host>(alloc: Global, host: &mut H, line: &[u8]) -> Result<(), Status>
     ensures not_usage { ¬ IsErrOf result Status.Usage }
-    ensures fault { (call : HostCall) → IsErrOf result (Status.HostFault call) → Rose (H.faults host.old call) (H.faults host.new call) }
+    ensures fault { (call : HostCall)
+        → IsErrOf result (Status.HostFault call)
+        → Rose (H.faults host.old call) (H.faults host.new call) }
     ensures counts { CountsOnly HostCall.Print (H.faults host.old) (H.faults host.new) }
-    ensures left { IsTrue H.tells → LeavesPrinted line.now (H.file host.old) (H.file host.new) (H.printed host.old) (H.printed host.new) (ending (ended result)) }
+    ensures left { IsTrue H.tells
+        → LeavesPrinted line.now (H.file host.old) (H.file host.new) (H.printed host.old)
+        (H.printed host.new) (ending (ended result)) }
 {
     match host.print(alloc, line) {
         Ok(()) => Ok(()),
@@ -258,8 +336,12 @@ fn finish<H: Host>(alloc: Global, host: &mut H, line: &[u8]) -> Result<(), Statu
 fn refuse<H: Host>(alloc: Global, host: &mut H, stop: Status) -> Status
     ensures answer { (result ≡ stop) ⊎ (result ≡ Status.NoMemory) }
     ensures counts { CountsOnly HostCall.Print (H.faults host.old) (H.faults host.new) }
-    ensures outcome { (words : List Word) (old : Files) (before : Bytes) → IsTrue H.tells → IsStop words old (H.file host.old) before (H.printed host.old) stop →
-        IsOutcome words old (H.file host.new) (Rose (H.faults host.old HostCall.Print) (H.faults host.new HostCall.Print)) before (H.printed host.new) result }
+    ensures outcome { (words : List Word) (old : Files) (before : Bytes)
+        → IsTrue H.tells
+        → IsStop words old (H.file host.old) before (H.printed host.old) stop
+        → IsOutcome words old (H.file host.new)
+        (Rose (H.faults host.old HostCall.Print) (H.faults host.new HostCall.Print)) before
+        (H.printed host.new) result }
 {
     if !stop.is_refusal() {
         return stop;

@@ -66,7 +66,8 @@ struct Seen<'a> {
 
 /// The command that the words spell.
 pub(crate) fn command_of(words: &[String]) -> Option<Command<'_>>
-    ensures some { IfSome result (λ command. Spells (command_view command) (map string_bytes words.now)) }
+    ensures some { IfSome result
+        (λ command. Spells (command_view command) (map string_bytes words.now)) }
     ensures none { IfNone result (IsUsage (map string_bytes words.now)) }
 {
     let (name, rest) = words.split_first()?;
@@ -80,8 +81,11 @@ pub(crate) fn command_of(words: &[String]) -> Option<Command<'_>>
 
 /// What the words behind a command's name say of it.
 fn seen_in(words: &[String]) -> Option<Seen<'_>>
-    ensures some { IfSome result (λ seen. (command : grammar_command) → EndsCommand seen [] command ↔ Completes [] [] (map string_bytes words.now) command) }
-    ensures none { IfNone result ((command : grammar_command) → ¬ Completes [] [] (map string_bytes words.now) command) }
+    ensures some { IfSome result (λ seen.
+        (command : grammar_command)
+        → EndsCommand seen [] command ↔ Completes [] [] (map string_bytes words.now) command) }
+    ensures none { IfNone result
+        ((command : grammar_command) → ¬ Completes [] [] (map string_bytes words.now) command) }
 {
     let mut seen = Seen {
         folders: Folders::Neither,
@@ -96,7 +100,8 @@ fn seen_in(words: &[String]) -> Option<Seen<'_>>
 impl<'a> Folders<'a> {
     /// One more positional word, of which there are two at most.
     fn with(self, word: &'a str) -> Option<Self>
-        ensures some { IfSome result (λ next. folder_words next ≡ folder_words self.entry ++ word.now ∷ []) }
+        ensures some { IfSome result
+            (λ next. folder_words next ≡ folder_words self.entry ++ word.now ∷ []) }
         ensures none { IfNone result (length (folder_words self.entry) ≡ 2) }
     {
         match self {
@@ -165,9 +170,12 @@ impl<'a> Seen<'a> {
 
     /// The command that optimises, where no word is missing.
     fn optimise(self) -> Option<Command<'a>>
-        ensures name { IfSome result (λ command. name_of (command_view command) ≡ codes "optimise") }
+        ensures name { IfSome result
+            (λ command. name_of (command_view command) ≡ codes "optimise") }
         ensures some { IfSome result (λ command. EndsCommand self.entry [] (command_view command)) }
-        ensures none { IfNone result ((input output library : Word) → ¬ EndsCommand self.entry [] (grammar_optimise input output library)) }
+        ensures none { IfNone result
+            ((input output library : Word)
+            → ¬ EndsCommand self.entry [] (grammar_optimise input output library)) }
     {
         let Folders::Both { input, output } = self.folders else {
             return None;
@@ -189,7 +197,8 @@ impl<'a> Seen<'a> {
     fn verify(self) -> Option<Command<'a>>
         ensures name { IfSome result (λ command. name_of (command_view command) ≡ codes "verify") }
         ensures some { IfSome result (λ command. EndsCommand self.entry [] (command_view command)) }
-        ensures none { IfNone result ((input library : Word) → ¬ EndsCommand self.entry [] (grammar_verify input library)) }
+        ensures none { IfNone result
+            ((input library : Word) → ¬ EndsCommand self.entry [] (grammar_verify input library)) }
     {
         let Folders::Input(input) = self.folders else {
             return None;
@@ -215,8 +224,10 @@ fn operand(word: &str) -> Option<&str>
 
 /// The value behind `--lib=`, where it is not empty.
 fn joined_value(word: &str) -> Option<&str>
-    ensures some { IfSome result (λ value. (word.now ≡ codes "--lib=" ++ value.now) × (value.now ≢ [])) }
-    ensures none { IfNone result ((value : Word) → value ≢ [] → word.now ≢ codes "--lib=" ++ value) }
+    ensures some { IfSome result
+        (λ value. (word.now ≡ codes "--lib=" ++ value.now) × (value.now ≢ [])) }
+    ensures none { IfNone result
+        ((value : Word) → value ≢ [] → word.now ≢ codes "--lib=" ++ value) }
 {
     let value = word.strip_prefix("--lib=")?;
     if value.is_empty() { None } else { Some(value) }

@@ -15,11 +15,14 @@ pub(crate) fn write_files<H: Host>(
     root: &str,
     files: &[NamedFile],
 ) -> Result<(), HostFail>
-    ensures ok { IsTrue H.tells → OnOk result (Puts root.now files.now (H.file host.old) (H.file host.new)) }
-    ensures err { IsTrue H.tells → OnErr result (PutsSome root.now files.now (H.file host.old) (H.file host.new)) }
+    ensures ok { IsTrue H.tells
+        → OnOk result (Puts root.now files.now (H.file host.old) (H.file host.new)) }
+    ensures err { IsTrue H.tells
+        → OnErr result (PutsSome root.now files.now (H.file host.old) (H.file host.new)) }
     ensures printed { IsTrue H.tells → H.printed host.new ≡ H.printed host.old }
     ensures counts { CountsOnly HostCall.Write (H.faults host.old) (H.faults host.new) }
-    ensures failed { IsErrOf result HostFail.Failed → Rose (H.faults host.old HostCall.Write) (H.faults host.new HostCall.Write) }
+    ensures failed { IsErrOf result HostFail.Failed
+        → Rose (H.faults host.old HostCall.Write) (H.faults host.new HostCall.Write) }
     ensures not_absent { ¬ IsErrOf result HostFail.Absent }
 {
     for file in files {

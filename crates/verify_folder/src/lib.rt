@@ -2,6 +2,7 @@
 //! first failure.
 #![tactic(auto)]
 
+mod before;
 mod flow;
 mod folder;
 mod handlers;
@@ -10,6 +11,7 @@ mod method;
 mod stop;
 mod typing;
 
+pub use before::{FrameBefore, frame_before};
 pub use folder::{check_all, verify_all};
 pub use laws::a_folder_fails_once;
 pub use method::verify_method;

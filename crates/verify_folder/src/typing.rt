@@ -37,6 +37,21 @@ pub(crate) fn type_method(alloc: Global, rules: &MethodRules<'_>) -> Result<Type
     typing.walk()
 }
 
+/// What flows into the instruction of a method at an offset, in bytes, where each before it is typed.
+pub(crate) fn flows_before(
+    alloc: Global,
+    rules: &MethodRules<'_>,
+    offset: u32,
+) -> Result<Option<Frame>, Stop> {
+    let all = throwable_name(alloc)?;
+    let typing = Typing {
+        alloc,
+        rules,
+        all: &all,
+    };
+    typing.flows_before(offset)
+}
+
 // The name of all throwables.
 fn throwable_name(alloc: Global) -> Result<Text, NoMemory>
     ensures { IfOk result (λ name. name ≡ throwable) }
@@ -81,6 +96,20 @@ impl Typing<'_> {
             Some(_) => Err(fails(rules.code_len(), TypeRule::FallsOff)),
             None => Ok(frames),
         }
+    }
+
+    // What flows into the instruction at an offset.
+    fn flows_before(&self, offset: u32) -> Result<Option<Frame>, Stop> {
+        let rules = self.rules;
+        let mut flows = Some(rules.entry().copy(self.alloc)?);
+        for placed in rules.instructions().as_slice() {
+            if placed.at >= offset {
+                break;
+            }
+            let (_, next) = self.step(flows, placed)?;
+            flows = next;
+        }
+        Ok(flows)
     }
 
     // The frame of an instruction behind what flows into it, and what flows into the next.

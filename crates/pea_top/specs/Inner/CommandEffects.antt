@@ -7,19 +7,31 @@ use Rattle.pea_top.specs.Inner.Writing.{Puts, PutsSome}
 use Rattle.pea_top.specs.declared.folder.NamedFile.{NamedFile}
 
 -- what is left where memory ran out
-pub data WrittenSome (root : Bytes) (files : List NamedFile) (line : Bytes) (old new : Files) (before after : Bytes) : Type 0 where
-  some_files : PutsSome root files old new → after ≡ before → WrittenSome root files line old new before after
-  all_files : Puts root files old new → IsPrefixPrinted line before after → WrittenSome root files line old new before after
+pub data WrittenSome (root : Bytes) (files : List NamedFile) (line : Bytes) (old new : Files)
+    (before after : Bytes)
+    : Type 0 where
+  some_files :
+      PutsSome root files old new
+      → after ≡ before
+      → WrittenSome root files line old new before after
+  all_files :
+      Puts root files old new → IsPrefixPrinted line before after
+      → WrittenSome root files line old new before after
 
 -- the files, and what was printed, after these were to be written under a root and then a line printed
-abbrev pub LeavesWritten : Bytes → List NamedFile → Bytes → Files → Files → Bytes → Bytes → Ending → Type 0
-LeavesWritten root files line old new before after completed = Puts root files old new × (after ≡ before ++ line)
+abbrev pub LeavesWritten :
+    Bytes → List NamedFile → Bytes → Files → Files → Bytes → Bytes → Ending → Type 0
+LeavesWritten root files line old new before after completed =
+    Puts root files old new × (after ≡ before ++ line)
 LeavesWritten root files line old new before after (refused refusal) = ⊥
 LeavesWritten root files line old new before after (failed calls.List) = ⊥
 LeavesWritten root files line old new before after (failed calls.Read) = ⊥
-LeavesWritten root files line old new before after (failed calls.Write) = PutsSome root files old new × (after ≡ before)
-LeavesWritten root files line old new before after (failed calls.Print) = Puts root files old new × IsPrefixPrinted line before after
-LeavesWritten root files line old new before after out_of_memory = WrittenSome root files line old new before after
+LeavesWritten root files line old new before after (failed calls.Write) =
+    PutsSome root files old new × (after ≡ before)
+LeavesWritten root files line old new before after (failed calls.Print) =
+    Puts root files old new × IsPrefixPrinted line before after
+LeavesWritten root files line old new before after out_of_memory =
+    WrittenSome root files line old new before after
 
 -- the same where nothing is written
 abbrev pub LeavesPrinted : Bytes → Files → Files → Bytes → Bytes → Ending → Type 0
@@ -28,5 +40,7 @@ LeavesPrinted line old new before after (refused refusal) = ⊥
 LeavesPrinted line old new before after (failed calls.List) = ⊥
 LeavesPrinted line old new before after (failed calls.Read) = ⊥
 LeavesPrinted line old new before after (failed calls.Write) = ⊥
-LeavesPrinted line old new before after (failed calls.Print) = SameFiles old new × IsPrefixPrinted line before after
-LeavesPrinted line old new before after out_of_memory = SameFiles old new × IsPrefixPrinted line before after
+LeavesPrinted line old new before after (failed calls.Print) =
+    SameFiles old new × IsPrefixPrinted line before after
+LeavesPrinted line old new before after out_of_memory =
+    SameFiles old new × IsPrefixPrinted line before after

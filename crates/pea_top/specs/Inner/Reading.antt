@@ -23,7 +23,8 @@ pub record AreFiles (folder : Folder) (files : List NamedFile) : Type 0 where
   pub contents : AllByRecursion (λ file. folder file.name ≡ Some file.bytes) files
 
 -- all files of the folder, and what its class files are, none of which is refused
-pub record AreGoodFiles (folder : Folder) (files : List NamedFile) (classes : List ClassFile) : Type 0 where
+pub record AreGoodFiles (folder : Folder) (files : List NamedFile) (classes : List ClassFile)
+    : Type 0 where
   pub are : AreFiles folder files
   pub are_read : AreReadAs ClassOf folder (map (λ file. file.name) files) classes
   pub none_refused : NoneRefused IsRefusedClass folder
@@ -33,15 +34,16 @@ pub record AreGoodFiles (folder : Folder) (files : List NamedFile) (classes : Li
 abbrev pub StopsAt : (Bytes → Refusal → Type 0) → ReadStop → Type 0
 StopsAt Holds (Fault call) = Unit {0}
 StopsAt Holds NoMemory = Unit {0}
-StopsAt Holds (Malformed name at rule) = Holds name (broken (fault at rule))
-StopsAt Holds (Version name major minor) = Holds name (other_version (record { minor = minor; major = major }))
+StopsAt Holds (Malformed name at rule file) = Holds name (broken (fault at rule))
+StopsAt Holds (Version name major minor side) =
+    Holds name (other_version (record { minor = minor; major = major }))
 
 -- the status of a command whose reading stops
 abbrev pub status_of : ReadStop → Status
 status_of (Fault call) = statuses.HostFault call
 status_of NoMemory = statuses.NoMemory
-status_of (Malformed name at rule) = statuses.Malformed name at rule
-status_of (Version name major minor) = statuses.Version name major minor
+status_of (Malformed name at rule file) = statuses.Malformed name at rule
+status_of (Version name major minor side) = statuses.Version name major minor
 
 -- the files and class files of the folder, or its first file that is refused
 abbrev pub IsReadOrWhy : Folder → Result (Vec NamedFile Global × List ClassFile) ReadStop → Type 0
@@ -55,5 +57,7 @@ IsLibraryOrWhy library (Err stop) = StopsAt (IsFirstRefused IsRefusedHeader libr
 
 -- the files of the input and the headers of the library, or the first file that is refused
 abbrev pub IsInputOrWhy : Folder → Folder → Result Input ReadStop → Type 0
-IsInputOrWhy folder library (Ok input) = AreGoodFiles folder input.files.items input.classes × HasClassFiles HeaderOf library input.headers
+IsInputOrWhy folder library (Ok input) =
+    AreGoodFiles folder input.files.items input.classes
+    × HasClassFiles HeaderOf library input.headers
 IsInputOrWhy folder library (Err stop) = StopsAt (IsFirstOf folder library) stop

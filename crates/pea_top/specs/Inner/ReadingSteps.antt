@@ -12,6 +12,7 @@ use Rattle.host_tree.specs.declared.call.HostCall.{HostCall}
 use Rattle.pea_top.specs.Answer.{Refusal, broken, other_version, IsRefusedClass, IsRefusedHeader, IsRefused}
 use Rattle.pea_top.specs.Folders.{names_class_file}
 use Rattle.pea_top.specs.Inner.Reading.{StopsAt}
+use Rattle.explain.specs.declared.side.Side.{Side}
 use Rattle.pea_top.specs.declared.folder.NamedFile.{NamedFile}
 use Rattle.pea_top.specs.declared.reading.ReadStop.{ReadStop}
 use Rattle.pea_top.specs.declared.reading.ReadStop.TheVariants.{Fault, NoMemory, Malformed, Version}
@@ -20,8 +21,8 @@ use Rattle.pea_top.specs.declared.reading.ReadStop.TheVariants.{Fault, NoMemory,
 abbrev pub IsCallStop : HostCall → Type 0 → ReadStop → Type 0
 IsCallStop kind Raised (Fault call) = (call ≡ kind) × Raised
 IsCallStop kind Raised NoMemory = Unit {0}
-IsCallStop kind Raised (Malformed name at rule) = ⊥
-IsCallStop kind Raised (Version name major minor) = ⊥
+IsCallStop kind Raised (Malformed name at rule file) = ⊥
+IsCallStop kind Raised (Version name major minor side) = ⊥
 
 -- a class file by its name has a class, and another has none
 abbrev pub IsClassOf : Bytes → Bytes → Option ClassFile → Type 0
@@ -37,19 +38,22 @@ pub record IsGoodFile (folder : Folder) (file : NamedFile) (class : Option Class
 -- the file of this name, or that it is refused
 abbrev pub IsFileOrWhy : Folder → Bytes → Result (NamedFile × Option ClassFile) ReadStop → Type 0
 IsFileOrWhy folder name (Ok (file, class)) = (file.name ≡ name) × IsGoodFile folder file class
-IsFileOrWhy folder name (Err stop) = StopsAt (λ refused why. (refused ≡ name) × IsRefused IsRefusedClass folder name why) stop
+IsFileOrWhy folder name (Err stop) =
+    StopsAt (λ refused why. (refused ≡ name) × IsRefused IsRefusedClass folder name why) stop
 
 -- why a class file is not written again: its bytes are refused for that, or memory ran out
 abbrev pub IsWhyNot : Bytes → ClassFault → Type 0
 IsWhyNot bytes (faults.Malformed at rule) = IsRefusedClass bytes (broken (fault at rule))
-IsWhyNot bytes (faults.Version major minor) = IsRefusedClass bytes (other_version (record { minor = minor; major = major }))
+IsWhyNot bytes (faults.Version major minor) =
+    IsRefusedClass bytes (other_version (record { minor = minor; major = major }))
 IsWhyNot bytes faults.NoMemory = Unit {0}
 
--- the stop at a file of this name
-abbrev pub stop_at : Bytes → ClassFault → ReadStop
-stop_at name (faults.Malformed at rule) = Malformed name at rule
-stop_at name (faults.Version major minor) = Version name major minor
-stop_at name faults.NoMemory = NoMemory
+-- the stop at a file of this name, which stands on this side and has these bytes
+abbrev pub stop_at : Side → Bytes → Bytes → ClassFault → ReadStop
+stop_at side name bytes (faults.Malformed at rule) =
+    Malformed name at rule (record { side = side; bytes = bytes })
+stop_at side name bytes (faults.Version major minor) = Version name major minor side
+stop_at side name bytes faults.NoMemory = NoMemory
 
 -- the header of a file of the library that is not refused
 pub record IsGoodHeader (library : Folder) (name : Bytes) (header : Header) : Type 0 where
@@ -61,4 +65,5 @@ pub record IsGoodHeader (library : Folder) (name : Bytes) (header : Header) : Ty
 -- the header of the file of this name, or that it is refused
 abbrev pub IsHeaderOrWhy : Folder → Bytes → Result Header ReadStop → Type 0
 IsHeaderOrWhy library name (Ok header) = IsGoodHeader library name header
-IsHeaderOrWhy library name (Err stop) = StopsAt (λ refused why. (refused ≡ name) × IsRefused IsRefusedHeader library name why) stop
+IsHeaderOrWhy library name (Err stop) =
+    StopsAt (λ refused why. (refused ≡ name) × IsRefused IsRefusedHeader library name why) stop

@@ -1,0 +1,42 @@
+-- What stands where linking or verifying stops a command, and what was then explained.
+use Rattle.std.proofs.Common.{◌≡◌, List, Err, refl}
+use Rattle.class_model.specs.declared.class_file.ClassFile.{ClassFile}
+use Rattle.class_model.specs.declared.header.Header.{Header}
+use Rattle.class_tree.specs.Headers.{Classes}
+use Rattle.class_tree.specs.Trees.{IsArranged, IsTree}
+use Rattle.class_tree.specs.declared.fault.LinkFault.{LinkFault}
+use Rattle.class_tree.specs.declared.fault.LinkFault.TheVariants as links
+use Rattle.host_tree.specs.Host.{Bytes, Files, SameFiles}
+use Rattle.member_link.specs.Linked.{IsLinked}
+use Rattle.type_rules.specs.declared.fault.VerifyFault.{VerifyFault}
+use Rattle.type_rules.specs.declared.fault.VerifyFault.TheVariants as failures
+use Rattle.verify_folder.specs.Verifying.{FolderIsTyped}
+use Rattle.pea_top.specs.Answer.{AreRead}
+use Rattle.pea_top.specs.Inner.Deciding.{IsStop}
+use Rattle.pea_top.specs.Inner.Linking.{link_status}
+use Rattle.pea_top.specs.Inner.Linking.{IsLinkFault}
+use Rattle.pea_top.specs.Inner.Verifying.{verify_status}
+use Rattle.pea_top.specs.Words.{Word, Command, input_of, library_of, Spells}
+use Rattle.pea_top.specs.declared.status.Status.TheVariants.{Unlinked, Unverified}
+use Rattle.pea_top.proofs.Outcomes.{stop_no_memory, stop_refused}
+
+module _ (words : List Word) (command : Command) (spelled : Spells command words) (old new : Files) (before after : Bytes) (same : SameFiles old new) (none : after ≡ before)
+    (classes : List ClassFile) (headers : List Header) (read : AreRead (old (input_of command)) (old (library_of command)) classes headers) where
+  pub stop_linking : (fault : LinkFault) → IsLinkFault classes headers fault → IsStop words old new before after (link_status fault)
+  stop_linking (links.Unlinked class member rule) first =
+      stop_refused words old new before after same none (Unlinked class member rule) refl
+      (record { command = command; spelled = spelled; classes = classes; headers = headers; read = read; first = first })
+  stop_linking links.NoMemory first = stop_no_memory words old new before after same none
+
+  pub stop_verifying : (tree : Classes) → IsArranged classes headers tree → IsTree tree → IsLinked tree → (fault : VerifyFault) → FolderIsTyped tree (Err fault) → IsStop words old new before after (verify_status fault)
+  stop_verifying tree arranged is_tree linked (failures.Unverified class method offset rule) fails =
+      stop_refused words old new before after same none (Unverified class method offset rule) refl
+      (record {
+        command = command;
+        spelled = spelled;
+        classes = classes;
+        headers = headers;
+        read = read;
+        first = record { classes = tree; arranged = arranged; tree = is_tree; linked = linked; fails = fails };
+      })
+  stop_verifying tree arranged is_tree linked failures.NoMemory fails = stop_no_memory words old new before after same none

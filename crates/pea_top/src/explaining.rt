@@ -1,0 +1,169 @@
+//! What the user is shown beside what is printed: why a command is refused, and what may be a mistake.
+ghost use Rattle.std.specs.Prelude.{◌≡◌, IsTrue};
+ghost use Rattle.class_tree.specs.Headers.{headers_of};
+ghost use Rattle.host_tree.specs.declared.call.HostCall.{HostCall};
+ghost use Rattle.host_tree.specs.Host.{SameFiles};
+ghost use Rattle.member_link.specs.Linked.{IsLinked};
+
+use crate::folder::{NamedFile, is_class_file};
+use crate::linking::LinkStop;
+use crate::reading::{Input, ReadStop};
+use class_bytes::read_class;
+use class_model::NoMemory;
+use class_tree::{ClassFileList, LinkFault, Tree};
+use explain::{
+    Folders, Outlines, class_counts, explain_hierarchy, explain_links, explain_malformed,
+    explain_verification, explain_version, usage,
+};
+use host_tree::Host;
+use std::alloc::Global;
+use type_rules::VerifyFault;
+
+/// Shows lines, where there was memory for them.
+pub(crate) fn show<H: Host>(host: &mut H, lines: Result<String, NoMemory>)
+    ensures files { IsTrue H.tells → SameFiles (H.file host.old) (H.file host.new) }
+    ensures printed { IsTrue H.tells → H.printed host.new ≡ H.printed host.old }
+    ensures counts { (call : HostCall) → H.faults host.new call ≡ H.faults host.old call }
+{
+    if let Ok(lines) = lines {
+        host.explain(lines.as_bytes());
+    }
+}
+
+/// Explains how the program is called.
+pub(crate) fn explain_usage<H: Host>(alloc: Global, host: &mut H)
+    ensures files { IsTrue H.tells → SameFiles (H.file host.old) (H.file host.new) }
+    ensures printed { IsTrue H.tells → H.printed host.new ≡ H.printed host.old }
+    ensures counts { (call : HostCall) → H.faults host.new call ≡ H.faults host.old call }
+{
+    show(host, usage(alloc));
+}
+
+/// Notes where the input or the library has no class files.
+pub(crate) fn note_input<H: Host>(alloc: Global, host: &mut H, input: &Input)
+    ensures files { IsTrue H.tells → SameFiles (H.file host.old) (H.file host.new) }
+    ensures printed { IsTrue H.tells → H.printed host.new ≡ H.printed host.old }
+    ensures counts { (call : HostCall) → H.faults host.new call ≡ H.faults host.old call }
+{
+    show(
+        host,
+        class_counts(alloc, input.classes.len(), input.headers.len()),
+    );
+}
+
+/// Explains why a file is refused.
+pub(crate) fn explain_reading<H: Host>(alloc: Global, host: &mut H, stop: &ReadStop)
+    ensures files { IsTrue H.tells → SameFiles (H.file host.old) (H.file host.new) }
+    ensures printed { IsTrue H.tells → H.printed host.new ≡ H.printed host.old }
+    ensures counts { (call : HostCall) → H.faults host.new call ≡ H.faults host.old call }
+{
+    show(host, lines_of_reading(alloc, stop));
+}
+
+fn lines_of_reading(alloc: Global, stop: &ReadStop) -> Result<String, NoMemory> {
+    match stop {
+        ReadStop::Malformed {
+            name,
+            at,
+            rule,
+            file,
+        } => {
+            let bytes = file.bytes.as_slice();
+            explain_malformed(alloc, file.side, name.as_str(), bytes, *at, *rule)
+        }
+        ReadStop::Version {
+            name,
+            major,
+            minor,
+            side,
+        } => explain_version(alloc, *side, name.as_str(), *major, *minor),
+        ReadStop::Fault(_) | ReadStop::NoMemory => Err(NoMemory),
+    }
+}
+
+/// Explains why class files are not linked.
+pub(crate) fn explain_linking<H: Host>(
+    alloc: Global,
+    host: &mut H,
+    files: &[NamedFile],
+    library: &Result<Outlines, NoMemory>,
+    stop: &LinkStop,
+)
+    ensures files { IsTrue H.tells → SameFiles (H.file host.old) (H.file host.new) }
+    ensures printed { IsTrue H.tells → H.printed host.new ≡ H.printed host.old }
+    ensures counts { (call : HostCall) → H.faults host.new call ≡ H.faults host.old call }
+{
+    show(host, lines_of_linking(alloc, files, library, stop));
+}
+
+fn lines_of_linking(
+    alloc: Global,
+    files: &[NamedFile],
+    library: &Result<Outlines, NoMemory>,
+    stop: &LinkStop,
+) -> Result<String, NoMemory> {
+    let LinkFault::Unlinked {
+        class,
+        member,
+        rule,
+    } = &stop.fault
+    else {
+        return Err(NoMemory);
+    };
+    match &stop.tree {
+        Some(tree) => explain_links(alloc, tree, class, member, *rule),
+        None => {
+            let Ok(library) = library else {
+                return Err(NoMemory);
+            };
+            let input = class_files(alloc, files)?;
+            let folders = Folders {
+                input: input.as_slice(),
+                library,
+            };
+            explain_hierarchy(alloc, &folders, class, *rule)
+        }
+    }
+}
+
+/// The class files among files that were read.
+fn class_files(alloc: Global, files: &[NamedFile]) -> Result<ClassFileList, NoMemory> {
+    let mut classes = ClassFileList::new(alloc);
+    for file in files {
+        if is_class_file(&file.name) {
+            if let Ok(class) = read_class(alloc, file.bytes.as_slice()) {
+                classes.push(class)?;
+            }
+        }
+    }
+    Ok(classes)
+}
+
+/// Explains why a method does not verify.
+pub(crate) fn explain_verifying<H: Host>(
+    alloc: Global,
+    host: &mut H,
+    tree: &Tree,
+    fault: &VerifyFault,
+)
+    requires { IsLinked tree.now }
+    ensures files { IsTrue H.tells → SameFiles (H.file host.old) (H.file host.new) }
+    ensures printed { IsTrue H.tells → H.printed host.new ≡ H.printed host.old }
+    ensures counts { (call : HostCall) → H.faults host.new call ≡ H.faults host.old call }
+{
+    show(host, lines_of_verifying(alloc, tree, fault));
+}
+
+fn lines_of_verifying(alloc: Global, tree: &Tree, fault: &VerifyFault) -> Result<String, NoMemory>
+    requires { IsLinked tree.now }
+{
+    match fault {
+        VerifyFault::Unverified {
+            class,
+            method,
+            offset,
+            rule,
+        } => explain_verification(alloc, tree, class, method, *offset, *rule),
+        VerifyFault::NoMemory => Err(NoMemory),
+    }
+}
