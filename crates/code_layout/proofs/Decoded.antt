@@ -33,7 +33,7 @@ reads-one left at instr (byte ∷ front) rest others spelled behind =
     rw (spelled rest, drop-append_seam (byte ∷ front) rest, behind) refl
 
 -- An instruction has a byte at least, so that a first number as large as the bytes are is enough.
-some-len : (at : ℕ) (instr : Instr) (bytes : List ℕ) → IsSpelling at instr bytes → 0 < length bytes
+pub some-len : (at : ℕ) (instr : Instr) (bytes : List ℕ) → IsSpelling at instr bytes → 0 < length bytes
 some-len at instr [] spelled = absurd (some-bytes at instr spelled)
 some-len at instr (byte ∷ bytes) spelled = omega arith
 

@@ -1,3 +1,4 @@
 pub mod Emitting
 pub mod Layout
+pub mod EmittedCode
 pub mod Inner

@@ -1,5 +1,6 @@
 //! The layout of emitted code.
 ghost use Rattle.std.specs.Prelude.{IfOk, OnOk, IfErr};
+ghost use Rattle.code_layout.specs.EmittedCode.{HasCodeOf};
 ghost use Rattle.code_layout.specs.Layout.{IsLaid, IsShort, KeepsLong};
 
 use crate::emitted::Emitted;
@@ -20,6 +21,7 @@ use std::alloc::Global;
 /// `NoMemory`, where memory runs out.
 pub fn layout(alloc: Global, emitted: &Emitted) -> Result<Laid, KeptFault>
     ensures laid { IfOk result (IsLaid emitted.now) }
+    ensures code { IfOk result (HasCodeOf emitted.now) }
     ensures short { OnOk result (IsShort emitted.now) }
     ensures kept { IfErr result (KeepsLong emitted.now) }
 {

@@ -3,3 +3,4 @@ pub mod Numbered
 pub mod Cuts
 pub mod Keeps
 pub mod Firsts
+pub mod Back

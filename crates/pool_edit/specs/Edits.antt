@@ -83,3 +83,10 @@ pub record TakesBack (old : Edit) (count : ℕ) (new : Edit) : Type 0 where
   pub counts : length (grown new) ≡ count
   pub taken : List Const
   pub added : old.added ≡ new.added ++ taken
+
+-- An edit to which constants may have been appended since.
+pub record Continues (old new : Edit) : Type 0 where
+  pub base : new.base ≡ old.base
+  pub limit : new.limit ≡ old.limit
+  pub more : List Const
+  pub added : new.added ≡ old.added ++ more

@@ -146,3 +146,8 @@ no_depth state site P none some = subst (λ (object : Option VObject). IsSomeAnd
 
 pub depth_there : (state : State) (site : ℕ) (P : ℕ → Type 0) (object : VObject) → object_of state.objects site ≡ Some object → IsSomeAnd (depth_of state site) P → P object.depth
 depth_there state site P object found some = subst (λ (option : Option VObject). IsSomeAnd (option_map (λ one. one.depth) option) P) found some
+
+-- the parts of a state with another depth
+pub with_depth_parts : (state : State) (site depth : ℕ) (slots : List Slot) (objects : List VObject) → slots ≡ state.slots → objects ≡ map (object_with_depth site (λ _. depth)) state.objects
+    → ◌≡◌ {A = State} (record { slots = slots; objects = objects }) (with_depth state site (λ _. depth))
+with_depth_parts state site depth slots objects same changed = λ i. record { slots = same i; objects = changed i }

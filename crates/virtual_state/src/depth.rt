@@ -1,12 +1,13 @@
 //! How often the monitors of virtual objects are entered.
-ghost use Rattle.std.specs.Prelude.{◌≡◌, ◌+◌, ◌-◌, ◌<◌, IfOk};
+ghost use Rattle.std.specs.Prelude.{◌≡◌, ◌+◌, ◌-◌, ◌<◌, map, IfOk};
 ghost use Rattle.std.specs.Option.{IsSomeAnd};
-ghost use Rattle.virtual_state.specs.Depths.{depth_of, with_depth};
+ghost use Rattle.virtual_state.specs.Depths.{depth_of, object_with_depth, with_depth};
 ghost use Rattle.virtual_state.specs.States.{object_of};
 
 use crate::shared::SharedObject;
 use crate::slot::VObject;
 use crate::state::VState;
+use crate::table::ObjectTable;
 use class_model::{ListOf, NoMemory};
 use std::alloc::Global;
 use std::rc::Rc;
@@ -60,6 +61,23 @@ fn with_object(
     ensures { IfOk result (λ changed. changed ≡ with_depth state.now object.now.site (λ _. depth)) }
 {
     state.is_state();
+    let objects = objects_with(alloc, state, object, depth)?;
+    let slots = state.shared_slots().clone()?;
+    let objects = Rc::new(alloc, objects)?;
+    Ok(VState::from_parts(slots, objects))
+}
+
+// The objects of a state with another depth of one.
+fn objects_with(
+    alloc: Global,
+    state: &VState,
+    object: &VObject,
+    depth: u16,
+) -> Result<ObjectTable, NoMemory>
+    requires { object_of state.now.objects object.now.site ≡ Some object.now }
+    ensures { IfOk result (λ objects. objects ≡ map (object_with_depth object.now.site (λ _. depth)) state.now.objects) }
+{
+    state.is_state();
     let fields = Vec::from_slice(alloc, object.fields.as_slice())?;
     let changed = VObject {
         site: object.site,
@@ -69,7 +87,5 @@ fn with_object(
     let mut objects = state.objects().copy(alloc)?;
     objects.put(SharedObject::new(alloc, changed)?)?;
     objects.is_in_order();
-    let slots = state.shared_slots().clone()?;
-    let objects = Rc::new(alloc, objects)?;
-    Ok(VState::from_parts(slots, objects))
+    Ok(objects)
 }

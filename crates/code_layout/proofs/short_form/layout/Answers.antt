@@ -1,9 +1,12 @@
-use Rattle.std.proofs.Common.{◌≡◌, ℕ, List, length, sym, ap, subst, ◌∙◌, arith}
+use Rattle.std.proofs.Common.{◌≡◌, ℕ, List, sym, subst, ◌∙◌}
 use Rattle.class_model.specs.Instructions.{CodeOf}
 use Rattle.code_layout.specs.Emitting.{IsEmitted}
-use Rattle.code_layout.specs.Layout.{IsLaid, end_from, placed_items}
+use Rattle.code_layout.specs.Layout.{IsLaid, placed_items}
 use Rattle.code_layout.specs.declared.emitted.EmitItem.{EmitItem}
+use Rattle.code_layout.specs.EmittedCode.{HasCodeOf}
+use Rattle.code_layout.specs.declared.laid.Laid.{Laid}
 use Rattle.code_layout.proofs.Decoded.{laid-code}
+use Rattle.code_layout.proofs.Running.{has-code}
 use Rattle.code_layout.proofs.short_form.layout.Goals as goal
 
 pub returns-clause-laid : goal.returns-clause-laid
@@ -21,3 +24,13 @@ returns-clause-laid c =
       decodes = subst (λ (bytes : List ℕ). CodeOf bytes (placed_items items)) (sym c.from_vec.ensures) decodes;
       handlers = c.from_vec-2.ensures ∙ c.in_ok-handlers.ensures;
     })
+
+pub returns-clause-code : goal.returns-clause-code
+returns-clause-code c =
+    let items = c.as_slice-items.result.now in
+    let same : items ≡ c.args.emitted.now = c.as_slice-items.ensures.items in
+    let emitted : IsEmitted items = subst IsEmitted (sym same) c.as_slice-items.ensures.emitted in
+    let found = rw c.in-Some.is at c.in_ok-starts.ensures in
+    let laid : Laid = record { code = c.from_vec.result; handlers = c.from_vec-2.result; starts = c.from_vec-3.result } in
+    let is : IsLaid items laid = subst (λ (all : List EmitItem). IsLaid all laid) (sym same) (returns-clause-laid c) in
+    subst (λ (all : List EmitItem). HasCodeOf all laid) same (has-code items laid emitted is found.1 c.in_ok-code.ensures.spelled)
