@@ -26,7 +26,8 @@ impl Model for Input {
 
     ghost view = { λ input. record { folder = input.folder; library = input.library } };
 
-    ghost invariant = { λ input. AllByRecursion IsClassFile input.folder × AllByRecursion IsLibraryClass input.library };
+    ghost invariant = { λ input.
+        AllByRecursion IsClassFile input.folder × AllByRecursion IsLibraryClass input.library };
 }
 
 impl Input {

@@ -18,10 +18,13 @@ use Rattle.code_layout.specs.declared.laid.Laid.{Laid}
 
 -- A handler of catch type 0 catches everything, and one whose catch type names no class nothing.
 abbrev pub catch_of : Constants → EmittedCatch → List Catch
-catch_of pool catch = if catch.catch_type == 0 then record { to = catch.to; class = None } ∷ [] else of_class (class_at pool catch.catch_type) where
-  of_class : Option Name → List Catch
-  of_class None = []
-  of_class (Some name) = record { to = catch.to; class = Some name } ∷ []
+catch_of pool catch =
+    if catch.catch_type == 0
+    then record { to = catch.to; class = None } ∷ []
+    else of_class (class_at pool catch.catch_type) where
+      of_class : Option Name → List Catch
+      of_class None = []
+      of_class (Some name) = record { to = catch.to; class = Some name } ∷ []
 
 -- an item stands at its number
 abbrev pub item_point : RowScope → ℕ → EmitItem → CodePoint
@@ -37,10 +40,11 @@ item_points s items = map_numbered (item_point s) zero items
 
 -- the class of the new of a number, if a new stands there
 abbrev pub class_of_new_item : Constants → List EmitItem → ℕ → Option Name
-class_of_new_item pool items number = option_and_then (λ item. of_instr item.instr) (slice_get items number) where
-  of_instr : Instr → Option Name
-  of_instr (New index) = class_at pool index
-  of_instr other = None
+class_of_new_item pool items number =
+    option_and_then (λ item. of_instr item.instr) (slice_get items number) where
+      of_instr : Instr → Option Name
+      of_instr (New index) = class_at pool index
+      of_instr other = None
 
 -- what instructions read that are the code of a method
 abbrev pub items_scope : Scope → List EmitItem → RowScope
@@ -48,9 +52,13 @@ items_scope s items = record (row_scope s) { new_class = class_of_new_item s.cla
 
 -- the code of a method, of which these are the instructions
 abbrev pub items_code : Links → Scope → List EmitItem → Code
-items_code links s items = run_code links s.part.max_locals (item_points (items_scope s items) items)
+items_code links s items =
+    run_code links s.part.max_locals (item_points (items_scope s items) items)
 
 -- Whichever method of whichever class has these bytes and this exception table, its code is that of the items.
 abbrev pub HasCodeOf : List EmitItem → Laid → Type 0
 HasCodeOf items laid =
-    (links : Links) (s : Scope) → s.part.code ≡ laid.code → s.part.handlers ≡ laid.handlers → method_code links s ≡ items_code links s items
+    (links : Links) (s : Scope)
+    → s.part.code ≡ laid.code
+    → s.part.handlers ≡ laid.handlers
+    → method_code links s ≡ items_code links s items

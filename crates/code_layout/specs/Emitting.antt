@@ -35,7 +35,8 @@ NamesItem items to = to < items
 
 -- the item of a number has this instruction
 abbrev pub HasInstr : List EmitItem → ℕ → Instr → Type 0
-HasInstr items at instr = (item : EmitItem) × (slice_get items at ≡ Some item) × (item.instr ≡ instr)
+HasInstr items at instr =
+    (item : EmitItem) × (slice_get items at ≡ Some item) × (item.instr ≡ instr)
 
 -- The jump inside a test against null: an ifnonnull to three items on, over an aconst_null and an athrow.
 pub record JumpsNear (items : List EmitItem) (at : ℕ) (instr : Instr) : Type 0 where

@@ -57,7 +57,8 @@ placed_bytes instrs = flat_map (λ placed. instr_bytes placed.at placed.instr) i
 
 -- an entry covers the instruction alone, and is aimed at the start of its handler
 abbrev pub range_of : (ℕ → ℕ) → ℕ → ℕ → Catch → Handler
-range_of place start end catch = record { start = start; end = end; at = place catch.to; catch_type = catch.catch_type }
+range_of place start end catch =
+    record { start = start; end = end; at = place catch.to; catch_type = catch.catch_type }
 
 -- the entries of items from an offset on, in order
 abbrev pub ranges_from : (ℕ → ℕ) → ℕ → List EmitItem → List Handler

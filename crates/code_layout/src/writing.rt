@@ -67,7 +67,8 @@ fn push_ranges(
 ) -> Result<(), NoMemory>
     requires { (to : ℕ) → start_in starts.now to ≤ 32767 }
     ensures { OnOk result
-        (table.new.items ≡ table.old.items ++ map (range_of (start_in starts.now) start end) catches.now) }
+        (table.new.items
+        ≡ table.old.items ++ map (range_of (start_in starts.now) start end) catches.now) }
 {
     for catch in catches {
         table.push(Handler {

@@ -34,7 +34,8 @@ HasLocal locals other = Unit {0}
 
 -- the targets of an instruction are points, and its local is a unit
 abbrev pub FitsFlat : ℕ → ℕ → FlatInstr → Type 0
-FitsFlat points locals (Of class instr) = AllByRecursion (NamesPoint points) (targets instr) × HasLocal locals instr
+FitsFlat points locals (Of class instr) =
+    AllByRecursion (NamesPoint points) (targets instr) × HasLocal locals instr
 FitsFlat points locals (NullTest local) = local < locals
 
 -- a point among so many, in a code of so many local units: what it jumps to and its handlers are points

@@ -23,16 +23,19 @@ impl Model for Flat {
 
     ghost Value = { FlatCode };
 
-    ghost view = { λ f. record { host = f.host; locals = f.locals; points = f.points; sites = f.sites } };
+    ghost view = { λ f.
+        record { host = f.host; locals = f.locals; points = f.points; sites = f.sites } };
 
-    ghost invariant = { λ f. IsFlat (record { host = f.host; locals = f.locals; points = f.points; sites = f.sites }) };
+    ghost invariant = { λ f.
+        IsFlat (record { host = f.host; locals = f.locals; points = f.points; sites = f.sites }) };
 }
 
 impl Flat {
     /// The flat code of these points and sites, with so many local units. Its targets, handlers and sites name points, and
     /// its locals are below that number.
     pub fn of(host: MethodAt, locals: u16, points: PointList, sites: SiteList) -> Flat
-        requires { IsFlat (record { host = host; locals = locals; points = points; sites = sites }) }
+        requires { IsFlat
+            (record { host = host; locals = locals; points = points; sites = sites }) }
         ensures { result ≡ record { host = host; locals = locals; points = points; sites = sites } }
     {
         Flat {
@@ -73,7 +76,8 @@ impl Flat {
 
     /// The handlers of a point, if there is one of that number.
     pub fn handlers(&self, at: usize) -> Option<&FlatHandlerList>
-        ensures { option_copied result ≡ option_map (λ point. point.handlers) (point_at self.now at) }
+        ensures { option_copied result
+            ≡ option_map (λ point. point.handlers) (point_at self.now at) }
     {
         match self.points.get(at) {
             Some(point) => Some(&point.handlers),

@@ -33,7 +33,8 @@ pub trait Host {
         ensures files { IsTrue tells → SameFiles (file self.old) (file self.new) }
         ensures printed { IsTrue tells → printed self.new ≡ printed self.old }
         ensures counts { CountsOnly HostCall.List (faults self.old) (faults self.new) }
-        ensures failed { IsErrOf result HostFail.Failed → Rose (faults self.old HostCall.List) (faults self.new HostCall.List) }
+        ensures failed { IsErrOf result HostFail.Failed
+            → Rose (faults self.old HostCall.List) (faults self.new HostCall.List) }
         ensures not_absent { ¬ IsErrOf result HostFail.Absent };
 
     /// The first `most` bytes of a file, or all of it where it is shorter. `Absent` where the root
@@ -45,35 +46,48 @@ pub trait Host {
         name: &str,
         most: u64,
     ) -> Result<ByteList, HostFail>
-        ensures bytes { IsTrue tells → IfOk result (IsReadOf (file self.old root.now name.now) most) }
+        ensures bytes { IsTrue tells
+            → IfOk result (IsReadOf (file self.old root.now name.now) most) }
         ensures files { IsTrue tells → SameFiles (file self.old) (file self.new) }
         ensures printed { IsTrue tells → printed self.new ≡ printed self.old }
         ensures counts { CountsOnly HostCall.Read (faults self.old) (faults self.new) }
-        ensures failed { IsErrOf result HostFail.Failed → Rose (faults self.old HostCall.Read) (faults self.new HostCall.Read) }
+        ensures failed { IsErrOf result HostFail.Failed
+            → Rose (faults self.old HostCall.Read) (faults self.new HostCall.Read) }
 
         // Where the host tells, a name that is not there is no fault, and is `Absent` or wants memory.
-        ensures none_there { IsTrue tells → file self.old root.now name.now ≡ None →
-            (faults self.new HostCall.Read ≡ faults self.old HostCall.Read) × (IsErrOf result HostFail.Absent ⊎ IsErrOf result HostFail.NoMemory) }
-        ensures absent { IsTrue tells → IsErrOf result HostFail.Absent → file self.old root.now name.now ≡ None }
-        ensures absent_untold { IsErrOf result HostFail.Absent → IsTrue tells ⊎ Rose (faults self.old HostCall.Read) (faults self.new HostCall.Read) };
+        ensures none_there { IsTrue tells
+            → file self.old root.now name.now ≡ None
+            → (faults self.new HostCall.Read ≡ faults self.old HostCall.Read)
+            × (IsErrOf result HostFail.Absent ⊎ IsErrOf result HostFail.NoMemory) }
+        ensures absent { IsTrue tells
+            → IsErrOf result HostFail.Absent
+            → file self.old root.now name.now ≡ None }
+        ensures absent_untold { IsErrOf result HostFail.Absent
+            → IsTrue tells ⊎ Rose (faults self.old HostCall.Read) (faults self.new HostCall.Read) };
 
     /// Puts a file under a name, in the place of one that is there. After a refusal that one name may
     /// hold any bytes or be absent.
     fn write(&mut self, alloc: Global, root: &str, name: &str, bytes: &[u8]) -> Result<(), HostFail>
-        ensures written { IsTrue tells → OnOk result (file self.new root.now name.now ≡ Some bytes.now) }
-        ensures elsewhere { IsTrue tells → SameElsewhere root.now name.now (file self.old) (file self.new) }
+        ensures written { IsTrue tells
+            → OnOk result (file self.new root.now name.now ≡ Some bytes.now) }
+        ensures elsewhere { IsTrue tells
+            → SameElsewhere root.now name.now (file self.old) (file self.new) }
         ensures printed { IsTrue tells → printed self.new ≡ printed self.old }
         ensures counts { CountsOnly HostCall.Write (faults self.old) (faults self.new) }
-        ensures failed { IsErrOf result HostFail.Failed → Rose (faults self.old HostCall.Write) (faults self.new HostCall.Write) }
+        ensures failed { IsErrOf result HostFail.Failed
+            → Rose (faults self.old HostCall.Write) (faults self.new HostCall.Write) }
         ensures not_absent { ¬ IsErrOf result HostFail.Absent };
 
     /// Appends bytes to what was printed. After a refusal a prefix of them was appended.
     fn print(&mut self, alloc: Global, bytes: &[u8]) -> Result<(), HostFail>
-        ensures all { IsTrue tells → OnOk result (printed self.new ≡ printed self.old ++ bytes.now) }
-        ensures prefix { IsTrue tells → IsPrefixPrinted bytes.now (printed self.old) (printed self.new) }
+        ensures all { IsTrue tells
+            → OnOk result (printed self.new ≡ printed self.old ++ bytes.now) }
+        ensures prefix { IsTrue tells
+            → IsPrefixPrinted bytes.now (printed self.old) (printed self.new) }
         ensures files { IsTrue tells → SameFiles (file self.old) (file self.new) }
         ensures counts { CountsOnly HostCall.Print (faults self.old) (faults self.new) }
-        ensures failed { IsErrOf result HostFail.Failed → Rose (faults self.old HostCall.Print) (faults self.new HostCall.Print) }
+        ensures failed { IsErrOf result HostFail.Failed
+            → Rose (faults self.old HostCall.Print) (faults self.new HostCall.Print) }
         ensures not_absent { ¬ IsErrOf result HostFail.Absent };
 
     /// Shows the user an explanation, a text in UTF-8, beside what is printed. It may be lost.

@@ -39,7 +39,8 @@ impl MemoryHost {
         ensures printed { IfOk result (λ host. printed_by host ≡ []) }
         ensures explained { IfOk result (λ host. explained_by host ≡ []) }
         ensures counts { IfOk result (λ host. (of : HostCall) → faults_of host of ≡ 0) }
-        ensures calls { IfOk result (λ host. (next_call_of host ≡ 0) × (refused_calls host ≡ fail)) }
+        ensures calls { IfOk result
+            (λ host. (next_call_of host ≡ 0) × (refused_calls host ≡ fail)) }
     {
         Ok(MemoryHost {
             tree: FileTree::new(alloc),
@@ -98,7 +99,8 @@ impl MemoryHost {
     /// Numbers a call, and says whether it is to be refused.
     fn number_call(&mut self) -> bool
         ensures refused { result ≡ is_refused self.old }
-        ensures numbered { self.new ≡ record self.old { next_call = min (self.old.next_call + 1) last_count } }
+        ensures numbered { self.new
+            ≡ record self.old { next_call = min (self.old.next_call + 1) last_count } }
     {
         let call = self.next_call;
         self.next_call = call.saturating_add(1);
@@ -128,13 +130,16 @@ impl Host for MemoryHost {
         ensures files { SameFiles (stored self.old) (stored self.new) }
         ensures printed { printed_by self.new ≡ printed_by self.old }
         ensures counts { CountsOnly HostCall.List (faults_of self.old) (faults_of self.new) }
-        ensures failed { IsErrOf result HostFail.Failed → Rose (faults_of self.old HostCall.List) (faults_of self.new HostCall.List) }
+        ensures failed { IsErrOf result HostFail.Failed
+            → Rose (faults_of self.old HostCall.List) (faults_of self.new HostCall.List) }
         ensures not_absent { ¬ IsErrOf result HostFail.Absent }
         ensures refused { is_refused self.old ≡ true → IsErrOf result HostFail.Failed }
         ensures others { is_refused self.old ≡ false → ¬ IsErrOf result HostFail.Failed }
         ensures numbered { next_call_of self.new ≡ min (next_call_of self.old + 1) last_count }
         ensures kept { refused_calls self.new ≡ refused_calls self.old }
-        ensures counted { is_refused self.old ≡ false → (of : HostCall) → faults_of self.new of ≡ faults_of self.old of }
+        ensures counted { is_refused self.old ≡ false
+            → (of : HostCall)
+            → faults_of self.new of ≡ faults_of self.old of }
     {
         if self.number_call() {
             self.faults.raise(HostCall::List);
@@ -154,16 +159,23 @@ impl Host for MemoryHost {
         ensures files { SameFiles (stored self.old) (stored self.new) }
         ensures printed { printed_by self.new ≡ printed_by self.old }
         ensures counts { CountsOnly HostCall.Read (faults_of self.old) (faults_of self.new) }
-        ensures failed { IsErrOf result HostFail.Failed → Rose (faults_of self.old HostCall.Read) (faults_of self.new HostCall.Read) }
-        ensures none_there { stored self.old root.now name.now ≡ None →
-            (faults_of self.new HostCall.Read ≡ faults_of self.old HostCall.Read) × (IsErrOf result HostFail.Absent ⊎ IsErrOf result HostFail.NoMemory) }
+        ensures failed { IsErrOf result HostFail.Failed
+            → Rose (faults_of self.old HostCall.Read) (faults_of self.new HostCall.Read) }
+        ensures none_there { stored self.old root.now name.now ≡ None
+            → (faults_of self.new HostCall.Read ≡ faults_of self.old HostCall.Read)
+            × (IsErrOf result HostFail.Absent ⊎ IsErrOf result HostFail.NoMemory) }
         ensures absent { IsErrOf result HostFail.Absent → stored self.old root.now name.now ≡ None }
-        ensures missing { stored self.old root.now name.now ≡ None → IsErrOf result HostFail.Absent }
-        ensures refused { IsSome (stored self.old root.now name.now) → is_refused self.old ≡ true → IsErrOf result HostFail.Failed }
+        ensures missing { stored self.old root.now name.now ≡ None
+            → IsErrOf result HostFail.Absent }
+        ensures refused { IsSome (stored self.old root.now name.now)
+            → is_refused self.old ≡ true
+            → IsErrOf result HostFail.Failed }
         ensures others { is_refused self.old ≡ false → ¬ IsErrOf result HostFail.Failed }
         ensures numbered { next_call_of self.new ≡ min (next_call_of self.old + 1) last_count }
         ensures kept { refused_calls self.new ≡ refused_calls self.old }
-        ensures counted { is_refused self.old ≡ false → (of : HostCall) → faults_of self.new of ≡ faults_of self.old of }
+        ensures counted { is_refused self.old ≡ false
+            → (of : HostCall)
+            → faults_of self.new of ≡ faults_of self.old of }
     {
         let refused = self.number_call();
         let Some(bytes) = self.tree.get(root, name) else {
@@ -181,14 +193,18 @@ impl Host for MemoryHost {
         ensures elsewhere { SameElsewhere root.now name.now (stored self.old) (stored self.new) }
         ensures printed { printed_by self.new ≡ printed_by self.old }
         ensures counts { CountsOnly HostCall.Write (faults_of self.old) (faults_of self.new) }
-        ensures failed { IsErrOf result HostFail.Failed → Rose (faults_of self.old HostCall.Write) (faults_of self.new HostCall.Write) }
+        ensures failed { IsErrOf result HostFail.Failed
+            → Rose (faults_of self.old HostCall.Write) (faults_of self.new HostCall.Write) }
         ensures not_absent { ¬ IsErrOf result HostFail.Absent }
         ensures refused { is_refused self.old ≡ true → IsErrOf result HostFail.Failed }
         ensures others { is_refused self.old ≡ false → ¬ IsErrOf result HostFail.Failed }
         ensures numbered { next_call_of self.new ≡ min (next_call_of self.old + 1) last_count }
         ensures kept { refused_calls self.new ≡ refused_calls self.old }
-        ensures counted { is_refused self.old ≡ false → (of : HostCall) → faults_of self.new of ≡ faults_of self.old of }
-        ensures untouched { is_refused self.old ≡ true → SameFiles (stored self.old) (stored self.new) }
+        ensures counted { is_refused self.old ≡ false
+            → (of : HostCall)
+            → faults_of self.new of ≡ faults_of self.old of }
+        ensures untouched { is_refused self.old ≡ true
+            → SameFiles (stored self.old) (stored self.new) }
     {
         if self.number_call() {
             self.faults.raise(HostCall::Write);
@@ -203,13 +219,16 @@ impl Host for MemoryHost {
         ensures prefix { IsPrefixPrinted bytes.now (printed_by self.old) (printed_by self.new) }
         ensures files { SameFiles (stored self.old) (stored self.new) }
         ensures counts { CountsOnly HostCall.Print (faults_of self.old) (faults_of self.new) }
-        ensures failed { IsErrOf result HostFail.Failed → Rose (faults_of self.old HostCall.Print) (faults_of self.new HostCall.Print) }
+        ensures failed { IsErrOf result HostFail.Failed
+            → Rose (faults_of self.old HostCall.Print) (faults_of self.new HostCall.Print) }
         ensures not_absent { ¬ IsErrOf result HostFail.Absent }
         ensures refused { is_refused self.old ≡ true → IsErrOf result HostFail.Failed }
         ensures others { is_refused self.old ≡ false → ¬ IsErrOf result HostFail.Failed }
         ensures numbered { next_call_of self.new ≡ min (next_call_of self.old + 1) last_count }
         ensures kept { refused_calls self.new ≡ refused_calls self.old }
-        ensures counted { is_refused self.old ≡ false → (of : HostCall) → faults_of self.new of ≡ faults_of self.old of }
+        ensures counted { is_refused self.old ≡ false
+            → (of : HostCall)
+            → faults_of self.new of ≡ faults_of self.old of }
         ensures unprinted { is_refused self.old ≡ true → printed_by self.new ≡ printed_by self.old }
     {
         if self.number_call() {
@@ -224,8 +243,10 @@ impl Host for MemoryHost {
         ensures files { SameFiles (stored self.old) (stored self.new) }
         ensures printed { printed_by self.new ≡ printed_by self.old }
         ensures counts { (call : HostCall) → faults_of self.new call ≡ faults_of self.old call }
-        ensures kept { (explained_by self.new ≡ explained_by self.old ++ bytes.now) ⊎ (explained_by self.new ≡ explained_by self.old) }
-        ensures not_numbered { (next_call_of self.new ≡ next_call_of self.old) × (refused_calls self.new ≡ refused_calls self.old) }
+        ensures kept { (explained_by self.new ≡ explained_by self.old ++ bytes.now)
+            ⊎ (explained_by self.new ≡ explained_by self.old) }
+        ensures not_numbered { (next_call_of self.new ≡ next_call_of self.old)
+            × (refused_calls self.new ≡ refused_calls self.old) }
     {
         // An explanation for which there is no memory is lost.
         let _ = self.explained.extend_from_slice(bytes);

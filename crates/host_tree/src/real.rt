@@ -40,7 +40,8 @@ impl<R: Files + Print + Eprint + AllocGlobal + Clone + Drop> RealHost<R> {
 
     /// Why a call failed, which is counted and explained unless memory ran out.
     fn fail(&mut self, call: HostCall, root: &str, name: &str, error: &io::Error) -> HostFail
-        ensures failed { result ≡ HostFail.Failed → Rose (count_of self.old.faults call) (count_of self.new.faults call) }
+        ensures failed { result ≡ HostFail.Failed
+            → Rose (count_of self.old.faults call) (count_of self.new.faults call) }
         ensures counts { CountsOnly call (count_of self.old.faults) (count_of self.new.faults) }
         ensures not_absent { result ≢ HostFail.Absent }
     {

@@ -14,7 +14,8 @@ const PIECE: usize = 65536;
 /// Writes all bytes. After an error a prefix of them was written.
 pub fn write_all<W: Write>(output: &mut W, bytes: &[u8]) -> io::Result<()>
     ensures all { OnOk result (Appends (W.contents output.old) (W.contents output.new) bytes.now) }
-    ensures prefix { (count : ℕ) × Appends (W.contents output.old) (W.contents output.new) (take count bytes.now) }
+    ensures prefix { (count : ℕ)
+        × Appends (W.contents output.old) (W.contents output.new) (take count bytes.now) }
 {
     let mut written = 0;
     while written < bytes.len() {
@@ -27,8 +28,11 @@ pub fn write_all<W: Write>(output: &mut W, bytes: &[u8]) -> io::Result<()>
 fn write_some<W: Write>(output: &mut W, bytes: &[u8]) -> io::Result<usize>
     ensures some { IfOk result (λ count. 0 < count) }
     ensures within { IfOk result (λ count. count ≤ length bytes.now) }
-    ensures ok { IfOk result (λ count. Appends (W.contents output.old) (W.contents output.new) (take count bytes.now)) }
-    ensures err { OnErr result ((count : ℕ) × Appends (W.contents output.old) (W.contents output.new) (take count bytes.now)) }
+    ensures ok { IfOk result
+        (λ count. Appends (W.contents output.old) (W.contents output.new) (take count bytes.now)) }
+    ensures err { OnErr result
+        ((count : ℕ)
+        × Appends (W.contents output.old) (W.contents output.new) (take count bytes.now)) }
 {
     for _ in 0..u64::MAX {
         match output.write(bytes) {
@@ -66,9 +70,12 @@ pub fn read_first<I: Read>(
 
 /// Appends at most `wanted` bytes, fewer only where the input has ended, and says how many.
 fn read_more<I: Read>(input: &mut I, bytes: &mut Vec<u8>, wanted: usize) -> io::Result<usize>
-    ensures count { IfOk result (λ count. (count ≤ wanted) × (vec_len bytes.new ≡ vec_len bytes.old + count)) }
+    ensures count { IfOk result
+        (λ count. (count ≤ wanted) × (vec_len bytes.new ≡ vec_len bytes.old + count)) }
     ensures kept { OnOk result (StartsWith bytes.new.items bytes.old.items) }
-    ensures taken { OnOk result (Consumes (I.remaining input.old) (I.remaining input.new) (appended_bytes bytes.old.items bytes.new.items)) }
+    ensures taken { OnOk result
+        (Consumes (I.remaining input.old) (I.remaining input.new)
+        (appended_bytes bytes.old.items bytes.new.items)) }
     ensures ended { IfOk result (λ count. count < wanted → IsAtEnd (I.remaining input.new)) }
 {
     let start = bytes.len();
@@ -81,8 +88,10 @@ fn read_more<I: Read>(input: &mut I, bytes: &mut Vec<u8>, wanted: usize) -> io::
 /// Reads until the buffer is full or the input has ended, and says how many bytes were read.
 fn fill<I: Read>(input: &mut I, buffer: &mut [u8]) -> io::Result<usize>
     ensures within { IfOk result (λ count. count ≤ length buffer.new) }
-    ensures taken { IfOk result (λ count. Consumes (I.remaining input.old) (I.remaining input.new) (take count buffer.new)) }
-    ensures ended { IfOk result (λ count. count < length buffer.new → IsAtEnd (I.remaining input.new)) }
+    ensures taken { IfOk result (λ count.
+        Consumes (I.remaining input.old) (I.remaining input.new) (take count buffer.new)) }
+    ensures ended { IfOk result
+        (λ count. count < length buffer.new → IsAtEnd (I.remaining input.new)) }
 {
     let mut filled = 0;
     while filled < buffer.len() {
@@ -98,8 +107,10 @@ fn fill<I: Read>(input: &mut I, buffer: &mut [u8]) -> io::Result<usize>
 /// One read, tried again where it is interrupted. It gives nothing only at the end of the input.
 fn read_some<I: Read>(input: &mut I, buffer: &mut [u8]) -> io::Result<usize>
     ensures within { IfOk result (λ count. count ≤ length buffer.new) }
-    ensures taken { IfOk result (λ count. Consumes (I.remaining input.old) (I.remaining input.new) (take count buffer.new)) }
-    ensures ended { IfOk result (λ count. count ≡ 0 → 0 < length buffer.old → IsAtEnd (I.remaining input.new)) }
+    ensures taken { IfOk result (λ count.
+        Consumes (I.remaining input.old) (I.remaining input.new) (take count buffer.new)) }
+    ensures ended { IfOk result
+        (λ count. count ≡ 0 → 0 < length buffer.old → IsAtEnd (I.remaining input.new)) }
 {
     for _ in 0..u64::MAX {
         match input.read(buffer) {

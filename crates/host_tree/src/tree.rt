@@ -47,7 +47,8 @@ impl FileTree {
         bytes: &[u8],
     ) -> Result<(), NoMemory>
         ensures ok { OnOk result (tree_files self.new root.now name.now ≡ Some bytes.now) }
-        ensures elsewhere { SameElsewhere root.now name.now (tree_files self.old) (tree_files self.new) }
+        ensures elsewhere { SameElsewhere root.now name.now (tree_files self.old)
+            (tree_files self.new) }
         ensures err { OnErr result (SameFiles (tree_files self.old) (tree_files self.new)) }
     {
         let name = String::from_str(alloc, name)?;

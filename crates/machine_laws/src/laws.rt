@@ -31,7 +31,8 @@ pub fn a_run_that_is_over_stays()
 
 /// A run of some turns and then of others is one of all of them.
 pub fn a_run_goes_on_where_it_stopped()
-    ensures { (P : Program) (first then : ℕ) (r : Run) → turns P (first + then) r ≡ turns P then (turns P first r) }
+    ensures { (P : Program) (first then : ℕ) (r : Run)
+        → turns P (first + then) r ≡ turns P then (turns P first r) }
 {}
 
 /// A program runs the same as itself.
@@ -46,7 +47,10 @@ pub fn running_the_same_composes()
 
 /// A hierarchy has at most one list of links.
 pub fn links_of_a_hierarchy_are_one()
-    ensures { (headers : Headers) (one other : Links) → AreLinksOf headers one → AreLinksOf headers other → one ≡ other }
+    ensures { (headers : Headers) (one other : Links)
+        → AreLinksOf headers one
+        → AreLinksOf headers other
+        → one ≡ other }
 {
     a_look_up_finds_one_field();
     a_look_up_finds_one_method();
@@ -55,8 +59,12 @@ pub fn links_of_a_hierarchy_are_one()
 
 /// So what a folder and its library show does not depend on which links are taken.
 pub fn programs_with_one_list_of_links_run_the_same()
-    ensures { (classes : Classes) (one other : Links) → AreLinksOf (headers_of classes) one → AreLinksOf (headers_of classes) other
-        → (actions : List Action) (count : ℕ) → shown_after (program_of classes one) actions count ≡ shown_after (program_of classes other) actions count }
+    ensures { (classes : Classes) (one other : Links)
+        → AreLinksOf (headers_of classes) one
+        → AreLinksOf (headers_of classes) other
+        → (actions : List Action) (count : ℕ)
+        → shown_after (program_of classes one) actions count
+        ≡ shown_after (program_of classes other) actions count }
 {
     links_of_a_hierarchy_are_one();
 }

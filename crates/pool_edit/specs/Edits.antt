@@ -18,7 +18,8 @@ grown edit = edit.base ++ flat_map entries_of edit.added
 -- constants one after the other from an index on, each with its index
 abbrev pub numbered : ℕ → List Const → List (Const × ℕ)
 numbered index [] = []
-numbered index (constant ∷ constants) = (constant, index) ∷ numbered (index + length (entries_of constant)) constants
+numbered index (constant ∷ constants) =
+    (constant, index) ∷ numbered (index + length (entries_of constant)) constants
 
 -- those that were appended, with their indices
 abbrev pub added_entries : Edit → List (Const × ℕ)
@@ -38,7 +39,8 @@ pub record IsFirstIndex (pool : Constants) (constant : Const) (index : ℕ) : Ty
 -- none of these equals an entry of the pool or an earlier one
 abbrev pub AreNew : Constants → List Const → Type 0
 AreNew pool [] = Unit {0}
-AreNew pool (constant ∷ constants) = IsAbsent pool constant × AreNew (pool ++ entries_of constant) constants
+AreNew pool (constant ∷ constants) =
+    IsAbsent pool constant × AreNew (pool ++ entries_of constant) constants
 
 -- ---- changes
 

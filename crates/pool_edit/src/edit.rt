@@ -53,7 +53,8 @@ impl Model for PoolEdit {
 
     ghost Value = { Edit };
 
-    ghost view = { λ e. record { base = e.base; limit = e.limit; added = keys_of e.added.entries } };
+    ghost view = { λ e.
+        record { base = e.base; limit = e.limit; added = keys_of e.added.entries } };
 
     ghost invariant = { λ e. IsKept e.base e.known e.added.entries e.count };
 }
@@ -65,7 +66,8 @@ impl PoolEdit {
     ///
     /// `NoMemory`, where memory runs out.
     pub fn over(alloc: Global, pool: &Pool, limit: u16) -> Result<PoolEdit, NoMemory>
-        ensures { IfOk result (λ edit. edit ≡ record { base = pool.now; limit = limit; added = [] }) }
+        ensures { IfOk result
+            (λ edit. edit ≡ record { base = pool.now; limit = limit; added = [] }) }
     {
         Ok(PoolEdit {
             base: pool.copy(alloc)?,

@@ -80,7 +80,8 @@ fn fits_frames(
     frames: &[PlacedFrame],
 ) -> Result<bool, Fail>
     ensures places { IfOk result (λ fit. IsTrue fit → PlacesIncrease from frames.now) }
-    ensures each { IfOk result (λ fit. IsTrue fit → AllByRecursion (λ placed. FitsFrame classes.now placed.frame) frames.now) }
+    ensures each { IfOk result (λ fit.
+        IsTrue fit → AllByRecursion (λ placed. FitsFrame classes.now placed.frame) frames.now) }
 {
     Ok(match frames {
         [] => true,

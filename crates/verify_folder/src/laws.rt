@@ -10,8 +10,14 @@ use type_rules::a_failing_method_has_no_frames;
 
 /// Where a folder fails, no frames type it, and it fails first in one place by one rule.
 pub fn a_folder_fails_once()
-    ensures none { (headers : Headers) (classes : List ClassFile) (typed : FolderFrames) (failure : Failure) → ClassesFail headers classes failure → ¬ AreTypedClasses headers classes typed }
-    ensures one { (headers : Headers) (classes : List ClassFile) (one other : Failure) → ClassesFail headers classes one → ClassesFail headers classes other → one ≡ other }
+    ensures none { (headers : Headers) (classes : List ClassFile) (typed : FolderFrames)
+        (failure : Failure)
+        → ClassesFail headers classes failure
+        → ¬ AreTypedClasses headers classes typed }
+    ensures one { (headers : Headers) (classes : List ClassFile) (one other : Failure)
+        → ClassesFail headers classes one
+        → ClassesFail headers classes other
+        → one ≡ other }
 {
     a_failing_method_has_no_frames();
 }

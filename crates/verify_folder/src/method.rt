@@ -43,7 +43,8 @@ fn unverified(
     offset: u32,
     rule: TypeRule,
 ) -> Result<VerifyFault, NoMemory>
-    ensures { IfOk result (λ fault. fault ≡ VerifyFault.Unverified (header_of rules.now.class).name member.now offset rule) }
+    ensures { IfOk result (λ fault.
+        fault ≡ VerifyFault.Unverified (header_of rules.now.class).name member.now offset rule) }
 {
     Ok(VerifyFault::Unverified {
         class: rules.header().name.copy()?,

@@ -139,7 +139,9 @@ impl Typing<'_> {
 
     // Asks that the handlers whose range has an offset may begin with these locals.
     fn check_handlers(&self, at: u32, before: &Frame) -> Result<(), Stop>
-        ensures { ChecksAnswer at (handler_checks (body_of self.now) before.now (catches_at self.now at self.now.part.handlers)) result }
+        ensures { ChecksAnswer at
+            (handler_checks (body_of self.now) before.now
+            (catches_at self.now at self.now.part.handlers)) result }
     {
         for handler in self.rules.part().handlers.as_slice() {
             self.check_handler(at, before, handler)?;
@@ -149,7 +151,9 @@ impl Typing<'_> {
 
     // Asks the same of a handler.
     fn check_handler(&self, at: u32, before: &Frame, handler: &Handler) -> Result<(), Stop>
-        ensures { ChecksAnswer at (handler_checks (body_of self.now) before.now (catches_at self.now at (handler.now ∷ []))) result }
+        ensures { ChecksAnswer at
+            (handler_checks (body_of self.now) before.now
+            (catches_at self.now at (handler.now ∷ []))) result }
     {
         if !covers(handler, at) {
             return Ok(());
@@ -163,7 +167,10 @@ impl Typing<'_> {
 
     // Whether a handler may begin with these locals.
     fn may_catch(&self, before: &Frame, handler: &Handler) -> Result<bool, NoMemory>
-        ensures { IfOk result (λ may. IsTrue may ↔ MayGoTo (row_scope self.now) (Some (caught_frame self.now before.now handler.now)) (stated_at self.now handler.now.at)) }
+        ensures { IfOk result (λ may.
+            IsTrue may
+            ↔ MayGoTo (row_scope self.now) (Some (caught_frame self.now before.now handler.now))
+            (stated_at self.now handler.now.at)) }
     {
         let caught = caught_frame(self.alloc, self.rules, self.all, before, handler)?;
         Ok(self.may_go_to(Some(&caught), u32::from(handler.at)))
@@ -171,7 +178,8 @@ impl Typing<'_> {
 
     // Whether control may go to an offset with a frame.
     fn may_go_to(&self, frame: Option<&Frame>, to: u32) -> bool
-        ensures { IsTrue result ↔ MayGoTo (row_scope self.now) (option_copied frame.entry) (stated_at self.now to) }
+        ensures { IsTrue result
+            ↔ MayGoTo (row_scope self.now) (option_copied frame.entry) (stated_at self.now to) }
     {
         match (frame, self.rules.stated_at(to)) {
             (Some(frame), Some(stated)) => frame_assignable(self.rules.tree(), frame, stated),
@@ -193,7 +201,9 @@ impl Typing<'_> {
 
     // Asks that control may go to each target of an instruction with the frame behind it.
     fn check_targets(&self, placed: &Placed, behind: Option<&Frame>) -> Result<(), Stop>
-        ensures { ChecksAnswer placed.now.at (target_checks (body_of self.now) (option_copied behind.entry) (targets placed.now.instr)) result }
+        ensures { ChecksAnswer placed.now.at
+            (target_checks (body_of self.now) (option_copied behind.entry)
+            (targets placed.now.instr)) result }
     {
         let at = placed.at;
         match &placed.instr {
@@ -216,7 +226,8 @@ impl Typing<'_> {
 
     // Asks that control may go to an offset.
     fn check_target(&self, at: u32, behind: Option<&Frame>, to: u32) -> Result<(), Stop>
-        ensures { ChecksAnswer at (target_checks (body_of self.now) (option_copied behind.entry) (to ∷ [])) result }
+        ensures { ChecksAnswer at
+            (target_checks (body_of self.now) (option_copied behind.entry) (to ∷ [])) result }
     {
         if self.may_go_to(behind, to) {
             Ok(())
@@ -227,7 +238,8 @@ impl Typing<'_> {
 
     // Asks the same of each of these offsets.
     fn check_each(&self, at: u32, behind: Option<&Frame>, targets: &[u32]) -> Result<(), Stop>
-        ensures { ChecksAnswer at (target_checks (body_of self.now) (option_copied behind.entry) targets.now) result }
+        ensures { ChecksAnswer at
+            (target_checks (body_of self.now) (option_copied behind.entry) targets.now) result }
     {
         for to in targets {
             self.check_target(at, behind, *to)?;
@@ -237,7 +249,9 @@ impl Typing<'_> {
 
     // Asks the same of the targets of these pairs.
     fn check_pairs(&self, at: u32, behind: Option<&Frame>, pairs: &[Pair]) -> Result<(), Stop>
-        ensures { ChecksAnswer at (target_checks (body_of self.now) (option_copied behind.entry) (map (λ pair. pair.to) pairs.now)) result }
+        ensures { ChecksAnswer at
+            (target_checks (body_of self.now) (option_copied behind.entry)
+            (map (λ pair. pair.to) pairs.now)) result }
     {
         for pair in pairs {
             self.check_target(at, behind, pair.to)?;

@@ -10,8 +10,10 @@ depth_of state site = option_map (λ object. object.depth) (object_of state.obje
 
 -- an object, where the depth is changed if it is of this site
 abbrev pub object_with_depth : ℕ → (ℕ → ℕ) → VObject → VObject
-object_with_depth site change object = if object.site == site then record object { depth = change object.depth } else object
+object_with_depth site change object =
+    if object.site == site then record object { depth = change object.depth } else object
 
 -- the state where the depth of one site is changed
 abbrev pub with_depth : State → ℕ → (ℕ → ℕ) → State
-with_depth state site change = record state { objects = map (object_with_depth site change) state.objects }
+with_depth state site change =
+    record state { objects = map (object_with_depth site change) state.objects }

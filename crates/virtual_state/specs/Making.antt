@@ -11,10 +11,16 @@ pub record CanBeState (slots : List Slot) (objects : List VObject) : Type 0 wher
   pub places : (site : ℕ) → IsTrue (names slots site) → IsTrue (is_present objects site)
   pub fields : (from to : ℕ) → IsEdge objects from to → IsTrue (is_present objects to)
   pub acyclic : (site : ℕ) → ¬ IsPath objects site site
-  pub usable : (site : ℕ) (object : VObject) → object_of objects site ≡ Option.Some object → IsFalse (list_any is_unusable object.fields)
+  pub usable :
+      (site : ℕ) (object : VObject)
+      → object_of objects site ≡ Option.Some object
+      → IsFalse (list_any is_unusable object.fields)
 
 -- the state of these slots with those of the objects that the slots reach
 pub record IsStateOf (slots : List Slot) (objects : List VObject) (state : State) : Type 0 where
   pub same_slots : state.slots ≡ slots
   pub reached : (site : ℕ) → IsTrue (is_present state.objects site) → IsReached slots objects site
-  pub kept : (site : ℕ) → IsReached slots objects site → object_of state.objects site ≡ object_of objects site
+  pub kept :
+      (site : ℕ)
+      → IsReached slots objects site
+      → object_of state.objects site ≡ object_of objects site

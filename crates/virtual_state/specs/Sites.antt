@@ -9,4 +9,5 @@ has sites site = list_any (λ one. one == site) sites
 
 -- the sites of a state that another one does not have
 abbrev pub differing : State → State → List ℕ
-differing state other = filter (λ site. not (is_present other.objects site)) (sites_of state.objects)
+differing state other =
+    filter (λ site. not (is_present other.objects site)) (sites_of state.objects)

@@ -46,19 +46,28 @@ pub record IsEdge (objects : List VObject) (from to : ℕ) : Type 0 where
 -- a path of one edge or more
 pub data IsPath (objects : List VObject) : ℕ → ℕ → Type 0 where
   one_edge : (from to : ℕ) → IsEdge objects from to → IsPath objects from to
-  edge_and_path : (from middle to : ℕ) → IsEdge objects from middle → IsPath objects middle to → IsPath objects from to
+  edge_and_path :
+      (from middle to : ℕ)
+      → IsEdge objects from middle
+      → IsPath objects middle to
+      → IsPath objects from to
 
 -- a site is reached from slots: one of them holds its object, or a field of an object that is reached
 pub data IsReached (slots : List Slot) (objects : List VObject) : ℕ → Type 0 where
   from_slot : (site : ℕ) → IsTrue (names slots site) → IsReached slots objects site
-  from_field : (from site : ℕ) → IsReached slots objects from → IsEdge objects from site → IsReached slots objects site
+  from_field :
+      (from site : ℕ)
+      → IsReached slots objects from
+      → IsEdge objects from site
+      → IsReached slots objects site
 
 -- ---- states
 
 -- each number is less than those behind it
 abbrev pub IsIncreasing : List ℕ → Type 0
 IsIncreasing [] = Unit {0}
-IsIncreasing (number ∷ numbers) = AllByRecursion (λ other. number < other) numbers × IsIncreasing numbers
+IsIncreasing (number ∷ numbers) =
+    AllByRecursion (λ other. number < other) numbers × IsIncreasing numbers
 
 -- The slots of the places, in order, and the virtual objects that are present, by increasing site: a finite map from
 -- sites to objects has one such list.
@@ -72,6 +81,10 @@ pub record IsState (state : State) : Type 0 where
   pub order : IsIncreasing (sites_of state.objects)
   pub places : (site : ℕ) → IsTrue (names state.slots site) → IsTrue (is_present state.objects site)
   pub fields : (from to : ℕ) → IsEdge state.objects from to → IsTrue (is_present state.objects to)
-  pub reached : (site : ℕ) → IsTrue (is_present state.objects site) → IsReached state.slots state.objects site
+  pub reached :
+      (site : ℕ) → IsTrue (is_present state.objects site) → IsReached state.slots state.objects site
   pub acyclic : (site : ℕ) → ¬ IsPath state.objects site site
-  pub usable : (site : ℕ) (object : VObject) → object_of state.objects site ≡ Option.Some object → IsFalse (list_any is_unusable object.fields)
+  pub usable :
+      (site : ℕ) (object : VObject)
+      → object_of state.objects site ≡ Option.Some object
+      → IsFalse (list_any is_unusable object.fields)

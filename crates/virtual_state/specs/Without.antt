@@ -8,7 +8,8 @@ use Rattle.virtual_state.specs.declared.slot.VObject.{VObject}
 
 -- A set of sites is a test of their numbers. It is closed where it has each site that a field of a member names.
 abbrev pub IsClosed : (ℕ → Bool) → List VObject → Type 0
-IsClosed away objects = (from to : ℕ) → IsEdge objects from to → IsTrue (away from) → IsTrue (away to)
+IsClosed away objects =
+    (from to : ℕ) → IsEdge objects from to → IsTrue (away from) → IsTrue (away to)
 
 -- a slot where the objects of these sites are made
 abbrev pub made_plain : (ℕ → Bool) → Slot → Slot
@@ -22,7 +23,8 @@ object_without away object = record object { fields = map (made_plain away) obje
 
 -- the objects of the other sites, where those of these sites are made
 abbrev pub objects_without : (ℕ → Bool) → List VObject → List VObject
-objects_without away objects = map (object_without away) (filter (λ object. not (away object.site)) objects)
+objects_without away objects =
+    map (object_without away) (filter (λ object. not (away object.site)) objects)
 
 -- the state without the sites of a closed set
 abbrev pub without : State → (ℕ → Bool) → State

@@ -75,7 +75,8 @@ fn object_fits(
     other: Option<&SharedObject>,
     others: &ObjectTable,
 ) -> bool
-    ensures { IsTrue result ↔ ObjectFits others.now (option_copied object.entry) (option_copied other.entry) }
+    ensures { IsTrue result
+        ↔ ObjectFits others.now (option_copied object.entry) (option_copied other.entry) }
 {
     match object {
         Some(object) => match other {

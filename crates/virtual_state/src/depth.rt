@@ -75,7 +75,8 @@ fn objects_with(
     depth: u16,
 ) -> Result<ObjectTable, NoMemory>
     requires { object_of state.now.objects object.now.site ≡ Some object.now }
-    ensures { IfOk result (λ objects. objects ≡ map (object_with_depth object.now.site (λ _. depth)) state.now.objects) }
+    ensures { IfOk result (λ objects.
+        objects ≡ map (object_with_depth object.now.site (λ _. depth)) state.now.objects) }
 {
     state.is_state();
     let fields = Vec::from_slice(alloc, object.fields.as_slice())?;

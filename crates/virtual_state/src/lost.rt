@@ -13,7 +13,8 @@ use std::alloc::Global;
 /// The sites of a state that another one does not have. Where the state is below the other one, they are the closed set
 /// without which it is the other one.
 pub fn differing(alloc: Global, state: &VState, other: &VState) -> Result<SiteSet, NoMemory>
-    ensures { IfOk result (λ sites. (site : ℕ) → has sites site ≡ has (differing_sites state.now other.now) site) }
+    ensures { IfOk result
+        (λ sites. (site : ℕ) → has sites site ≡ has (differing_sites state.now other.now) site) }
 {
     let mut sites = SiteSet::new(alloc);
     let objects = state.objects();
@@ -29,7 +30,11 @@ fn add_lost(
     object: Option<&SharedObject>,
     other: &VState,
 ) -> Result<(), NoMemory>
-    ensures { OnOk result ((site : ℕ) → has sites.new site ≡ (has sites.old site || is_lost other.now.objects (option_copied object.entry) site)) }
+    ensures { OnOk result
+        ((site : ℕ)
+        → has sites.new site
+        ≡ (has sites.old site
+        || is_lost other.now.objects (option_copied object.entry) site)) }
 {
     let Some(object) = object else {
         return Ok(());

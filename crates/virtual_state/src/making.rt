@@ -49,7 +49,8 @@ impl VState {
 
 // Puts objects in the places of those of their sites. Of several objects of one site the first counts.
 fn put_all(alloc: Global, table: &mut ObjectTable, objects: VObjectList) -> Result<(), NoMemory>
-    ensures { OnOk result ((site : ℕ) → object_of table.new site ≡ object_of (objects ++ table.old) site) }
+    ensures { OnOk result
+        ((site : ℕ) → object_of table.new site ≡ object_of (objects ++ table.old) site) }
 {
     let mut left = objects.into_vec();
     while let Some(object) = left.pop() {
@@ -96,7 +97,8 @@ fn put_among(
     object: Option<&SharedObject>,
     among: &MarkedSites,
 ) -> Result<(), NoMemory>
-    ensures { OnOk result (HasPut kept.old kept.new (if_among (has among.now) (option_copied object.entry))) }
+    ensures { OnOk result
+        (HasPut kept.old kept.new (if_among (has among.now) (option_copied object.entry))) }
 {
     let Some(object) = object else {
         return Ok(());

@@ -78,7 +78,9 @@ fn mark_object(
     other: Option<&SharedObject>,
 ) -> Result<(), NoMemory>
     requires { ArePair (option_copied object) (option_copied other) }
-    ensures { OnOk result (HasMarkedObject away.old away.new (option_copied object.entry) (option_copied other.entry)) }
+    ensures { OnOk result
+        (HasMarkedObject away.old away.new (option_copied object.entry)
+        (option_copied other.entry)) }
 {
     match object {
         Some(object) => match other {

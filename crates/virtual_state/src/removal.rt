@@ -125,7 +125,8 @@ fn put_without(
     object: Option<&SharedObject>,
     away: &MarkedSites,
 ) -> Result<(), NoMemory>
-    ensures { OnOk result (HasPut rest.old rest.new (stays_as (has away.now) (option_copied object.entry))) }
+    ensures { OnOk result
+        (HasPut rest.old rest.new (stays_as (has away.now) (option_copied object.entry))) }
 {
     let Some(object) = object else {
         return Ok(());

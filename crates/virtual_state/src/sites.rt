@@ -37,7 +37,8 @@ impl SiteSet {
 
     /// Adds a site, if it isn't there. Where memory runs out, the set stays as it was.
     pub fn add(&mut self, site: u16) -> Result<(), NoMemory>
-        ensures ok { OnOk result ((one : ℕ) → has self.new one ≡ (has self.old one || site == one)) }
+        ensures ok { OnOk result
+            ((one : ℕ) → has self.new one ≡ (has self.old one || site == one)) }
         ensures err { OnErr result (self.new ≡ self.old) }
         ensures order { IsIncreasing self.new }
     {

@@ -26,7 +26,8 @@ impl Model for VState {
 
     ghost view = { λ state. record { slots = state.slots.value; objects = state.objects.value } };
 
-    ghost invariant = { λ state. IsState (record { slots = state.slots.value; objects = state.objects.value }) };
+    ghost invariant = { λ state.
+        IsState (record { slots = state.slots.value; objects = state.objects.value }) };
 }
 
 impl VState {
@@ -68,7 +69,9 @@ impl VState {
 
     /// The slot of a field of a site's object, where it is present and has such a field. Fields are counted from 0.
     pub fn field(&self, site: u16, at: usize) -> Option<Slot>
-        ensures { result ≡ option_and_then (λ object. slice_get object.fields at) (object_of self.now.objects site) }
+        ensures { result
+            ≡ option_and_then (λ object. slice_get object.fields at)
+            (object_of self.now.objects site) }
     {
         let object = self.objects.get(usize::from(site))?;
         object.get().fields.get(at).copied()

@@ -66,11 +66,16 @@ thrown_header super_name name = class name 0x0021 (Some super_name) (constructor
 
 -- clone and finalize are protected and native
 abbrev root_header : Header
-root_header = class object 0x0021 None (constructor ∷ member 0x0104 (codes "clone") gives_object ∷ member 0x0104 (codes "finalize") no_parameters ∷ [])
+root_header =
+    class object 0x0021 None
+    (constructor ∷ member 0x0104 (codes "clone") gives_object
+    ∷ member 0x0104 (codes "finalize") no_parameters ∷ [])
 
 -- use and keep are public, static and native
 abbrev keeper_header : Header
-keeper_header = class (codes "L") 0x0021 (Some object) (member 0x0109 (codes "use") takes_object ∷ member 0x0109 (codes "keep") takes_object ∷ [])
+keeper_header =
+    class (codes "L") 0x0021 (Some object)
+    (member 0x0109 (codes "use") takes_object ∷ member 0x0109 (codes "keep") takes_object ∷ [])
 
 abbrev pub base_headers : List Header
 base_headers =
@@ -96,7 +101,9 @@ returns = placed 0 1 (Return None) ∷ []
 
 -- aload_0, invokespecial, return
 abbrev calls : ℕ → List Placed
-calls constant = placed 0 1 (Load Ref 0) ∷ placed 1 3 (Invoke INVOKESPECIAL constant 0) ∷ placed 4 1 (Return None) ∷ []
+calls constant =
+    placed 0 1 (Load Ref 0) ∷ placed 1 3 (Invoke INVOKESPECIAL constant 0)
+    ∷ placed 4 1 (Return None) ∷ []
 
 -- the constant is the constructor without parameters of this class
 pub record NamesConstructor (pool : Constants) (constant : ℕ) (name : Name) : Type 0 where

@@ -41,7 +41,8 @@ abbrev pub method : ℕ → ℕ → ℕ → List Attr → Method
 method flags name desc attrs = record { flags = flags; name = name; desc = desc; attrs = attrs }
 
 abbrev pub code_of : ℕ → List ℕ → CodePart
-code_of max_stack bytes = record { max_stack = max_stack; max_locals = 1; code = bytes; handlers = []; attrs = [] }
+code_of max_stack bytes =
+    record { max_stack = max_stack; max_locals = 1; code = bytes; handlers = []; attrs = [] }
 
 -- a class without members
 abbrev pub memberless : ℕ → Name → ClassFile
@@ -50,7 +51,8 @@ memberless flags name = class_of (class_and_super name object) flags 4 []
 -- the constructor's name, descriptor and code, and the superclass's constructor
 abbrev pub thrown_pool : Name → Name → Constants
 thrown_pool super_name name =
-    class_and_super name super_name ++ Some (Utf8 init) ∷ Some (Utf8 no_parameters) ∷ Some (Utf8 code) ∷ Some (NameAndType 5 6) ∷ Some (Methodref 4 8) ∷ []
+    class_and_super name super_name ++ Some (Utf8 init) ∷ Some (Utf8 no_parameters)
+    ∷ Some (Utf8 code) ∷ Some (NameAndType 5 6) ∷ Some (Methodref 4 8) ∷ []
 
 -- aload_0, invokespecial, return
 abbrev pub thrown_code : CodePart
@@ -59,7 +61,8 @@ thrown_code = code_of 1 (ALOAD_0 ∷ INVOKESPECIAL ∷ 0 ∷ 9 ∷ RETURN ∷ []
 -- a throwable
 abbrev pub thrown : Name → Name → ClassFile
 thrown super_name name =
-    class_of (thrown_pool super_name name) 0x0021 4 (method 0x0001 5 6 (Code 7 thrown_code ∷ []) ∷ [])
+    class_of (thrown_pool super_name name) 0x0021 4
+    (method 0x0001 5 6 (Code 7 thrown_code ∷ []) ∷ [])
 
 abbrev pub root_pool : Constants
 root_pool =
@@ -73,7 +76,8 @@ abbrev pub root_code : CodePart
 root_code = code_of 0 (RETURN ∷ [])
 
 abbrev pub root_methods : List Method
-root_methods = method 0x0001 3 4 (Code 5 root_code ∷ []) ∷ method 0x0104 6 7 [] ∷ method 0x0104 8 4 [] ∷ []
+root_methods =
+    method 0x0001 3 4 (Code 5 root_code ∷ []) ∷ method 0x0104 6 7 [] ∷ method 0x0104 8 4 [] ∷ []
 
 -- java/lang/Object
 abbrev pub root : ClassFile
@@ -81,7 +85,10 @@ root = class_of root_pool 0x0021 0 root_methods
 
 -- L
 abbrev pub keeper : ClassFile
-keeper = class_of (class_and_super (codes "L") object ++ Some (Utf8 (codes "use")) ∷ Some (Utf8 (codes "keep")) ∷ Some (Utf8 takes_object) ∷ []) 0x0021 4
+keeper =
+    class_of
+    (class_and_super (codes "L") object ++ Some (Utf8 (codes "use"))
+    ∷ Some (Utf8 (codes "keep")) ∷ Some (Utf8 takes_object) ∷ []) 0x0021 4
     (method 0x0109 5 7 [] ∷ method 0x0109 6 7 [] ∷ [])
 
 -- the classes but for the throwables that instructions raise

@@ -52,7 +52,8 @@ pub(crate) fn constructor(
     attr: u16,
     part: CodePart,
 ) -> Result<Method, NoMemory>
-    ensures { IfOk result (λ method. method ≡ values.method 0x0001 name desc (attrs.Code attr part ∷ [])) }
+    ensures { IfOk result
+        (λ method. method ≡ values.method 0x0001 name desc (attrs.Code attr part ∷ [])) }
 {
     let mut attrs = ListOf::new(alloc);
     attrs.push(Attr::Code { name: attr, part })?;

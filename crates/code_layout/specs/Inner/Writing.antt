@@ -20,4 +20,6 @@ pub record ArePlaced (items : List EmitItem) (starts : List ℕ) : Type 0 where
 
 -- instructions that are read back from what is written of them
 abbrev pub AreSpelled : List Placed → Type 0
-AreSpelled instrs = AllByRecursion (λ placed. IsSpelling placed.at placed.instr (instr_bytes placed.at placed.instr)) instrs
+AreSpelled instrs =
+    AllByRecursion
+    (λ placed. IsSpelling placed.at placed.instr (instr_bytes placed.at placed.instr)) instrs

@@ -30,13 +30,17 @@ ChecksAnswer at checks (Err stops.NoMemory) = Unit {0}
 
 -- the exception table
 abbrev pub TableAnswers : Scope → List Handler → Result Unit Stop → Type 0
-TableAnswers s handlers (Ok done) = AllByRecursion (CaughtIsThrowable s.headers) (map (caught_in s) handlers)
-TableAnswers s handlers (Err (stops.Fails offset rule)) = FailsInTable s.headers (map (caught_in s) handlers) offset × (rule ≡ rules.CatchType)
+TableAnswers s handlers (Ok done) =
+    AllByRecursion (CaughtIsThrowable s.headers) (map (caught_in s) handlers)
+TableAnswers s handlers (Err (stops.Fails offset rule)) =
+    FailsInTable s.headers (map (caught_in s) handlers) offset × (rule ≡ rules.CatchType)
 TableAnswers s handlers (Err stops.NoMemory) = Unit {0}
 
 -- the frame before an instruction at an offset
 abbrev pub BeforeAnswers : Scope → Option Frame → ℕ → Result Frame Stop → Type 0
-BeforeAnswers s flows at (Ok before) = (frame_before flows (stated_at s at) ≡ Some before) × MayFlowIn (row_scope s) flows (stated_at s at)
+BeforeAnswers s flows at (Ok before) =
+    (frame_before flows (stated_at s at) ≡ Some before)
+    × MayFlowIn (row_scope s) flows (stated_at s at)
 BeforeAnswers s flows at (Err (stops.Fails offset rule)) =
     (offset ≡ at)
     × (((frame_before flows (stated_at s at) ≡ None) × (rule ≡ rules.NoFrame))
@@ -45,14 +49,22 @@ BeforeAnswers s flows at (Err stops.NoMemory) = Unit {0}
 
 -- the row of an instruction behind a frame
 abbrev pub RowAnswers : Scope → Placed → Frame → Result Ruled Stop → Type 0
-RowAnswers s placed before (Ok result) = AllHold (row_checks (row_scope s) before (row_of (row_scope s) before placed.at placed.instr)) × (result ≡ ruled before (row_of (row_scope s) before placed.at placed.instr))
-RowAnswers s placed before (Err (stops.Fails offset rule)) = (offset ≡ placed.at) × IsFirstFault (row_checks (row_scope s) before (row_of (row_scope s) before placed.at placed.instr)) rule
+RowAnswers s placed before (Ok result) =
+    AllHold (row_checks (row_scope s) before (row_of (row_scope s) before placed.at placed.instr))
+    × (result ≡ ruled before (row_of (row_scope s) before placed.at placed.instr))
+RowAnswers s placed before (Err (stops.Fails offset rule)) =
+    (offset ≡ placed.at)
+    × IsFirstFault
+    (row_checks (row_scope s) before (row_of (row_scope s) before placed.at placed.instr)) rule
 RowAnswers s placed before (Err stops.NoMemory) = Unit {0}
 
 -- an instruction, behind what flows into it: its frame, and what flows into the next
 abbrev pub StepAnswers : Scope → Option Frame → Placed → Result (Frame × Option Frame) Stop → Type 0
-StepAnswers s flows placed (Ok (before, behind)) = IsTypedAt (body_of s) flows (point_of s placed) before × (behind ≡ flows_on (point_of s placed) before)
-StepAnswers s flows placed (Err (stops.Fails offset rule)) = (offset ≡ placed.at) × FailsAt (body_of s) flows (point_of s placed) rule
+StepAnswers s flows placed (Ok (before, behind)) =
+    IsTypedAt (body_of s) flows (point_of s placed) before
+    × (behind ≡ flows_on (point_of s placed) before)
+StepAnswers s flows placed (Err (stops.Fails offset rule)) =
+    (offset ≡ placed.at) × FailsAt (body_of s) flows (point_of s placed) rule
 StepAnswers s flows placed (Err stops.NoMemory) = Unit {0}
 
 -- a method
@@ -64,5 +76,6 @@ TypingAnswers s (Err stops.NoMemory) = Unit {0}
 -- its instructions
 abbrev pub WalkAnswers : Scope → Result (List Frame) Stop → Type 0
 WalkAnswers s (Ok frames) = AreTyped (body_of s) (Some (entry s)) (body_of s).points frames
-WalkAnswers s (Err (stops.Fails offset rule)) = FailsIn (body_of s) (Some (entry s)) (body_of s).points offset rule
+WalkAnswers s (Err (stops.Fails offset rule)) =
+    FailsIn (body_of s) (Some (entry s)) (body_of s).points offset rule
 WalkAnswers s (Err stops.NoMemory) = Unit {0}

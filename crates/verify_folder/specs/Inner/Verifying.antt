@@ -10,13 +10,19 @@ use Rattle.type_rules.specs.declared.fault.VerifyFault.TheVariants as faults
 use Rattle.verify_folder.specs.Verifying.{MethodsFail, failure_of}
 
 -- of the methods of a class
-abbrev pub ClassVerifies : Headers → ClassFile → Result (List (Option (List Frame))) VerifyFault → Type 0
+abbrev pub ClassVerifies :
+    Headers → ClassFile → Result (List (Option (List Frame))) VerifyFault → Type 0
 ClassVerifies headers class (Ok typed) = AreTypedMethods headers class class.methods typed
-ClassVerifies headers class (Err (faults.Unverified name method offset rule)) = MethodsFail headers class class.methods (header_of class).methods (failure_of name method offset rule)
+ClassVerifies headers class (Err (faults.Unverified name method offset rule)) =
+    MethodsFail headers class class.methods (header_of class).methods
+    (failure_of name method offset rule)
 ClassVerifies headers class (Err faults.NoMemory) = Unit {0}
 
 -- of the methods of a class, whose frames are not kept
 abbrev pub ClassIsTyped : Headers → ClassFile → Result Unit VerifyFault → Type 0
-ClassIsTyped headers class (Ok done) = (typed : List (Option (List Frame))) × AreTypedMethods headers class class.methods typed
-ClassIsTyped headers class (Err (faults.Unverified name method offset rule)) = MethodsFail headers class class.methods (header_of class).methods (failure_of name method offset rule)
+ClassIsTyped headers class (Ok done) =
+    (typed : List (Option (List Frame))) × AreTypedMethods headers class class.methods typed
+ClassIsTyped headers class (Err (faults.Unverified name method offset rule)) =
+    MethodsFail headers class class.methods (header_of class).methods
+    (failure_of name method offset rule)
 ClassIsTyped headers class (Err faults.NoMemory) = Unit {0}

@@ -16,8 +16,11 @@ absent_from objects site = not (is_present objects site)
 abbrev pub ObjectFits : List VObject → Option VObject → Option VObject → Type 0
 ObjectFits objects None None = Unit {0}
 ObjectFits objects None (Some other) = ⊥
-ObjectFits objects (Some object) None = IsFalse (list_any (is_away (is_present objects)) object.fields)
-ObjectFits objects (Some object) (Some other) = (object.depth ≡ other.depth) × (other.fields ≡ map (made_plain (absent_from objects)) object.fields)
+ObjectFits objects (Some object) None =
+    IsFalse (list_any (is_away (is_present objects)) object.fields)
+ObjectFits objects (Some object) (Some other) =
+    (object.depth ≡ other.depth)
+    × (other.fields ≡ map (made_plain (absent_from objects)) object.fields)
 
 -- each object fits
 pub record ObjectsFit (objects others : List VObject) : Type 0 where

@@ -36,8 +36,16 @@ fields_of objects from site = named_by (object_of objects from) site
 -- a site is reached from marked ones over fields of the objects of two states
 pub data IsSpread (start : List ℕ) (one other : List VObject) : ℕ → Type 0 where
   marked : (site : ℕ) → IsTrue (has start site) → IsSpread start one other site
-  over_one : (from site : ℕ) → IsSpread start one other from → IsEdge one from site → IsSpread start one other site
-  over_other : (from site : ℕ) → IsSpread start one other from → IsEdge other from site → IsSpread start one other site
+  over_one :
+      (from site : ℕ)
+      → IsSpread start one other from
+      → IsEdge one from site
+      → IsSpread start one other site
+  over_other :
+      (from site : ℕ)
+      → IsSpread start one other from
+      → IsEdge other from site
+      → IsSpread start one other site
 
 -- The sites that are reached from marked ones, and no others.
 pub record HasSpread (start sites : List ℕ) (one other : List VObject) : Type 0 where

@@ -10,4 +10,5 @@ pub record IsGap (sites : List ℕ) (site at : ℕ) : Type 0 where
 
 -- it is there, or it could be put at an index
 abbrev pub IsPlaceOf : List ℕ → ℕ → Result ℕ ℕ → Type 0
-IsPlaceOf sites site result = MatchResult result (λ at. IsTrue (has sites site)) (λ at. IsGap sites site at)
+IsPlaceOf sites site result =
+    MatchResult result (λ at. IsTrue (has sites site)) (λ at. IsGap sites site at)

@@ -16,14 +16,16 @@ entry_at entries at = option_flatten (slice_get entries at)
 
 -- each object stands at the index of its site, counted from a number
 pub record ArePlacedFrom (first : ℕ) (entries : List (Option VObject)) : Type 0 where
-  pub each : (at : ℕ) (object : VObject) → entry_at entries at ≡ Some object → object.site ≡ first + at
+  pub each :
+      (at : ℕ) (object : VObject) → entry_at entries at ≡ Some object → object.site ≡ first + at
 
 -- The same objects at the same indices.
 pub record HaveSameEntries (before after : List (Option VObject)) : Type 0 where
   pub each : (at : ℕ) → entry_at after at ≡ entry_at before at
 
 -- Another entry at one index, and the same ones at the others.
-pub record HasSetEntry (before after : List (Option VObject)) (at : ℕ) (entry : Option VObject) : Type 0 where
+pub record HasSetEntry (before after : List (Option VObject)) (at : ℕ) (entry : Option VObject)
+    : Type 0 where
   pub here : entry_at after at ≡ entry
   pub others : (other : ℕ) → other ≢ at → entry_at after other ≡ entry_at before other
 

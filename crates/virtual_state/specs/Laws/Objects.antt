@@ -11,22 +11,32 @@ use Rattle.virtual_state.specs.declared.slot.VObject.{VObject}
 pub same_or_not : (one other : ℕ) → (one ≡ other) ⊎ (one ≢ other)
 same_or_not one other = elim (cases_Bool (one == other)) [ inl same ↦ inl (eqb-true one other same) | inr differ ↦ inr (eqb-false one other differ) ]
 
-pub some_or_none : {A : Type 0} (option : Option A) → ((item : A) × (option ≡ Some item)) ⊎ (option ≡ None)
+pub some_or_none :
+    {A : Type 0} (option : Option A) → ((item : A) × (option ≡ Some item)) ⊎ (option ≡ None)
 some_or_none (Some item) = inl (item, refl)
 some_or_none None = inr refl
 
 -- ---- the first object and those behind it
 
 -- a look-up where the first object is another one's
-pub object_behind : (object : VObject) (objects : List VObject) (site : ℕ) → object.site ≢ site → object_of (object ∷ objects) site ≡ object_of objects site
+pub object_behind :
+    (object : VObject) (objects : List VObject) (site : ℕ)
+    → object.site ≢ site
+    → object_of (object ∷ objects) site ≡ object_of objects site
 object_behind object objects site differ = ap (λ (test : Bool). cond test (Some object) (object_of objects site)) (ne_eqb object.site site differ)
 
 -- a look-up where the first object is of this site
-pub object_first : (object : VObject) (objects : List VObject) (site : ℕ) → object.site ≡ site → object_of (object ∷ objects) site ≡ Some object
+pub object_first :
+    (object : VObject) (objects : List VObject) (site : ℕ)
+    → object.site ≡ site
+    → object_of (object ∷ objects) site ≡ Some object
 object_first object objects site same = ap (λ (test : Bool). cond test (Some object) (object_of objects site)) (eq-eqb object.site site same)
 
 -- what is found is of the site
-pub found_site : (objects : List VObject) (site : ℕ) (object : VObject) → object_of objects site ≡ Some object → object.site ≡ site
+pub found_site :
+    (objects : List VObject) (site : ℕ) (object : VObject)
+    → object_of objects site ≡ Some object
+    → object.site ≡ site
 found_site [] site object is = absurd (none-some object is)
 found_site (first ∷ objects) site object is =
     elim (same_or_not first.site site) [
@@ -36,17 +46,26 @@ found_site (first ∷ objects) site object is =
 
 -- ---- sites that are present
 
-pub present_found : (objects : List VObject) (site : ℕ) (object : VObject) → object_of objects site ≡ Some object → IsTrue (is_present objects site)
+pub present_found :
+    (objects : List VObject) (site : ℕ) (object : VObject)
+    → object_of objects site ≡ Some object
+    → IsTrue (is_present objects site)
 present_found objects site object is = ap is_some is
 
-pub found_present : (objects : List VObject) (site : ℕ) → IsTrue (is_present objects site) → (object : VObject) × (object_of objects site ≡ Some object)
+pub found_present :
+    (objects : List VObject) (site : ℕ)
+    → IsTrue (is_present objects site)
+    → (object : VObject) × (object_of objects site ≡ Some object)
 found_present objects site present =
     elim (some_or_none (object_of objects site)) [
       | inl found ↦ found
       | inr none ↦ absurd (false≢true (sym (ap is_some none) ∙ present))
     ]
 
-pub not_found_absent : (objects : List VObject) (site : ℕ) → IsFalse (is_present objects site) → object_of objects site ≡ None
+pub not_found_absent :
+    (objects : List VObject) (site : ℕ)
+    → IsFalse (is_present objects site)
+    → object_of objects site ≡ None
 not_found_absent objects site absent =
     elim (some_or_none (object_of objects site)) [
       | inl found ↦ absurd (true≢false (sym (ap is_some found.1) ∙ absent))
@@ -54,13 +73,21 @@ not_found_absent objects site absent =
     ]
 
 -- no object is found before the sites
-pub none_below : (objects : List VObject) (site : ℕ) → AllByRecursion (λ other. site < other) (sites_of objects) → object_of objects site ≡ None
+pub none_below :
+    (objects : List VObject) (site : ℕ)
+    → AllByRecursion (λ other. site < other) (sites_of objects)
+    → object_of objects site ≡ None
 none_below [] site above = refl
 none_below (object ∷ objects) site above = object_behind object objects site (λ same. absurd (omega (arith, above.0))) ∙ none_below objects site above.1
 
 -- ---- two lists in order that look-ups can't tell apart are one
 
-pub same_objects : (one other : List VObject) → IsIncreasing (sites_of one) → IsIncreasing (sites_of other) → ((site : ℕ) → object_of one site ≡ object_of other site) → one ≡ other
+pub same_objects :
+    (one other : List VObject)
+    → IsIncreasing (sites_of one)
+    → IsIncreasing (sites_of other)
+    → ((site : ℕ) → object_of one site ≡ object_of other site)
+    → one ≡ other
 same_objects [] [] first second same = refl
 same_objects [] (object ∷ other) first second same = absurd (none-some object (same object.site ∙ object_first object other object.site refl))
 same_objects (object ∷ one) [] first second same = absurd (none-some object (sym (same object.site) ∙ object_first object one object.site refl))
@@ -89,7 +116,11 @@ same_objects (left ∷ one) (right ∷ other) first second same =
 -- ---- objects that change, and that are left out
 
 -- a change that keeps each site
-pub object_of-map : (change : VObject → VObject) → ((object : VObject) → (change object).site ≡ object.site) → (objects : List VObject) (site : ℕ) → object_of (map change objects) site ≡ option_map change (object_of objects site)
+pub object_of-map :
+    (change : VObject → VObject)
+    → ((object : VObject) → (change object).site ≡ object.site)
+    → (objects : List VObject) (site : ℕ)
+    → object_of (map change objects) site ≡ option_map change (object_of objects site)
 object_of-map change keeps [] site = refl
 object_of-map change keeps (object ∷ objects) site =
     elim (same_or_not object.site site) [
@@ -102,7 +133,11 @@ object_of-map change keeps (object ∷ objects) site =
           ∙ sym (ap (option_map change) (object_behind object objects site differ))
     ]
 
-pub sites_of-map : (change : VObject → VObject) → ((object : VObject) → (change object).site ≡ object.site) → (objects : List VObject) → sites_of (map change objects) ≡ sites_of objects
+pub sites_of-map :
+    (change : VObject → VObject)
+    → ((object : VObject) → (change object).site ≡ object.site)
+    → (objects : List VObject)
+    → sites_of (map change objects) ≡ sites_of objects
 sites_of-map change keeps [] = refl
 sites_of-map change keeps (object ∷ objects) = λ i. keeps object i ∷ sites_of-map change keeps objects i
 
@@ -110,13 +145,21 @@ sites_of-map change keeps (object ∷ objects) = λ i. keeps object i ∷ sites_
 abbrev pub of_sites : (ℕ → Bool) → List VObject → List VObject
 of_sites test objects = filter (λ object. test object.site) objects
 
-pub filter_first : (test : ℕ → Bool) (object : VObject) (objects : List VObject) → test object.site ≡ true → of_sites test (object ∷ objects) ≡ object ∷ of_sites test objects
+pub filter_first :
+    (test : ℕ → Bool) (object : VObject) (objects : List VObject)
+    → test object.site ≡ true
+    → of_sites test (object ∷ objects) ≡ object ∷ of_sites test objects
 filter_first test object objects passes = ap (λ (b : Bool). cond b (object ∷ of_sites test objects) (of_sites test objects)) passes
 
-pub filter_behind : (test : ℕ → Bool) (object : VObject) (objects : List VObject) → test object.site ≡ false → of_sites test (object ∷ objects) ≡ of_sites test objects
+pub filter_behind :
+    (test : ℕ → Bool) (object : VObject) (objects : List VObject)
+    → test object.site ≡ false
+    → of_sites test (object ∷ objects) ≡ of_sites test objects
 filter_behind test object objects fails = ap (λ (b : Bool). cond b (object ∷ of_sites test objects) (of_sites test objects)) fails
 
-pub object_of-filter : (test : ℕ → Bool) (objects : List VObject) (site : ℕ) → object_of (of_sites test objects) site ≡ cond (test site) (object_of objects site) None
+pub object_of-filter :
+    (test : ℕ → Bool) (objects : List VObject) (site : ℕ)
+    → object_of (of_sites test objects) site ≡ cond (test site) (object_of objects site) None
 object_of-filter test [] site = neither (test site) where
   neither : (b : Bool) → ◌≡◌ {A = Option VObject} None (cond b None None)
   neither true = refl
@@ -148,7 +191,10 @@ object_of-filter test (object ∷ objects) site =
     ]
 
 -- what holds of each site holds of those that are kept
-all_kept : (P : ℕ → Type 0) (test : ℕ → Bool) (objects : List VObject) → AllByRecursion P (sites_of objects) → AllByRecursion P (sites_of (of_sites test objects))
+all_kept :
+    (P : ℕ → Type 0) (test : ℕ → Bool) (objects : List VObject)
+    → AllByRecursion P (sites_of objects)
+    → AllByRecursion P (sites_of (of_sites test objects))
 all_kept P test [] all = tt
 all_kept P test (object ∷ objects) all =
     elim (cases_Bool (test object.site)) [
@@ -156,7 +202,10 @@ all_kept P test (object ∷ objects) all =
       | inr fails ↦ subst (λ (list : List VObject). AllByRecursion P (sites_of list)) (sym (filter_behind test object objects fails)) (all_kept P test objects all.1)
     ]
 
-pub filter_in_order : (test : ℕ → Bool) (objects : List VObject) → IsIncreasing (sites_of objects) → IsIncreasing (sites_of (of_sites test objects))
+pub filter_in_order :
+    (test : ℕ → Bool) (objects : List VObject)
+    → IsIncreasing (sites_of objects)
+    → IsIncreasing (sites_of (of_sites test objects))
 filter_in_order test [] order = tt
 filter_in_order test (object ∷ objects) order =
     elim (cases_Bool (test object.site)) [

@@ -14,14 +14,17 @@ use Rattle.virtual_state.specs.Laws.Removals.{stay, gone, present_before, presen
 
 -- ---- sets of sites as lists
 
-pub has_both : (one other : List ℕ) (site : ℕ) → has (one ++ other) site ≡ (has one site || has other site)
+pub has_both :
+    (one other : List ℕ) (site : ℕ) → has (one ++ other) site ≡ (has one site || has other site)
 has_both one other site = list_any-append (λ number. number == site) one other
 
 -- the sites of objects that pass a test
 abbrev pub sites_where : (ℕ → Bool) → List VObject → List ℕ
 sites_where test objects = filter test (sites_of objects)
 
-pub has_where : (test : ℕ → Bool) (objects : List VObject) (site : ℕ) → has (sites_where test objects) site ≡ (is_present objects site && test site)
+pub has_where :
+    (test : ℕ → Bool) (objects : List VObject) (site : ℕ)
+    → has (sites_where test objects) site ≡ (is_present objects site && test site)
 has_where test [] site = refl
 has_where test (object ∷ objects) site =
     elim (same_or_not object.site site) [
@@ -66,7 +69,11 @@ has_where test (object ∷ objects) site =
 
 -- ---- a closed set takes a state to one above it
 
-pub below_without : (state : State) (away : ℕ → Bool) → IsState state → IsClosed away state.objects → IsBelow state (without state away)
+pub below_without :
+    (state : State) (away : ℕ → Bool)
+    → IsState state
+    → IsClosed away state.objects
+    → IsBelow state (without state away)
 below_without state away is closed =
     let sites = sites_where away state.objects in
     let among = has_where away state.objects in
@@ -84,7 +91,12 @@ abbrev pub absent : State → ℕ → Bool
 absent other site = not (is_present other.objects site)
 
 -- the sites that are taken away are those by which the states differ
-pub taken_absent : (state other : State) → (below : IsBelow state other) → (site : ℕ) → IsTrue (is_present state.objects site) → has below.sites site ≡ absent other site
+pub taken_absent :
+    (state other : State)
+    → (below : IsBelow state other)
+    → (site : ℕ)
+    → IsTrue (is_present state.objects site)
+    → has below.sites site ≡ absent other site
 taken_absent state other below site present =
     elim (cases_Bool (has below.sites site)) [
       | inl away ↦
@@ -95,10 +107,18 @@ taken_absent state other below site present =
           kept ∙ sym (ap (λ (above : State). not (is_present above.objects site)) below.is ∙ not_from_true (is_present (objects_without (has below.sites) state.objects) site) there)
     ]
 
-pub below_is_without : (state other : State) → IsState state → IsBelow state other → other ≡ without state (absent other)
+pub below_is_without :
+    (state other : State)
+    → IsState state
+    → IsBelow state other
+    → other ≡ without state (absent other)
 below_is_without state other is below = below.is ∙ without_agrees state (has below.sites) (absent other) is (taken_absent state other below)
 
-pub below_is_closed : (state other : State) → IsState state → IsBelow state other → IsClosed (absent other) state.objects
+pub below_is_closed :
+    (state other : State)
+    → IsState state
+    → IsBelow state other
+    → IsClosed (absent other) state.objects
 below_is_closed state other is below = λ from to edge away.
     let from_present = present_found state.objects from edge.object edge.there in
     let from_taken = taken_absent state other below from from_present ∙ away in
@@ -108,13 +128,21 @@ pub below_is_state : (state other : State) → IsState state → IsBelow state o
 below_is_state state other is below = subst IsState (sym below.is) (without_is_state state (has below.sites) is below.closed)
 
 -- the set by which two states differ is closed, and taking it away gives the one above
-pub differing_is_closed : (state other : State) → IsState state → IsBelow state other → IsClosed (has (differing state other)) state.objects
+pub differing_is_closed :
+    (state other : State)
+    → IsState state
+    → IsBelow state other
+    → IsClosed (has (differing state other)) state.objects
 differing_is_closed state other is below = λ from to edge one.
     let among = has_where (absent other) state.objects in
     let parts = and_parts (is_present state.objects from) (absent other from) (sym (among from) ∙ one) in
     among to ∙ and_from (is_present state.objects to) (absent other to) (is.fields from to edge) (below_is_closed state other is below from to edge parts.1)
 
-pub differing_is_taken : (state other : State) → IsState state → IsBelow state other → other ≡ without state (has (differing state other))
+pub differing_is_taken :
+    (state other : State)
+    → IsState state
+    → IsBelow state other
+    → other ≡ without state (has (differing state other))
 differing_is_taken state other is below =
     below_is_without state other is below
     ∙ without_agrees state (absent other) (has (differing state other)) is (λ site present. sym (has_where (absent other) state.objects site ∙ ap (λ (b : Bool). b && absent other site) present))
@@ -129,7 +157,8 @@ below_itself state = record {
   is = sym (without_none state (λ site. false) (λ site. refl));
 }
 
-pub below_and_below : (one two three : State) → IsBelow one two → IsBelow two three → IsBelow one three
+pub below_and_below :
+    (one two three : State) → IsBelow one two → IsBelow two three → IsBelow one three
 below_and_below one two three first second =
     let both = has_both first.sites second.sites in
     record {
@@ -155,9 +184,16 @@ below_and_below one two three first second =
     }
 
 -- a state above is the same one, or has fewer objects
-pub same_or_fewer : (state other : State) → IsBelow state other → (state ≡ other) ⊎ (length other.objects < length state.objects)
+pub same_or_fewer :
+    (state other : State)
+    → IsBelow state other
+    → (state ≡ other) ⊎ (length other.objects < length state.objects)
 same_or_fewer state other below = by_sites below.sites below.there below.is where
-  by_sites : (sites : List ℕ) → ((site : ℕ) → IsTrue (has sites site) → IsTrue (is_present state.objects site)) → other ≡ without state (has sites) → (state ≡ other) ⊎ (length other.objects < length state.objects)
+  by_sites :
+      (sites : List ℕ)
+      → ((site : ℕ) → IsTrue (has sites site) → IsTrue (is_present state.objects site))
+      → other ≡ without state (has sites)
+      → (state ≡ other) ⊎ (length other.objects < length state.objects)
   by_sites [] there is = inl (sym (is ∙ without_none state (λ site. false) (λ site. refl)))
   by_sites (site ∷ sites) there is =
       let among : IsTrue (has (site ∷ sites) site) = or_left (site == site) (has sites site) (eq-eqb site site refl) in
@@ -175,7 +211,10 @@ below_both_ways one other up down =
       ]
     ]
 
-pub chain_len : (state : State) (states : List State) → IsChain state states → length states ≤ length state.objects
+pub chain_len :
+    (state : State) (states : List State)
+    → IsChain state states
+    → length states ≤ length state.objects
 chain_len state [] chain = omega arith
 chain_len state (next ∷ states) chain =
     elim (same_or_fewer state next chain.0) [
@@ -185,13 +224,22 @@ chain_len state (next ∷ states) chain =
 
 -- ---- joins
 
-pub join_is_one : (one other : State) (joined also : State) → IsJoin one other joined → IsJoin one other also → joined ≡ also
+pub join_is_one :
+    (one other : State) (joined also : State)
+    → IsJoin one other joined
+    → IsJoin one other also
+    → joined ≡ also
 join_is_one one other joined also first second = below_both_ways joined also (first.least also second.left second.right) (second.least joined first.left first.right)
 
 pub join_commutes : (one other joined : State) → IsJoin one other joined → IsJoin other one joined
 join_commutes one other joined join = record { left = join.right; right = join.left; least = λ above right left. join.least above left right }
 
-pub join_associates : (one two three front back joined : State) → IsJoin one two front → IsJoin front three joined → IsJoin two three back → IsJoin one back joined
+pub join_associates :
+    (one two three front back joined : State)
+    → IsJoin one two front
+    → IsJoin front three joined
+    → IsJoin two three back
+    → IsJoin one back joined
 join_associates one two three front back joined first whole second = record {
   left = below_and_below one front joined first.left whole.left;
   right = second.least joined (below_and_below two front joined first.right whole.left) whole.right;
@@ -199,7 +247,13 @@ join_associates one two three front back joined first whole second = record {
       whole.least above (first.least above left (below_and_below two back above second.left right)) (below_and_below three back above second.right right);
 }
 
-pub join_grows : (one other one_above other_above joined joined_above : State) → IsBelow one one_above → IsBelow other other_above → IsJoin one other joined → IsJoin one_above other_above joined_above → IsBelow joined joined_above
+pub join_grows :
+    (one other one_above other_above joined joined_above : State)
+    → IsBelow one one_above
+    → IsBelow other other_above
+    → IsJoin one other joined
+    → IsJoin one_above other_above joined_above
+    → IsBelow joined joined_above
 join_grows one other one_above other_above joined joined_above left right join above =
     join.least joined_above (below_and_below one one_above joined_above left above.left) (below_and_below other other_above joined_above right above.right)
 
