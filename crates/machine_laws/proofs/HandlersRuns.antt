@@ -11,4 +11,7 @@ handlers_run = record {
   no_handler = refl;
   of_caller = refl;
   caller_not_reached = refl;
+  external_by_class = refl;
+  external_by_interface = refl;
+  external_without_interface = refl;
 }

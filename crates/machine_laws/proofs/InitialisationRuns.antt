@@ -15,5 +15,7 @@ initialisation_run = record {
   by_call = refl;
   by_construct = refl;
   interface_alone = refl;
+  native_initialiser = refl;
+  native_initialiser_above = refl;
   initialiser_divides = refl;
 }

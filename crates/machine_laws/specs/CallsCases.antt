@@ -1,11 +1,11 @@
 -- Small programs and what they show: calls that select nothing, several defaults, or what is not
--- public; interfaces;
--- signature polymorphic methods; switches; and the classes and monitors that calls begin and enter.
-use Rattle.std.specs.Prelude.{ℕ, ℤ, pos, negsuc, List, [], ◌∷◌, bytes_eq, codes, Some, None, if◌then◌else◌}
+-- public; interfaces; a superclass's method; signature polymorphic methods; switches; and the
+-- classes and monitors that calls begin and enter.
+use Rattle.std.specs.Prelude.{◌≡◌, ℕ, ℤ, pos, negsuc, List, [], ◌∷◌, false, bytes_eq, codes, Some, None, if◌then◌else◌}
 use Rattle.class_model.specs.declared.descriptor.FieldType.TheVariants as types
 use Rattle.class_model.specs.declared.descriptor.Kind.TheVariants as kinds
 use Rattle.class_model.specs.declared.header.Header.{Header}
-use Rattle.class_model.specs.declared.opcodes.TheConstants.{DUP}
+use Rattle.class_model.specs.declared.opcodes.TheConstants.{DUP, IADD, INVOKESPECIAL}
 use Rattle.class_tree.specs.Headers.{Name}
 use Rattle.class_tree.specs.Names.{object, method_handle}
 use Rattle.machine_values.specs.declared.action.Action.{Action}
@@ -19,10 +19,12 @@ use Rattle.machine_values.specs.declared.event.Seen.TheVariants as seen
 use Rattle.machine_values.specs.declared.object.Constant.TheVariants as constants
 use Rattle.machine_values.specs.declared.value.Value.TheVariants as values
 use Rattle.machine_laws.specs.TestPrograms.{reference, member, library_class, base, program, with_code, without_code, class_above, class, int, use_of_L, init_of, super_init, made_by_library, init_of_P, P_class, T_fields, shows, event, result_int, new_ref, old_ref, call_T, string_ref, result, threw_new, asked_use}
+use Rattle.member_link.specs.Machine.Codes.{call_op}
 use Rattle.member_link.specs.Machine.Ops as ops
 use Rattle.member_link.specs.Machine.Ops.{Op}
-use Rattle.member_link.specs.Machine.Programs.{Program, RunClass, RunMethod, Links, Chosen, abstract_method, several_defaults, not_public}
+use Rattle.member_link.specs.Machine.Programs.{Program, RunClass, RunMethod, Links, Chosen, abstract_method, several_defaults, not_public, headers_in}
 use Rattle.member_link.specs.References.{Reference}
+use Rattle.member_link.specs.RowScope.{RowScope}
 
 -- ---- what a selection answers
 
@@ -95,6 +97,90 @@ call_y name = call_T name (codes "()I") []
 abbrev pub throws_behind : Program → List ℕ → Name → Type 0
 throws_behind P name class =
     shows P (call_y name ∷ actions.Stop ∷ []) (threw_new 0 class 1 0 (0 ∷ []) ∷ []) ends.Stopped
+
+-- ---- calls of a superclass's method
+
+-- int NAME() { return CALL + number; }, of a call on this
+abbrev pub adding : List ℕ → Op → ℤ → RunMethod
+adding name call number = with_code 1 name (codes "()I") 1 (
+    ops.load_local kinds.Ref 0
+    ∷ call
+    ∷ int number
+    ∷ ops.pure_arithmetic IADD
+    ∷ ops.return_value types.Int
+    ∷ []
+    )
+
+abbrev pub m_of : Name → Reference
+m_of class = reference class (codes "m") (codes "()I")
+
+abbrev pub top_m : RunMethod
+top_m = with_code 1 (codes "m") (codes "()I") 1 (int (pos 1) ∷ ops.return_value types.Int ∷ [])
+
+-- static int NAME() { return new CLASS().method(); }
+abbrev pub calling_new : List ℕ → Name → List ℕ → RunMethod
+calling_new name class method = with_code 9 name (codes "()I") 0 (
+    ops.new_object class
+    ∷ ops.shuffle_stack DUP
+    ∷ ops.call_special (init_of class) class
+    ∷ ops.call_virtual (reference class method (codes "()I"))
+    ∷ ops.return_value types.Int
+    ∷ []
+    )
+
+-- class Low extends Middle { int m() { return super.m() + 100; } }, where far names the m of Top
+abbrev pub low_class : RunClass
+low_class = class_above 33 (codes "Low") (codes "Middle") [] [] (
+    super_init (codes "Middle")
+    ∷ adding (codes "m") (ops.call_special (m_of (codes "Middle")) (codes "Middle")) (pos 100)
+    ∷ adding (codes "far") (ops.call_special (m_of (codes "Top")) (codes "Middle")) (pos 1000)
+    ∷ []
+    )
+
+-- class Top { int m() { return 1; } }
+-- class Middle extends Top { int m() { return super.m() + 10; } }
+abbrev pub super_program : Program
+super_program = program (
+    class 33 (codes "Top") [] (super_init object ∷ top_m ∷ [])
+    ∷ class_above 33 (codes "Middle") (codes "Top") [] [] (
+    super_init (codes "Top")
+    ∷ adding (codes "m") (ops.call_special (m_of (codes "Top")) (codes "Top")) (pos 10)
+    ∷ []
+    )
+    ∷ low_class
+    ∷ class 1537 (codes "I") [] []
+    ∷ T_fields [] (
+    calling_new (codes "middle") (codes "Middle") (codes "m")
+    ∷ calling_new (codes "low") (codes "Low") (codes "m")
+    ∷ calling_new (codes "far") (codes "Low") (codes "far")
+    ∷ []
+    )
+    ∷ []
+    )
+
+abbrev pub super_gives : List ℕ → ℤ → Type 0
+super_gives name answer = shows super_program (call_y name ∷ actions.Stop ∷ [])
+    (result_int answer 1 0 [] ∷ []) ends.Stopped
+
+-- the instruction invokespecial in class Low, of the method m of a class, starts its selection at
+-- this class
+abbrev pub low_scope : RowScope
+low_scope = record {
+  headers = headers_in super_program;
+  pool = [];
+  major = 52;
+  own = low_class.header;
+  is_init = false;
+  is_clinit = false;
+  result = Some types.Int;
+  max_stack = 2;
+  new_class = λ place. None;
+}
+
+abbrev pub starts_at : Name → Name → Type 0
+starts_at named start =
+    call_op super_program.links low_scope INVOKESPECIAL (m_of named)
+    ≡ ops.call_special (m_of named) start
 
 -- ---- signature polymorphic methods
 
@@ -314,6 +400,15 @@ pub record RunCalls : Type 0 where
       threw_new 0 (codes "java/lang/NullPointerException") 0 0 (0 ∷ [])
       ∷ []
       ) ends.Stopped
+  -- the class itself overrides m, and the superclass's runs, whatever the receiver's class is
+  pub super_runs_method_above : super_gives (codes "middle") (pos 11)
+  pub super_of_super : super_gives (codes "low") (pos 111)
+  -- the named class is further up, and the superclass's method runs
+  pub super_by_class_above : super_gives (codes "far") (pos 1011)
+  pub superclass_named : starts_at (codes "Middle") (codes "Middle")
+  pub class_above_named : starts_at (codes "Top") (codes "Middle")
+  pub own_class_named : starts_at (codes "Low") (codes "Low")
+  pub interface_named : starts_at (codes "I") (codes "I")
   -- class A has a method invoke, and the library is asked by the descriptor of the call
   pub virtual_invoke : asks_of_invoke (invoking 257 (ops.call_virtual invoke_int))
   pub special_invoke : asks_of_invoke (invoking 257 (ops.call_special invoke_int method_handle))

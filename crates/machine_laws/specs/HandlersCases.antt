@@ -9,8 +9,9 @@ use Rattle.class_tree.specs.Names.{throwable}
 use Rattle.machine_values.specs.declared.action.Action.TheVariants as actions
 use Rattle.machine_values.specs.declared.action.Given.TheVariants as given
 use Rattle.machine_values.specs.declared.event.End.TheVariants as ends
+use Rattle.machine_values.specs.declared.event.EventKind.TheVariants as events
 use Rattle.machine_values.specs.declared.event.Seen.TheVariants as seen
-use Rattle.machine_laws.specs.TestPrograms.{reference, program, with_code, int, use_of_L, T_fields, shows, result_int, new_ref, call_T, with_catches, range, threw_new, asked_use}
+use Rattle.machine_laws.specs.TestPrograms.{reference, program, with_code, class, int, use_of_L, T_fields, shows, event, result_int, new_ref, call_T, with_catches, range, new_external, threw_new, asked_use}
 use Rattle.member_link.specs.Machine.Ops as ops
 use Rattle.member_link.specs.Machine.Programs.{Program, RunMethod}
 
@@ -83,6 +84,52 @@ handles name answer =
     shows handlers_program (call_T name (codes "(I)I") (given.Int (pos 0) ∷ []) ∷ actions.Stop ∷ [])
     (result_int answer 0 0 [] ∷ []) ends.Stopped
 
+-- ---- an object of the library that also implements interfaces
+
+-- static int NAME(Throwable e) { try { throw e; } catch (FIRST e) { return 1; } catch (SECOND e)
+-- { return 2; } }
+abbrev pub rethrowing : List ℕ → Option Name → Option Name → RunMethod
+rethrowing name first second = with_catches 9 name (codes "(Ljava/lang/Throwable;)I") 1 (
+    ops.load_local kinds.Ref 0
+    ∷ ops.throw_reference
+    ∷ ops.shuffle_stack POP
+    ∷ int (pos 1)
+    ∷ ops.return_value types.Int
+    ∷ ops.shuffle_stack POP
+    ∷ int (pos 2)
+    ∷ ops.return_value types.Int
+    ∷ []
+    ) (
+    range 0 2 2 first
+    ∷ range 0 2 5 second
+    ∷ []
+    )
+
+abbrev pub external_program : Program
+external_program = program (
+    T_fields [] (
+    rethrowing (codes "class") (Some (codes "java/lang/NullPointerException"))
+    (Some arithmetic_class)
+    ∷ rethrowing (codes "interface") (Some (codes "I")) (Some throwable)
+    ∷ []
+    )
+    ∷ class 1537 (codes "I") [] []
+    ∷ []
+    )
+
+-- of an ArithmeticException that also implements these
+abbrev pub handles_external : List Name → List ℕ → ℤ → Type 0
+handles_external also name answer = shows external_program (
+    actions.NewExternal arithmetic_class also
+    ∷ call_T name (codes "(Ljava/lang/Throwable;)I") (given.Known 0 ∷ [])
+    ∷ actions.Stop
+    ∷ []
+    ) (
+    event (events.Made (new_external 0 arithmetic_class also)) 0 0 (0 ∷ [])
+    ∷ result_int answer 0 0 (0 ∷ [])
+    ∷ []
+    ) ends.Stopped
+
 pub record RunHandlers : Type 0 where
   -- the first handler of the table that catches it, of its class or of one above
   pub own_class : handles (codes "same") (pos 1)
@@ -107,3 +154,8 @@ pub record RunHandlers : Type 0 where
       ∷ actions.Stop
       ∷ []
       ) (result_int (pos 7) 0 0 [] ∷ []) ends.Stopped
+  -- a handler catches by the class and by what an object also implements; the verifier takes no
+  -- handler of an interface
+  pub external_by_class : handles_external (codes "I" ∷ []) (codes "class") (pos 2)
+  pub external_by_interface : handles_external (codes "I" ∷ []) (codes "interface") (pos 1)
+  pub external_without_interface : handles_external [] (codes "interface") (pos 2)

@@ -12,7 +12,7 @@ use Rattle.machine_values.specs.declared.event.Seen.{Seen}
 use Rattle.machine_values.specs.declared.event.Seen.TheVariants as seen
 use Rattle.machine_values.specs.declared.object.Constant.TheVariants as constants
 use Rattle.machine_values.specs.declared.value.Value.TheVariants as values
-use Rattle.machine_laws.specs.TestPrograms.{reference, member, program, with_code, class_above, class, int, use_of_L, super_init, made_by_library, T_fields, shows, result_int, new_ref, call_T, with_catches, range, string_ref, result, made, asked_use}
+use Rattle.machine_laws.specs.TestPrograms.{reference, member, program, with_code, without_code, class_above, class, int, use_of_L, super_init, made_by_library, T_fields, shows, result_int, new_ref, call_T, with_catches, range, string_ref, result, made, asked_use}
 use Rattle.member_link.specs.Machine.Ops as ops
 use Rattle.member_link.specs.Machine.Programs.{Program, RunClass, RunMethod, start_value}
 use Rattle.member_link.specs.References.{Reference}
@@ -198,6 +198,27 @@ throwing_init_program = program (
     ∷ []
     )
 
+-- ---- a class initialiser without code
+
+-- class N { static final int x = 5; } with a native class initialiser
+abbrev pub native_N : RunClass
+native_N = record (
+    class 33 (codes "N") (member 8 (codes "x") (codes "I") ∷ [])
+    (without_code 264 (codes "<clinit>") (codes "()V") ∷ [])
+    ) {
+      starts = record { field = 0; value = start_value (values.Int (pos 5)) } ∷ [];
+    }
+
+-- class M extends N { static int x; static { L.use("M"); } }
+abbrev pub native_init_program : Program
+native_init_program = program (
+    native_N
+    ∷ class_above 33 (codes "M") (codes "N") [] (member 8 (codes "x") (codes "I") ∷ [])
+    (shows_text (codes "M") ∷ [])
+    ∷ T_fields [] (init_reading (codes "n") (codes "N") ∷ init_reading (codes "m") (codes "M") ∷ [])
+    ∷ []
+    )
+
 pub record RunInitialisation : Type 0 where
   -- the superclass is begun first, its constant value is narrowed, and each class is begun once
   pub superclass_first : shows init_program (
@@ -244,6 +265,25 @@ pub record RunInitialisation : Type 0 where
       ) (
       begun 0 (codes "I1") 0 (0 ∷ [])
       ∷ result_int (pos 0) 0 0 (0 ∷ [])
+      ∷ []
+      ) ends.Stopped
+  -- the class is begun, and its initialiser is not called
+  pub native_initialiser : shows native_init_program (
+      call_T (codes "n") (codes "()I") []
+      ∷ call_T (codes "n") (codes "()I") []
+      ∷ actions.Stop
+      ∷ []
+      ) (result_int (pos 5) 0 0 [] ∷ result_int (pos 5) 0 0 [] ∷ []) ends.Stopped
+  pub native_initialiser_above : shows native_init_program (
+      call_T (codes "m") (codes "()I") []
+      ∷ actions.Return None
+      ∷ call_T (codes "n") (codes "()I") []
+      ∷ actions.Stop
+      ∷ []
+      ) (
+      begun 0 (codes "M") 0 (0 ∷ [])
+      ∷ result_int (pos 0) 0 0 (0 ∷ [])
+      ∷ result_int (pos 5) 0 0 (0 ∷ [])
       ∷ []
       ) ends.Stopped
   pub initialiser_divides : shows throwing_init_program (

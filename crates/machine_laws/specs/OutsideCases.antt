@@ -1,18 +1,23 @@
--- Small programs and what they show: what the library is asked.
-use Rattle.std.specs.Prelude.{pos, [], ◌∷◌, codes, Some, None}
+-- Small programs and what they show: what the library is asked, and what its objects are instances
+-- of.
+use Rattle.std.specs.Prelude.{ℕ, ℤ, pos, List, [], ◌∷◌, codes, Some, None}
 use Rattle.class_model.specs.declared.descriptor.FieldType.TheVariants as types
 use Rattle.class_model.specs.declared.descriptor.Kind.TheVariants as kinds
-use Rattle.class_model.specs.declared.opcodes.TheConstants.{FADD}
-use Rattle.class_tree.specs.Names.{object}
+use Rattle.class_model.specs.declared.opcodes.TheConstants.{DUP, FADD}
+use Rattle.class_tree.specs.Headers.{Name}
+use Rattle.class_tree.specs.Names.{object, throwable}
+use Rattle.machine_values.specs.declared.action.Action.{Action}
 use Rattle.machine_values.specs.declared.action.Action.TheVariants as actions
 use Rattle.machine_values.specs.declared.action.Given.TheVariants as given
 use Rattle.machine_values.specs.declared.event.End.TheVariants as ends
+use Rattle.machine_values.specs.declared.event.Event.{Event}
 use Rattle.machine_values.specs.declared.event.EventKind.TheVariants as events
 use Rattle.machine_values.specs.declared.event.Seen.TheVariants as seen
 use Rattle.machine_values.specs.declared.object.Constant.TheVariants as constants
-use Rattle.machine_laws.specs.TestPrograms.{reference, program, with_code, T_fields, shows, event, result_int, call_T, string_ref}
+use Rattle.machine_laws.specs.TestPrograms.{reference, program, with_code, without_code, class_above, class, init_of, T_fields, shows, event, result_int, new_ref, old_ref, call_T, new_external, string_ref, result, threw_new}
 use Rattle.member_link.specs.Machine.Ops as ops
 use Rattle.member_link.specs.Machine.Programs.{Program, RunMethod}
+use Rattle.member_link.specs.References.{Reference}
 
 -- an external receiver, a field of the library, floats and dynamic calls
 abbrev pub outside_copy : RunMethod
@@ -47,13 +52,127 @@ outside_dyn = with_code 9 (codes "dyn") (codes "(I)I") 1 (
     ∷ []
     )
 
-abbrev pub outside_program : Program
-outside_program = program (
-    T_fields [] (outside_copy ∷ outside_read ∷ outside_add ∷ outside_dyn ∷ [])
+-- static Object NAME() { return new CLASS(); }
+abbrev pub outside_new : List ℕ → Name → RunMethod
+outside_new name class = with_code 9 name (codes "()Ljava/lang/Object;") 0 (
+    ops.new_object class
+    ∷ ops.shuffle_stack DUP
+    ∷ ops.call_special (init_of class) class
+    ∷ ops.return_value (types.Named object)
     ∷ []
     )
 
+abbrev pub outside_program : Program
+outside_program = program (
+    T_fields [] (
+    outside_copy
+    ∷ outside_read
+    ∷ outside_add
+    ∷ outside_dyn
+    ∷ outside_new (codes "object") object
+    ∷ outside_new (codes "throwable") throwable
+    ∷ []
+    )
+    ∷ []
+    )
+
+-- ---- objects of the library that also implement interfaces
+
+-- static int is(Object o) { return o instanceof I ? 1 : 0; }
+abbrev pub also_is : RunMethod
+also_is = with_code 9 (codes "is") (codes "(Ljava/lang/Object;)I") 1 (
+    ops.load_local kinds.Ref 0
+    ∷ ops.instance_of (codes "I")
+    ∷ ops.return_value types.Int
+    ∷ []
+    )
+
+-- static I cast(Object o) { return (I) o; }
+abbrev pub also_cast : RunMethod
+also_cast = with_code 9 (codes "cast") (codes "(Ljava/lang/Object;)LI;") 1 (
+    ops.load_local kinds.Ref 0
+    ∷ ops.check_cast (codes "I")
+    ∷ ops.return_value (types.Named (codes "I"))
+    ∷ []
+    )
+
+abbrev pub y_of_I : Reference
+y_of_I = reference (codes "I") (codes "y") (codes "()I")
+
+-- static int ask(I i) { return i.y(); }
+abbrev pub also_ask : RunMethod
+also_ask = with_code 9 (codes "ask") (codes "(LI;)I") 1 (
+    ops.load_local kinds.Ref 0
+    ∷ ops.call_interface y_of_I
+    ∷ ops.return_value types.Int
+    ∷ []
+    )
+
+-- interface J extends I, and interface K
+abbrev pub also_program : Program
+also_program = program (
+    class 1537 (codes "I") [] (without_code 1025 (codes "y") (codes "()I") ∷ [])
+    ∷ class_above 1537 (codes "J") object (codes "I" ∷ []) [] []
+    ∷ class 1537 (codes "K") [] []
+    ∷ T_fields [] (also_is ∷ also_cast ∷ also_ask ∷ [])
+    ∷ []
+    )
+
+-- what a method of T shows of an object that also implements these, behind the event of the object
+abbrev pub also_shows :
+    List Name → List ℕ → List ℕ → List Action → List Event → Type 0
+also_shows also name desc answers shown = shows also_program
+    (actions.NewExternal object also ∷ call_T name desc (given.Known 0 ∷ []) ∷ answers)
+    (event (events.Made (new_external 0 object also)) 0 0 (0 ∷ []) ∷ shown) ends.Stopped
+
+abbrev pub also_instance : List Name → ℤ → Type 0
+also_instance also answer = also_shows also (codes "is") (codes "(Ljava/lang/Object;)I")
+    (actions.Stop ∷ []) (result_int answer 0 0 (0 ∷ []) ∷ [])
+
+abbrev pub also_casts : List Name → Event → Type 0
+also_casts also shown = also_shows also (codes "cast") (codes "(Ljava/lang/Object;)LI;")
+    (actions.Stop ∷ []) (shown ∷ [])
+
+-- the cast gives the object itself
+abbrev pub itself : Event
+itself = result (seen.Ref (old_ref 0)) 0 0 (0 ∷ [])
+
 pub record RunOutside : Type 0 where
+  -- the instance initialiser of Object is not asked for, and that of another class is
+  pub object_made : shows outside_program
+      (call_T (codes "object") (codes "()Ljava/lang/Object;") [] ∷ actions.Stop ∷ [])
+      (result (seen.Ref (new_ref 0 object)) 1 0 (0 ∷ []) ∷ []) ends.Stopped
+  pub throwable_made : shows outside_program (
+      call_T (codes "throwable") (codes "()Ljava/lang/Object;") []
+      ∷ actions.Return None
+      ∷ actions.Stop
+      ∷ []
+      ) (
+      event
+      (events.Call throwable (codes "<init>") (codes "()V")
+      (seen.Ref (new_ref 0 throwable) ∷ [])) 1 0 (0 ∷ [])
+      ∷ result (seen.Ref (old_ref 0)) 1 0 (0 ∷ [])
+      ∷ []
+      ) ends.Stopped
+  pub instance_of_second : also_instance (codes "K" ∷ codes "I" ∷ []) (pos 1)
+  pub instance_of_superinterface : also_instance (codes "J" ∷ []) (pos 1)
+  pub no_instance_of_other : also_instance (codes "K" ∷ []) (pos 0)
+  pub cast_to_interface : also_casts (codes "I" ∷ []) itself
+  pub cast_to_second : also_casts (codes "K" ∷ codes "I" ∷ []) itself
+  pub cast_to_superinterface : also_casts (codes "J" ∷ []) itself
+  pub cast_to_other : also_casts (codes "K" ∷ [])
+      (threw_new 1 (codes "java/lang/ClassCastException") 0 0 (0 ∷ 0 ∷ []))
+  -- the library is asked for the method of the interface
+  pub interface_called : also_shows (codes "J" ∷ []) (codes "ask") (codes "(LI;)I")
+      (actions.Return (Some (given.Int (pos 7))) ∷ actions.Stop ∷ []) (
+      event (events.Call (codes "I") (codes "y") (codes "()I") (seen.Ref (old_ref 0) ∷ [])) 0 0
+      (0 ∷ [])
+      ∷ result_int (pos 7) 0 0 (0 ∷ [])
+      ∷ []
+      )
+  pub interface_not_called : also_shows (codes "K" ∷ []) (codes "ask") (codes "(LI;)I")
+      (actions.Stop ∷ [])
+      (threw_new 1 (codes "java/lang/IncompatibleClassChangeError") 0 0 (0 ∷ 0 ∷ []) ∷ [])
   pub dynamic_call : shows outside_program (
       call_T (codes "dyn") (codes "(I)I") (given.Int (pos 4) ∷ [])
       ∷ actions.Return (Some (given.Int (pos 9)))

@@ -37,12 +37,12 @@ pub fn programs_show_which_stores_are_final()
     ensures { RunFinalFields }
 {}
 
-/// What the library is asked.
+/// What the library is asked, and what its objects are instances of.
 pub fn programs_show_what_the_library_is_asked()
     ensures { RunOutside }
 {}
 
-/// Selections and their failures, signature polymorphic methods, switches, and what calls begin and enter.
+/// Selections and their failures, a superclass's method, signature polymorphic methods, switches, and what calls begin and enter.
 pub fn programs_show_what_calls_run()
     ensures { RunCalls }
 {}
