@@ -65,12 +65,16 @@ fn run(alloc: Global, host: &mut MemoryHost, words: &str) -> Option<String> {
     format!(in alloc; "{told} | {printed}").ok()
 }
 
-// What a command explained. None where that is not behind what was explained before.
+// What a command explained, or `nothing`. None where that is not behind what was explained before.
 fn explain(alloc: Global, host: &mut MemoryHost, words: &str) -> Option<String> {
     let words = words_of(alloc, words)?;
     let before = Vec::from_slice(alloc, host.explained()).ok()?;
     let _ = pea(alloc, &words, host);
-    shown(alloc, host.explained().strip_prefix(before.as_slice())?)
+    let explained = host.explained().strip_prefix(before.as_slice())?;
+    if explained.is_empty() {
+        return String::from_str(alloc, "nothing").ok();
+    }
+    shown(alloc, explained)
 }
 
 // The names of the contents of files.

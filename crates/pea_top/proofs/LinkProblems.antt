@@ -4,11 +4,11 @@ use Rattle.class_model.specs.declared.class_file.ClassFile.{ClassFile}
 use Rattle.class_model.specs.declared.header.Header.{Header}
 use Rattle.class_tree.specs.Answers.{Answers}
 use Rattle.class_tree.specs.Headers.{Classes}
-use Rattle.class_tree.specs.Trees.{IsArranged, IsTree, IsTreeOf}
+use Rattle.class_tree.specs.Trees.{IsArranged, IsTree}
 use Rattle.class_tree.specs.declared.fault.LinkFault.{LinkFault}
 use Rattle.class_tree.specs.declared.fault.LinkFault.TheVariants.{Unlinked, NoMemory}
 use Rattle.member_link.specs.Linked.{link_checks}
-use Rattle.pea_top.specs.Linking.{of_hierarchy, of_links}
+use Rattle.pea_top.specs.Linking.{of_links}
 use Rattle.pea_top.specs.Inner.Linking.{IsLinkFault}
 
 -- a hierarchy whose links do not hold
@@ -16,8 +16,3 @@ pub unlinked : (X : Type 0) (folder : List ClassFile) (library : List Header) (c
     → (fault : LinkFault) → Answers {X = X} (link_checks classes) (Err fault) → IsLinkFault folder library fault
 unlinked X folder library classes tree (Unlinked class member rule) first = of_links classes tree.0 tree.1 first
 unlinked X folder library classes tree NoMemory first = tt
-
--- classes that are no hierarchy
-pub no_hierarchy : (folder : List ClassFile) (library : List Header) (fault : LinkFault) → IsTreeOf folder library (Err fault) → IsLinkFault folder library fault
-no_hierarchy folder library (Unlinked class member rule) problem = of_hierarchy problem
-no_hierarchy folder library NoMemory problem = tt

@@ -7,9 +7,10 @@ ghost use Rattle.class_tree.specs.Headers.{IsClassFile, IsLibraryClass};
 ghost use Rattle.host_tree.specs.Counts.{NeverFalls, Rose, CountsOnly};
 ghost use Rattle.class_bytes.specs.Counts.{FitsCounts};
 ghost use Rattle.class_model.specs.Spelling.{class_bytes};
+ghost use Rattle.pea_top.specs.Answer.{Refusal, IsRefusedClass};
 ghost use Rattle.pea_top.specs.Folders.{AreNames, names_class_file};
 ghost use Rattle.pea_top.specs.Inner.Reading.{IsReadOrWhy, IsLibraryOrWhy, IsInputOrWhy, status_of};
-ghost use Rattle.pea_top.specs.Inner.ReadingSteps.{IsCallStop, IsFileOrWhy, IsHeaderOrWhy, stop_at};
+ghost use Rattle.pea_top.specs.Inner.ReadingSteps.{IsCallStop, IsFileOrWhy, IsHeaderOrWhy, IsWhyNot, stop_at};
 ghost use Rattle.pea_top.specs.declared.reading.ReadStop.TheVariants.{NoMemory as no_memory};
 
 use crate::folder::{NamedFile, is_class_file};
@@ -253,15 +254,27 @@ fn file_of(
     if !is_class_file(&name) {
         return Ok((NamedFile { name, bytes }, None));
     }
-    a_class_file_has_no_fault();
-    another_version_is_no_class_file();
-    match read_class(alloc, bytes.as_slice()) {
+    match class_of(alloc, &bytes) {
         Ok(class) => {
             let bytes = written_again(bytes, &class)?;
             Ok((NamedFile { name, bytes }, Some(class)))
         }
         Err(fault) => Err(stop_of(Side::Input, name, bytes, fault)),
     }
+}
+
+/// The class file that these bytes are read as.
+fn class_of(alloc: Global, bytes: &ByteList) -> Result<ClassFile, ClassFault>
+    ensures class { IfOk result (λ class. ClassOf bytes.now class) }
+    ensures class_file { IfOk result IsClassFile }
+    ensures fits { IfOk result FitsCounts }
+    ensures spelled { IfOk result (λ class. bytes.now ≡ class_bytes class) }
+    ensures not_refused { IfOk result (λ _. (why : Refusal) → ¬ IsRefusedClass bytes.now why) }
+    ensures fault { IfErr result (IsWhyNot bytes.now) }
+{
+    a_class_file_has_no_fault();
+    another_version_is_no_class_file();
+    read_class(alloc, bytes.as_slice())
 }
 
 /// Why reading stops at a file of this name and these bytes.

@@ -6,7 +6,7 @@ pub returns-then-not-is_class_file-clause-file : goal.returns-then-not-is_class_
 returns-then-not-is_class_file-clause-file c = λ folder there.
     (refl, good_other folder c.args.name c.args.bytes there (sym c.is_class_file.ensures ∙ c.if-not-is_class_file.true))
 
-pub returns-in-Ok-clause-file : goal.returns-in-Ok-clause-file
-returns-in-Ok-clause-file c = λ folder there.
+pub returns-in_ok-bytes-in-Ok-clause-file : goal.returns-in_ok-bytes-in-Ok-clause-file
+returns-in_ok-bytes-in-Ok-clause-file c = λ folder there.
     let named = sym c.is_class_file.ensures ∙ c.if-not-is_class_file.false in
-    rw c.in-Ok.ensures.same (refl, good_class folder c.args.name c.args.bytes there c.in-Ok.class named c.in-Ok.ensures.class c.in-Ok.ensures.not_refused)
+    rw c.in_ok-bytes-in-Ok.ensures (refl, good_class folder c.args.name c.args.bytes there c.in-Ok.class named c.in-Ok.ensures.class c.in-Ok.ensures.not_refused)

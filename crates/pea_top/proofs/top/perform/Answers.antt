@@ -1,15 +1,15 @@
 use Rattle.std.proofs.Common.{◌∙◌}
-use Rattle.host_tree.specs.Host.{Files}
+use Rattle.host_tree.specs.Host.{Bytes, Files}
 use Rattle.pea_top.specs.CommandView.{command_view}
 use Rattle.pea_top.specs.Inner.Deciding.{AreInput}
-use Rattle.pea_top.proofs.Outcomes.{said_of_same, stop_behind, stop_reading, stop_then}
+use Rattle.pea_top.proofs.Outcomes.{said_of_same, stop_behind, stop_reading}
 use Rattle.pea_top.proofs.top.perform.Goals as goal
 
 -- what was read stands there still
 pub decide-requires-clause-read : goal.decide-requires-clause-read
 decide-requires-clause-read g c = λ tells.
     let found = rw (c.input.ensures, c.library.ensures) at (c.in-Ok.ensures.found tells) in
-    let same = λ root name. c.note_input.ensures.files tells root name ∙ c.in-Ok.ensures.files tells root name in
+    let same = λ (root : Bytes) (name : Bytes). c.note_input.ensures.files tells root name ∙ c.in-Ok.ensures.files tells root name in
     said_of_same (λ (files : Files). AreInput (command_view c.args.command) files c.in-Ok.input.files.items c.in-Ok.input.classes c.in-Ok.input.headers) same (record { good = found.0; library = found.1 })
 
 pub returns-in-Ok-clause-stop : goal.returns-in-Ok-clause-stop
