@@ -6,6 +6,7 @@ ghost use Rattle.host_tree.specs.Host.{Folder, SameFiles};
 ghost use Rattle.class_tree.specs.Headers.{IsClassFile, IsLibraryClass};
 ghost use Rattle.host_tree.specs.Counts.{NeverFalls, Rose, CountsOnly};
 ghost use Rattle.class_bytes.specs.Counts.{FitsCounts};
+ghost use Rattle.class_model.specs.ClassOf.{ClassOf};
 ghost use Rattle.class_model.specs.Spelling.{class_bytes};
 ghost use Rattle.pea_top.specs.Answer.{Refusal, IsRefusedClass};
 ghost use Rattle.pea_top.specs.Folders.{AreNames, names_class_file};
