@@ -10,11 +10,12 @@ use Rattle.class_model.specs.declared.opcodes.TheConstants.{IALOAD, SALOAD, IAST
 use Rattle.class_model.specs.Cutting.{IsBytes}
 use Rattle.class_model.specs.Laws.Cuts.{IsBytes-drop}
 use Rattle.class_model.specs.Laws.Lists.{AllByRecursion-weaker, at_index}
-use Rattle.class_model.specs.Instructions.{Read, Operands, OpcodeRow, Alone, U1, U2, S1, S2, U1S1, U2U1, U2U1Zero, U2ZeroZero, Jump2, Jump4, TableSwitch, LookupSwitch, Wide, rows, wide_rows, operands_in, with_operands, wide_operands, table_switch_at, lookup_switch_at, sized, sized_if, is_array_code, has_dimensions, target_of, instr_at, instrs_at, decoded, u1_in, u2_in, s1_in, s2_in, s4_in}
+use Rattle.class_model.specs.Instructions.{Read, Operands, Alone, U1, U2, S1, S2, U1S1, ArrayCode, Dimensions, U2U1Zero, U2ZeroZero, Jump2, Jump4, TableSwitch, LookupSwitch, Wide, rows, wide_rows, operands_in, with_operands, wide_operands, table_switch_at, lookup_switch_at, sized, sized_if, is_array_code, has_dimensions, target_of, instr_at, instrs_at, decoded, u1_in, u2_in, s1_in, s2_in, s4_in}
 use Rattle.class_model.specs.Members.{has, NATIVE}
 use Rattle.class_model.specs.MethodCode.{code_of}
 use Rattle.class_model.specs.Pool.{Constants, constant_at}
 use Rattle.class_model.specs.PoolChecks.{class_at}
+use Rattle.class_model.specs.Tables.{Row}
 use Rattle.class_model.specs.declared.class_file.ClassFile.{ClassFile}
 use Rattle.class_model.specs.declared.class_file.CodePart.{CodePart}
 use Rattle.class_model.specs.declared.class_file.Method.{Method}
@@ -56,7 +57,8 @@ MakesFew (U2 makes) = (n : ℕ) → FewIn (makes n)
 MakesFew (S1 makes) = (n : ℤ) → FewIn (makes n)
 MakesFew (S2 makes) = (n : ℤ) → FewIn (makes n)
 MakesFew (U1S1 makes) = (n : ℕ) (k : ℤ) → FewIn (makes n k)
-MakesFew (U2U1 makes) = (n k : ℕ) → k ≤ MOST_DIMENSIONS → FewIn (makes n k)
+MakesFew ArrayCode = Unit {0}
+MakesFew Dimensions = Unit {0}
 MakesFew (U2U1Zero makes) = (n k : ℕ) → FewIn (makes n k)
 MakesFew (U2ZeroZero makes) = (n : ℕ) → FewIn (makes n)
 MakesFew (Jump2 makes) = (n : ℕ) → FewIn (makes n)
@@ -84,17 +86,17 @@ first_byte (byte ∷ bytes) are = let first = are.0 in omega (arith, first)
 -- ---- rows
 
 -- nothing but multianewarray has a byte of dimensions
-abbrev pub RowMakesFew : OpcodeRow → Type 0
-RowMakesFew row = (opcode : ℕ) → MakesFew (row.operands opcode)
+abbrev pub RowMakesFew : Row Operands → Type 0
+RowMakesFew row = (opcode : ℕ) → MakesFew (row.gives opcode)
 
 abbrev pub IfMakesFew : Option Operands → Type 0
 IfMakesFew operands = IfSome operands MakesFew
 
-row_few : (b : Bool) (row : OpcodeRow) (opcode : ℕ) (others : Option Operands) → RowMakesFew row → IfMakesFew others → IfMakesFew (if b then Some (row.operands opcode) else others)
+row_few : (b : Bool) (row : Row Operands) (opcode : ℕ) (others : Option Operands) → RowMakesFew row → IfMakesFew others → IfMakesFew (if b then Some (row.gives opcode) else others)
 row_few true row opcode others few rest = few opcode
 row_few false row opcode others few rest = rest
 
-some_few : (table : List OpcodeRow) → AllByRecursion RowMakesFew table → (opcode : ℕ) → IfMakesFew (operands_in table opcode)
+some_few : (table : List (Row Operands)) → AllByRecursion RowMakesFew table → (opcode : ℕ) → IfMakesFew (operands_in table opcode)
 some_few [] all opcode = tt
 some_few (row ∷ others) all opcode =
     row_few (nat_le row.low opcode && nat_le opcode row.high) row opcode (operands_in others opcode) all.0 (some_few others all.1 opcode)
@@ -103,13 +105,13 @@ wide_rows_few : AllByRecursion RowMakesFew wide_rows
 wide_rows_few = ((λ o n. tt), ((λ o n. tt), tt))
 
 rows_from_64 : AllByRecursion RowMakesFew (drop 64 rows)
-rows_from_64 = ((λ o n k few. few), ((λ o n. tt), ((λ o n. tt), tt)))
+rows_from_64 = ((λ o. tt), ((λ o n. tt), ((λ o n. tt), tt)))
 
 rows_from_56 : AllByRecursion RowMakesFew (drop 56 rows)
 rows_from_56 = ((λ o n. tt), ((λ o. tt), ((λ o. tt), ((λ o n. tt), ((λ o n. tt), ((λ o. tt), ((λ o. tt), ((λ o. tt), rows_from_64))))))))
 
 rows_from_48 : AllByRecursion RowMakesFew (drop 48 rows)
-rows_from_48 = ((λ o n. tt), ((λ o n. tt), ((λ o n. tt), ((λ o n. tt), ((λ o n k. tt), ((λ o n. tt), ((λ o n. tt), ((λ o n. tt), rows_from_56))))))))
+rows_from_48 = ((λ o n. tt), ((λ o n. tt), ((λ o n. tt), ((λ o n. tt), ((λ o n k. tt), ((λ o n. tt), ((λ o n. tt), ((λ o. tt), rows_from_56))))))))
 
 rows_from_40 : AllByRecursion RowMakesFew (drop 40 rows)
 rows_from_40 = ((λ o n. tt), ((λ o n. tt), ((λ o n. tt), ((λ o. tt), ((λ o. tt), ((λ o. tt), ((λ o. tt), ((λ o n. tt), rows_from_48))))))))
@@ -145,14 +147,16 @@ lookup_few at bytes = grind arith
 operands_few : (at : ℕ) (bytes : List ℕ) → IsBytes bytes → (o : Option Operands) → IfMakesFew o → ReadFew (with_operands at bytes o)
 operands_few at bytes are None few = tt
 operands_few at bytes are (Some (Alone instr)) few = few
-operands_few at bytes are (Some (U1 makes)) few = sized_if_few (is_array_code (makes (u1_in bytes 1))) at bytes 2 (makes (u1_in bytes 1)) (few (u1_in bytes 1))
+operands_few at bytes are (Some (U1 makes)) few = sized_few at bytes 2 (makes (u1_in bytes 1)) (few (u1_in bytes 1))
+operands_few at bytes are (Some ArrayCode) few =
+    sized_if_few (is_array_code (u1_in bytes 1)) at bytes 2 (instrs.NewArray (u1_in bytes 1)) tt
 operands_few at bytes are (Some (U2 makes)) few = sized_few at bytes 3 (makes (u2_in bytes 1)) (few (u2_in bytes 1))
 operands_few at bytes are (Some (S1 makes)) few = sized_few at bytes 2 (makes (s1_in bytes 1)) (few (s1_in bytes 1))
 operands_few at bytes are (Some (S2 makes)) few = sized_few at bytes 3 (makes (s2_in bytes 1)) (few (s2_in bytes 1))
 operands_few at bytes are (Some (U1S1 makes)) few = sized_few at bytes 3 (makes (u1_in bytes 1) (s1_in bytes 2)) (few (u1_in bytes 1) (s1_in bytes 2))
-operands_few at bytes are (Some (U2U1 makes)) few =
-    sized_if_few (has_dimensions (makes (u2_in bytes 1) (u1_in bytes 3))) at bytes 4 (makes (u2_in bytes 1) (u1_in bytes 3))
-    (few (u2_in bytes 1) (u1_in bytes 3) (first_byte (drop 3 bytes) (IsBytes-drop 3 bytes are)))
+operands_few at bytes are (Some Dimensions) few =
+    sized_if_few (has_dimensions (u1_in bytes 3)) at bytes 4 (instrs.NewMulti (u2_in bytes 1) (u1_in bytes 3))
+    (first_byte (drop 3 bytes) (IsBytes-drop 3 bytes are))
 operands_few at bytes are (Some (U2U1Zero makes)) few = sized_if_few (u1_in bytes 4 == 0) at bytes 5 (makes (u2_in bytes 1) (u1_in bytes 3)) (few (u2_in bytes 1) (u1_in bytes 3))
 operands_few at bytes are (Some (U2ZeroZero makes)) few = sized_if_few (u2_in bytes 3 == 0) at bytes 5 (makes (u2_in bytes 1)) (few (u2_in bytes 1))
 operands_few at bytes are (Some (Jump2 makes)) few = sized_few at bytes 3 (makes (target_of at (s2_in bytes 1))) (few (target_of at (s2_in bytes 1)))

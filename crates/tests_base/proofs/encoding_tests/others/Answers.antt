@@ -1,6 +1,6 @@
 -- An invokeinterface has the second form of a call.
-use Rattle.std.proofs.Common.{inr, tt, refl, arith}
+use Rattle.std.proofs.Common.{inr, refl, arith}
 use Rattle.tests_base.proofs.encoding_tests.others.Goals as goal
 
 pub written-requires-13 : goal.written-requires-13
-written-requires-13 c = record { place = omega arith; targets = tt; form = inr refl }
+written-requires-13 c = λ told. record { place = omega arith; targets = tt; form = inr refl }
