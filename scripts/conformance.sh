@@ -23,7 +23,7 @@ verified=0
 # Runs the program on in/A.class, and sets came to its answer in the words of the table.
 answer() {
     local printed status
-    printed=$("$pea" optimise in out --lib "$library" 2>&1)
+    printed=$("$pea" optimise in out --lib "$library" 2>why)
     status=$?
     case "$status $printed" in
         "0 done files=1 classes=1 rewritten=0 kept="*) came=ok ;;
@@ -31,6 +31,11 @@ answer() {
         "2 refused 2 Malformed A.class "*) came="Malformed ${printed#refused 2 Malformed A.class }" ;;
         "3 refused 3 Version A.class "*) came="Version ${printed#refused 3 Version A.class }" ;;
         *) came="status $status, $printed" ;;
+    esac
+    # A refusal is explained on standard error, and nothing else is said there.
+    case "$status $(head -n 1 why)" in
+        "0 " | [2345]" pea: error: "*) ;;
+        *) came="$came, explained by $(cat why)" ;;
     esac
     if [ "$status" = 0 ]; then
         verified=$((verified + 1))
