@@ -6,6 +6,7 @@ pub mod Answers
 pub mod Steps
 pub mod Trees
 pub mod Interfaces
+pub mod Layouts
 pub mod Order
 pub mod Alike
 pub mod Hierarchy

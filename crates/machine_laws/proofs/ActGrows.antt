@@ -27,7 +27,7 @@ use Rattle.member_link.specs.Machine.Acting.{fault, given_value, given_values, a
 use Rattle.member_link.specs.Machine.ArraySteps.{most_elements, blank_array, index_in}
 use Rattle.member_link.specs.Machine.Beginnings.{begun_on}
 use Rattle.machine_laws.specs.Growth.{WorldGrows}
-use Rattle.member_link.specs.Machine.Heaps.{allocated, with_value}
+use Rattle.machine_values.specs.Heaps.{allocated, with_value}
 use Rattle.member_link.specs.Machine.ObjectSteps.{blank_object}
 use Rattle.member_link.specs.Machine.Performing.{called, thrown}
 use Rattle.member_link.specs.Machine.Programs.{Program, RunMethod, folder_number, header_named, is_interface_named, place_of_method, run_method, code_at}
@@ -35,7 +35,7 @@ use Rattle.member_link.specs.Machine.Runs.{Run, begins_with, behind_action, at_l
 use Rattle.member_link.specs.Machine.Shapes.{component_text, value_conforms}
 use Rattle.member_link.specs.Machine.Stepping.{step, is_library_turn}
 use Rattle.member_link.specs.Machine.Throwables.{null_pointer}
-use Rattle.member_link.specs.Machine.Values.{narrowed}
+use Rattle.machine_values.specs.Values.{narrowed}
 use Rattle.member_link.specs.Machine.Worlds.{World, Halt, start, with_heap, is_begun}
 use Rattle.member_link.specs.Machine.Worlds as halts
 

@@ -6,7 +6,7 @@ use Rattle.machine_values.specs.declared.object.Object.{Object}
 use Rattle.machine_values.specs.declared.object.Shape.{Shape}
 use Rattle.machine_values.specs.declared.value.Value.{Value}
 use Rattle.machine_laws.specs.Growth.{KeepShapes}
-use Rattle.member_link.specs.Machine.Heaps.{Heap, with_value, allocated, entered, left, constant_made}
+use Rattle.machine_values.specs.Heaps.{Heap, with_value, allocated, entered, left, constant_made}
 use Rattle.machine_values.specs.declared.object.Constant.{Constant}
 
 -- each object is what it was, no monitor is entered more often than so many times more, nor is that of a new object

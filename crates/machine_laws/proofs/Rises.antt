@@ -9,7 +9,7 @@ use Rattle.machine_values.specs.declared.value.Value.{Value}
 use Rattle.machine_laws.proofs.Grows.{KeepObjects, all_raised, keep_same, keep_through, keep_more, keep_shapes, keep_added, keep_value, keep_entered, keep_left, keep_constant}
 use Rattle.machine_laws.specs.Growth.{IsPrefix, MemoryGrows}
 use Rattle.member_link.specs.Machine.Bounds.{IsBounded, MOST_ALLOCATED}
-use Rattle.member_link.specs.Machine.Heaps.{Heap, allocated, with_value, left, constant_made}
+use Rattle.machine_values.specs.Heaps.{Heap, allocated, with_value, left, constant_made}
 use Rattle.member_link.specs.Machine.ObjectSteps.{with_entered}
 use Rattle.member_link.specs.Machine.Worlds.{Memory, StaticValue, with_heap}
 

@@ -7,7 +7,7 @@ use Rattle.machine_laws.proofs.Grows.{shapes_through}
 use Rattle.machine_laws.proofs.Rises.{Rises, rises_through, rises_more, rises_if, rises_grows, memory_same, prefix_same, prefix_added, prefix_through}
 use Rattle.member_link.specs.Machine.Completions.{Asked, asks_call, asks_dynamic, asks_get, asks_put, asks_float}
 use Rattle.machine_laws.specs.Growth.{IsPrefix, WorldGrows}
-use Rattle.member_link.specs.Machine.Heaps.{Heap}
+use Rattle.machine_values.specs.Heaps.{Heap}
 use Rattle.member_link.specs.Machine.Programs.{Program}
 use Rattle.member_link.specs.Machine.Showing.{Numbered, numbered_reference, numbered, numbered_all, numbered_option, asked_kind, showing, shows_asked, shows_result, shows_threw, shows_got, shows_made, shows_length}
 use Rattle.member_link.specs.Machine.Worlds.{World}

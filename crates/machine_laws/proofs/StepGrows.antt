@@ -19,7 +19,7 @@ use Rattle.machine_values.specs.declared.value.Value.TheVariants as values
 use Rattle.member_link.specs.Machine.Locals.{Jump, stored, incremented, local_value, shuffled, jump_of_int, jump_of_ints, jump_of_references, jump_of_null, table_target, lookup_target}
 use Rattle.member_link.specs.Machine.Performing.{perform, returned_value}
 use Rattle.member_link.specs.Machine.Throwables.{null_pointer}
-use Rattle.member_link.specs.Machine.Values.{has_kind, narrowed}
+use Rattle.machine_values.specs.Values.{has_kind, narrowed}
 use Rattle.member_link.specs.Machine.Ops as ops
 use Rattle.member_link.specs.Machine.Ops.{Op}
 use Rattle.member_link.specs.Machine.Programs.{Program, Point, point_at}

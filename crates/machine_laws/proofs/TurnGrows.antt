@@ -14,7 +14,7 @@ use Rattle.member_link.specs.Machine.Completions.{Completion, gives, raises, thr
 use Rattle.member_link.specs.Machine.Performing.{Locking, locked_by, called, unlocked, is_initialiser, returned_to, returned_by, returned, past_method, past_handler, handler_at, Landing, lands_in, lands_in_library, leaves_initialiser, lands_nowhere, unwind, landed, thrown, thrown_in, raised, perform}
 use Rattle.member_link.specs.Machine.Programs.{Program, StaticStart, RunMethod, RunClass, StartValue, start_value, start_string, run_method, point_at}
 use Rattle.member_link.specs.Machine.Performing as performing
-use Rattle.member_link.specs.Machine.Heaps.{constant_made}
+use Rattle.machine_values.specs.Heaps.{constant_made}
 use Rattle.machine_values.specs.declared.object.Constant.TheVariants as constants
 use Rattle.machine_values.specs.declared.value.Value.TheVariants as values
 use Rattle.member_link.specs.Machine.Worlds.{Memory, World, with_heap}

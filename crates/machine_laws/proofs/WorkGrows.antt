@@ -16,7 +16,7 @@ use Rattle.member_link.specs.Machine.Completions.{Completion, gives, raises, thr
 use Rattle.member_link.specs.Machine.FieldSteps.{get_static_work, put_static_work, get_field_work, put_field_work, begun_first, if_fits, static_number, put_static_value, put_static_begun, put_field_value, put_into, put_field_in, put_field_tested}
 use Rattle.machine_laws.specs.Growth.{IsPrefix}
 use Rattle.member_link.specs.Machine.Bounds.{MOST_DIMENSIONS}
-use Rattle.member_link.specs.Machine.Heaps.{Heap, Made, allocated}
+use Rattle.machine_values.specs.Heaps.{Heap, Made, allocated}
 use Rattle.member_link.specs.Machine.ObjectSteps.{new_object_work, check_cast_work, instance_of_work, enter_monitor_work, leave_monitor_work, throw_work}
 use Rattle.member_link.specs.Machine.Ops.{Op}
 use Rattle.member_link.specs.Machine.Ops as ops

@@ -1,1 +1,4 @@
+pub mod Values
+pub mod Heaps
 pub mod Frames
+pub mod Counts

@@ -1,4 +1,5 @@
 //! What the library sees of a run.
+use crate::count_list::CountList;
 use crate::object::Constant;
 use class_model::{ListOf, Text, TextList};
 
@@ -79,9 +80,6 @@ pub enum EventKind {
     Length(u32),
     Made(SeenRef),
 }
-
-/// A list of counts.
-pub type CountList = ListOf<u64>;
 
 /// An event: its kind, how many objects were allocated and how many monitors entered so far, and how often the monitor of each
 /// known reference is entered, by number.

@@ -1,11 +1,8 @@
 //! The frames of a run (JVM Specification SE 8, 2.6).
-use crate::value::{Ref, Value};
-use crate::value_list::ValueList;
-use class_model::{ListOf, MethodAt};
+use crate::slot_list::{LocalList, ValueList};
+use crate::value::Ref;
+use class_model::MethodAt;
 use std::marker::Model;
-
-/// The locals of a frame by unit: `None` in a unit without a value and in the second unit of a long or double.
-pub type LocalList = ListOf<Option<Value>>;
 
 /// The frame of a method: the number of the instruction at which it stands, its locals and operand stack, and the reference
 /// whose monitor the method entered as a synchronized one. A frame that waits for a call or the library stands at its instruction, whose operands are
@@ -47,7 +44,7 @@ pub enum RunFrame {
 /// The frames of a run. Contracts see the top one first.
 #[derive(Debug, Drop)]
 pub struct RunFrameList {
-    frames: Vec<RunFrame>,
+    pub frames: Vec<RunFrame>,
 }
 
 impl Model for RunFrameList {

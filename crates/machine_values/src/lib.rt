@@ -3,17 +3,17 @@
 #![tactic(auto)]
 
 mod action;
+mod count_list;
 mod event;
 mod frame;
 mod object;
+mod slot_list;
 mod value;
-mod value_list;
 
 pub use action::{Action, ActionList, Given, GivenList};
-pub use event::{
-    CountList, End, Event, EventKind, EventList, First, Seen, SeenList, SeenRef, Shown,
-};
-pub use frame::{LocalList, MethodFrame, RunFrame, RunFrameList};
+pub use count_list::{CountList, HeldCount};
+pub use event::{End, Event, EventKind, EventList, First, Seen, SeenList, SeenRef, Shown};
+pub use frame::{MethodFrame, RunFrame, RunFrameList};
 pub use object::{Constant, Object, Shape};
+pub use slot_list::{LocalList, SlotList, ValueList};
 pub use value::{Ref, RefList, Value};
-pub use value_list::ValueList;

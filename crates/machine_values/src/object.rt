@@ -1,7 +1,7 @@
 //! Objects and constants of a heap (JVM Specification SE 8, 2.4 and 5.1).
 ghost use Rattle.std.specs.Prelude.{◌≡◌, ◌↔◌, IfOk, IsTrue};
 
-use crate::value_list::ValueList;
+use crate::slot_list::ValueList;
 use class_model::{NoMemory, Text, TextList};
 
 /// What an object is.

@@ -1,8 +1,6 @@
 pub mod Ops
 pub mod Programs
-pub mod Values
 pub mod Arithmetic
-pub mod Heaps
 pub mod Throwables
 pub mod Layouts
 pub mod Shapes

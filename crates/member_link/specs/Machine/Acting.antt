@@ -2,6 +2,7 @@
 -- step. What the library makes is not counted, a monitor that a method enters is.
 use Rattle.std.specs.Prelude.{◌==◌, ◌+◌, ◌&&◌, ◌||◌, not, nat_le, ℕ, zero, suc, ℤ, pos, negsuc, Bool, true, false, List, [], ◌∷◌, slice_get, codes, Option, Some, None, is_some, option_map, option_and_then, if◌then◌else◌}
 use Rattle.std.specs.List.{list_any}
+use Rattle.class_model.specs.Characters.{dot, slash, semicolon, less_sign, left_bracket}
 use Rattle.class_model.specs.Descriptors.{type_of, parameters_of}
 use Rattle.class_model.specs.Members.{has, STATIC, ABSTRACT}
 use Rattle.class_model.specs.Names.{init}
@@ -28,15 +29,15 @@ use Rattle.machine_values.specs.declared.value.Value.{Value}
 use Rattle.machine_values.specs.declared.value.Value.TheVariants.{Int, Long, Float, Double, Null, Ref}
 use Rattle.member_link.specs.Machine.ArraySteps.{most_elements, blank_array, index_in}
 use Rattle.member_link.specs.Machine.Beginnings.{begun_on}
-use Rattle.member_link.specs.Machine.Heaps.{Made, object_at, allocated, with_value, same_constant}
+use Rattle.machine_values.specs.Heaps.{Made, object_at, allocated, with_value, same_constant}
 use Rattle.member_link.specs.Machine.ObjectSteps.{blank_object}
 use Rattle.member_link.specs.Machine.Ops.{Op, float_arithmetic, get_static, put_static, get_field, put_field, call_static, call_virtual, call_interface, call_special, call_dynamic}
 use Rattle.member_link.specs.Machine.Performing.{called, resumed, thrown, raised}
 use Rattle.member_link.specs.Machine.Programs.{Program, RunMethod, folder_number, header_named, is_interface_named, place_of_method, run_method, code_at, point_at}
-use Rattle.member_link.specs.Machine.Shapes.{component_text, class_in, is_instance, value_conforms, OPENING}
+use Rattle.member_link.specs.Machine.Shapes.{class_in, is_instance, value_conforms}
 use Rattle.member_link.specs.Machine.Showing.{shows_got, shows_made, shows_length}
 use Rattle.member_link.specs.Machine.Throwables.{null_pointer}
-use Rattle.member_link.specs.Machine.Values.{narrowed}
+use Rattle.machine_values.specs.Values.{narrowed, component_text}
 use Rattle.member_link.specs.Machine.Worlds.{World, Halt, with_heap, is_begun, faulted, stopped}
 use Rattle.member_link.specs.Rows.ArithmeticRows.{Operation, float_operations, operation_in}
 use Rattle.member_link.specs.Signatures.{result_of}
@@ -82,7 +83,7 @@ beginning_if P class w = beginning_of_number P w (folder_number P class)
 
 abbrev pub begins_with_angle : List ℕ → Bool
 begins_with_angle [] = false
-begins_with_angle (first ∷ rest) = first == 60
+begins_with_angle (first ∷ rest) = first == less_sign
 
 abbrev pub call_of_static : Program → World → Name → List ℕ → MethodAt → List Value → World
 call_of_static P w class desc at values =
@@ -303,8 +304,8 @@ act_array_length w (Some found) = length_of_shape w found.shape
 abbrev pub are_joined : Bool → List ℕ → Bool
 are_joined begins [] = not begins
 are_joined begins (byte ∷ rest) =
-    if byte == 47 then not begins && are_joined true rest
-    else not (byte == 46 || (byte == 59 || byte == 91)) && are_joined false rest
+    if byte == slash then not begins && are_joined true rest
+    else not (byte == dot || (byte == semicolon || byte == left_bracket)) && are_joined false rest
 
 -- the descriptor of an element: a base type, or a class between L and ;
 abbrev pub is_element : List ℕ → Bool
@@ -313,7 +314,7 @@ is_element (letter ∷ []) = list_any (λ other. other == letter) (codes "BCDFIJ
 is_element (letter ∷ rest) = ends_well rest && of_class (class_in (letter ∷ rest)) where
   ends_well : List ℕ → Bool
   ends_well [] = false
-  ends_well (last ∷ []) = last == 59
+  ends_well (last ∷ []) = last == semicolon
   ends_well (byte ∷ others) = ends_well others
 
   of_class : Option Name → Bool
@@ -325,7 +326,7 @@ abbrev pub is_array_within : ℕ → List ℕ → Bool
 is_array_within zero text = false
 is_array_within (suc left) [] = false
 is_array_within (suc left) (first ∷ rest) =
-    first == OPENING && (is_element rest || is_array_within left rest)
+    first == left_bracket && (is_element rest || is_array_within left rest)
 
 abbrev pub is_array_descriptor : List ℕ → Bool
 is_array_descriptor text = is_array_within 255 text

@@ -11,11 +11,11 @@ use Rattle.machine_values.specs.declared.object.Shape.TheVariants.{Array}
 use Rattle.machine_values.specs.declared.value.Value.{Value}
 use Rattle.machine_values.specs.declared.value.Value.TheVariants.{Int, Long, Float, Double, Null, Ref}
 use Rattle.member_link.specs.Machine.Completions.{Completion, gives, raises, ends}
-use Rattle.member_link.specs.Machine.Heaps.{Heap, Made, object_at, allocated, with_value}
+use Rattle.machine_values.specs.Heaps.{Heap, Made, object_at, allocated, with_value}
 use Rattle.member_link.specs.Machine.Programs.{Program}
-use Rattle.member_link.specs.Machine.Shapes.{component_text, component_named, is_instance}
+use Rattle.member_link.specs.Machine.Shapes.{component_named, is_instance}
 use Rattle.member_link.specs.Machine.Throwables.{null_pointer, index_outside, array_store, negative_size}
-use Rattle.member_link.specs.Machine.Values.{blank_value, narrowed}
+use Rattle.machine_values.specs.Values.{blank_value, narrowed, component_text}
 use Rattle.member_link.specs.Machine.Worlds.{Memory, with_heap, stuck, array_too_long}
 
 -- the most elements of an array, and of any product of the leading counts of a multianewarray

@@ -16,9 +16,9 @@ use Rattle.machine_values.specs.declared.frame.RunFrame.TheVariants.{Beginning, 
 use Rattle.machine_values.specs.declared.object.Constant.TheVariants.{Str}
 use Rattle.machine_values.specs.declared.value.Value.{Value}
 use Rattle.machine_values.specs.declared.value.Value.TheVariants.{Ref}
-use Rattle.member_link.specs.Machine.Heaps.{Made, constant_made}
+use Rattle.machine_values.specs.Heaps.{Made, constant_made}
 use Rattle.member_link.specs.Machine.Programs.{Program, RunClass, Code, StartValue, start_value, start_string, StaticStart, headers_in, header_named, folder_number, place_of_method, code_at, name_of_class}
-use Rattle.member_link.specs.Machine.Values.{narrowed}
+use Rattle.machine_values.specs.Values.{narrowed}
 use Rattle.member_link.specs.Machine.Worlds.{Memory, World, with_heap, with_static, is_begun, field_desc, stuck}
 
 -- ---- the static fields of a class that begins (4.7.2)

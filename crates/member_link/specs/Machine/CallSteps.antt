@@ -13,11 +13,11 @@ use Rattle.machine_values.specs.declared.value.Value.{Value}
 use Rattle.machine_values.specs.declared.value.Value.TheVariants.{Null, Ref}
 use Rattle.member_link.specs.Machine.Completions.{Completion, gives, raises, calls, asks, ends, asks_call, asks_dynamic}
 use Rattle.member_link.specs.Machine.FieldSteps.{begun_first}
-use Rattle.member_link.specs.Machine.Heaps.{object_at}
+use Rattle.machine_values.specs.Heaps.{object_at}
 use Rattle.member_link.specs.Machine.Programs.{Program, Chosen, chosen, abstract_method, several_defaults, not_public, folder_number, place_of_method, code_at, method_of, has_flag}
 use Rattle.member_link.specs.Machine.Shapes.{class_of_shape, is_external, is_instance, shape_conforms}
 use Rattle.member_link.specs.Machine.Throwables.{null_pointer, illegal_access, incompatible_change, abstract_called}
-use Rattle.member_link.specs.Machine.Values.{have_kinds}
+use Rattle.machine_values.specs.Values.{have_kinds}
 use Rattle.member_link.specs.Machine.Worlds.{Memory, stuck}
 use Rattle.member_link.specs.References.{Reference}
 use Rattle.member_link.specs.declared.selection.CallForm.TheVariants.{Virtual, Interface, Special}

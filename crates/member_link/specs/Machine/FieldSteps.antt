@@ -11,12 +11,12 @@ use Rattle.machine_values.specs.declared.object.Shape.TheVariants as shapes
 use Rattle.machine_values.specs.declared.value.Value.{Value}
 use Rattle.machine_values.specs.declared.value.Value.TheVariants.{Null, Ref}
 use Rattle.member_link.specs.Machine.Completions.{Completion, gives, raises, begins, asks, ends, asks_get, asks_put}
-use Rattle.member_link.specs.Machine.Heaps.{object_at, with_value}
+use Rattle.machine_values.specs.Heaps.{object_at, with_value}
 use Rattle.member_link.specs.Machine.Layouts.{slot_number}
 use Rattle.member_link.specs.Machine.Programs.{Program, folder_number, number_of_first, field_of, has_flag, member_of, name_of_class, RunClass}
 use Rattle.member_link.specs.Machine.Shapes.{reference_conforms}
 use Rattle.member_link.specs.Machine.Throwables.{null_pointer, illegal_access}
-use Rattle.member_link.specs.Machine.Values.{has_kind, narrowed}
+use Rattle.machine_values.specs.Values.{has_kind, narrowed}
 use Rattle.member_link.specs.Machine.Worlds.{Memory, with_heap, is_begun, static_value, with_static, stuck}
 use Rattle.member_link.specs.References.{Reference}
 

@@ -9,7 +9,7 @@ use Rattle.class_model.specs.declared.opcodes.TheConstants.{IFEQ, IF_ICMPEQ, IF_
 use Rattle.machine_values.specs.declared.value.Value.{Value}
 use Rattle.machine_values.specs.declared.value.Value.TheVariants.{Int, Null, Ref}
 use Rattle.member_link.specs.Machine.Arithmetic.{holds_for}
-use Rattle.member_link.specs.Machine.Values.{has_kind, is_wide_value}
+use Rattle.machine_values.specs.Values.{has_kind, is_wide_value}
 use Rattle.member_link.specs.Rows.ShuffleRows.{Form, Width, forms_of}
 use Rattle.member_link.specs.Rows.ShuffleRows as widths
 

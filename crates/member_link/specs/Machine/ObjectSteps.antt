@@ -1,26 +1,26 @@
 -- Objects (JVM Specification SE 8, 6.5: new, checkcast, instanceof, monitorenter, monitorexit, athrow). A monitor can always be entered.
-use Rattle.std.specs.Prelude.{◌==◌, ◌+◌, ℕ, pos, Bool, false, List, [], ◌∷◌, map, Option, Some, None, if◌then◌else◌}
+use Rattle.std.specs.Prelude.{◌==◌, ◌+◌, ℕ, pos, Bool, false, List, [], ◌∷◌, Option, Some, None, if◌then◌else◌}
 use Rattle.class_tree.specs.Headers.{Name}
+use Rattle.class_tree.specs.Layouts.{instance_fields}
 use Rattle.class_tree.specs.Names.{throwable}
 use Rattle.machine_values.specs.declared.object.Object.{Object}
 use Rattle.machine_values.specs.declared.object.Shape.TheVariants.{Folder}
 use Rattle.machine_values.specs.declared.value.Value.{Value}
 use Rattle.machine_values.specs.declared.value.Value.TheVariants.{Int, Null, Ref}
 use Rattle.member_link.specs.Machine.Completions.{Completion, gives, raises, throws, ends}
-use Rattle.member_link.specs.Machine.Heaps.{Heap, Made, object_at, allocated, external, entered, left}
+use Rattle.machine_values.specs.Heaps.{Heap, Made, object_at, allocated, external, entered, left}
 use Rattle.member_link.specs.Machine.FieldSteps.{begun_first}
-use Rattle.member_link.specs.Machine.Layouts.{slots_of}
-use Rattle.member_link.specs.Machine.Programs.{Program, folder_number, name_of_class}
+use Rattle.member_link.specs.Machine.Programs.{Program, headers_in, folder_number, name_of_class}
 use Rattle.member_link.specs.Machine.Shapes.{is_instance}
 use Rattle.member_link.specs.Machine.Throwables.{null_pointer, class_cast, illegal_monitor}
-use Rattle.member_link.specs.Machine.Values.{blank_value}
+use Rattle.machine_values.specs.Values.{blank_values}
 use Rattle.member_link.specs.Machine.Worlds.{Memory, with_heap, stuck}
 
 -- an object of a class of the folder, whose fields are zero or null
 abbrev pub blank_object : Program → Heap → ℕ → Made
 blank_object P heap class =
     allocated heap (Folder class)
-    (map (λ slot. blank_value slot.desc) (slots_of P (name_of_class P class)))
+    (blank_values (instance_fields (headers_in P) (name_of_class P class)))
 
 -- an object of a class, of the folder or of the library
 abbrev pub object_of : Program → Heap → Name → Made

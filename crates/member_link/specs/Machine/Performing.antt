@@ -15,12 +15,12 @@ use Rattle.machine_values.specs.declared.value.Value.{Value}
 use Rattle.machine_values.specs.declared.value.Value.TheVariants.{Ref}
 use Rattle.member_link.specs.Machine.Beginnings.{begun_on, frame_with}
 use Rattle.member_link.specs.Machine.Completions.{Completion, gives, raises, throws, begins, calls, asks, ends}
-use Rattle.member_link.specs.Machine.Heaps.{Heap, Made, object_at, external, constant_made, left}
+use Rattle.machine_values.specs.Heaps.{Heap, Made, object_at, external, constant_made, left}
 use Rattle.member_link.specs.Machine.ObjectSteps.{with_entered}
 use Rattle.member_link.specs.Machine.Programs.{Program, Catch, Point, RunMethod, run_method, point_at, name_of_class}
 use Rattle.member_link.specs.Machine.Shapes.{is_instance}
 use Rattle.member_link.specs.Machine.Showing.{shows_asked, shows_result, shows_threw}
-use Rattle.member_link.specs.Machine.Values.{narrowed, units_of_values}
+use Rattle.machine_values.specs.Values.{narrowed, units_of_values}
 use Rattle.member_link.specs.Machine.Worlds.{World, Memory, with_heap, stuck, init_threw}
 
 -- ---- calls

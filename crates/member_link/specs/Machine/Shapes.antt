@@ -2,6 +2,7 @@
 -- interface each reference conforms to it, as the type checker takes it.
 use Rattle.std.specs.Prelude.{◌==◌, ◌-◌, ◌&&◌, ◌||◌, ℕ, Bool, true, false, List, [], ◌∷◌, length, take, Option, Some, None, if◌then◌else◌}
 use Rattle.std.specs.List.{list_any}
+use Rattle.class_model.specs.Characters.{class_letter, left_bracket}
 use Rattle.class_model.specs.Descriptors.{kind_of}
 use Rattle.class_model.specs.declared.descriptor.FieldType.{FieldType}
 use Rattle.class_model.specs.declared.descriptor.FieldType.TheVariants.{Named}
@@ -11,9 +12,9 @@ use Rattle.machine_values.specs.declared.object.Shape.{Shape}
 use Rattle.machine_values.specs.declared.object.Shape.TheVariants.{Folder, Array, External}
 use Rattle.machine_values.specs.declared.value.Value.{Value}
 use Rattle.machine_values.specs.declared.value.Value.TheVariants.{Null, Ref}
-use Rattle.member_link.specs.Machine.Heaps.{Heap, object_at}
+use Rattle.machine_values.specs.Heaps.{Heap, object_at}
 use Rattle.member_link.specs.Machine.Programs.{Program, name_of_class, is_interface_named}
-use Rattle.member_link.specs.Machine.Values.{has_kind}
+use Rattle.machine_values.specs.Values.{has_kind, component_text}
 
 -- the class of an object, or the descriptor of an array
 abbrev pub class_of_shape : Program → Shape → Name
@@ -33,17 +34,10 @@ is_instance P shape name = P.links.below (class_of_shape P shape) name
 
 -- ---- conforming
 
--- the first byte of a descriptor of an array, and of a class
-abbrev pub OPENING : ℕ
-OPENING = 91
-
-abbrev pub CLASS_LETTER : ℕ
-CLASS_LETTER = 76
-
 -- the class that a descriptor between L and ; names
 abbrev pub class_in : List ℕ → Option Name
 class_in [] = None
-class_in (first ∷ rest) = if first == CLASS_LETTER then Some (take (length rest - 1) rest) else None
+class_in (first ∷ rest) = if first == class_letter then Some (take (length rest - 1) rest) else None
 
 -- a class conforms to each interface, and to the classes above it; components of arrays conform by the same rule
 abbrev pub class_conforms : Program → Name → Name → Bool
@@ -53,7 +47,7 @@ class_conforms P low high = is_interface_named P high || P.links.below low high
 abbrev pub component_named : List ℕ → Option Name
 component_named [] = None
 component_named (first ∷ rest) =
-    if first == OPENING then Some (first ∷ rest) else class_in (first ∷ rest)
+    if first == left_bracket then Some (first ∷ rest) else class_in (first ∷ rest)
 
 abbrev pub both_conform : Program → Option Name → Option Name → Bool
 both_conform P (Some low) (Some high) = class_conforms P low high
@@ -63,13 +57,8 @@ both_conform P low high = false
 abbrev pub components_conform : Program → List ℕ → List ℕ → Bool
 components_conform P (low ∷ lows) (high ∷ highs) =
     both_conform P (component_named (low ∷ lows)) (component_named (high ∷ highs))
-    || (low == OPENING && (high == OPENING && components_conform P lows highs))
+    || (low == left_bracket && (high == left_bracket && components_conform P lows highs))
 components_conform P lows highs = false
-
--- an array type behind its first byte
-abbrev pub component_text : Name → List ℕ
-component_text [] = []
-component_text (first ∷ rest) = if first == OPENING then rest else []
 
 abbrev pub shape_conforms : Program → Shape → Name → Bool
 shape_conforms P (Array desc len) name =

@@ -15,7 +15,7 @@ use Rattle.machine_values.specs.declared.object.Shape.TheVariants.{External}
 use Rattle.machine_values.specs.declared.value.Value.{Value}
 use Rattle.machine_values.specs.declared.value.Value.TheVariants.{Int, Long, Float, Double, Null, Ref}
 use Rattle.member_link.specs.Machine.Completions.{Asked, asks_call, asks_dynamic, asks_get, asks_put, asks_float}
-use Rattle.member_link.specs.Machine.Heaps.{Heap, object_at, constant_in, monitor_count}
+use Rattle.machine_values.specs.Heaps.{Heap, object_at, constant_in, monitor_count}
 use Rattle.member_link.specs.Machine.Programs.{Program, number_of_first}
 use Rattle.member_link.specs.Machine.Shapes.{class_of_shape}
 use Rattle.member_link.specs.Machine.Worlds.{World, Memory}

@@ -16,7 +16,7 @@ use Rattle.member_link.specs.Machine.Ops.{Op, no_operation, meaningless, load_lo
 use Rattle.member_link.specs.Machine.Performing.{perform, raised, returned, returned_value}
 use Rattle.member_link.specs.Machine.Programs.{Program, Point, point_at}
 use Rattle.member_link.specs.Machine.Throwables.{null_pointer}
-use Rattle.member_link.specs.Machine.Values.{has_kind}
+use Rattle.machine_values.specs.Values.{has_kind}
 use Rattle.member_link.specs.Machine.Work.{arity, work}
 use Rattle.member_link.specs.Machine.Worlds.{World, stuck}
 

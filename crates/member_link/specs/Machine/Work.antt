@@ -12,12 +12,12 @@ use Rattle.member_link.specs.Machine.ArraySteps.{new_array_work, new_arrays_work
 use Rattle.member_link.specs.Machine.CallSteps.{call_static_work, call_virtual_work, call_interface_work, call_special_work, call_dynamic_work}
 use Rattle.member_link.specs.Machine.Completions.{Completion, gives, raises, asks, ends, asks_float}
 use Rattle.member_link.specs.Machine.FieldSteps.{get_static_work, put_static_work, get_field_work, put_field_work}
-use Rattle.member_link.specs.Machine.Heaps.{Made, constant_made}
+use Rattle.machine_values.specs.Heaps.{Made, constant_made}
 use Rattle.member_link.specs.Machine.ObjectSteps.{new_object_work, check_cast_work, instance_of_work, enter_monitor_work, leave_monitor_work, throw_work}
 use Rattle.member_link.specs.Machine.Ops.{Op, push_value, push_constant, pure_arithmetic, division, float_arithmetic, throw_reference, get_static, put_static, get_field, put_field, call_static, call_virtual, call_interface, call_special, call_dynamic, new_object, new_array, new_arrays, load_element, store_element, array_length, check_cast, instance_of, enter_monitor, leave_monitor}
 use Rattle.member_link.specs.Machine.Programs.{Program}
 use Rattle.member_link.specs.Machine.Throwables.{arithmetic}
-use Rattle.member_link.specs.Machine.Values.{has_kind}
+use Rattle.machine_values.specs.Values.{has_kind}
 use Rattle.member_link.specs.Machine.Worlds.{Memory, with_heap, stuck}
 use Rattle.member_link.specs.References.{Reference}
 use Rattle.member_link.specs.Rows.ArithmeticRows.{Operation, float_operations, operation_in}

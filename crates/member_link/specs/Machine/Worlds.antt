@@ -6,9 +6,9 @@ use Rattle.machine_values.specs.declared.event.Event.{Event}
 use Rattle.machine_values.specs.declared.frame.RunFrame.{RunFrame}
 use Rattle.machine_values.specs.declared.frame.RunFrame.TheVariants.{Library}
 use Rattle.machine_values.specs.declared.value.Value.{Value}
-use Rattle.member_link.specs.Machine.Heaps.{Heap}
+use Rattle.machine_values.specs.Heaps.{Heap}
 use Rattle.member_link.specs.Machine.Programs.{Program, RunClass}
-use Rattle.member_link.specs.Machine.Values.{blank_value}
+use Rattle.machine_values.specs.Values.{blank_value}
 
 -- a static field of a class of the folder by the numbers of both, and its value
 pub record StaticValue : Type 0 where

@@ -1,12 +1,14 @@
 -- Values and their kinds (JVM Specification SE 8, 2.3, 2.4 and 2.11.1). What is put into a byte, short, char or boolean field or
 -- array, or returned at such a type, keeps its low bits: this project's profile.
-use Rattle.std.specs.Prelude.{◌%◌, ◌^◌, ℕ, pos, Bool, true, false, List, [], ◌∷◌, Option, Some, None}
+use Rattle.std.specs.Prelude.{◌==◌, ◌%◌, ◌^◌, ℕ, pos, Bool, true, false, List, [], ◌∷◌, map, Option, Some, None, if◌then◌else◌}
 use Rattle.std.specs.Int.{w8, w16, w32, cast_signed, cast_unsigned}
+use Rattle.class_model.specs.Characters.{left_bracket}
 use Rattle.class_model.specs.Descriptors.{kind_of, type_of}
 use Rattle.class_model.specs.declared.descriptor.FieldType.{FieldType}
 use Rattle.class_model.specs.declared.descriptor.FieldType.TheVariants as types
 use Rattle.class_model.specs.declared.descriptor.Kind.{Kind}
 use Rattle.class_model.specs.declared.descriptor.Kind.TheVariants as kinds
+use Rattle.class_model.specs.declared.header.Member.{Member}
 use Rattle.machine_values.specs.declared.value.Value.{Value}
 use Rattle.machine_values.specs.declared.value.Value.TheVariants.{Int, Long, Float, Double, Null, Ref}
 
@@ -36,6 +38,15 @@ blank_of_kind kinds.Ref = Null
 -- by the descriptor of a field
 abbrev pub blank_value : List ℕ → Value
 blank_value desc = blank_of_kind (kind_of (type_of desc))
+
+-- of each of these fields
+abbrev pub blank_values : List Member → List Value
+blank_values fields = map (λ field. blank_value field.desc) fields
+
+-- an array type behind its first byte: what its elements are
+abbrev pub component_text : List ℕ → List ℕ
+component_text [] = []
+component_text (first ∷ rest) = if first == left_bracket then rest else []
 
 -- the low bits that a type keeps, extended as it says
 abbrev pub narrowed : FieldType → Value → Value

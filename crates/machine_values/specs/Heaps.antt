@@ -1,8 +1,6 @@
 -- The heap: objects by their references, which are numbers, and the references of constants (JVM Specification SE 8, 2.4, 2.5.3
 -- and 5.1).
 use Rattle.std.specs.Prelude.{◌==◌, ◌&&◌, ◌+◌, ◌-◌, ℕ, Bool, false, List, [], ◌∷◌, ◌++◌, length, slice_get, slice_set, bytes_eq, codes, Option, Some, None, if◌then◌else◌}
-use Rattle.class_tree.specs.Headers.{Name}
-use Rattle.class_tree.specs.Names.{method_handle, method_type}
 use Rattle.machine_values.specs.declared.object.Constant.{Constant}
 use Rattle.machine_values.specs.declared.object.Constant.TheVariants.{Str, Class, MethodType, Handle}
 use Rattle.machine_values.specs.declared.object.Object.{Object}
@@ -79,11 +77,11 @@ same_constant (Handle kind class name desc) (Handle kind' class' name' desc') =
 same_constant one other = false
 
 -- the class of the object that a constant is
-abbrev pub class_of_constant : Constant → Name
+abbrev pub class_of_constant : Constant → List ℕ
 class_of_constant (Str text) = codes "java/lang/String"
 class_of_constant (Class name) = codes "java/lang/Class"
-class_of_constant (MethodType desc) = method_type
-class_of_constant (Handle kind class name desc) = method_handle
+class_of_constant (MethodType desc) = codes "java/lang/invoke/MethodType"
+class_of_constant (Handle kind class name desc) = codes "java/lang/invoke/MethodHandle"
 
 abbrev pub kept_in : List Kept → Constant → Option ℕ
 kept_in [] constant = None
@@ -97,7 +95,7 @@ constant_in (first ∷ others) reference =
     if first.reference == reference then Some first.constant else constant_in others reference
 
 -- an object of the library
-abbrev pub external : Heap → Name → Made
+abbrev pub external : Heap → List ℕ → Made
 external heap class = allocated heap (External class []) []
 
 -- the reference of a constant: the one that is kept, else that of a new object
