@@ -1,0 +1,7 @@
+use Rattle.std.proofs.Common.{List, subst}
+use Rattle.code_layout.specs.Emitting.{IsEmitted}
+use Rattle.code_layout.specs.declared.emitted.EmitItem.{EmitItem}
+use Rattle.cases_rewrite.proofs.emitting.emitted_of.Goals as goal
+
+pub of-requires : goal.of-requires
+of-requires c = subst IsEmitted c.as_slice.ensures (record { some = c.are_items.ensures.some c.if-are_items.true; each = c.are_items.ensures.each c.if-are_items.true })
