@@ -25,6 +25,7 @@ bench: bin/pea
 	bash bench/classes.sh
 	bash bench/trees.sh
 	bash bench/links.sh
+	bash bench/rewriting.sh
 	bash bench/library.sh
 	bash bench/verify.sh
 	bash bench/sizes.sh

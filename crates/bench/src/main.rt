@@ -6,17 +6,28 @@
 //! - `ask` or `few`: so many questions of subtypes about a hierarchy of so many classes, about all or about a thousand of them
 //!   (`bench/trees.sh`); it counts those that are answered by yes;
 //! - `prepare` or `link`: so many class files and seven times as many of a library are read and their hierarchy built once, and linked no
-//!   time, or so many times (`bench/links.sh`).
+//!   time, or so many times (`bench/links.sh`);
+//! - `grow` or `edits`: so many constants are added to a pool and looked up, or a constant of a pool of so many is looked up and another one
+//!   appended and taken back (`bench/rewriting.sh`, as what follows); it counts the additions;
+//! - `layouts` or `decodes`: a code of so many items is laid out, or its bytes are decoded; it counts bytes, or instructions;
+//! - `joins`, `below` or `kept`: two states of so many virtual objects and sixteen times as many fields are joined, or compared, or equal
+//!   ones are joined and the joins kept; it counts joins that keep the last site, answers by yes, or joins.
 #![tactic(auto)]
 
 mod codes;
+mod edits;
+mod layouts;
 mod link_input;
 mod links;
+mod states;
 mod tree_input;
 mod trees;
 
 use codes::{read_jumps, read_tables};
+use edits::{edit_pool, grow_pools};
+use layouts::{decode_laid, lay_out};
 use links::link;
+use states::{ask_below, join_states, keep_joins};
 use std::alloc::Global;
 use std::env;
 use std::process::ExitCode;
@@ -60,6 +71,20 @@ fn count_of(alloc: Global, what: &str, count: u32, times: u32) -> Option<u64> {
         "few" => ask(alloc, count as usize, times, FEW),
         "prepare" => link(alloc, count as usize, 0),
         "link" => link(alloc, count as usize, times),
+        _ => count_rewriting(alloc, what, count, times),
+    }
+}
+
+// The same of what rewriting does.
+fn count_rewriting(alloc: Global, what: &str, count: u32, times: u32) -> Option<u64> {
+    match what {
+        "grow" => grow_pools(alloc, count.try_into().ok()?, times),
+        "edits" => edit_pool(alloc, count.try_into().ok()?, times),
+        "layouts" => lay_out(alloc, count, times),
+        "decodes" => decode_laid(alloc, count, times),
+        "joins" => join_states(alloc, count.try_into().ok()?, times),
+        "below" => ask_below(alloc, count.try_into().ok()?, times),
+        "kept" => keep_joins(alloc, count.try_into().ok()?, times),
         _ => None,
     }
 }

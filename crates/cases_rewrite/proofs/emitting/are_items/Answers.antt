@@ -10,7 +10,7 @@ loop-at-preserved c =
     let items = c.args.items.now in
     let last = c.index-items-at.result in
     let there : slice_get items c.loop-at.at ≡ Some last = slice_get_read items (length items) c.loop-at.at last refl (omega (arith, c.loop-at-test.true)) c.index-items-at.is in
-    let passes : IsItem items c.loop-at.at last = first_of (search rules, grind (arith, common_steps)) in
+    let passes : IsItem items c.loop-at.at last = search rules in
     λ at item less is. elim (cases_order at c.loop-at.at) [
       | inl same ↦
           let is_last : last ≡ item = same_Some last item (sym there ∙ ap (slice_get items) (sym same) ∙ is) in

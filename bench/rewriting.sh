@@ -1,0 +1,70 @@
+#!/usr/bin/env bash
+# What rewriting does beside reading and verifying, each at a size and at twice that size, so many times over, beyond what the same words
+# take with no times; the sizes take turns, and the least time of each counts. Constants are added to a pool and looked up, and to a
+# pool of 65,000 entries: in constant time each. A code of 8,000 items is laid out, in at most 3 times the time of decoding its bytes.
+# States of 256 virtual objects with 4,096 field units are joined and compared, in proportion to their places and fields; joins of
+# equal states are kept, and share what they have: memory does not grow with the fields. Prints what is wanted and what came, and
+# fails where a want is not met.
+set -eu
+cd "$(dirname "$0")/.."
+. bench/measures.sh
+build_bench
+
+wholes=()
+while read -r word count times; do
+    wholes+=("$word $count $times")
+done <<'WORDS'
+grow 65000 20
+edits 65000 1000000
+layouts 8000 500
+decodes 8000 500
+joins 256 5000
+below 256 10000
+WORDS
+
+for _ in $(seq 1 "$runs"); do
+    for whole in "${wholes[@]}"; do
+        read -r word count times <<<"$whole"
+        for size in $((count / 2)) "$count"; do
+            turn "$word" "$size" 0
+            turn "$word" "$size" "$times"
+        done
+    done
+    turn edits 65000 2000000
+done
+
+# beyond WORD COUNT TIMES: the time of these words beyond those of no times
+beyond() { echo $((least_ms[$*] - least_ms[$1 $2 0])); }
+
+# doubles WORD COUNT TIMES WANTED: the time at half the count, and at the whole, at most so many times the first
+doubles() {
+    local half whole
+    half=$(beyond "$1" $(($2 / 2)) "$3")
+    whole=$(beyond "$1" "$2" "$3")
+    echo "$1 of $(($2 / 2)) and of $2, $3 times: $half and $whole ms"
+    wanted "$(ratio "$whole" "$half") times the first (at most $4 is wanted)" "$whole <= $4 * $half"
+}
+
+for word in 'grow 65000 20' 'edits 65000 1000000' 'layouts 8000 500' 'joins 256 5000' 'below 256 10000'; do
+    read -r what count times <<<"$word"
+    doubles "$what" "$count" "$times" 2.6
+done
+
+once=$(beyond edits 65000 1000000)
+twice=$(beyond edits 65000 2000000)
+echo "1,000,000 and 2,000,000 edits of a pool of 65,000 entries: $once and $twice ms"
+wanted "$(ratio "$twice" "$once") times the first (at most 2.6 is wanted)" "$twice <= 2.6 * $once"
+
+laid=$(beyond layouts 8000 500)
+decoded=$(beyond decodes 8000 500)
+wanted "8,000 items laid out in $(ratio "$laid" "$decoded") times the time of decoding their bytes (at most 3 is wanted)" \
+    "$laid <= 3 * $decoded"
+
+# peak WORDS..: the most memory of a run of $bench, in kB
+peak() { /usr/bin/time -f %M "$bench" "$@" 2>&1 >/dev/null; }
+
+few=$(($(peak kept 64 20000) - $(peak kept 64 0)))
+many=$(($(peak kept 256 20000) - $(peak kept 256 0)))
+echo "20,000 joins of equal states that are kept: $few kB of 64 objects, $many kB of 256"
+wanted "$(ratio "$many" "$few") times the first (as much, and a fifth more is let pass)" "$many <= 1.2 * $few"
+exit "$failed"
