@@ -18,4 +18,4 @@ mod states;
 pub use emitting::emitted_of;
 pub use flat::flat_of;
 pub use pools::{appended_and_taken_back, push_constant};
-pub use states::{changed, entered, joined, left, state_of, without_differing};
+pub use states::{chain_of, changed, entered, joined, left, state_of, without_differing};

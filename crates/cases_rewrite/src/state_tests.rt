@@ -1,8 +1,9 @@
-use crate::{changed, entered, joined, left, state_of, without_differing};
+use crate::{chain_of, changed, entered, joined, left, state_of, without_differing};
 use class_model::ListOf;
 use std::alloc::Global;
 use std::fmt::Write;
 use std::process::Abort;
+use std::rc::Rc;
 use std::test::Fail;
 use virtual_state::{SiteSet, Slot, SlotList, VObject, VObjectList, VState, below, differing};
 
@@ -33,7 +34,7 @@ fn objects(alloc: Global, letters: &[u8]) -> Result<VObjectList, Fail> {
     for letter in letters {
         match (letter, depth) {
             (b',', _) => {
-                let site = objects.len() as u16;
+                let site = u16::try_from(objects.len())?;
                 objects.push(object(site, fields, depth))?;
                 fields = ListOf::new(alloc);
                 depth = None;
@@ -367,20 +368,66 @@ fn monitors(rt: HostRuntime) -> Result<(), Fail> {
     Ok(())
 }
 
-// ---- many sites
+// ---- what states share
 
-// So many objects, each with 16 fields, of which the first holds that of the site before. The monitor of one is entered once.
-fn chain_of(alloc: Global, count: u16, held: u16) -> Result<VState, Fail> {
-    let mut places = ListOf::new(alloc);
-    let mut objects = ListOf::new(alloc);
-    for site in 0..count {
-        let mut fields = slots(alloc, b"---------------")?;
-        fields.push(site.checked_sub(1).map_or(Slot::Plain, Slot::Virt))?;
-        objects.push(object(site, fields, Some(u16::from(site == held))))?;
-        places.push(Slot::Virt(site))?;
+// For each of the sites 0 to 2, whether a state shares its object with another one (s), has another object (n), or has none (-).
+fn shared(alloc: Global, state: &VState, other: &VState) -> Result<String, Fail> {
+    let mut out = String::new(alloc);
+    for site in 0..3 {
+        out.push_str(match (state.object(site), other.object(site)) {
+            (Some(object), Some(other)) => same_object(object, other),
+            _ => "-",
+        })?;
     }
-    there(state_of(alloc, places, objects)?)
+    Ok(out)
 }
+
+fn same_object(object: &Rc<VObject>, other: &Rc<VObject>) -> &'static str {
+    if Rc::ptr_eq(object, other) { "s" } else { "n" }
+}
+
+// The slots and objects of a state, and what its join with 012, 0-,00,0-, shares with that.
+const SHARED: [Made; 4] = [
+    (b"012", b"0-,00,0-,", "sss"),
+    (b"01-", b"0-,00,", "ss-"),
+    // the object of 1 holds that of 0, which is made
+    (b"012", b"1-,00,0-,", "-ns"),
+    (b"--2", b"0-,0-,0-,", "--s"),
+];
+
+#[test]
+fn joins_share(rt: HostRuntime) -> Result<(), Fail> {
+    compare_shared(&rt, &SHARED)
+}
+
+fn compare_shared(rt: &(impl Abort + AllocGlobal), rows: &[Made]) -> Result<(), Fail> {
+    let one = state(rt.alloc(), b"012", b"0-,00,0-,")?;
+    for (places, present, wanted) in rows {
+        let other = state(rt.alloc(), places, present)?;
+        let above = there(joined(rt.alloc(), &one, &other)?)?;
+        let told = shared(rt.alloc(), &above, &one)?;
+        assert!(rt;
+            told.as_str() == *wanted,
+            "{told} of {places:?}, wanted {wanted}"
+        );
+    }
+    Ok(())
+}
+
+#[test]
+fn changes_share(rt: HostRuntime) -> Result<(), Fail> {
+    let alloc = rt.alloc();
+    let one = state(alloc, b"012", b"0-,00,0-,")?;
+    let copy = shared(alloc, &one.copy()?, &one)?;
+    let held = shared(alloc, &there(entered(alloc, &one, 1)?)?, &one)?;
+    let after = changed(alloc, &one, slots(alloc, b"012")?, objects(alloc, b"0--,")?)?;
+    let after = shared(alloc, &there(after)?, &one)?;
+    let told = format!(in alloc; "{copy} {held} {after}")?;
+    assert!(&rt; told.as_str() == "sss sns nss", "{told}");
+    Ok(())
+}
+
+// ---- many sites
 
 // How many of the first sites are present.
 fn count_present(state: &VState, sites: u16) -> u16 {
@@ -400,9 +447,9 @@ fn many_sites(rt: HostRuntime) -> Result<(), Fail> {
 }
 
 fn compare_many(rt: &(impl Abort + AllocGlobal), rows: &[(u16, u16)]) -> Result<(), Fail> {
-    let one = chain_of(rt.alloc(), 256, 300)?;
+    let one = there(chain_of(rt.alloc(), 256, 300)?)?;
     for (held, wanted) in rows {
-        let other = chain_of(rt.alloc(), 256, *held)?;
+        let other = there(chain_of(rt.alloc(), 256, *held)?)?;
         let above = there(joined(rt.alloc(), &one, &other)?)?;
         let told = count_present(&above, 256);
         let is_so = told == *wanted && below(&one, &above) && below(&other, &above);

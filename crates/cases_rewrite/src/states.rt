@@ -7,7 +7,7 @@ ghost use Rattle.virtual_state.specs.Making.{IsStateOf};
 ghost use Rattle.virtual_state.specs.Orders.{IsJoin};
 ghost use Rattle.virtual_state.specs.States.{is_unusable};
 
-use class_model::NoMemory;
+use class_model::{ListOf, NoMemory};
 use std::alloc::Global;
 use virtual_state::{
     Slot, SlotList, VObject, VObjectList, VState, below, differing, differing_sites_are_taken_away,
@@ -192,4 +192,33 @@ pub fn without_differing(
     } else {
         Ok(None)
     }
+}
+
+/// A state of so many sites, each in a place of its own and with 16 fields, of which the last holds the object of the site before. The
+/// monitor of one of them is entered once.
+pub fn chain_of(alloc: Global, sites: u16, entered: u16) -> Result<Option<VState>, NoMemory> {
+    let mut places = ListOf::new(alloc);
+    let mut objects = ListOf::new(alloc);
+    for site in 0..sites {
+        objects.push(link(alloc, site, u16::from(site == entered))?)?;
+        places.push(Slot::Virt(site))?;
+    }
+    state_of(alloc, places, objects)
+}
+
+// The object of a site of such a state.
+fn link(alloc: Global, site: u16, depth: u16) -> Result<VObject, NoMemory> {
+    let mut fields = ListOf::new(alloc);
+    for _ in 0..15 {
+        fields.push(Slot::Plain)?;
+    }
+    fields.push(match site.checked_sub(1) {
+        Some(before) => Slot::Virt(before),
+        None => Slot::Plain,
+    })?;
+    Ok(VObject {
+        site,
+        fields,
+        depth,
+    })
 }
