@@ -3,16 +3,16 @@ use Rattle.std.specs.Prelude.{◌≡◌, ◌⊎◌, ℕ, Bool, List, [], slice_g
 use Rattle.std.specs.List.{filter}
 use Rattle.flow_code.specs.FlatCode.{point_at}
 use Rattle.flow_code.specs.declared.point.Point.{Point}
-use Rattle.plan_flow.specs.PlanRows.{Position, any_object, value_for_plain, value_for_reached, object_not_below, object_at_depth, object_of_site, PlanRow, RowEdge}
+use Rattle.plan_flow.specs.PlanRows.{Position, any_object, object_put_into, object_not_below, object_at_depth, object_of_site, PlanRow, RowEdge}
 use Rattle.plan_flow.specs.PlanScope.{PlanScope, is_site_below, stack_types}
 use Rattle.plan_flow.specs.PlanSlots.{held, is_open, stack_slots, beneath_top}
-use Rattle.plan_flow.specs.PlanTable.{row_at, edges_of}
+use Rattle.plan_flow.specs.PlanTable.{row_at, edges_of, positions}
 use Rattle.virtual_state.specs.Depths.{depth_of}
 use Rattle.virtual_state.specs.Sites.{has}
 use Rattle.virtual_state.specs.States.{State, IsIncreasing, IsPath, is_present, names}
 use Rattle.virtual_state.specs.Without.{IsClosed}
 use Rattle.virtual_state.specs.declared.slot.Slot.{Slot}
-use Rattle.virtual_state.specs.declared.slot.Slot.TheVariants.{Plain, Virt}
+use Rattle.virtual_state.specs.declared.slot.Slot.TheVariants.{Plain, Virt, Unusable}
 
 -- ---- rows and edges of points
 
@@ -26,18 +26,17 @@ open_edges s at point state =
 
 -- ---- what is asked
 
--- a slot holds the virtual object of another one's site, or of one that is reached from it over fields
-abbrev pub IsReachedBy : State → ℕ → Slot → Type 0
-IsReachedBy state site (Virt into) = (site ≡ into) ⊎ IsPath state.objects site into
-IsReachedBy state site other = ⊥
+-- An object that is put into what a slot holds must be made: that was made, or it is the object itself or reaches it over fields.
+abbrev pub CannotBePut : State → ℕ → Slot → Type 0
+CannotBePut state site Plain = Unit {0}
+CannotBePut state site (Virt into) = (site ≡ into) ⊎ IsPath state.objects site into
+CannotBePut state site Unusable = Unit {0}
 
 -- a position asks for the object of a site
 abbrev pub AsksFor : PlanScope → State → Position → ℕ → Type 0
 AsksFor s state (any_object place) site = held state place ≡ Virt site
-AsksFor s state (value_for_plain value object) site =
-    (held state value ≡ Virt site) × (held state object ≡ Plain)
-AsksFor s state (value_for_reached value object) site =
-    (held state value ≡ Virt site) × IsReachedBy state site (held state object)
+AsksFor s state (object_put_into value object) site =
+    (held state value ≡ Virt site) × CannotBePut state site (held state object)
 AsksFor s state (object_not_below place name) site =
     (held state place ≡ Virt site) × IsFalse (is_site_below s site name)
 AsksFor s state (object_at_depth place depth) site =
@@ -49,7 +48,7 @@ AsksFor s state (object_of_site one) site =
 -- at or below an entry whose type is Top, since no instruction takes such an entry away.
 pub data IsAsked (s : PlanScope) (at : ℕ) (point : Point) (state : State) : ℕ → Type 0 where
   by_position : (number : ℕ) (position : Position) (site : ℕ)
-      → slice_get (row_of_point s at point).asks number ≡ Some position
+      → slice_get (positions (row_of_point s at point)) number ≡ Some position
       → AsksFor s state position site
       → IsAsked s at point state site
   beneath : (number : ℕ) (edge : RowEdge) (site : ℕ)

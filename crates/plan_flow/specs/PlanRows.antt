@@ -14,8 +14,8 @@ pub data Source : Type 0 where
   from_place : ℕ → Source
   -- what a field of the virtual object holds that a place holds; a plain value where it holds none
   from_field : ℕ → Reference → Source
-  -- the virtual object of a site, by its number
-  from_site : ℕ → Source
+  -- the virtual object that the instruction makes
+  from_new : Source
 
 -- what becomes of the virtual objects
 pub data Change : Type 0 where
@@ -41,10 +41,8 @@ pub data Guard : Type 0 where
 pub data Position : Type 0 where
   -- the virtual object that a place holds
   any_object : ℕ → Position
-  -- the same, where another place holds a reference to an object that was made
-  value_for_plain : ℕ → ℕ → Position
-  -- the same, where the object of the other place is it, or is reached from it
-  value_for_reached : ℕ → ℕ → Position
+  -- the same, where another place holds no virtual object, or one that it is or reaches
+  object_put_into : ℕ → ℕ → Position
   -- the same, where it is of a site whose class is not below this one
   object_not_below : ℕ → Name → Position
   -- the same, where its monitor is entered so often
@@ -53,6 +51,7 @@ pub data Position : Type 0 where
   object_of_site : ℕ → Position
 
 pub record PlanRow : Type 0 where
+  -- where it asks that an object is made, besides what its change asks
   pub asks : List Position
   -- what the local units and the stack hold behind the instruction
   pub locals : List Source

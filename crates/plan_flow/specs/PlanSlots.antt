@@ -5,7 +5,7 @@ use Rattle.std.specs.List.{list_any}
 use Rattle.class_model.specs.Frames.{is_top}
 use Rattle.class_model.specs.declared.frame.VType.{VType}
 use Rattle.member_link.specs.References.{Reference}
-use Rattle.plan_flow.specs.PlanRows.{Source, plain_value, from_place, from_field, from_site, Change, no_change, new_object, put_field, enter_monitor, leave_monitor, Guard, in_each_state, where_plain, where_may_be_same, where_may_differ, PlanRow, RowEdge}
+use Rattle.plan_flow.specs.PlanRows.{Source, plain_value, from_place, from_field, from_new, Change, no_change, new_object, put_field, enter_monitor, leave_monitor, Guard, in_each_state, where_plain, where_may_be_same, where_may_differ, PlanRow, RowEdge}
 use Rattle.plan_flow.specs.PlanScope.{PlanScope, field_number, local_types, stack_types}
 use Rattle.plan_flow.specs.PlanTable.{held_from}
 use Rattle.plan_flow.specs.declared.edge.EdgeKind.{EdgeKind}
@@ -37,14 +37,21 @@ abbrev pub field_of_slot : PlanScope → State → Slot → Reference → Slot
 field_of_slot s state (Virt site) field = field_held s state site field
 field_of_slot s state other field = Plain
 
-abbrev pub slot_from : PlanScope → State → Source → Slot
-slot_from s state plain_value = Plain
-slot_from s state (from_place place) = held state place
-slot_from s state (from_field place field) = field_of_slot s state (held state place) field
-slot_from s state (from_site site) = Virt site
+-- the object that a change makes
+abbrev pub slot_of_new : Change → Slot
+slot_of_new (new_object site count) = Virt site
+slot_of_new other = Plain
 
-abbrev pub slots_from : PlanScope → State → List Source → List Slot
-slots_from s state sources = map (slot_from s state) sources
+-- what a value is, in a state and behind a change
+abbrev pub slot_from : PlanScope → State → Change → Source → Slot
+slot_from s state change plain_value = Plain
+slot_from s state change (from_place place) = held state place
+slot_from s state change (from_field place field) =
+    field_of_slot s state (held state place) field
+slot_from s state change from_new = slot_of_new change
+
+abbrev pub slots_from : PlanScope → State → Change → List Source → List Slot
+slots_from s state change sources = map (slot_from s state change) sources
 
 -- ---- guards
 
@@ -134,11 +141,11 @@ edge_objects s state row by = changed s state row.change ++ state.objects
 abbrev pub local_slots : PlanScope → State → PlanRow → ℕ → RowEdge → List Slot
 local_slots s state row count edge =
     fit_locals (local_types s.flat edge.to)
-    (slots_from s state (edge_locals row count edge.by))
+    (slots_from s state row.change (edge_locals row count edge.by))
 
 abbrev pub stack_slots : PlanScope → State → PlanRow → RowEdge → List Slot
 stack_slots s state row edge =
-    fit_stack (stack_types s.flat edge.to) (slots_from s state (edge_stack row edge.by))
+    fit_stack (stack_types s.flat edge.to) (slots_from s state row.change (edge_stack row edge.by))
 
 -- ---- stack entries whose type is Top
 

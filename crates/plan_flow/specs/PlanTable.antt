@@ -24,7 +24,7 @@ use Rattle.member_link.specs.References.{Reference}
 use Rattle.member_link.specs.Rows.ArithmeticRows.{Operation, operation_in, pure_operations, divide_operations, float_operations}
 use Rattle.member_link.specs.Rows.ShuffleRows.{Form, form_in, forms_of}
 use Rattle.member_link.specs.Signatures.{result_of}
-use Rattle.plan_flow.specs.PlanRows.{Source, plain_value, from_place, from_field, from_site, Change, no_change, new_object, put_field, enter_monitor, leave_monitor, Guard, in_each_state, where_plain, where_may_be_same, where_may_differ, Position, any_object, value_for_plain, value_for_reached, object_not_below, object_at_depth, object_of_site, PlanRow, RowEdge}
+use Rattle.plan_flow.specs.PlanRows.{Source, plain_value, from_place, from_field, from_new, Change, no_change, new_object, put_field, enter_monitor, leave_monitor, Guard, in_each_state, where_plain, where_may_be_same, where_may_differ, Position, any_object, object_put_into, object_not_below, object_at_depth, object_of_site, PlanRow, RowEdge}
 use Rattle.plan_flow.specs.PlanScope.{PlanScope, pool_of, member_of, field_of, is_of_library, site_at, field_count}
 use Rattle.plan_flow.specs.declared.edge.EdgeKind.TheVariants as edges
 
@@ -78,27 +78,36 @@ value_stored f = any_object (operand f 0) ∷ []
 abbrev pub library_operands : PlanScope → Frame → Reference → ℕ → List Position
 library_operands s f field count = if is_of_library s field then operands_asked f count else []
 
--- The value of a putfield into an object that was made, and into a virtual one that the value is or reaches.
-abbrev pub value_put : Frame → List Position
-value_put f =
-    value_for_plain (operand f 0) (operand f 1)
-    ∷ value_for_reached (operand f 0) (operand f 1)
-    ∷ []
-
 -- The operand of a checkcast that does not hold.
 abbrev pub failing_cast : Frame → Name → List Position
 failing_cast f name = object_not_below (operand f 0) name ∷ []
 
+-- The value of a putfield into an object that was made, or into a virtual one that the value is or reaches.
+abbrev pub value_put : ℕ → ℕ → List Position
+value_put object value = object_put_into value object ∷ []
+
 -- The operand of a monitorenter whose monitor is entered as often as can be counted, and of a monitorexit whose monitor is not entered.
-abbrev pub entered_fully : Frame → List Position
-entered_fully f = object_at_depth (operand f 0) 65535 ∷ []
+abbrev pub entered_fully : ℕ → List Position
+entered_fully place = object_at_depth place 65535 ∷ []
 
-abbrev pub not_entered : Frame → List Position
-not_entered f = object_at_depth (operand f 0) 0 ∷ []
+abbrev pub not_entered : ℕ → List Position
+not_entered place = object_at_depth place 0 ∷ []
 
--- The site of a new.
+-- The site of a new, where its last object is still virtual.
 abbrev pub made_again : ℕ → List Position
 made_again site = object_of_site site ∷ []
+
+-- what a change of virtual objects asks to be made
+abbrev pub change_asks : Change → List Position
+change_asks no_change = []
+change_asks (new_object site count) = made_again site
+change_asks (put_field object field value) = value_put object value
+change_asks (enter_monitor place) = entered_fully place
+change_asks (leave_monitor place) = not_entered place
+
+-- all that a row asks
+abbrev pub positions : PlanRow → List Position
+positions row = row.asks ++ change_asks row.change
 
 -- ---- calls
 
@@ -145,7 +154,7 @@ get_field_row s f (Some field) = record (moving f 1 (from_field (operand f 0) fi
 abbrev pub put_field_row : PlanScope → Frame → Option Reference → PlanRow
 put_field_row s f None = moving f 2 []
 put_field_row s f (Some field) = record (moving f 2 []) {
-  asks = library_operands s f field 2 ++ value_put f;
+  asks = library_operands s f field 2;
   change = put_field (operand f 1) field (operand f 0);
   throws = Some (where_plain (operand f 1));
 }
@@ -153,8 +162,7 @@ put_field_row s f (Some field) = record (moving f 2 []) {
 -- by the site of the point, if it is one
 abbrev pub new_row : PlanScope → Frame → Option ℕ → PlanRow
 new_row s f None = moving f 0 (plain_value ∷ [])
-new_row s f (Some site) = record (moving f 0 (from_site site ∷ [])) {
-  asks = made_again site;
+new_row s f (Some site) = record (moving f 0 (from_new ∷ [])) {
   change = new_object site (field_count s site);
 }
 
@@ -165,9 +173,8 @@ cast_row f (Some name) = record (moving f 1 (from_place (operand f 0) ∷ [])) {
   throws = Some (where_plain (operand f 0));
 }
 
-abbrev pub monitor_row : Frame → List Position → Change → PlanRow
-monitor_row f asks change = record (moving f 1 []) {
-  asks = asks;
+abbrev pub monitor_row : Frame → Change → PlanRow
+monitor_row f change = record (moving f 1 []) {
   change = change;
   throws = Some (where_plain (operand f 0));
 }
@@ -260,8 +267,8 @@ instr_row s at f class Length = throwing f 1 (plain_value ∷ [])
 instr_row s at f class Throw = record (throwing f 1 []) { asks = handed_over f 1 }
 instr_row s at f class (Cast index) = cast_row f (class_at (pool_of s class) index)
 instr_row s at f class (InstanceOf index) = moving f 1 (plain_value ∷ [])
-instr_row s at f class Enter = monitor_row f (entered_fully f) (enter_monitor (operand f 0))
-instr_row s at f class Leave = monitor_row f (not_entered f) (leave_monitor (operand f 0))
+instr_row s at f class Enter = monitor_row f (enter_monitor (operand f 0))
+instr_row s at f class Leave = monitor_row f (leave_monitor (operand f 0))
 
 -- a null test throws where the local holds null, which a virtual object is not
 abbrev pub row_at : PlanScope → ℕ → Frame → FlatInstr → PlanRow
