@@ -1,0 +1,4 @@
+pub mod Moving
+pub mod Changing
+pub mod Pruning
+pub mod MustGrows

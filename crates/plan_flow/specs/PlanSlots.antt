@@ -25,12 +25,15 @@ readable other = Plain
 abbrev pub held : State → ℕ → Slot
 held state place = readable (slice_get state.slots place)
 
--- what a field of an object holds, by its number among those of the site's object
+-- what a field of an object holds, by its number
+abbrev pub field_in : Option VObject → Option ℕ → Slot
+field_in (Some object) (Some number) = readable (slice_get object.fields number)
+field_in object number = Plain
+
+-- what a field of a site's object holds
 abbrev pub field_held : PlanScope → State → ℕ → Reference → Slot
-field_held s state site field = of_object (object_of state.objects site) (field_number s site field) where
-  of_object : Option VObject → Option ℕ → Slot
-  of_object (Some object) (Some number) = readable (slice_get object.fields number)
-  of_object object number = Plain
+field_held s state site field =
+    field_in (object_of state.objects site) (field_number s site field)
 
 -- what a field of what a slot holds, holds
 abbrev pub field_of_slot : PlanScope → State → Slot → Reference → Slot
@@ -44,11 +47,11 @@ slot_of_new other = Plain
 
 -- what a value is, in a state and behind a change
 abbrev pub slot_from : PlanScope → State → Change → Source → Slot
-slot_from s state change plain_value = Plain
-slot_from s state change (from_place place) = held state place
-slot_from s state change (from_field place field) =
+slot_from s state by plain_value = Plain
+slot_from s state by (from_place place) = held state place
+slot_from s state by (from_field place field) =
     field_of_slot s state (held state place) field
-slot_from s state change from_new = slot_of_new change
+slot_from s state by from_new = slot_of_new by
 
 abbrev pub slots_from : PlanScope → State → Change → List Source → List Slot
 slots_from s state change sources = map (slot_from s state change) sources
@@ -77,24 +80,24 @@ is_open state (where_may_differ one other) = may_differ (held state one) (held s
 
 -- ---- virtual objects that change
 
--- the object with another value of a field
-abbrev pub with_field : VObject → Option ℕ → Slot → List VObject
-with_field object None slot = []
-with_field object (Some number) slot =
+-- the object with another value of a field, if both are there
+abbrev pub with_field : Option VObject → Option ℕ → Slot → List VObject
+with_field (Some object) (Some number) slot =
     record object { fields = slice_set object.fields number slot } ∷ []
+with_field object number slot = []
 
 abbrev pub put_in : PlanScope → State → Slot → Reference → Slot → List VObject
-put_in s state (Virt site) field slot = of_object (object_of state.objects site) where
-  of_object : Option VObject → List VObject
-  of_object None = []
-  of_object (Some object) = with_field object (field_number s site field) slot
+put_in s state (Virt site) field slot =
+    with_field (object_of state.objects site) (field_number s site field) slot
 put_in s state other field slot = []
 
+-- the object with another depth, if it is there
+abbrev pub with_depth_of : Option VObject → (ℕ → ℕ) → List VObject
+with_depth_of None change = []
+with_depth_of (Some object) change = record object { depth = change object.depth } ∷ []
+
 abbrev pub at_depth : State → Slot → (ℕ → ℕ) → List VObject
-at_depth state (Virt site) change = of_object (object_of state.objects site) where
-  of_object : Option VObject → List VObject
-  of_object None = []
-  of_object (Some object) = record object { depth = change object.depth } ∷ []
+at_depth state (Virt site) change = with_depth_of (object_of state.objects site) change
 at_depth state other change = []
 
 -- the objects that are new, or that take the place of those of their sites
