@@ -2,3 +2,4 @@ pub mod Moving
 pub mod Changing
 pub mod Pruning
 pub mod MustGrows
+pub mod EffectGrows

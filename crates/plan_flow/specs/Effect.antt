@@ -33,8 +33,11 @@ AreEdges s point at before others edges = ⊥
 -- The edges that control may take from a point in a state, with the states behind them: the one to the next point, then those to the
 -- targets, a switch's default first, then those to the handlers. Only the edge that is taken stands where a virtual object
 -- decides a comparison.
+abbrev pub IsEffectIn : PlanScope → ℕ → Option Point → State → List Edge → Type 0
+IsEffectIn s at None before edges = edges ≡ []
+IsEffectIn s at (Some point) before edges =
+    AreEdges s point at before (open_edges s at point before) edges
+
+-- the same of the point of a number
 abbrev pub IsEffect : PlanScope → ℕ → State → List Edge → Type 0
-IsEffect s at before edges = of_point (point_at s.flat at) where
-  of_point : Option Point → Type 0
-  of_point None = edges ≡ []
-  of_point (Some point) = AreEdges s point at before (open_edges s at point before) edges
+IsEffect s at before edges = IsEffectIn s at (point_at s.flat at) before edges

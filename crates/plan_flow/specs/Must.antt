@@ -71,9 +71,11 @@ pub record IsMustOf (s : PlanScope) (at : ℕ) (point : Point) (state : State) (
       → IsTrue (has sites site)
       → IsTrue (other site)
 
--- the same of the point of a number, if there is one
+-- the same of a point, if there is one
+abbrev pub IsMustIn : PlanScope → ℕ → Option Point → State → List ℕ → Type 0
+IsMustIn s at None state sites = sites ≡ []
+IsMustIn s at (Some point) state sites = IsMustOf s at point state sites
+
+-- the same of the point of a number
 abbrev pub IsMust : PlanScope → ℕ → State → List ℕ → Type 0
-IsMust s at state sites = of_point (point_at s.flat at) where
-  of_point : Option Point → Type 0
-  of_point None = sites ≡ []
-  of_point (Some point) = IsMustOf s at point state sites
+IsMust s at state sites = IsMustIn s at (point_at s.flat at) state sites
