@@ -3,3 +3,4 @@ pub mod Changing
 pub mod Pruning
 pub mod MustGrows
 pub mod EffectGrows
+pub mod MustLaws
