@@ -4,3 +4,4 @@ pub mod Pruning
 pub mod MustGrows
 pub mod EffectGrows
 pub mod MustLaws
+pub mod PlanLaws
