@@ -5,3 +5,4 @@ pub mod MustGrows
 pub mod EffectGrows
 pub mod MustLaws
 pub mod PlanLaws
+pub mod Reached
