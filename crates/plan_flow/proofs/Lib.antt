@@ -6,3 +6,5 @@ pub mod EffectGrows
 pub mod MustLaws
 pub mod PlanLaws
 pub mod Reached
+pub mod LeastAbove
+pub mod FitsBelow
