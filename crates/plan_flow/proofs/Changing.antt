@@ -7,7 +7,7 @@ use Rattle.std.proofs.lemmas.List.{map-set, map-append}
 use Rattle.std.proofs.lemmas.List.Elements.{filter-append}
 use Rattle.std.proofs.lemmas.Option.{same_Some}
 use Rattle.plan_flow.specs.PlanRows.{Change, no_change, new_object, put_field, enter_monitor, leave_monitor, PlanRow}
-use Rattle.plan_flow.specs.PlanScope.{PlanScope, field_number}
+use Rattle.plan_flow.specs.PlanScope.{PlanScope, field_count, field_number}
 use Rattle.plan_flow.specs.PlanSlots.{held, with_field, put_in, with_depth_of, at_depth, changed, edge_objects}
 use Rattle.plan_flow.specs.declared.edge.EdgeKind.{EdgeKind}
 use Rattle.plan_flow.specs.declared.edge.EdgeKind.TheVariants.{Next, Jump, Handler}
@@ -131,7 +131,7 @@ pub changed_made :
     → KeepsNew away by
     → changed s (without state away) by ≡ objects_without away (changed s state by)
 changed_made s state away no_change keeps = refl
-changed_made s state away (new_object site count) keeps = new_without away site count keeps
+changed_made s state away (new_object site) keeps = new_without away site (field_count s site) keeps
 changed_made s state away (put_field place field value) keeps =
     (λ i. put_in s (without state away) (held_made away state place i) field (held_made away state value i))
     ∙ put_without s state away (held state place) (held state value) field
@@ -247,7 +247,7 @@ pub changed_closed :
     → PutsWithin away state by
     → IsClosed away (changed s state by ++ state.objects)
 changed_closed s state away no_change closed within = closed
-changed_closed s state away (new_object site count) closed within = closed_behind_one away (record { site = site; fields = replicate count Plain; depth = 0 }) state.objects closed (λ to gone named. absurd (false≢true (sym (names_blank count to) ∙ named)))
+changed_closed s state away (new_object site) closed within = closed_behind_one away (record { site = site; fields = replicate (field_count s site) Plain; depth = 0 }) state.objects closed (λ to gone named. absurd (false≢true (sym (names_blank (field_count s site) to) ∙ named)))
 changed_closed s state away (put_field place field value) closed within = of_slot (held state place) refl where
   of_parts :
       (site : ℕ)

@@ -116,7 +116,7 @@ keeps_new s at point low away must there = go (row_of_point s at point).change r
   go (put_field place field value) is = tt
   go (enter_monitor place) is = tt
   go (leave_monitor place) is = tt
-  go (new_object site count) is = elim (cases_Bool (away site)) [
+  go (new_object site) is = elim (cases_Bool (away site)) [
     | inl gone ↦ absurd (asks_nothing s at point low must site (change_asked s at point low (object_of_site site) site (ap change_asks is) (refl, there site gone)))
     | inr kept ↦ kept
   ]
@@ -128,7 +128,7 @@ puts_within :
 puts_within s at point low away must = go (row_of_point s at point).change refl where
   go : (by : Change) → (row_of_point s at point).change ≡ by → PutsWithin away low by
   go no_change is = tt
-  go (new_object site count) is = tt
+  go (new_object site) is = tt
   go (enter_monitor place) is = tt
   go (leave_monitor place) is = tt
   go (put_field place field value) is = λ site to object put gone. elim (cases_Bool (away to)) [

@@ -279,7 +279,7 @@ record LosesAll (low high : State) (site : ℕ) : Type 0 where
       → IsTrue (names object.fields to)
       → IsFalse (is_present high.objects to)
 
-fields_lost :
+pub fields_lost :
     (high : State) (slots : List Slot)
     → ((to : ℕ) → IsTrue (names slots to) → IsFalse (is_present high.objects to))
     ⊎ ((to : ℕ) × IsTrue (names slots to) × IsTrue (is_present high.objects to))

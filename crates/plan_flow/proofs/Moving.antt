@@ -123,7 +123,7 @@ field_made s state away closed (Virt site) field =
 
 -- a new object is none of those that are made
 abbrev pub KeepsNew : (ℕ → Bool) → Change → Type 0
-KeepsNew away (new_object site count) = IsFalse (away site)
+KeepsNew away (new_object site) = IsFalse (away site)
 KeepsNew away other = Unit {0}
 
 new_made :
@@ -131,7 +131,7 @@ new_made :
     → KeepsNew away by
     → slot_of_new by ≡ made_plain away (slot_of_new by)
 new_made away no_change keeps = refl
-new_made away (new_object site count) keeps = sym (kept_slot away site keeps)
+new_made away (new_object site) keeps = sym (kept_slot away site keeps)
 new_made away (put_field place field value) keeps = refl
 new_made away (enter_monitor place) keeps = refl
 new_made away (leave_monitor place) keeps = refl

@@ -20,8 +20,8 @@ pub data Source : Type 0 where
 -- what becomes of the virtual objects
 pub data Change : Type 0 where
   no_change : Change
-  -- a new object of a site, with so many fields that hold plain values, and a monitor that is not entered
-  new_object : ℕ → ℕ → Change
+  -- a new object of a site, whose fields hold plain values and whose monitor is not entered
+  new_object : ℕ → Change
   -- a field of the virtual object that a place holds becomes what another place holds
   put_field : ℕ → Reference → ℕ → Change
   -- the monitor of the virtual object that a place holds is entered once more, or left once

@@ -6,7 +6,7 @@ use Rattle.class_model.specs.Frames.{is_top}
 use Rattle.class_model.specs.declared.frame.VType.{VType}
 use Rattle.member_link.specs.References.{Reference}
 use Rattle.plan_flow.specs.PlanRows.{Source, plain_value, from_place, from_field, from_new, Change, no_change, new_object, put_field, enter_monitor, leave_monitor, Guard, in_each_state, where_plain, where_may_be_same, where_may_differ, PlanRow, RowEdge}
-use Rattle.plan_flow.specs.PlanScope.{PlanScope, field_number, local_types, stack_types}
+use Rattle.plan_flow.specs.PlanScope.{PlanScope, field_count, field_number, local_types, stack_types}
 use Rattle.plan_flow.specs.PlanTable.{held_from}
 use Rattle.plan_flow.specs.declared.edge.EdgeKind.{EdgeKind}
 use Rattle.plan_flow.specs.declared.edge.EdgeKind.TheVariants as edges
@@ -42,7 +42,7 @@ field_of_slot s state other field = Plain
 
 -- the object that a change makes
 abbrev pub slot_of_new : Change → Slot
-slot_of_new (new_object site count) = Virt site
+slot_of_new (new_object site) = Virt site
 slot_of_new other = Plain
 
 -- what a value is, in a state and behind a change
@@ -103,8 +103,8 @@ at_depth state other change = []
 -- the objects that are new, or that take the place of those of their sites
 abbrev pub changed : PlanScope → State → Change → List VObject
 changed s state no_change = []
-changed s state (new_object site count) =
-    record { site = site; fields = replicate count Plain; depth = 0 } ∷ []
+changed s state (new_object site) =
+    record { site = site; fields = replicate (field_count s site) Plain; depth = 0 } ∷ []
 changed s state (put_field place field value) =
     put_in s state (held state place) field (held state value)
 changed s state (enter_monitor place) = at_depth state (held state place) (λ depth. depth + 1)

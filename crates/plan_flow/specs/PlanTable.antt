@@ -25,7 +25,7 @@ use Rattle.member_link.specs.Rows.ArithmeticRows.{Operation, operation_in, pure_
 use Rattle.member_link.specs.Rows.ShuffleRows.{Form, form_in, forms_of}
 use Rattle.member_link.specs.Signatures.{result_of}
 use Rattle.plan_flow.specs.PlanRows.{Source, plain_value, from_place, from_field, from_new, Change, no_change, new_object, put_field, enter_monitor, leave_monitor, Guard, in_each_state, where_plain, where_may_be_same, where_may_differ, Position, any_object, object_put_into, object_not_below, object_at_depth, object_of_site, PlanRow, RowEdge}
-use Rattle.plan_flow.specs.PlanScope.{PlanScope, pool_of, member_of, field_of, is_of_library, site_at, field_count}
+use Rattle.plan_flow.specs.PlanScope.{PlanScope, pool_of, member_of, field_of, is_of_library, site_at}
 use Rattle.plan_flow.specs.declared.edge.EdgeKind.TheVariants as edges
 
 -- ---- places
@@ -100,7 +100,7 @@ made_again site = object_of_site site ∷ []
 -- what a change of virtual objects asks to be made
 abbrev pub change_asks : Change → List Position
 change_asks no_change = []
-change_asks (new_object site count) = made_again site
+change_asks (new_object site) = made_again site
 change_asks (put_field object field value) = value_put object value
 change_asks (enter_monitor place) = entered_fully place
 change_asks (leave_monitor place) = not_entered place
@@ -160,10 +160,10 @@ put_field_row s f (Some field) = record (moving f 2 []) {
 }
 
 -- by the site of the point, if it is one
-abbrev pub new_row : PlanScope → Frame → Option ℕ → PlanRow
-new_row s f None = moving f 0 (plain_value ∷ [])
-new_row s f (Some site) = record (moving f 0 (from_new ∷ [])) {
-  change = new_object site (field_count s site);
+abbrev pub new_row : Frame → Option ℕ → PlanRow
+new_row f None = moving f 0 (plain_value ∷ [])
+new_row f (Some site) = record (moving f 0 (from_new ∷ [])) {
+  change = new_object site;
 }
 
 abbrev pub cast_row : Frame → Option Name → PlanRow
@@ -259,7 +259,7 @@ instr_row s at f class (PutField index) = put_field_row s f (field_of s class in
 instr_row s at f class (Invoke opcode index count) = call_row f opcode (member_of s class index)
 instr_row s at f class (Dynamic index) =
     dynamic_row (pool_of s class) f (constant_at (pool_of s class) index)
-instr_row s at f class (New index) = new_row s f (site_at s.flat at)
+instr_row s at f class (New index) = new_row f (site_at s.flat at)
 instr_row s at f class (NewArray code) = throwing f 1 (plain_value ∷ [])
 instr_row s at f class (NewRefArray index) = throwing f 1 (plain_value ∷ [])
 instr_row s at f class (NewMulti index dimensions) = throwing f dimensions (plain_value ∷ [])
