@@ -8,3 +8,4 @@ pub mod PlanLaws
 pub mod Reached
 pub mod LeastAbove
 pub mod FitsBelow
+pub mod Settled
