@@ -88,14 +88,14 @@ stands_behind [] item rest = record { number = 0; is = refl }
 stands_behind (first ∷ front) item rest = behind_first first (front ++ item ∷ rest) item (stands_behind front item rest)
 
 -- what asks for nothing, asks for no object
-asks_nothing :
+pub asks_nothing :
     (s : PlanScope) (at : ℕ) (point : Point) (state : State)
     → IsMustOf s at point state []
     → (site : ℕ)
     → IsAsked s at point state site → ⊥
 asks_nothing s at point state must site asked = false≢true (must.asked site asked)
 
-change_asked :
+pub change_asked :
     (s : PlanScope) (at : ℕ) (point : Point) (state : State) (position : Position) (site : ℕ)
     → change_asks (row_of_point s at point).change ≡ position ∷ []
     → AsksFor s state position site

@@ -9,3 +9,5 @@ pub mod Reached
 pub mod LeastAbove
 pub mod FitsBelow
 pub mod Settled
+pub mod Keeping
+pub mod Behind
