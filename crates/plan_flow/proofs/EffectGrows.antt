@@ -163,7 +163,7 @@ slots_behind s state away row count edge closed keeps =
     (λ i. locals i ++ stack i)
     ∙ sym (map-append (made_plain away) (local_slots s state row count edge) (stack_slots s state row edge))
 
-behind_below :
+pub behind_below :
     (s : PlanScope) (at : ℕ) (point : Point) (low : State) (away : ℕ → Bool) (edge : RowEdge) (one other : State)
     → IsClosed away low.objects
     → ((site : ℕ) → IsTrue (away site) → IsTrue (is_present low.objects site))

@@ -11,3 +11,4 @@ pub mod FitsBelow
 pub mod Settled
 pub mod Keeping
 pub mod Behind
+pub mod Inside

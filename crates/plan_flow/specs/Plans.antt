@@ -1,11 +1,14 @@
 -- Plans of flat code: which points are reached, with which state, and which objects are made there. It is this project's profile.
-use Rattle.std.specs.Prelude.{◌≡◌, ◌++◌, ℕ, Bool, false, List, [], ◌∷◌, map, length, drop, slice_get, Option, Some, IsTrue, IsFalse}
+use Rattle.std.specs.Prelude.{◌≡◌, ◌<◌, ◌+◌, ◌++◌, ℕ, Bool, false, List, [], ◌∷◌, map, length, drop, slice_get, Option, Some, IsTrue, IsFalse}
 use Rattle.std.specs.Option.{option_flatten}
 use Rattle.class_model.specs.Frames.{is_top}
+use Rattle.flow_code.specs.FlatCode.{FlatCode, point_at}
+use Rattle.flow_code.specs.declared.point.Point.{Point}
 use Rattle.plan_flow.specs.Effect.{IsEffect}
 use Rattle.plan_flow.specs.Must.{IsMust}
 use Rattle.plan_flow.specs.PlanScope.{PlanScope, field_count, local_types, stack_types}
 use Rattle.plan_flow.specs.PlanSlots.{beneath_top, fit_locals, fit_stack}
+use Rattle.plan_flow.specs.PlanTable.{falls_on}
 use Rattle.plan_flow.specs.declared.edge.Edge.{Edge}
 use Rattle.plan_flow.specs.declared.edge.EdgeKind.{EdgeKind}
 use Rattle.virtual_state.specs.Orders.{IsBelow}
@@ -36,6 +39,17 @@ planned plan at = option_flatten (slice_get plan at)
 -- the state in which the instruction is done
 abbrev pub state_left : PlannedPoint → State
 state_left point = without point.state (has point.made)
+
+-- ---- flat code that control does not leave
+
+-- There is a point, and a next one behind each point from which control may fall through.
+pub record FlowsInside (flat : FlatCode) : Type 0 where
+  pub some : 0 < length flat.points
+  pub next :
+      (at : ℕ) (point : Point)
+      → point_at flat at ≡ Some point
+      → IsTrue (falls_on point.instr)
+      → at + 1 < length flat.points
 
 -- ---- states of a point
 
