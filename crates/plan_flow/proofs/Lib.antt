@@ -12,3 +12,4 @@ pub mod Settled
 pub mod Keeping
 pub mod Behind
 pub mod Inside
+pub mod Raising
