@@ -13,3 +13,4 @@ pub mod Keeping
 pub mod Behind
 pub mod Inside
 pub mod Raising
+pub mod Iterating
