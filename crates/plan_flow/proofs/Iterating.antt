@@ -21,7 +21,8 @@ use Rattle.plan_flow.proofs.FitsBelow.{below_or_fault}
 use Rattle.plan_flow.proofs.Inside.{LeadInside, edges_inside}
 use Rattle.plan_flow.proofs.LeastAbove.{LeastAbove, MustGo}
 use Rattle.plan_flow.proofs.MustGrows.{StandsIn, edge_behind_more}
-use Rattle.plan_flow.proofs.Raising.{state_at_above, same_counts, IsTarget, raised, Reached, IsLeft, Left, left_of, IsLedIn, led_first, led_over, IsUnder, target_in_plan}
+use Rattle.plan_flow.proofs.Pruning.{state_of_is_one}
+use Rattle.plan_flow.proofs.Raising.{state_at_above, same_counts, IsTarget, raised, Reached, IsLeft, Left, left_of, left_is_one, IsLedIn, led_first, led_over, IsUnder, target_in_plan}
 
 -- ---- sums over points
 
@@ -283,3 +284,146 @@ edge_step s states pending under =
             | inr fault ↦ inr (step_raise s states pending found.0 under found.1 fault)
           ]
     ]
+
+-- ---- the edges of a point
+
+-- the state behind an edge is one
+behind_is_one : (s : PlanScope) (at : ℕ) (point : Point) (before : State) (row : RowEdge) (one other : State) → IsStateBehind s point at before row one → IsStateBehind s point at before row other → one ≡ other
+behind_is_one s at point before row one other first second = state_of_is_one _ _ one other first.is_state second.is_state first.is second.is
+
+abbrev RowLeads : PlanScope → Reached → ℕ → Point → State → RowEdge → Type 0
+RowLeads s states at point left row = (behind : State) → IsStateBehind s point at left row behind → LeadsIn states row.to behind
+
+rows_step :
+    (s : PlanScope) (states : Reached) (at : ℕ) (point : Point) (state left : State)
+    → IsFlat s.flat
+    → FlowsInside s.flat
+    → IsUnder s states
+    → point_at s.flat at ≡ Some point
+    → states at ≡ Some state
+    → IsState left
+    → IsLeft s at point state left
+    → (rows : List RowEdge)
+    → ((number : ℕ) (row : RowEdge) → slice_get rows number ≡ Some row → StandsIn (open_edges s at point left) row)
+    → ((number : ℕ) (row : RowEdge) → slice_get rows number ≡ Some row → RowLeads s states at point left row) ⊎ Step s states
+rows_step s states at point state left flat flows under is_point is_found left_state is_left [] stands = inl (λ number row is. absurd (none-some row is))
+rows_step s states at point state left flat flows under is_point is_found left_state is_left (first ∷ rows) stands =
+    let here = stands 0 first refl in
+    let found = state_behind s at point left first left_state is_left.must in
+    let counts = (state_at_above s at state left (under.at at state is_found) is_left.below).fields in
+    let pending : Pending s states = record {
+      from = at; number = here.number; point = point; state = state; left = left; behind = found.state; row = first;
+      is_point = is_point; is_found = is_found; is_left = is_left; is_row = here.is; is_behind = found.behind;
+      is_at = behind_is_at s at point left first found.state counts found.behind;
+      target_inside = (edges_inside s at point left flat flows is_point).each here.number first here.is;
+    } in
+    elim (edge_step s states pending under) [
+      | inr step ↦ inr step
+      | inl leads ↦ elim (rows_step s states at point state left flat flows under is_point is_found left_state is_left rows (λ number row is. stands (suc number) row is)) [
+        | inr step ↦ inr step
+        | inl rest ↦ inl (by_number (λ behind is_behind. subst (LeadsIn states first.to) (behind_is_one s at point left first found.state behind found.behind is_behind) leads) rest)
+      ]
+    ] where
+      by_number :
+          RowLeads s states at point left first
+          → ((number : ℕ) (row : RowEdge) → slice_get rows number ≡ Some row → RowLeads s states at point left row)
+          → (number : ℕ) (row : RowEdge) → slice_get (first ∷ rows) number ≡ Some row → RowLeads s states at point left row
+      by_number leads rest zero row is = subst (RowLeads s states at point left) (same_Some first row is) leads
+      by_number leads rest (suc number) row is = rest number row is
+
+point_step :
+    (s : PlanScope) (states : Reached) (at : ℕ)
+    → IsFlat s.flat
+    → FlowsInside s.flat
+    → IsUnder s states
+    → AllLeadAt s states at ⊎ Step s states
+point_step s states at flat flows under = go (some_or_none (point_at s.flat at)) (some_or_none (states at)) where
+  go :
+      ((point : Point) × (point_at s.flat at ≡ Some point)) ⊎ (point_at s.flat at ≡ None)
+      → ((state : State) × (states at ≡ Some state)) ⊎ (states at ≡ None)
+      → AllLeadAt s states at ⊎ Step s states
+  go (inr none) found = inl (record { each = λ number point state left behind row is_point is_found is_left is_row is_behind. absurd (none-some point (sym none ∙ is_point)) })
+  go (inl point) (inr none) = inl (record { each = λ number other state left behind row is_point is_found is_left is_row is_behind. absurd (none-some state (sym none ∙ is_found)) })
+  go (inl point) (inl found) =
+      let left = left_of s at point.0 found.0 (under.at at found.0 found.1).is_state in
+      elim (rows_step s states at point.0 found.0 left.state flat flows under point.1 found.1 left.is_state left.is (open_edges s at point.0 left.state) (λ number row is. record { number = number; is = is })) [
+        | inr step ↦ inr step
+        | inl leads ↦ inl (record { each = λ number other state also behind row is_point is_found is_left is_row is_behind.
+            let same_point : other ≡ point.0 = same_Some other point.0 (sym is_point ∙ point.1) in
+            let same_state : state ≡ found.0 = same_Some state found.0 (sym is_found ∙ found.1) in
+            let one = subst (λ (p : Point). IsLeft s at p state also) same_point is_left in
+            let two = subst (λ (x : State). IsLeft s at point.0 x also) same_state one in
+            let same_left : also ≡ left.state = left_is_one s at point.0 found.0 also left.state two left.is in
+            let row_one = subst (λ (p : Point). slice_get (open_edges s at p also) number ≡ Some row) same_point is_row in
+            let row_two = subst (λ (x : State). slice_get (open_edges s at point.0 x) number ≡ Some row) same_left row_one in
+            let behind_one = subst (λ (p : Point). IsStateBehind s p at also row behind) same_point is_behind in
+            leads number row row_two behind (subst (λ (x : State). IsStateBehind s point.0 at x row behind) same_left behind_one) })
+      ]
+
+points_step :
+    (s : PlanScope) (states : Reached) (count : ℕ)
+    → IsFlat s.flat
+    → FlowsInside s.flat
+    → IsUnder s states
+    → ((at : ℕ) → at < count → AllLeadAt s states at) ⊎ Step s states
+points_step s states zero flat flows under = inl (λ at inside. absurd (omega (arith, inside)))
+points_step s states (suc count) flat flows under =
+    elim (point_step s states count flat flows under) [
+      | inr step ↦ inr step
+      | inl here ↦ elim (points_step s states count flat flows under) [
+        | inr step ↦ inr step
+        | inl rest ↦ inl (λ at inside. elim (same_or_not count at) [
+          | inl same ↦ subst (AllLeadAt s states) same here
+          | inr differ ↦ rest at (omega (arith, inside, differ))
+        ])
+      ]
+    ]
+
+-- ---- until no step is left
+
+pub record Final (s : PlanScope) : Type 0 where
+  pub states : Reached
+  pub under : IsUnder s states
+  pub lead : (at : ℕ) → at < length s.flat.points → AllLeadAt s states at
+
+raise_all :
+    (s : PlanScope) (bound : ℕ)
+    → IsFlat s.flat
+    → FlowsInside s.flat
+    → ((states : Reached) → IsUnder s states → unreached s states < bound → Final s)
+    → (fuel : ℕ) (states : Reached)
+    → IsUnder s states
+    → unreached s states ≤ bound
+    → objects_in s states ≤ fuel
+    → Final s
+raise_all s bound flat flows fewer zero states under few light =
+    elim (points_step s states (length s.flat.points) flat flows under) [
+      | inl lead ↦ record { states = states; under = under; lead = lead }
+      | inr step ↦ by_step step
+    ] where
+      by_step : Step s states → Final s
+      by_step (reaches more next less) = fewer more next (omega (arith, less, few))
+      by_step (raises more next less lighter) = absurd (omega (arith, lighter, light))
+raise_all s bound flat flows fewer (suc fuel) states under few light =
+    elim (points_step s states (length s.flat.points) flat flows under) [
+      | inl lead ↦ record { states = states; under = under; lead = lead }
+      | inr step ↦ by_step step (raise_all s bound flat flows fewer fuel)
+    ] where
+      by_step : Step s states → ((more : Reached) → IsUnder s more → unreached s more ≤ bound → objects_in s more ≤ fuel → Final s) → Final s
+      by_step (reaches more next less) rest = fewer more next (omega (arith, less, few))
+      by_step (raises more next less lighter) rest = rest more next (omega (arith, less, few)) (omega (arith, lighter, light))
+
+reach_all_points :
+    (s : PlanScope) (bound : ℕ)
+    → IsFlat s.flat
+    → FlowsInside s.flat
+    → (states : Reached)
+    → IsUnder s states
+    → unreached s states ≤ bound
+    → Final s
+reach_all_points s zero flat flows states under few = raise_all s zero flat flows (λ more next less. absurd (omega (arith, less))) (objects_in s states) states under few (omega arith)
+reach_all_points s (suc bound) flat flows states under few =
+    raise_all s (suc bound) flat flows (λ more next less. reach_all_points s bound flat flows more next (omega (arith, less))) (objects_in s states) states under few (omega arith)
+
+pub iterated : (s : PlanScope) (states : Reached) → IsFlat s.flat → FlowsInside s.flat → IsUnder s states → Final s
+iterated s states flat flows under = reach_all_points s (unreached s states) flat flows states under (omega arith)
