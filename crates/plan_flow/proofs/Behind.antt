@@ -405,7 +405,7 @@ edge_slots s at point state edge =
     local_slots s state (row_of_point s at point) (length point.typed.locals) edge
     ++ stack_slots s state (row_of_point s at point) edge
 
-names_both : (one other : List Slot) (site : ℕ) → IsTrue (names (one ++ other) site) → IsTrue (names one site) ⊎ IsTrue (names other site)
+pub names_both : (one other : List Slot) (site : ℕ) → IsTrue (names (one ++ other) site) → IsTrue (names one site) ⊎ IsTrue (names other site)
 names_both one other site named = or_cases (names one site) (names other site) (sym (list_any-append (is_virtual site) one other) ∙ named)
 
 -- what the slots of an edge name comes from the sources

@@ -69,10 +69,10 @@ objects_in s states = sum_to (λ place. weight (states place)) (length s.flat.po
 
 -- ---- another state at one point
 
-put : Reached → ℕ → State → Reached
+pub put : Reached → ℕ → State → Reached
 put states place state at = cond (place == at) (Some state) (states at)
 
-put_here : (states : Reached) (place : ℕ) (state : State) → put states place state place ≡ Some state
+pub put_here : (states : Reached) (place : ℕ) (state : State) → put states place state place ≡ Some state
 unfolding put
 put_here states place state = ap (λ (b : Bool). cond b (Some state) (states place)) (eq-eqb place place refl)
 
@@ -81,7 +81,7 @@ unfolding put
 put_other states place at state differ = ap (λ (b : Bool). cond b (Some state) (states at)) (ne_eqb place at differ)
 
 -- what holds of each state holds if it holds of the new one
-put_each :
+pub put_each :
     (Holds : ℕ → State → Type 0) (states : Reached) (place : ℕ) (state : State)
     → Holds place state
     → ((at : ℕ) (one : State) → states at ≡ Some one → Holds at one)

@@ -14,3 +14,4 @@ pub mod Behind
 pub mod Inside
 pub mod Raising
 pub mod Iterating
+pub mod LeastPlans

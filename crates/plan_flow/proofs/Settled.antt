@@ -69,7 +69,7 @@ reached_of_path objects from object there path = go path there where
   go (one_edge start to edge) is = from_slot to (subst (λ (one : VObject). IsTrue (names one.fields to)) (same_Some edge.object object (sym edge.there ∙ is)) edge.named)
   go (edge_and_path start middle to edge rest) is = reached_then (from_slot middle (subst (λ (one : VObject). IsTrue (names one.fields middle)) (same_Some edge.object object (sym edge.there ∙ is)) edge.named)) rest
 
-path_from_none : (objects : List VObject) {from to : ℕ} → IsPath objects from to → object_of objects from ≡ None → ⊥
+pub path_from_none : (objects : List VObject) {from to : ℕ} → IsPath objects from to → object_of objects from ≡ None → ⊥
 path_from_none objects (one_edge from to edge) none = none-some edge.object (sym none ∙ edge.there)
 path_from_none objects (edge_and_path from middle to edge path) none = none-some edge.object (sym none ∙ edge.there)
 

@@ -1,10 +1,11 @@
 //! Laws of plans: functions that do nothing, whose contracts say what always holds.
 ghost use Rattle.std.specs.Prelude.{◌≡◌, ℕ, List, [], IsTrue, Some};
+ghost use Rattle.flow_code.specs.FlatCode.{IsFlat};
 ghost use Rattle.plan_flow.specs.Effect.{IsEffect};
 ghost use Rattle.plan_flow.specs.Must.{IsMust};
 ghost use Rattle.plan_flow.specs.Orders.{AreCovered};
 ghost use Rattle.plan_flow.specs.PlanScope.{PlanScope};
-ghost use Rattle.plan_flow.specs.Plans.{IsLeast, IsValid, Plan, PlannedPoint, planned, state_left};
+ghost use Rattle.plan_flow.specs.Plans.{FlowsInside, IsLeast, IsValid, Plan, PlannedPoint, planned, state_left};
 ghost use Rattle.plan_flow.specs.declared.edge.Edge.{Edge};
 ghost use Rattle.virtual_state.specs.Orders.{IsBelow};
 ghost use Rattle.virtual_state.specs.Sites.{has};
@@ -32,7 +33,6 @@ pub fn must_grows()
 /// Each state has one list of edges.
 pub fn effect_grows()
     ensures grows { (s : PlanScope) (at : ℕ) (low high : State) (edges also : List Edge)
-        → IsState low
         → IsBelow low high
         → IsMust s at low []
         → IsMust s at high []
@@ -45,9 +45,13 @@ pub fn effect_grows()
         → edges ≡ also }
 {}
 
-/// A flat code has at most one least plan.
-pub fn least_plans_are_one()
-    ensures { (s : PlanScope) (plan also : Plan)
+/// Each flat code that control does not leave has a least plan, and no flat code has two.
+pub fn flat_code_has_one_least_plan()
+    ensures some { (s : PlanScope)
+        → IsFlat s.flat
+        → FlowsInside s.flat
+        → (plan : Plan) × IsLeast s plan }
+    ensures one { (s : PlanScope) (plan also : Plan)
         → IsLeast s plan
         → IsLeast s also
         → plan ≡ also }

@@ -7,4 +7,4 @@ mod edge;
 mod laws;
 
 pub use edge::{Edge, EdgeKind, EdgeList};
-pub use laws::{effect_grows, least_plans_are_one, must_grows, no_valid_plan_keeps_more};
+pub use laws::{effect_grows, flat_code_has_one_least_plan, must_grows, no_valid_plan_keeps_more};
