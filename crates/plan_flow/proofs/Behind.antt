@@ -1,31 +1,31 @@
 -- In a state in which an instruction asks for no object, the slots and objects behind each edge are those of a state.
-use Rattle.std.proofs.Common.{◌≡◌, ℕ, ◌==◌, ◌+◌, ◌-◌, zero, suc, Bool, true, false, cond, not, ◌||◌, List, [], ◌∷◌, ◌++◌, map, length, replicate, slice_get, slice_set, Option, Some, None, is_some, IsTrue, IsFalse, refl, sym, ap, subst, ◌∙◌, inl, inr, ◌⊎◌}
+use Rattle.std.proofs.Common.{◌≡◌, ℕ, ◌+◌, ◌-◌, zero, suc, Bool, true, false, cond, List, [], ◌∷◌, ◌++◌, map, length, replicate, slice_get, slice_set, Option, Some, None, is_some, IsTrue, refl, sym, ap, subst, ◌∙◌, inl, inr, ◌⊎◌}
 use Rattle.std.specs.List.{list_any}
-use Rattle.std.proofs.lemmas.Bool.{cases_Bool, or_cases, or_left, or_right, or_parts, or_from, eq-eqb, false≢true, true≢false, both_ways}
+use Rattle.std.proofs.lemmas.Bool.{or_cases, or_left, or_right, or_parts, or_from, false≢true}
 use Rattle.std.proofs.lemmas.List.{length-set, length-replicate, map-append}
 use Rattle.std.proofs.lemmas.List.Folds.{list_any-append}
-use Rattle.std.proofs.lemmas.Option.{none-some, same_Some}
+use Rattle.std.proofs.lemmas.Option.{same_Some}
 use Rattle.class_model.specs.Frames.{is_top}
 use Rattle.class_model.specs.declared.frame.VType.{VType}
 use Rattle.flow_code.specs.declared.point.Point.{Point}
 use Rattle.plan_flow.specs.Effect.{IsStateBehind}
 use Rattle.plan_flow.specs.Must.{row_of_point, CannotBePut, IsMustOf}
-use Rattle.plan_flow.specs.PlanRows.{Source, plain_value, from_place, from_field, from_new, Change, no_change, new_object, put_field, enter_monitor, leave_monitor, object_put_into, object_of_site, PlanRow, RowEdge}
+use Rattle.plan_flow.specs.PlanRows.{Source, plain_value, from_place, from_field, from_new, Change, no_change, new_object, put_field, enter_monitor, leave_monitor, object_put_into, PlanRow, RowEdge}
 use Rattle.plan_flow.specs.PlanScope.{PlanScope, field_count, field_number, local_types, stack_types}
 use Rattle.plan_flow.specs.PlanSlots.{readable, held, field_in, field_of_slot, slot_of_new, slot_from, slots_from, with_field, put_in, with_depth_of, at_depth, changed, fit_locals, fit_stack, edge_locals, edge_stack, edge_objects, local_slots, stack_slots}
 use Rattle.plan_flow.specs.PlanTable.{held_from, change_asks}
-use Rattle.plan_flow.specs.Plans.{IsStateAt, unusable_places}
+use Rattle.plan_flow.specs.Plans.{IsStateAt}
 use Rattle.plan_flow.specs.declared.edge.EdgeKind.{EdgeKind}
 use Rattle.plan_flow.specs.declared.edge.EdgeKind.TheVariants.{Next, Jump, Handler}
-use Rattle.virtual_state.specs.Making.{CanBeState, IsStateOf}
+use Rattle.virtual_state.specs.Making.{CanBeState}
 use Rattle.virtual_state.specs.States.{State, IsState, IsEdge, IsPath, one_edge, edge_and_path, object_of, is_present, is_unusable, is_virtual, names}
 use Rattle.virtual_state.specs.declared.slot.Slot.{Slot}
 use Rattle.virtual_state.specs.declared.slot.Slot.TheVariants.{Plain, Virt, Unusable}
 use Rattle.virtual_state.specs.declared.slot.VObject.{VObject}
-use Rattle.virtual_state.specs.Laws.Objects.{same_or_not, some_or_none, found_site, found_present, present_found, object_first, object_behind}
+use Rattle.virtual_state.specs.Laws.Objects.{same_or_not, found_site, present_found, object_first, object_behind}
 use Rattle.plan_flow.proofs.Changing.{virtual_is, names_set, names_blank}
 use Rattle.plan_flow.proofs.EffectGrows.{asks_nothing, change_asked}
-use Rattle.plan_flow.proofs.Keeping.{Ordered, in_front, Kept, kept_state}
+use Rattle.plan_flow.proofs.Keeping.{Ordered, in_front, kept_state}
 use Rattle.plan_flow.proofs.Moving.{plain≢virt, same_site, names_at, field_edge}
 
 -- ---- slots that can be read are usable

@@ -1,27 +1,26 @@
 -- What an instruction leaves in a state is below what it leaves where more is made.
-use Rattle.std.proofs.Common.{◌≡◌, ℕ, zero, suc, Bool, true, false, cond, not, ◌||◌, List, [], ◌∷◌, ◌++◌, map, length, slice_get, Option, Some, None, IsTrue, IsFalse, refl, sym, ap, subst, ◌∙◌, inl, inr, ◌⊎◌}
-use Rattle.std.proofs.lemmas.Bool.{cases_Bool, false≢true, both_ways}
+use Rattle.std.proofs.Common.{◌≡◌, ℕ, zero, suc, Bool, List, [], ◌∷◌, ◌++◌, length, slice_get, Option, Some, None, IsTrue, refl, sym, ap, subst, ◌∙◌, inl, inr}
+use Rattle.std.proofs.lemmas.Bool.{cases_Bool, false≢true}
 use Rattle.std.proofs.lemmas.List.{map-append}
 use Rattle.std.proofs.lemmas.Option.{same_Some, none-some}
 use Rattle.flow_code.specs.FlatCode.{point_at}
 use Rattle.flow_code.specs.declared.point.Point.{Point}
 use Rattle.plan_flow.specs.Effect.{IsStateBehind, AreEdges, IsEffect, IsEffectIn}
 use Rattle.plan_flow.specs.Must.{row_of_point, open_edges, CannotBePut, AsksFor, IsAsked, by_position, IsMustOf, IsMust, IsMustIn}
-use Rattle.plan_flow.specs.Orders.{IsCovered, AreCovered}
+use Rattle.plan_flow.specs.Orders.{AreCovered}
 use Rattle.plan_flow.specs.PlanRows.{Change, no_change, new_object, put_field, enter_monitor, leave_monitor, Position, object_put_into, object_of_site, PlanRow, RowEdge}
 use Rattle.plan_flow.specs.PlanScope.{PlanScope, local_types, stack_types}
-use Rattle.plan_flow.specs.PlanSlots.{held, slots_from, fit_locals, fit_stack, edge_locals, edge_stack, edge_objects, local_slots, stack_slots}
-use Rattle.plan_flow.specs.PlanTable.{positions, change_asks}
+use Rattle.plan_flow.specs.PlanSlots.{slots_from, fit_locals, fit_stack, edge_locals, edge_stack, edge_objects, local_slots, stack_slots}
+use Rattle.plan_flow.specs.PlanTable.{change_asks}
 use Rattle.plan_flow.specs.declared.edge.Edge.{Edge}
 use Rattle.plan_flow.specs.declared.edge.EdgeKind.{EdgeKind}
 use Rattle.plan_flow.specs.declared.edge.EdgeKind.TheVariants.{Next, Jump, Handler}
 use Rattle.virtual_state.specs.Making.{IsStateOf}
 use Rattle.virtual_state.specs.Orders.{IsBelow}
 use Rattle.virtual_state.specs.Sites.{has}
-use Rattle.virtual_state.specs.States.{State, IsState, is_present}
+use Rattle.virtual_state.specs.States.{State, is_present}
 use Rattle.virtual_state.specs.Without.{IsClosed, made_plain, objects_without, without}
 use Rattle.virtual_state.specs.declared.slot.Slot.{Slot}
-use Rattle.virtual_state.specs.declared.slot.Slot.TheVariants.{Plain, Virt, Unusable}
 use Rattle.virtual_state.specs.declared.slot.VObject.{VObject}
 use Rattle.virtual_state.specs.Laws.Fields.{made, plain_slot}
 use Rattle.plan_flow.proofs.Moving.{KeepsNew, held_made, slots_made, fit_locals_made, fit_stack_made}

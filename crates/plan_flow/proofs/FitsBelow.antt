@@ -1,25 +1,22 @@
 -- Whether a state is below another one can be told, and where it isn't, some object of the other one must be made in each state above both.
-use Rattle.std.proofs.Common.{◌≡◌, ℕ, ◌==◌, zero, suc, Bool, true, false, cond, not, ◌&&◌, ◌||◌, List, [], ◌∷◌, map, Option, Some, None, is_some, IsTrue, IsFalse, refl, sym, ap, subst, ◌∙◌, inl, inr, ◌⊎◌, arith}
-use Rattle.std.specs.List.{list_any}
-use Rattle.std.specs.Option.{option_map}
+use Rattle.std.proofs.Common.{◌≡◌, ℕ, ◌==◌, Bool, false, List, [], ◌∷◌, map, Some, None, is_some, IsTrue, IsFalse, refl, sym, ap, subst, ◌∙◌, inl, inr, ◌⊎◌}
 use Rattle.std.proofs.lemmas.Bool.{cases_Bool, or_cases, or_left, or_right, eq-eqb, eqb-true, false≢true, true≢false, both_ways, not_from_true, not_from_false, not-true}
 use Rattle.std.proofs.lemmas.Option.{none-some, same_Some}
 use Rattle.virtual_state.specs.Orders.{IsBelow}
-use Rattle.virtual_state.specs.Sites.{has, differing}
-use Rattle.virtual_state.specs.States.{State, IsState, IsEdge, object_of, is_present, is_virtual, is_unusable, names, sites_of}
+use Rattle.virtual_state.specs.Sites.{has}
+use Rattle.virtual_state.specs.States.{State, IsState, object_of, is_present, is_virtual, is_unusable, names, sites_of}
 use Rattle.virtual_state.specs.Without.{IsClosed, made_plain, object_without, objects_without, without}
 use Rattle.virtual_state.specs.declared.slot.Slot.{Slot}
 use Rattle.virtual_state.specs.declared.slot.Slot.TheVariants.{Plain, Virt, Unusable}
 use Rattle.virtual_state.specs.declared.slot.VObject.{VObject}
 use Rattle.virtual_state.specs.Laws.Fields.{made, plain_slot, kept_slot}
-use Rattle.virtual_state.specs.Laws.Objects.{same_or_not, some_or_none, found_site, found_present, present_found, same_objects, not_found_absent}
+use Rattle.virtual_state.specs.Laws.Objects.{same_or_not, some_or_none, found_site, found_present, present_found, same_objects}
 use Rattle.virtual_state.specs.Laws.Orders.{absent, below_without, below_is_without, below_is_closed}
-use Rattle.virtual_state.specs.Laws.Removals.{gone, stays, still_found, without_in_order}
+use Rattle.virtual_state.specs.Laws.Removals.{gone, still_found, without_in_order}
 use Rattle.plan_flow.proofs.LeastAbove.{MustGo}
 use Rattle.plan_flow.proofs.Moving.{plain≢virt, same_site}
 use Rattle.plan_flow.proofs.PlanLaws.{present_below}
 use Rattle.plan_flow.proofs.Reached.{present_among}
-use Rattle.plan_flow.proofs.Changing.{virtual_is}
 
 -- ---- two slots
 
@@ -244,9 +241,11 @@ object_fits low high site is_low is_high counts = go (some_or_none (object_of hi
       → other.depth ≡ one.depth
       → (other.fields ≡ made (absent high) one.fields) ⊎ SlotFault high one.fields other.fields
       → HasObject low high site ⊎ Fault low high
-  of_fields one other there there_also depth (inl fits) = inl (record { each = λ object is.
-      let same = same_Some other object (sym there_also ∙ is) in
-      (one, there, ap (λ (o : VObject). o.depth) (sym same) ∙ depth, ap (λ (o : VObject). o.fields) (sym same) ∙ fits) })
+  of_fields one other there there_also depth (inl fits) = inl (record {
+    each = λ object is.
+        let same = same_Some other object (sym there_also ∙ is) in
+        (one, there, ap (λ (o : VObject). o.depth) (sym same) ∙ depth, ap (λ (o : VObject). o.fields) (sym same) ∙ fits);
+  })
   of_fields one other there there_also depth (inr fault) = inr (field_goes low high site one other is_low is_high there there_also fault)
 
   of_depth :

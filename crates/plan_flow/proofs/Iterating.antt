@@ -1,6 +1,6 @@
 -- States are raised until each edge leads to its target: each step makes an object of some point or reaches a point.
-use Rattle.std.proofs.Common.{◌≡◌, ℕ, ◌<◌, ◌≤◌, ◌+◌, ◌==◌, zero, suc, Bool, true, false, cond, List, [], ◌∷◌, ◌++◌, map, length, slice_get, Option, Some, None, is_some, IsTrue, IsFalse, refl, sym, ap, subst, ◌∙◌, inl, inr, ◌⊎◌, arith}
-use Rattle.std.proofs.lemmas.Bool.{cases_Bool, eq-eqb, eqb-true, ne_eqb, false≢true, true≢false, both_ways}
+use Rattle.std.proofs.Common.{◌≡◌, ℕ, ◌<◌, ◌≤◌, ◌+◌, ◌==◌, zero, suc, Bool, cond, List, [], ◌∷◌, length, slice_get, Option, Some, None, IsTrue, refl, sym, ap, subst, ◌∙◌, inl, inr, ◌⊎◌, arith}
+use Rattle.std.proofs.lemmas.Bool.{eq-eqb, ne_eqb, false≢true, both_ways}
 use Rattle.std.proofs.lemmas.Option.{none-some, same_Some}
 use Rattle.flow_code.specs.FlatCode.{IsFlat, point_at}
 use Rattle.flow_code.specs.declared.point.Point.{Point}
@@ -12,17 +12,15 @@ use Rattle.plan_flow.specs.Plans.{PlannedPoint, Plan, planned, FlowsInside, IsSt
 use Rattle.virtual_state.specs.Orders.{IsBelow}
 use Rattle.virtual_state.specs.Sites.{has}
 use Rattle.virtual_state.specs.States.{State, IsState, is_present}
-use Rattle.virtual_state.specs.Without.{without}
-use Rattle.virtual_state.specs.declared.slot.VObject.{VObject}
 use Rattle.virtual_state.specs.Laws.Objects.{same_or_not, some_or_none}
 use Rattle.virtual_state.specs.Laws.Orders.{below_itself, below_and_below, same_or_fewer}
-use Rattle.plan_flow.proofs.Behind.{StateBehind, state_behind, behind_is_at}
+use Rattle.plan_flow.proofs.Behind.{state_behind, behind_is_at}
 use Rattle.plan_flow.proofs.FitsBelow.{below_or_fault}
-use Rattle.plan_flow.proofs.Inside.{LeadInside, edges_inside}
-use Rattle.plan_flow.proofs.LeastAbove.{LeastAbove, MustGo}
+use Rattle.plan_flow.proofs.Inside.{edges_inside}
+use Rattle.plan_flow.proofs.LeastAbove.{MustGo}
 use Rattle.plan_flow.proofs.MustGrows.{StandsIn, edge_behind_more}
 use Rattle.plan_flow.proofs.Pruning.{state_of_is_one}
-use Rattle.plan_flow.proofs.Raising.{state_at_above, same_counts, IsTarget, raised, Reached, IsLeft, Left, left_of, left_is_one, IsLedIn, led_first, led_over, IsUnder, target_in_plan}
+use Rattle.plan_flow.proofs.Raising.{state_at_above, same_counts, IsTarget, raised, Reached, IsLeft, left_of, left_is_one, IsLedIn, led_first, led_over, IsUnder, target_in_plan}
 
 -- ---- sums over points
 
@@ -176,10 +174,13 @@ put_under s states pending state under is_at clean above least at_start = record
   here : (plan : Plan) → IsValid s plan → (point : PlannedPoint) × (planned plan pending.row.to ≡ Some point) × IsBelow state point.state
   here plan valid =
       let low = under.lower plan valid pending.from pending.state pending.is_found in
-      let target = target_in_plan s plan pending.from pending.point pending.state pending.left pending.behind pending.number pending.row low.0 valid pending.is_point (under.at pending.from pending.state pending.is_found).is_state pending.is_left pending.is_row pending.is_behind low.1 low.2 in
-      (target.0, target.1, least target.0.state target.2 (valid.each pending.row.to target.0 target.1).is_planned.beneath (λ old is.
-      let old_low = under.lower plan valid pending.row.to old is in
-      subst (λ (point : PlannedPoint). IsBelow old point.state) (same_Some old_low.0 target.0 (sym old_low.1 ∙ target.1)) old_low.2))
+      let target = target_in_plan s plan pending.from pending.point pending.state pending.left pending.behind pending.number pending.row low.0 valid pending.is_point (under.at pending.from pending.state pending.is_found).is_state pending.is_left pending.is_row pending.is_behind low.1 low.2 in (
+        target.0,
+        target.1,
+        least target.0.state target.2 (valid.each pending.row.to target.0 target.1).is_planned.beneath (λ old is.
+            let old_low = under.lower plan valid pending.row.to old is in
+            subst (λ (point : PlannedPoint). IsBelow old point.state) (same_Some old_low.0 target.0 (sym old_low.1 ∙ target.1)) old_low.2),
+      )
 
 -- ---- a step
 
@@ -312,8 +313,18 @@ rows_step s states at point state left flat flows under is_point is_found left_s
     let found = state_behind s at point left first left_state is_left.must in
     let counts = (state_at_above s at state left (under.at at state is_found) is_left.below).fields in
     let pending : Pending s states = record {
-      from = at; number = here.number; point = point; state = state; left = left; behind = found.state; row = first;
-      is_point = is_point; is_found = is_found; is_left = is_left; is_row = here.is; is_behind = found.behind;
+      from = at;
+      number = here.number;
+      point = point;
+      state = state;
+      left = left;
+      behind = found.state;
+      row = first;
+      is_point = is_point;
+      is_found = is_found;
+      is_left = is_left;
+      is_row = here.is;
+      is_behind = found.behind;
       is_at = behind_is_at s at point left first found.state counts found.behind;
       target_inside = (edges_inside s at point left flat flows is_point).each here.number first here.is;
     } in
@@ -348,16 +359,18 @@ point_step s states at flat flows under = go (some_or_none (point_at s.flat at))
       let left = left_of s at point.0 found.0 (under.at at found.0 found.1).is_state in
       elim (rows_step s states at point.0 found.0 left.state flat flows under point.1 found.1 left.is_state left.is (open_edges s at point.0 left.state) (λ number row is. record { number = number; is = is })) [
         | inr step ↦ inr step
-        | inl leads ↦ inl (record { each = λ number other state also behind row is_point is_found is_left is_row is_behind.
-            let same_point : other ≡ point.0 = same_Some other point.0 (sym is_point ∙ point.1) in
-            let same_state : state ≡ found.0 = same_Some state found.0 (sym is_found ∙ found.1) in
-            let one = subst (λ (p : Point). IsLeft s at p state also) same_point is_left in
-            let two = subst (λ (x : State). IsLeft s at point.0 x also) same_state one in
-            let same_left : also ≡ left.state = left_is_one s at point.0 found.0 also left.state two left.is in
-            let row_one = subst (λ (p : Point). slice_get (open_edges s at p also) number ≡ Some row) same_point is_row in
-            let row_two = subst (λ (x : State). slice_get (open_edges s at point.0 x) number ≡ Some row) same_left row_one in
-            let behind_one = subst (λ (p : Point). IsStateBehind s p at also row behind) same_point is_behind in
-            leads number row row_two behind (subst (λ (x : State). IsStateBehind s point.0 at x row behind) same_left behind_one) })
+        | inl leads ↦ inl (record {
+          each = λ number other state also behind row is_point is_found is_left is_row is_behind.
+              let same_point : other ≡ point.0 = same_Some other point.0 (sym is_point ∙ point.1) in
+              let same_state : state ≡ found.0 = same_Some state found.0 (sym is_found ∙ found.1) in
+              let one = subst (λ (p : Point). IsLeft s at p state also) same_point is_left in
+              let two = subst (λ (x : State). IsLeft s at point.0 x also) same_state one in
+              let same_left : also ≡ left.state = left_is_one s at point.0 found.0 also left.state two left.is in
+              let row_one = subst (λ (p : Point). slice_get (open_edges s at p also) number ≡ Some row) same_point is_row in
+              let row_two = subst (λ (x : State). slice_get (open_edges s at point.0 x) number ≡ Some row) same_left row_one in
+              let behind_one = subst (λ (p : Point). IsStateBehind s p at also row behind) same_point is_behind in
+              leads number row row_two behind (subst (λ (x : State). IsStateBehind s point.0 at x row behind) same_left behind_one);
+        })
       ]
 
 points_step :

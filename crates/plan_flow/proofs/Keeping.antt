@@ -1,12 +1,12 @@
 -- The state of slots with the objects that they reach is there, for any slots and objects that can be a state.
-use Rattle.std.proofs.Common.{◌≡◌, ℕ, ◌<◌, ◌==◌, Bool, true, false, cond, List, [], ◌∷◌, ◌++◌, Option, Some, None, is_some, IsTrue, IsFalse, refl, sym, ap, subst, ◌∙◌, inl, inr, ◌⊎◌, arith}
+use Rattle.std.proofs.Common.{◌≡◌, ℕ, ◌<◌, Bool, true, cond, List, [], ◌∷◌, Some, None, is_some, IsTrue, refl, sym, ap, subst, ◌∙◌, inl, inr, arith}
 use Rattle.std.specs.List.{AllByRecursion}
 use Rattle.std.proofs.lemmas.Bool.{cases_Bool, cases_order}
 use Rattle.std.proofs.lemmas.Option.{none-some}
 use Rattle.class_model.specs.Laws.Lists.{AllByRecursion-weaker}
 use Rattle.virtual_state.specs.Inner.Filling.{of_sites}
 use Rattle.virtual_state.specs.Making.{CanBeState, IsStateOf}
-use Rattle.virtual_state.specs.States.{State, IsState, IsEdge, IsPath, one_edge, edge_and_path, IsReached, from_slot, from_field, object_of, is_present, names, sites_of, IsIncreasing}
+use Rattle.virtual_state.specs.States.{State, IsState, IsEdge, IsPath, one_edge, edge_and_path, IsReached, from_slot, from_field, object_of, is_present, sites_of, IsIncreasing}
 use Rattle.virtual_state.specs.declared.slot.Slot.{Slot}
 use Rattle.virtual_state.specs.declared.slot.VObject.{VObject}
 use Rattle.virtual_state.specs.Laws.Objects.{same_or_not, found_present, object_first, object_behind, object_of-filter, filter_in_order}

@@ -1,18 +1,18 @@
 -- The least state above another one that is good, where in each state that isn't some object must be made.
-use Rattle.std.proofs.Common.{◌≡◌, ℕ, ◌<◌, ◌≤◌, zero, suc, Bool, true, false, not, ◌||◌, List, [], ◌∷◌, map, length, IsTrue, IsFalse, refl, sym, ap, subst, ◌∙◌, inl, inr, ◌⊎◌, arith}
+use Rattle.std.proofs.Common.{ℕ, ◌<◌, ◌≤◌, zero, suc, Bool, false, ◌||◌, List, [], ◌∷◌, length, IsTrue, IsFalse, refl, sym, ap, subst, ◌∙◌, inl, inr, ◌⊎◌, arith}
 use Rattle.std.proofs.lemmas.Bool.{cases_Bool, or_cases, or_left, or_right, eq-eqb, eqb-true, false≢true, both_ways}
 use Rattle.std.proofs.lemmas.List.{length-map}
 use Rattle.virtual_state.specs.Orders.{IsBelow}
-use Rattle.virtual_state.specs.States.{State, IsState, IsReached, from_slot, from_field, is_present, is_virtual, names}
+use Rattle.virtual_state.specs.States.{State, IsState, IsReached, from_slot, from_field, is_present, is_virtual}
 use Rattle.virtual_state.specs.Without.{IsClosed, object_without, without}
 use Rattle.virtual_state.specs.declared.slot.Slot.{Slot}
-use Rattle.virtual_state.specs.declared.slot.Slot.TheVariants.{Plain, Virt, Unusable}
+use Rattle.virtual_state.specs.declared.slot.Slot.TheVariants.{Virt}
 use Rattle.virtual_state.specs.declared.slot.VObject.{VObject}
 use Rattle.virtual_state.specs.Laws.Objects.{of_sites}
 use Rattle.virtual_state.specs.Laws.Orders.{absent, below_without, below_is_without, below_is_closed, below_itself, below_and_below}
 use Rattle.virtual_state.specs.Laws.Removals.{stay, edge_before, without_is_state, without_agrees, without_twice, fewer_objects}
 use Rattle.plan_flow.proofs.MustLaws.{same_truth}
-use Rattle.plan_flow.proofs.Reached.{Reach, reach, reach_all}
+use Rattle.plan_flow.proofs.Reached.{Reach, reach}
 
 -- The objects of a site and of those that its fields reach are made.
 pub record WithoutSite (state : State) (site : ℕ) : Type 0 where

@@ -1,29 +1,27 @@
 -- Each flat code that control does not leave has a least plan.
-use Rattle.std.proofs.Common.{◌≡◌, ℕ, ◌<◌, ◌≤◌, ◌==◌, zero, suc, Bool, true, false, cond, not, ◌&&◌, List, [], ◌∷◌, ◌++◌, map, length, slice_get, Option, Some, None, IsTrue, IsFalse, refl, sym, ap, subst, ◌∙◌, inl, inr, ◌⊎◌, arith}
+use Rattle.std.proofs.Common.{◌≡◌, ℕ, ◌<◌, ◌≤◌, zero, suc, Bool, true, false, cond, List, [], ◌∷◌, ◌++◌, length, slice_get, Option, Some, None, IsTrue, refl, sym, ap, subst, ◌∙◌, inl, inr, ◌⊎◌, arith}
 use Rattle.std.specs.List.{AllByRecursion, filter}
 use Rattle.std.specs.Option.{option_flatten}
-use Rattle.std.proofs.lemmas.Bool.{cases_Bool, and_parts, false≢true}
+use Rattle.std.proofs.lemmas.Bool.{and_parts, false≢true}
 use Rattle.std.proofs.lemmas.List.{map-append}
 use Rattle.std.proofs.lemmas.Option.{none-some, same_Some}
 use Rattle.flow_code.specs.FlatCode.{IsFlat, point_at}
 use Rattle.flow_code.specs.declared.point.Point.{Point}
-use Rattle.plan_flow.specs.Effect.{IsStateBehind, AreEdges, IsEffectIn}
+use Rattle.plan_flow.specs.Effect.{AreEdges, IsEffectIn}
 use Rattle.plan_flow.specs.Must.{open_edges, IsMustOf, IsMustIn}
 use Rattle.plan_flow.specs.PlanRows.{RowEdge}
 use Rattle.plan_flow.specs.PlanScope.{PlanScope, local_types, stack_types}
 use Rattle.plan_flow.specs.PlanSlots.{fit_locals, fit_stack}
-use Rattle.plan_flow.specs.Plans.{MadeEdge, PlannedPoint, Plan, planned, state_left, FlowsInside, IsStateAt, IsMadeIn, HasPlainBeneathTop, IsPlannedAt, state_without_sites, LeadsTo, AllLead, IsLedTo, at_start, over_edge, IsValid, IsValidAt, IsPlanBelow, IsLeast}
+use Rattle.plan_flow.specs.Plans.{MadeEdge, PlannedPoint, Plan, planned, state_left, FlowsInside, IsStateAt, IsMadeIn, HasPlainBeneathTop, state_without_sites, AllLead, IsLedTo, at_start, over_edge, IsValid, IsValidAt, IsPlanBelow, IsLeast}
 use Rattle.plan_flow.specs.declared.edge.Edge.{Edge}
 use Rattle.virtual_state.specs.Orders.{IsBelow}
 use Rattle.virtual_state.specs.Sites.{has, differing}
 use Rattle.virtual_state.specs.States.{State, IsState, IsIncreasing, is_present, is_unusable, names, sites_of}
-use Rattle.virtual_state.specs.Without.{without}
-use Rattle.virtual_state.specs.declared.slot.Slot.{Slot}
 use Rattle.virtual_state.specs.Laws.Objects.{some_or_none}
 use Rattle.virtual_state.specs.Laws.Orders.{absent, has_where, differing_is_closed, differing_is_taken, below_itself, below_and_below, below_without}
 use Rattle.plan_flow.proofs.Behind.{state_behind, names_both, named_locals, named_stack, local_places, stack_places}
-use Rattle.plan_flow.proofs.EffectGrows.{EdgeOf, edge_of_row, row_of_edge}
-use Rattle.plan_flow.proofs.Iterating.{put, put_here, put_each, LeadsIn, AllLeadAt, Final, iterated}
+use Rattle.plan_flow.proofs.EffectGrows.{edge_of_row, row_of_edge}
+use Rattle.plan_flow.proofs.Iterating.{put, put_here, put_each, LeadsIn, Final, iterated}
 use Rattle.plan_flow.proofs.Raising.{Reached, IsLeft, Left, left_of, left_is_one, IsLedIn, led_first, led_over, IsUnder, must_at}
 use Rattle.plan_flow.proofs.Settled.{clean_or_not, path_from_none}
 
@@ -258,10 +256,11 @@ unfolding plan_in
 plan_has s planning at state is =
     let inside = planning.final.under.inside at state is in
     let found = (planning.points at).found state is in
-    let says = (planning.points at).from found.0 found.1 in
-    (found.0,
-    ap option_flatten (tabulate_at (λ one. (planning.points one).option) (length s.flat.points) at inside) ∙ found.1,
-    same_Some found.0.state state (sym says.is_found ∙ is))
+    let says = (planning.points at).from found.0 found.1 in (
+      found.0,
+      ap option_flatten (tabulate_at (λ one. (planning.points one).option) (length s.flat.points) at inside) ∙ found.1,
+      same_Some found.0.state state (sym says.is_found ∙ is),
+    )
 
 -- the edges of a point lead to their targets in the plan
 lead_of : (states : Reached) (plan : Plan) (behind : State) (to : ℕ) → ((at : ℕ) (state : State) → states at ≡ Some state → (point : PlannedPoint) × (planned plan at ≡ Some point) × (point.state ≡ state)) → LeadsIn states to behind → (target : PlannedPoint) × (planned plan to ≡ Some target) × IsBelow behind target.state × (made_on behind (states to) ≡ differing behind target.state)
@@ -279,9 +278,10 @@ edges_lead :
 unfolding made_edges
 edges_lead states plan has [] leads = tt
 edges_lead states plan has (edge ∷ edges) leads =
-    let lead = lead_of states plan edge.state edge.to has (leads 0 edge refl) in
-    (record { target = lead.0; reached = lead.1; below = lead.2; same_by = refl; same_to = refl; same_made = lead.3 },
-    edges_lead states plan has edges (λ number one is. leads (suc number) one is))
+    let lead = lead_of states plan edge.state edge.to has (leads 0 edge refl) in (
+      record { target = lead.0; reached = lead.1; below = lead.2; same_by = refl; same_to = refl; same_made = lead.3 },
+      edges_lead states plan has edges (λ number one is. leads (suc number) one is),
+    )
 
 plan_led : (s : PlanScope) (planning : Planning s) {at : ℕ} → IsLedIn s planning.final.states at → IsLedTo (plan_in s planning) at
 plan_led s planning led_first = at_start
@@ -341,11 +341,14 @@ plan_least s planning other valid = record {
       let low = planning.final.under.lower other valid at point.state says.is_found in
       let also = valid.each at low.0 low.1 in
       let high_must = must_at s at says.point (state_left low.0) [] says.is_point also.asks_none in
-      let up = below_and_below point.state low.0.state (state_left low.0) low.2 (below_without low.0.state (has low.0.made) also.is_planned.state.is_state also.is_planned.made.closed) in
-      (low.0, low.1, record {
-        before = low.2;
-        after = subst (λ (left : State). IsBelow left (state_left low.0)) (sym says.same_left) (says.is_left.least (state_left low.0) up high_must);
-      });
+      let up = below_and_below point.state low.0.state (state_left low.0) low.2 (below_without low.0.state (has low.0.made) also.is_planned.state.is_state also.is_planned.made.closed) in (
+        low.0,
+        low.1,
+        record {
+          before = low.2;
+          after = subst (λ (left : State). IsBelow left (state_left low.0)) (sym says.same_left) (says.is_left.least (state_left low.0) up high_must);
+        },
+      );
 }
 
 pub least_plan_of : (s : PlanScope) → IsFlat s.flat → FlowsInside s.flat → (plan : Plan) × IsLeast s plan

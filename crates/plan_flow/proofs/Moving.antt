@@ -1,17 +1,16 @@
 -- What places hold where the objects of a closed set are made: making commutes with moving.
-use Rattle.std.proofs.Common.{◌≡◌, ℕ, ◌==◌, zero, suc, Bool, true, false, cond, not, ◌||◌, List, [], ◌∷◌, ◌++◌, map, length, slice_get, Option, Some, None, IsTrue, IsFalse, refl, sym, ap, subst, ◌∙◌, inl, inr}
-use Rattle.std.specs.List.{list_any}
+use Rattle.std.proofs.Common.{◌≡◌, ℕ, ◌==◌, zero, suc, Bool, true, false, cond, List, [], ◌∷◌, slice_get, Option, Some, None, IsTrue, IsFalse, refl, sym, ap, subst, ◌∙◌, inl, inr}
 use Rattle.std.specs.Option.{option_map}
-use Rattle.std.proofs.lemmas.Bool.{cases_Bool, eq-eqb, eqb-true, or_left, or_right, false≢true, true≢false}
-use Rattle.std.proofs.lemmas.Option.{slice_get-map, none-some}
+use Rattle.std.proofs.lemmas.Bool.{cases_Bool, eq-eqb, eqb-true, or_left, or_right, false≢true}
+use Rattle.std.proofs.lemmas.Option.{slice_get-map}
 use Rattle.class_model.specs.Frames.{is_top}
 use Rattle.class_model.specs.declared.frame.VType.{VType}
 use Rattle.member_link.specs.References.{Reference}
 use Rattle.plan_flow.specs.PlanRows.{Source, plain_value, from_place, from_field, from_new, Change, no_change, new_object, put_field, enter_monitor, leave_monitor, Guard, in_each_state, where_plain, where_may_be_same, where_may_differ}
 use Rattle.plan_flow.specs.PlanScope.{PlanScope, field_number}
-use Rattle.plan_flow.specs.PlanSlots.{readable, held, field_in, field_held, field_of_slot, slot_of_new, slot_from, slots_from, is_plain, may_be_same, may_differ, is_open, fit_locals, fit_stack}
+use Rattle.plan_flow.specs.PlanSlots.{readable, held, field_in, field_of_slot, slot_of_new, slot_from, slots_from, is_plain, may_be_same, may_differ, is_open, fit_locals, fit_stack}
 use Rattle.virtual_state.specs.States.{State, IsEdge, object_of, is_virtual, names}
-use Rattle.virtual_state.specs.Without.{IsClosed, made_plain, object_without, objects_without, without}
+use Rattle.virtual_state.specs.Without.{IsClosed, made_plain, object_without, without}
 use Rattle.virtual_state.specs.declared.slot.Slot.{Slot}
 use Rattle.virtual_state.specs.declared.slot.Slot.TheVariants.{Plain, Virt, Unusable}
 use Rattle.virtual_state.specs.declared.slot.VObject.{VObject}

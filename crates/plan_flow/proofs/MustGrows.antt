@@ -1,19 +1,17 @@
 -- What an instruction asks in a state, it asks where more is made, or it is made there.
-use Rattle.std.proofs.Common.{◌≡◌, ℕ, zero, suc, Bool, true, false, cond, not, ◌&&◌, ◌||◌, List, [], ◌∷◌, ◌++◌, map, slice_get, Option, Some, None, IsTrue, IsFalse, refl, sym, ap, subst, ◌∙◌, inl, inr, ◌⊎◌}
+use Rattle.std.proofs.Common.{◌≡◌, ℕ, zero, suc, Bool, true, false, cond, List, [], ◌∷◌, slice_get, Option, Some, None, IsTrue, IsFalse, refl, sym, ap, subst, ◌∙◌, inl, inr}
 use Rattle.std.specs.List.{list_any, filter}
 use Rattle.std.specs.Option.{option_map}
-use Rattle.std.proofs.lemmas.Bool.{cases_Bool, or_cases, or_left, or_right, false≢true, both_ways}
-use Rattle.std.proofs.lemmas.Option.{same_Some}
+use Rattle.std.proofs.lemmas.Bool.{cases_Bool, or_cases, or_left, or_right, both_ways}
 use Rattle.class_model.specs.Frames.{is_top}
 use Rattle.class_model.specs.declared.frame.VType.{VType}
 use Rattle.flow_code.specs.declared.point.Point.{Point}
 use Rattle.plan_flow.specs.Must.{row_of_point, open_edges, CannotBePut, AsksFor, IsAsked, by_position, beneath}
-use Rattle.plan_flow.specs.PlanRows.{Source, plain_value, from_place, from_field, from_new, Change, Position, any_object, object_put_into, object_not_below, object_at_depth, object_of_site, PlanRow, RowEdge}
+use Rattle.plan_flow.specs.PlanRows.{Source, plain_value, from_place, from_field, from_new, Change, Position, any_object, object_put_into, object_not_below, object_at_depth, object_of_site, RowEdge}
 use Rattle.plan_flow.specs.PlanScope.{PlanScope, stack_types}
-use Rattle.plan_flow.specs.PlanSlots.{held, field_of_slot, slot_from, slots_from, is_open, fit_stack, edge_stack, stack_slots, beneath_top}
-use Rattle.plan_flow.specs.PlanTable.{edges_of, positions}
-use Rattle.virtual_state.specs.Depths.{depth_of}
-use Rattle.virtual_state.specs.States.{State, IsEdge, IsPath, one_edge, edge_and_path, object_of, is_present, is_virtual, names}
+use Rattle.plan_flow.specs.PlanSlots.{held, field_of_slot, slot_from, slots_from, is_open, fit_stack, edge_stack, beneath_top}
+use Rattle.plan_flow.specs.PlanTable.{edges_of}
+use Rattle.virtual_state.specs.States.{State, IsPath, one_edge, edge_and_path, object_of, is_virtual, names}
 use Rattle.virtual_state.specs.Without.{IsClosed, made_plain, object_without, objects_without, without}
 use Rattle.virtual_state.specs.declared.slot.Slot.{Slot}
 use Rattle.virtual_state.specs.declared.slot.Slot.TheVariants.{Plain, Virt, Unusable}

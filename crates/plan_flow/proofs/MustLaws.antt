@@ -1,7 +1,7 @@
 -- The least closed set that an instruction asks for is one, and grows.
-use Rattle.std.proofs.Common.{◌≡◌, ◌≢◌, ℕ, ◌<◌, ◌≤◌, ◌==◌, Bool, true, false, cond, not, ◌||◌, List, [], ◌∷◌, Option, Some, None, IsTrue, IsFalse, refl, sym, ap, subst, ◌∙◌, inl, inr, ◌⊎◌, arith}
-use Rattle.std.specs.List.{list_any, AllByRecursion}
-use Rattle.std.proofs.lemmas.Bool.{cases_Bool, cases_order, or_cases, or_left, or_right, eq-eqb, ne_eqb, eqb-true, false≢true, true≢false, both_ways, not_from_true, not_from_false, not-true}
+use Rattle.std.proofs.Common.{◌≡◌, ◌≢◌, ℕ, ◌<◌, ◌==◌, Bool, true, false, ◌||◌, List, [], ◌∷◌, Option, Some, None, IsTrue, refl, sym, ap, subst, ◌∙◌, inl, inr, arith}
+use Rattle.std.specs.List.{AllByRecursion}
+use Rattle.std.proofs.lemmas.Bool.{cases_Bool, cases_order, or_cases, or_left, or_right, eq-eqb, ne_eqb, false≢true, true≢false, both_ways, not-true}
 use Rattle.class_model.specs.Laws.Lists.{AllByRecursion-weaker}
 use Rattle.flow_code.specs.FlatCode.{point_at}
 use Rattle.flow_code.specs.declared.point.Point.{Point}

@@ -1,18 +1,16 @@
 -- A flat code has at most one least plan, and no valid plan keeps more objects virtual.
-use Rattle.std.proofs.Common.{◌≡◌, ℕ, zero, suc, Bool, true, false, List, [], ◌∷◌, length, slice_get, Option, Some, None, IsTrue, IsFalse, refl, sym, ap, subst, ◌∙◌, inl, inr, ◌⊎◌, arith}
-use Rattle.std.specs.Option.{option_flatten}
-use Rattle.std.proofs.lemmas.Bool.{cases_Bool, false≢true, true≢false, both_ways}
+use Rattle.std.proofs.Common.{◌≡◌, ℕ, suc, List, [], ◌∷◌, length, Some, IsTrue, refl, sym, ap, subst, ◌∙◌, inl, inr, arith}
+use Rattle.std.proofs.lemmas.Bool.{cases_Bool}
 use Rattle.std.proofs.lemmas.Option.{same_Some, none-some}
 use Rattle.plan_flow.specs.Effect.{IsEffect}
 use Rattle.plan_flow.specs.PlanScope.{PlanScope}
-use Rattle.plan_flow.specs.Plans.{MadeEdge, PlannedPoint, Plan, planned, state_left, IsMadeIn, LeadsTo, AllLead, IsValid, IsValidAt, IsPlanBelow, IsPointBelow, IsLeast}
+use Rattle.plan_flow.specs.Plans.{MadeEdge, PlannedPoint, Plan, planned, state_left, IsMadeIn, AllLead, IsValidAt, IsPlanBelow, IsPointBelow, IsLeast}
 use Rattle.plan_flow.specs.declared.edge.Edge.{Edge}
-use Rattle.plan_flow.specs.declared.edge.EdgeKind.{EdgeKind}
 use Rattle.virtual_state.specs.Orders.{IsBelow}
 use Rattle.virtual_state.specs.Sites.{has, differing}
 use Rattle.virtual_state.specs.States.{State, is_present}
 use Rattle.virtual_state.specs.Without.{without}
-use Rattle.virtual_state.specs.Laws.Objects.{some_or_none, found_present, present_found}
+use Rattle.virtual_state.specs.Laws.Objects.{some_or_none, found_present}
 use Rattle.virtual_state.specs.Laws.Orders.{below_both_ways}
 use Rattle.virtual_state.specs.Laws.Removals.{gone, present_before, present_behind}
 use Rattle.plan_flow.proofs.EffectGrows.{effect_is_one}
@@ -54,11 +52,14 @@ same_at :
     → (also : PlannedPoint) × (planned other at ≡ Some also) × AreSamePoints point also
 same_at plan other up down at point is =
     let found = up.each at point is in
-    let back = below_at other plan at found.0 point down found.1 is in
-    (found.0, found.1, record {
-      state = below_both_ways point.state found.0.state found.2.before back.before;
-      left = below_both_ways (state_left point) (state_left found.0) found.2.after back.after;
-    })
+    let back = below_at other plan at found.0 point down found.1 is in (
+      found.0,
+      found.1,
+      record {
+        state = below_both_ways point.state found.0.state found.2.before back.before;
+        left = below_both_ways (state_left point) (state_left found.0) found.2.after back.after;
+      },
+    )
 
 -- a set that is made is told by the states before and after
 made_in :

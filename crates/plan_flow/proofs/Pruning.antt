@@ -1,12 +1,11 @@
 -- The states of slots with the objects that they reach, where the objects of a closed set are made.
-use Rattle.std.proofs.Common.{◌≡◌, ℕ, Bool, true, false, List, [], ◌∷◌, map, Option, Some, None, is_some, IsTrue, IsFalse, refl, sym, ap, subst, ◌∙◌, inl, inr}
+use Rattle.std.proofs.Common.{◌≡◌, ℕ, Bool, List, IsFalse, sym, ap, subst, ◌∙◌, inl, inr}
 use Rattle.std.specs.Option.{option_map}
-use Rattle.std.proofs.lemmas.Bool.{cases_Bool, both_ways, false≢true}
-use Rattle.std.proofs.lemmas.Option.{none-some}
+use Rattle.std.proofs.lemmas.Bool.{cases_Bool, both_ways}
 use Rattle.virtual_state.specs.Making.{IsStateOf}
 use Rattle.virtual_state.specs.Orders.{IsBelow}
-use Rattle.virtual_state.specs.States.{State, IsState, IsEdge, IsReached, from_slot, from_field, object_of, is_present, names}
-use Rattle.virtual_state.specs.Without.{IsClosed, made_plain, object_without, objects_without, without}
+use Rattle.virtual_state.specs.States.{State, IsState, IsReached, from_slot, from_field, object_of}
+use Rattle.virtual_state.specs.Without.{IsClosed, object_without, objects_without, without}
 use Rattle.virtual_state.specs.declared.slot.Slot.{Slot}
 use Rattle.virtual_state.specs.declared.slot.VObject.{VObject}
 use Rattle.virtual_state.specs.Laws.Fields.{made, named_before}

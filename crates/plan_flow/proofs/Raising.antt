@@ -1,7 +1,7 @@
 -- What is reached so far, with states that are below those of each valid plan, and how a state is raised to where an edge leads.
-use Rattle.std.proofs.Common.{◌≡◌, ℕ, ◌<◌, ◌≤◌, ◌+◌, ◌==◌, zero, suc, Bool, true, false, cond, List, [], ◌∷◌, ◌++◌, map, length, replicate, slice_get, Option, Some, None, IsTrue, IsFalse, refl, sym, ap, subst, ◌∙◌, inl, inr, ◌⊎◌, arith}
+use Rattle.std.proofs.Common.{◌≡◌, ℕ, ◌<◌, zero, suc, false, List, [], ◌∷◌, map, length, slice_get, Option, Some, refl, sym, ap, subst, ◌∙◌, inl, inr, arith}
 use Rattle.std.specs.List.{list_any}
-use Rattle.std.proofs.lemmas.Bool.{cases_Bool, or_parts, eq-eqb, eqb-true, false≢true, true≢false, both_ways}
+use Rattle.std.proofs.lemmas.Bool.{or_parts}
 use Rattle.std.proofs.lemmas.List.{length-map}
 use Rattle.std.proofs.lemmas.Option.{none-some, same_Some}
 use Rattle.flow_code.specs.FlatCode.{point_at}
@@ -9,24 +9,21 @@ use Rattle.flow_code.specs.declared.point.Point.{Point}
 use Rattle.plan_flow.specs.Effect.{IsStateBehind, AreEdges, IsEffectIn}
 use Rattle.plan_flow.specs.Must.{open_edges, IsMustOf, IsMust, IsMustIn}
 use Rattle.plan_flow.specs.PlanRows.{RowEdge}
-use Rattle.plan_flow.specs.PlanScope.{PlanScope, field_count}
-use Rattle.plan_flow.specs.Plans.{MadeEdge, PlannedPoint, Plan, planned, state_left, IsStateAt, HasPlainBeneathTop, state_without_sites, LeadsTo, AllLead, IsValid, IsValidAt}
+use Rattle.plan_flow.specs.PlanScope.{PlanScope}
+use Rattle.plan_flow.specs.Plans.{MadeEdge, PlannedPoint, Plan, planned, state_left, IsStateAt, HasPlainBeneathTop, state_without_sites, LeadsTo, AllLead, IsValid}
 use Rattle.plan_flow.specs.declared.edge.Edge.{Edge}
 use Rattle.virtual_state.specs.Orders.{IsBelow}
 use Rattle.virtual_state.specs.Sites.{has}
 use Rattle.virtual_state.specs.States.{State, IsState, object_of, is_unusable}
-use Rattle.virtual_state.specs.Without.{without, object_without}
 use Rattle.virtual_state.specs.declared.slot.Slot.{Slot}
 use Rattle.virtual_state.specs.declared.slot.VObject.{VObject}
 use Rattle.virtual_state.specs.Laws.Fields.{made, unusable_made}
-use Rattle.virtual_state.specs.Laws.Objects.{some_or_none}
-use Rattle.virtual_state.specs.Laws.Orders.{below_without, below_is_state, below_itself, below_and_below, below_both_ways}
-use Rattle.virtual_state.specs.Laws.Removals.{was_found, without_is_state}
-use Rattle.plan_flow.proofs.Behind.{StateBehind, state_behind, behind_is_at}
-use Rattle.plan_flow.proofs.EffectGrows.{EdgeOf, edge_of_row, behind_below}
+use Rattle.virtual_state.specs.Laws.Orders.{below_without, below_is_state, below_and_below, below_both_ways}
+use Rattle.virtual_state.specs.Laws.Removals.{was_found}
+use Rattle.plan_flow.proofs.EffectGrows.{edge_of_row, behind_below}
 use Rattle.plan_flow.proofs.FitsBelow.{SameFieldCounts, below_or_fault}
-use Rattle.plan_flow.proofs.LeastAbove.{LeastAbove, least_above, MustGo, IsDecided}
-use Rattle.plan_flow.proofs.MustGrows.{StandsIn, edge_behind_more}
+use Rattle.plan_flow.proofs.LeastAbove.{LeastAbove, least_above, IsDecided}
+use Rattle.plan_flow.proofs.MustGrows.{edge_behind_more}
 use Rattle.plan_flow.proofs.Settled.{settled, clean_or_not}
 
 -- ---- states of one point

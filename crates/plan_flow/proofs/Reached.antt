@@ -1,15 +1,15 @@
 -- Which objects slots reach can be decided: fields are followed until no object is left that adds one.
-use Rattle.std.proofs.Common.{◌≡◌, ℕ, ◌<◌, ◌≤◌, ◌+◌, ◌==◌, zero, suc, Bool, true, false, cond, not, ◌&&◌, ◌||◌, List, [], ◌∷◌, length, Option, Some, None, IsTrue, IsFalse, refl, sym, ap, subst, ◌∙◌, inl, inr, ◌⊎◌, arith}
+use Rattle.std.proofs.Common.{◌≡◌, ℕ, ◌<◌, ◌≤◌, ◌+◌, ◌==◌, zero, suc, Bool, true, false, not, ◌||◌, List, [], ◌∷◌, Option, Some, None, IsTrue, IsFalse, refl, sym, ap, subst, ◌∙◌, inl, inr, ◌⊎◌, arith}
 use Rattle.std.specs.List.{list_any}
-use Rattle.std.proofs.lemmas.Bool.{cases_Bool, or_cases, or_left, or_right, and_parts, and_from, eq-eqb, eqb-true, false≢true, true≢false, both_ways, not_from_true, not_from_false, not-true}
+use Rattle.std.proofs.lemmas.Bool.{cases_Bool, or_cases, or_left, or_right, eq-eqb, eqb-true, false≢true, true≢false, both_ways, not_from_true, not_from_false, not-true}
 use Rattle.virtual_state.specs.Inner.Marks.{named_by}
 use Rattle.virtual_state.specs.Sites.{has}
-use Rattle.virtual_state.specs.States.{IsEdge, IsReached, from_slot, from_field, object_of, is_present, is_virtual, names, sites_of}
+use Rattle.virtual_state.specs.States.{IsEdge, IsReached, from_slot, from_field, object_of, is_present, names, sites_of}
 use Rattle.virtual_state.specs.Without.{IsClosed}
 use Rattle.virtual_state.specs.declared.slot.Slot.{Slot}
 use Rattle.virtual_state.specs.declared.slot.Slot.TheVariants.{Plain, Virt, Unusable}
 use Rattle.virtual_state.specs.declared.slot.VObject.{VObject}
-use Rattle.virtual_state.specs.Laws.Objects.{same_or_not, object_first, object_behind, present_found}
+use Rattle.virtual_state.specs.Laws.Objects.{same_or_not, object_behind, present_found}
 
 -- ---- how many pass a test
 

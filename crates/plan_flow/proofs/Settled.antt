@@ -1,7 +1,7 @@
 -- Whether an instruction asks for an object can be told, so that above each state there is a least one in which it asks for none.
-use Rattle.std.proofs.Common.{◌≡◌, ℕ, ◌==◌, zero, suc, Bool, true, false, cond, not, ◌||◌, List, [], ◌∷◌, map, length, drop, slice_get, Option, Some, None, IsTrue, IsFalse, refl, sym, ap, subst, ◌∙◌, inl, inr, ◌⊎◌, drop-cons}
+use Rattle.std.proofs.Common.{◌≡◌, ℕ, zero, suc, Bool, true, false, cond, List, [], ◌∷◌, length, drop, slice_get, Some, None, IsTrue, IsFalse, refl, sym, ap, subst, ◌∙◌, inl, inr, ◌⊎◌}
 use Rattle.std.specs.List.{list_any}
-use Rattle.std.proofs.lemmas.Bool.{cases_Bool, or_cases, or_left, or_right, false≢true, true≢false, both_ways, not_from_true, not_from_false}
+use Rattle.std.proofs.lemmas.Bool.{cases_Bool, or_cases, or_left, or_right, false≢true, both_ways, not_from_true}
 use Rattle.std.proofs.lemmas.List.{drop-map}
 use Rattle.std.proofs.lemmas.Option.{none-some, same_Some}
 use Rattle.class_model.specs.Frames.{is_top}
@@ -14,21 +14,19 @@ use Rattle.plan_flow.specs.PlanSlots.{held, stack_slots, beneath_top}
 use Rattle.plan_flow.specs.PlanTable.{positions}
 use Rattle.plan_flow.specs.Plans.{HasPlainBeneathTop}
 use Rattle.virtual_state.specs.Depths.{depth_of}
-use Rattle.virtual_state.specs.Orders.{IsBelow}
-use Rattle.virtual_state.specs.Sites.{has}
 use Rattle.virtual_state.specs.States.{State, IsState, IsEdge, IsPath, one_edge, edge_and_path, IsReached, from_slot, from_field, object_of, is_present, is_virtual, names}
-use Rattle.virtual_state.specs.Without.{IsClosed, made_plain, without}
+use Rattle.virtual_state.specs.Without.{made_plain}
 use Rattle.virtual_state.specs.declared.slot.Slot.{Slot}
 use Rattle.virtual_state.specs.declared.slot.Slot.TheVariants.{Plain, Virt, Unusable}
 use Rattle.virtual_state.specs.declared.slot.VObject.{VObject}
 use Rattle.virtual_state.specs.Laws.Fields.{made, named_behind}
-use Rattle.virtual_state.specs.Laws.Objects.{same_or_not, some_or_none, found_present}
+use Rattle.virtual_state.specs.Laws.Objects.{same_or_not, some_or_none}
 use Rattle.virtual_state.specs.Laws.Orders.{absent, below_is_without, below_is_closed}
 use Rattle.plan_flow.proofs.FitsBelow.{fields_lost}
 use Rattle.plan_flow.proofs.LeastAbove.{MustGo, LeastAbove, least_above}
 use Rattle.plan_flow.proofs.Moving.{plain≢virt, same_site, names_at}
 use Rattle.plan_flow.proofs.MustGrows.{asked_behind}
-use Rattle.plan_flow.proofs.Reached.{Reach, reach, reach_all}
+use Rattle.plan_flow.proofs.Reached.{reach, reach_all}
 
 -- ---- paths can be told
 
@@ -297,10 +295,12 @@ beneath_in s at slots = beneath_top (stack_types s.flat at) (drop (length (local
 pub clean_or_not : (s : PlanScope) (at : ℕ) (state : State) → IsState state → HasPlainBeneathTop s at state ⊎ MustGo (HasPlainBeneathTop s at) state
 clean_or_not s at state is =
     elim (fields_lost state (beneath_in s at state.slots)) [
-      | inl none ↦ inl (record { each = λ site. elim (cases_Bool (names (beneath_in s at state.slots) site)) [
-        | inr not_named ↦ not_named
-        | inl named ↦ absurd (both_ways (is_present state.objects site) (none site named) (is.places site (dropped_named (length (local_types s.flat at)) state.slots site (beneath_named (stack_types s.flat at) (drop (length (local_types s.flat at)) state.slots) site named))))
-      ] })
+      | inl none ↦ inl (record {
+        each = λ site. elim (cases_Bool (names (beneath_in s at state.slots) site)) [
+          | inr not_named ↦ not_named
+          | inl named ↦ absurd (both_ways (is_present state.objects site) (none site named) (is.places site (dropped_named (length (local_types s.flat at)) state.slots site (beneath_named (stack_types s.flat at) (drop (length (local_types s.flat at)) state.slots) site named))))
+        ];
+      })
       | inr found ↦ inr (record {
         site = found.0;
         present = found.2;
