@@ -1,0 +1,17 @@
+pub mod Moving
+pub mod Changing
+pub mod Pruning
+pub mod MustGrows
+pub mod EffectGrows
+pub mod MustLaws
+pub mod PlanLaws
+pub mod Reached
+pub mod LeastAbove
+pub mod FitsBelow
+pub mod Settled
+pub mod Keeping
+pub mod Behind
+pub mod Inside
+pub mod Raising
+pub mod Iterating
+pub mod LeastPlans

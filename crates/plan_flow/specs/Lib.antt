@@ -1,0 +1,9 @@
+pub mod PlanScope
+pub mod PlanRows
+pub mod PlanTable
+pub mod PlanSlots
+pub mod Must
+pub mod Effect
+pub mod Plans
+pub mod Gain
+pub mod Orders

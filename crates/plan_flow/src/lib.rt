@@ -1,0 +1,10 @@
+//! Plans of flat code: at which points an object that does not escape is not made, and where it is made (after Stadler,
+//! Würthinger and Mössenböck, "Partial Escape Analysis and Scalar Replacement for Java", CGO 2014; the definitions are this
+//! project's profile).
+#![tactic(auto)]
+
+mod edge;
+mod laws;
+
+pub use edge::{Edge, EdgeKind, EdgeList};
+pub use laws::{effect_grows, flat_code_has_one_least_plan, must_grows, no_valid_plan_keeps_more};
