@@ -67,77 +67,77 @@ pub record SpellsText (text : Bytes) (word : Word) : Type 0 where
 -- the number of a known reference
 pub data SpellsKnown : ℕ → Word → Type 0 where
   spells_known : {number : ℕ} {word : Word}
-    → SpellsNumber number word
-    → SpellsKnown number (codes "r:" ++ word)
+      → SpellsNumber number word
+      → SpellsKnown number (codes "r:" ++ word)
 
 -- ---- values and actions
 
 pub data SpellsGiven : Given → Word → Type 0 where
   given_int : {number : ℤ} {word : Word}
-    → SpellsInteger w32 number word
-    → SpellsGiven (Int number) (codes "i:" ++ word)
+      → SpellsInteger w32 number word
+      → SpellsGiven (Int number) (codes "i:" ++ word)
   given_long : {number : ℤ} {word : Word}
-    → SpellsInteger w64 number word
-    → SpellsGiven (Long number) (codes "l:" ++ word)
+      → SpellsInteger w64 number word
+      → SpellsGiven (Long number) (codes "l:" ++ word)
   given_float : {bits : ℕ} {word : Word}
-    → SpellsBits 8 bits word
-    → SpellsGiven (Float bits) (codes "f:" ++ word)
+      → SpellsBits 8 bits word
+      → SpellsGiven (Float bits) (codes "f:" ++ word)
   given_double : {bits : ℕ} {word : Word}
-    → SpellsBits 16 bits word
-    → SpellsGiven (Double bits) (codes "d:" ++ word)
+      → SpellsBits 16 bits word
+      → SpellsGiven (Double bits) (codes "d:" ++ word)
   given_null : SpellsGiven Null (codes "null")
   given_known : {number : ℕ} {word : Word}
-    → SpellsNumber number word
-    → SpellsGiven (Known number) (codes "r:" ++ word)
+      → SpellsNumber number word
+      → SpellsGiven (Known number) (codes "r:" ++ word)
 
 -- one word for each of a list
 pub data SpellsEach {X : Type 0} (Spells : X → Word → Type 0) : List X → List Word → Type 0 where
   none_spelled : SpellsEach Spells [] []
   more_spelled : {first : X} {others : List X} {word : Word} {words : List Word}
-    → Spells first word
-    → SpellsEach Spells others words
-    → SpellsEach Spells (first ∷ others) (word ∷ words)
+      → Spells first word
+      → SpellsEach Spells others words
+      → SpellsEach Spells (first ∷ others) (word ∷ words)
 
 -- an action, by the words of its line
 pub data SpellsAction : Action → List Word → Type 0 where
   call_line : {class name desc : Bytes} {values : List Given} {first second third : Word} {words : List Word}
-    → SpellsText class first
-    → SpellsText name second
-    → SpellsText desc third
-    → SpellsEach SpellsGiven values words
-    → SpellsAction (Call class name desc values) (codes "call" ∷ first ∷ second ∷ third ∷ words)
+      → SpellsText class first
+      → SpellsText name second
+      → SpellsText desc third
+      → SpellsEach SpellsGiven values words
+      → SpellsAction (Call class name desc values) (codes "call" ∷ first ∷ second ∷ third ∷ words)
   construct_line : {class desc : Bytes} {values : List Given} {first second : Word} {words : List Word}
-    → SpellsText class first
-    → SpellsText desc second
-    → SpellsEach SpellsGiven values words
-    → SpellsAction (Construct class desc values) (codes "construct" ∷ first ∷ second ∷ words)
+      → SpellsText class first
+      → SpellsText desc second
+      → SpellsEach SpellsGiven values words
+      → SpellsAction (Construct class desc values) (codes "construct" ∷ first ∷ second ∷ words)
   return_line : SpellsAction (Return None) (codes "return" ∷ [])
   return_value_line : {value : Given} {word : Word}
-    → SpellsGiven value word
-    → SpellsAction (Return (Some value)) (codes "return" ∷ word ∷ [])
+      → SpellsGiven value word
+      → SpellsAction (Return (Some value)) (codes "return" ∷ word ∷ [])
   throw_line : {number : ℕ} {word : Word}
-    → SpellsKnown number word
-    → SpellsAction (Throw number) (codes "throw" ∷ word ∷ [])
+      → SpellsKnown number word
+      → SpellsAction (Throw number) (codes "throw" ∷ word ∷ [])
   get_line : {number : ℕ} {index : ℤ} {first second : Word}
-    → SpellsKnown number first
-    → SpellsInteger w32 index second
-    → SpellsAction (ArrayGet number index) (codes "get" ∷ first ∷ second ∷ [])
+      → SpellsKnown number first
+      → SpellsInteger w32 index second
+      → SpellsAction (ArrayGet number index) (codes "get" ∷ first ∷ second ∷ [])
   set_line : {number : ℕ} {index : ℤ} {value : Given} {first second third : Word}
-    → SpellsKnown number first
-    → SpellsInteger w32 index second
-    → SpellsGiven value third
-    → SpellsAction (ArraySet number index value) (codes "set" ∷ first ∷ second ∷ third ∷ [])
+      → SpellsKnown number first
+      → SpellsInteger w32 index second
+      → SpellsGiven value third
+      → SpellsAction (ArraySet number index value) (codes "set" ∷ first ∷ second ∷ third ∷ [])
   length_line : {number : ℕ} {word : Word}
-    → SpellsKnown number word
-    → SpellsAction (ArrayLength number) (codes "length" ∷ word ∷ [])
+      → SpellsKnown number word
+      → SpellsAction (ArrayLength number) (codes "length" ∷ word ∷ [])
   array_line : {desc : Bytes} {len : ℤ} {first second : Word}
-    → SpellsText desc first
-    → SpellsInteger w32 len second
-    → SpellsAction (NewArray desc len) (codes "array" ∷ first ∷ second ∷ [])
+      → SpellsText desc first
+      → SpellsInteger w32 len second
+      → SpellsAction (NewArray desc len) (codes "array" ∷ first ∷ second ∷ [])
   new_line : {class : Bytes} {also : List Bytes} {first : Word} {words : List Word}
-    → SpellsText class first
-    → SpellsEach SpellsText also words
-    → SpellsAction (NewExternal class also) (codes "new" ∷ first ∷ words)
+      → SpellsText class first
+      → SpellsEach SpellsText also words
+      → SpellsAction (NewExternal class also) (codes "new" ∷ first ∷ words)
   stop_line : SpellsAction Stop (codes "stop" ∷ [])
 
 -- ---- scripts
@@ -147,8 +147,8 @@ pub data SpellsLine : Option Action → Bytes → Type 0 where
   empty_line : SpellsLine None []
   comment_line : {text : Bytes} → SpellsLine None (hash ∷ text)
   action_line : {action : Action} {line : Bytes}
-    → SpellsAction action (words_of line)
-    → SpellsLine (Some action) line
+      → SpellsAction action (words_of line)
+      → SpellsLine (Some action) line
 
 abbrev pub IsLine : Bytes → Type 0
 IsLine line = (action : Option Action) × SpellsLine action line
@@ -157,13 +157,13 @@ IsLine line = (action : Option Action) × SpellsLine action line
 pub data SpellsLines : List Action → List Bytes → Type 0 where
   no_lines : SpellsLines [] []
   line_without_action : {actions : List Action} {line : Bytes} {lines : List Bytes}
-    → SpellsLine None line
-    → SpellsLines actions lines
-    → SpellsLines actions (line ∷ lines)
+      → SpellsLine None line
+      → SpellsLines actions lines
+      → SpellsLines actions (line ∷ lines)
   line_with_action : {action : Action} {actions : List Action} {line : Bytes} {lines : List Bytes}
-    → SpellsLine (Some action) line
-    → SpellsLines actions lines
-    → SpellsLines (action ∷ actions) (line ∷ lines)
+      → SpellsLine (Some action) line
+      → SpellsLines actions lines
+      → SpellsLines (action ∷ actions) (line ∷ lines)
 
 abbrev pub IsScript : Bytes → List Action → Type 0
 IsScript bytes actions = SpellsLines actions (lines_of bytes)
@@ -171,9 +171,9 @@ IsScript bytes actions = SpellsLines actions (lines_of bytes)
 -- the number, from 1, of the first line outside the grammar
 pub data IsFirstOutside : List Bytes → ℕ → Type 0 where
   outside_here : {line : Bytes} {lines : List Bytes}
-    → ¬ IsLine line
-    → IsFirstOutside (line ∷ lines) 1
+      → ¬ IsLine line
+      → IsFirstOutside (line ∷ lines) 1
   outside_behind : {line : Bytes} {lines : List Bytes} {number : ℕ}
-    → IsLine line
-    → IsFirstOutside lines number
-    → IsFirstOutside (line ∷ lines) (suc number)
+      → IsLine line
+      → IsFirstOutside lines number
+      → IsFirstOutside (line ∷ lines) (suc number)

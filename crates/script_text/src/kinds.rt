@@ -11,11 +11,7 @@ use machine_values::{EventKind, Seen, SeenRef};
 use std::alloc::Global;
 
 /// Appends the kind of an event and its fields, each behind a space.
-pub(crate) fn push_kind(
-    alloc: Global,
-    line: &mut Vec<u8>,
-    kind: &EventKind,
-) -> Result<(), NoMemory>
+pub(crate) fn push_kind(alloc: Global, line: &mut Vec<u8>, kind: &EventKind) -> Result<(), NoMemory>
     ensures { OnOk result (line.new.items ≡ line.old.items ++ spaced (kind_words kind.now)) }
 {
     match kind {
@@ -162,11 +158,7 @@ fn push_values(alloc: Global, line: &mut Vec<u8>, values: &[Seen]) -> Result<(),
 }
 
 /// Appends a space and a value, if there is one.
-fn push_optional(
-    alloc: Global,
-    line: &mut Vec<u8>,
-    value: &Option<Seen>,
-) -> Result<(), NoMemory>
+fn push_optional(alloc: Global, line: &mut Vec<u8>, value: &Option<Seen>) -> Result<(), NoMemory>
     ensures { OnOk result (line.new.items ≡ line.old.items ++ spaced (seen_words value.now)) }
 {
     match value {

@@ -77,11 +77,7 @@ pub(crate) fn hex_digit(digit: u8) -> u8
 }
 
 /// Appends a number in decimal.
-pub(crate) fn push_decimal(
-    alloc: Global,
-    line: &mut Vec<u8>,
-    number: u128,
-) -> Result<(), NoMemory>
+pub(crate) fn push_decimal(alloc: Global, line: &mut Vec<u8>, number: u128) -> Result<(), NoMemory>
     ensures { OnOk result (line.new.items ≡ line.old.items ++ decimal number) }
 {
     let text = format!(in alloc; "{number}")?;
@@ -97,11 +93,7 @@ pub(crate) fn push_number(alloc: Global, line: &mut Vec<u8>, number: u64) -> Res
 }
 
 /// Appends an integer in decimal.
-pub(crate) fn push_integer(
-    alloc: Global,
-    line: &mut Vec<u8>,
-    number: i64,
-) -> Result<(), NoMemory>
+pub(crate) fn push_integer(alloc: Global, line: &mut Vec<u8>, number: i64) -> Result<(), NoMemory>
     ensures { OnOk result (line.new.items ≡ line.old.items ++ signed_decimal number) }
 {
     let text = format!(in alloc; "{number}")?;

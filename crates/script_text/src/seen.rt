@@ -25,12 +25,7 @@ pub(crate) fn push_seen(alloc: Global, line: &mut Vec<u8>, seen: &Seen) -> Resul
 }
 
 /// Appends what names the kind of a number, and the number in decimal.
-fn push_tagged(
-    alloc: Global,
-    line: &mut Vec<u8>,
-    tag: &[u8],
-    number: i64,
-) -> Result<(), NoMemory>
+fn push_tagged(alloc: Global, line: &mut Vec<u8>, tag: &[u8], number: i64) -> Result<(), NoMemory>
     ensures { OnOk result (line.new.items ≡ line.old.items ++ (tag.now ++ signed_decimal number)) }
 {
     line.extend_from_slice(tag)?;
@@ -86,11 +81,7 @@ fn push_also(line: &mut Vec<u8>, names: &[Text]) -> Result<(), NoMemory>
 }
 
 /// Appends a quotation mark and a constant.
-fn push_constant(
-    alloc: Global,
-    line: &mut Vec<u8>,
-    constant: &Constant,
-) -> Result<(), NoMemory>
+fn push_constant(alloc: Global, line: &mut Vec<u8>, constant: &Constant) -> Result<(), NoMemory>
     ensures { OnOk result
         (line.new.items ≡ line.old.items ++ quoted_constant (Some constant.now)) }
 {
