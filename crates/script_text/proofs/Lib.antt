@@ -1,0 +1,4 @@
+mod HeldWords
+mod EventLines
+mod HexTexts
+mod Appended

@@ -1,0 +1,47 @@
+-- The text of a script: one line for each action.
+use Rattle.std.specs.Prelude.{ℕ, List, [], ◌∷◌, ◌++◌, codes, map, decimal, Option, None, Some}
+use Rattle.std.specs.Fmt.{signed_decimal}
+use Rattle.std.specs.List.{flat_map, join_with_byte}
+use Rattle.machine_values.specs.declared.action.Action.{Action}
+use Rattle.machine_values.specs.declared.action.Action.TheVariants.{Call, Construct, Return, Throw, ArrayGet, ArraySet, ArrayLength, NewArray, NewExternal, Stop}
+use Rattle.machine_values.specs.declared.action.Given.{Given}
+use Rattle.machine_values.specs.declared.action.Given.TheVariants.{Int, Long, Float, Double, Null, Known}
+use Rattle.script_text.specs.Characters.{line_feed, space}
+use Rattle.script_text.specs.PrintedTexts.{Bytes, printed_text, hex_text}
+use Rattle.script_text.specs.Scripts.{Word}
+
+abbrev pub printed_known : ℕ → Word
+printed_known number = codes "r:" ++ decimal number
+
+abbrev pub printed_given : Given → Word
+printed_given (Int number) = codes "i:" ++ signed_decimal number
+printed_given (Long number) = codes "l:" ++ signed_decimal number
+printed_given (Float bits) = codes "f:" ++ hex_text 8 bits
+printed_given (Double bits) = codes "d:" ++ hex_text 16 bits
+printed_given Null = codes "null"
+printed_given (Known number) = printed_known number
+
+abbrev pub action_words : Action → List Word
+action_words (Call class name desc values) =
+    codes "call" ∷ printed_text class ∷ printed_text name ∷ printed_text desc
+    ∷ map printed_given values
+action_words (Construct class desc values) =
+    codes "construct" ∷ printed_text class ∷ printed_text desc ∷ map printed_given values
+action_words (Return None) = codes "return" ∷ []
+action_words (Return (Some value)) = codes "return" ∷ printed_given value ∷ []
+action_words (Throw number) = codes "throw" ∷ printed_known number ∷ []
+action_words (ArrayGet number index) =
+    codes "get" ∷ printed_known number ∷ signed_decimal index ∷ []
+action_words (ArraySet number index value) =
+    codes "set" ∷ printed_known number ∷ signed_decimal index ∷ printed_given value ∷ []
+action_words (ArrayLength number) = codes "length" ∷ printed_known number ∷ []
+action_words (NewArray desc len) = codes "array" ∷ printed_text desc ∷ signed_decimal len ∷ []
+action_words (NewExternal class also) =
+    codes "new" ∷ printed_text class ∷ map printed_text also
+action_words Stop = codes "stop" ∷ []
+
+abbrev pub printed_action : Action → Bytes
+printed_action action = join_with_byte space (action_words action) ++ line_feed ∷ []
+
+abbrev pub printed_script : List Action → Bytes
+printed_script actions = flat_map printed_action actions
