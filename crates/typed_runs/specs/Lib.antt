@@ -1,0 +1,5 @@
+pub mod Conforming
+pub mod TypedPoints
+pub mod TypedPrograms
+pub mod TypedFrames
+pub mod TypedWorlds
