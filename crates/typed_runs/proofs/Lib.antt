@@ -1,1 +1,3 @@
 mod Starts
+mod Stacks
+mod Kept

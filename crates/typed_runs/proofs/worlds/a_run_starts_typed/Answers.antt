@@ -1,3 +1,5 @@
+use Rattle.typed_runs.proofs.Stacks.{operands}
+use Rattle.typed_runs.proofs.Kept.{frames_kept}
 use Rattle.typed_runs.proofs.Starts.{start_typed}
 use Rattle.typed_runs.proofs.worlds.a_run_starts_typed.Goals as goal
 
