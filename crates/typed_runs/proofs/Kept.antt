@@ -156,7 +156,7 @@ option_kept keep (Some r) is = in_heap_kept keep r is
 -- ---- frames
 
 abbrev pub stands_kept : {P : Program} {T : Typings} {h k : Heap} {f : MethodState} → Keeps h k → StandsAt P T h f → StandsAt P T k f
-stands_kept {f = f} keep s = record { point = s.point; is_point = s.is_point; fits = s.fits; held = option_kept keep f.held s.held }
+stands_kept {f = f} keep s = record { point = s.point; is_point = s.is_point; fits = s.fits; paired = s.paired; held = option_kept keep f.held s.held }
 
 pub does_kept : {P : Program} {T : Typings} {h k : Heap} {f : MethodState} → Keeps h k → Does P T h f → Does P T k f
 does_kept keep d = record { stands = stands_kept keep d.stands; locals = units_kept keep d.locals; stack = all_kept keep d.stack }

@@ -1,3 +1,9 @@
 mod Starts
 mod Stacks
 mod Kept
+mod Assigned
+mod Points
+mod Here
+mod Units
+mod Pairs
+mod Moves

@@ -6,7 +6,7 @@ use Rattle.machine_values.specs.Heaps.{Heap}
 use Rattle.machine_values.specs.declared.value.Value.{Value}
 use Rattle.member_link.specs.Machine.Programs.{Program}
 use Rattle.member_link.specs.RowScope.{RowScope}
-use Rattle.member_link.specs.Rows.Operands.{Need, AllFit, topmost, under}
+use Rattle.member_link.specs.Rows.Operands.{Need, AllFit, topmost, under, lowest_of}
 use Rattle.typed_runs.specs.Conforming.{Conforms, AllConform, no_values, and_value}
 
 -- ---- a stack whose top is first, and the same with its top last
@@ -68,3 +68,6 @@ operands {P = P} {s = s} {h = h} r needs types stack fit all =
       values = subst (λ vs. AllConform P s h (topmost n types) vs) (ap (λ k. drop (k - n) (reverse stack)) many ∙ top_is n stack) (conform_drop (length types - n) all);
       rest = subst (λ vs. AllConform P s h (under n types) vs) (ap (λ k. take (k - n) (reverse stack)) many ∙ below_is n stack) (conform_take (length types - n) all);
     }
+
+pub lowest_is : (n : ℕ) (stack : List VType) (t : VType) (ts : List VType) → topmost n stack ≡ t ∷ ts → lowest_of n stack ≡ t
+lowest_is n stack t ts is = rw is refl

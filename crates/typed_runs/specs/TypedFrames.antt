@@ -1,8 +1,10 @@
 -- Frames of a run that conform to the frames of the points at which they stand (JVM Specification SE 8, 2.6 and 4.10.1.6). What stands directly
 -- above a frame tells whether it waits.
-use Rattle.std.specs.Prelude.{◌≡◌, ℕ, List, [], ◌∷◌, reverse, slice_get, Option, Some, None, IfSome, IsSome, if◌then◌else◌}
+use Rattle.std.specs.Prelude.{◌≡◌, ℕ, List, [], ◌∷◌, reverse, slice_get, Option, Some, None, IfSome, IsSome, IsTrue, if◌then◌else◌}
 use Rattle.class_model.specs.declared.header.Member.{Member}
 use Rattle.machine_values.specs.Frames.{MethodState}
+use Rattle.machine_values.specs.Values.{is_wide_value}
+use Rattle.machine_values.specs.declared.value.Value.{Value}
 use Rattle.machine_values.specs.Heaps.{Heap}
 use Rattle.machine_values.specs.declared.frame.RunFrame.{RunFrame}
 use Rattle.machine_values.specs.declared.frame.RunFrame.TheVariants.{Library, Beginning, Method}
@@ -36,12 +38,25 @@ above_of P (Method f) = above_method (run_method P f.at)
 
 -- ---- methods
 
--- a method's frame stands at an instruction, and the reference whose monitor it entered is in the heap
+abbrev pub BeginsEmpty : List (Option Value) → Type 0
+BeginsEmpty [] = Unit {0}
+BeginsEmpty (None ∷ units) = Unit {0}
+BeginsEmpty (Some value ∷ units) = ⊥
+
+-- a long or double takes two local units, of which the second has no value (2.6.1)
+abbrev pub ArePaired : List (Option Value) → Type 0
+ArePaired [] = Unit {0}
+ArePaired (None ∷ units) = ArePaired units
+ArePaired (Some value ∷ units) =
+    (IsTrue (is_wide_value value) → BeginsEmpty units) × ArePaired units
+
+-- a method's frame stands at an instruction, its locals are units, and the reference whose monitor it entered is in the heap
 pub record StandsAt (P : Program) (T : Typings) (heap : Heap) (f : MethodState)
     : Type 0 where
   pub point : Point
   pub is_point : point_at P f.at f.place ≡ Some point
   pub fits : TypedPoint P (T f.at) f.place point
+  pub paired : ArePaired f.locals
   pub held : IfSome f.held (IsInHeap heap)
 
 -- it does the instruction: locals and stack conform to the frame there

@@ -1,6 +1,6 @@
 -- A code with fitting frames: what a run needs of the points of a code that was typed (JVM Specification SE 8, 4.10.1.6 and
 -- 4.10.1.9), whether it is that of a method of a class file or none of a class file.
-use Rattle.std.specs.Prelude.{◌≡◌, ◌≢◌, ◌⊎◌, ◌≤◌, ℕ, suc, List, slice_get, Option, Some, None, IfSome, IsSome, if◌then◌else◌}
+use Rattle.std.specs.Prelude.{◌≡◌, ◌≢◌, ◌⊎◌, ◌+◌, ◌≤◌, ℕ, List, slice_get, Option, Some, None, IfSome, IsSome, if◌then◌else◌}
 use Rattle.std.specs.List.{AllByRecursion}
 use Rattle.class_model.specs.Code.{HasDimensions}
 use Rattle.class_model.specs.Names.{clinit, init}
@@ -121,7 +121,7 @@ pub record TypedPoint (P : Program) (t : Typing) (number : ℕ) (point : Point) 
   pub next :
       IfSome
       (if item_falls_through item then row_frame frame (item_row scope frame place item) else None)
-      (LeadsTo t (suc number))
+      (LeadsTo t (number + 1))
   pub targets :
       AllByRecursion
       (λ target. IfSome (row_frame frame (item_row scope frame place item))

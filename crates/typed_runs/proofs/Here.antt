@@ -1,0 +1,98 @@
+use Rattle.std.specs.Prelude.{◌≡◌, ◌+◌, ◌≤◌, nat_le, refl, ℕ, Bool, true, false, List, [], ◌∷◌, ◌++◌, length, take, drop, reverse, Option, Some, None, IfSome, if◌then◌else◌}
+use Rattle.std.specs.List.{AllByRecursion}
+use Rattle.std.proofs.Common.{arith, ap, sym, ◌∙◌, subst}
+use Rattle.std.proofs.lemmas.Bool.{le-leb}
+use Rattle.std.proofs.lemmas.List.{reverse-append, reverse-reverse}
+use Rattle.class_model.specs.declared.frame.Frame.{Frame}
+use Rattle.class_model.specs.declared.frame.VType.{VType}
+use Rattle.machine_values.specs.Frames.{MethodState}
+use Rattle.machine_values.specs.Heaps.{Heap}
+use Rattle.machine_values.specs.declared.frame.RunFrame.{RunFrame}
+use Rattle.machine_values.specs.declared.frame.RunFrame.TheVariants as frames
+use Rattle.machine_values.specs.declared.value.Value.{Value}
+use Rattle.member_link.specs.Bodies.{CodeItem, item_row, item_targets, item_falls_through}
+use Rattle.member_link.specs.BodyTyping.{RowHolds}
+use Rattle.member_link.specs.Machine.Codes.{item_op}
+use Rattle.member_link.specs.Machine.Completions.{gives}
+use Rattle.member_link.specs.Machine.Ops.{Op}
+use Rattle.member_link.specs.Machine.Performing.{perform}
+use Rattle.member_link.specs.Machine.Programs.{Program}
+use Rattle.member_link.specs.Machine.Stepping.{with_top, work_step}
+use Rattle.member_link.specs.Machine.Work.{arity, work}
+use Rattle.member_link.specs.Machine.Worlds.{World, Memory, Halt, stuck}
+use Rattle.member_link.specs.RowScope.{RowScope}
+use Rattle.member_link.specs.Rows.Operands.{AllFit, topmost, under}
+use Rattle.member_link.specs.Rows.Row.{Row, access_aside, row_frame, stack_left}
+use Rattle.typed_runs.proofs.Kept.{Keeps, keeps_same, frames_kept, known_kept, units_kept, all_kept, stands_kept}
+use Rattle.typed_runs.proofs.Points.{does_there}
+use Rattle.typed_runs.proofs.Stacks.{Operands, operands, conform_append}
+use Rattle.typed_runs.specs.Conforming.{IsInHeap, AllConform, no_values, and_value, UnitsConform, IsTypedMemory}
+use Rattle.typed_runs.specs.TypedFrames.{ArePaired, nothing_awaited, above_of, StandsAt, Does, FramesConform, upon}
+use Rattle.typed_runs.specs.TypedPoints.{LeadsTo, TypedPoint, ReadsAs, IsLinkedOp}
+use Rattle.typed_runs.specs.TypedPrograms.{Typings}
+use Rattle.typed_runs.specs.TypedWorlds.{TypedWorld, StaysTyped}
+
+-- The world before an instruction of the top frame: the frame conforms to that of its point, whose item is a variable.
+pub record Here (P : Program) (T : Typings) (w : World) (f : MethodState) (rest : List RunFrame)
+    (s : RowScope) (frame : Frame) (place : ℕ) (numbered : ℕ → ℕ) (item : CodeItem) : Type 0 where
+  pub typed : TypedWorld P T w
+  pub stands : StandsAt P T w.memory.heap f
+  pub below : FramesConform P T w.memory.heap (above_of P (frames.Method f)) rest
+  pub locals : UnitsConform P (T f.at).scope w.memory.heap frame.locals f.locals
+  pub stack : AllConform P (T f.at).scope w.memory.heap frame.stack (reverse f.stack)
+  pub reads : ReadsAs s (T f.at).scope frame
+  pub row : RowHolds s frame (access_aside (item_row s frame place item))
+  pub linked : IsLinkedOp P (T f.at).scope place (item_op P.links numbered s item)
+  pub next : IfSome (if item_falls_through item then row_frame frame (item_row s frame place item) else None) (LeadsTo (T f.at) (f.place + 1))
+  pub targets : AllByRecursion (λ target. IfSome (row_frame frame (item_row s frame place item)) (LeadsTo (T f.at) (numbered target))) (item_targets item)
+
+-- ---- what another memory and other frames need to be those of a typed world
+
+pub stays : (P : Program) (T : Typings) (w : World) (m : Memory) (fs : List RunFrame) → TypedWorld P T w
+    → Keeps w.memory.heap m.heap → IsTypedMemory P m → FramesConform P T m.heap nothing_awaited fs
+    → StaysTyped P T w (record w { memory = m; frames = fs })
+stays P T w m fs typed keep memory conform = record {
+  typed = record {
+    program = typed.program;
+    memory = memory;
+    frames = conform;
+    known = known_kept keep w.known typed.known;
+  };
+  not_stuck = λ no. no;
+}
+
+-- ---- the top frame goes on
+
+module _ {P : Program} {T : Typings} {w : World} {f : MethodState} {rest : List RunFrame} {s : RowScope} {frame : Frame} {place : ℕ} {numbered : ℕ → ℕ} {item : CodeItem} (h : Here P T w f rest s frame place numbered item) where
+  -- with a memory in which each object is kept
+  pub goes_with : (m : Memory) → Keeps w.memory.heap m.heap → IsTypedMemory P m
+      → (n : ℕ) (from : Frame) → LeadsTo (T f.at) n from → (locals : List (Option Value)) (stack : List Value)
+      → ArePaired locals → UnitsConform P (T f.at).scope m.heap from.locals locals → AllConform P (T f.at).scope m.heap from.stack (reverse stack)
+      → StaysTyped P T w (record w { memory = m; frames = frames.Method (record f { place = n; locals = locals; stack = stack }) ∷ rest })
+  goes_with m keep memory n from leads locals stack paired units values =
+      stays P T w m _ h.typed keep memory
+      (upon (does_there P T m h.typed.program memory f (stands_kept keep h.stands) n from leads locals stack paired units values) (frames_kept keep h.below))
+
+  pub goes : (n : ℕ) (from : Frame) → LeadsTo (T f.at) n from → (locals : List (Option Value)) (stack : List Value)
+      → ArePaired locals → UnitsConform P (T f.at).scope w.memory.heap from.locals locals → AllConform P (T f.at).scope w.memory.heap from.stack (reverse stack)
+      → StaysTyped P T w (with_top w rest (record f { place = n; locals = locals; stack = stack }))
+  goes n from leads locals stack paired units values = goes_with w.memory (keeps_same _) h.typed.memory n from leads locals stack paired units values
+
+  -- ---- operands
+
+  pub operands_here : Operands P (T f.at).scope w.memory.heap frame.stack f.stack (length (item_row s frame place item).takes)
+  operands_here = operands s (item_row s frame place item).takes frame.stack f.stack h.row.operands h.stack
+
+  -- an operation that takes its operands off the stack
+  pub worked : (op : Op) (n : ℕ) → arity op ≡ n → n ≤ length f.stack
+      → StaysTyped P T w (perform P w f (record f { stack = drop n f.stack }) rest (work P w.memory op (reverse (take n f.stack))))
+      → StaysTyped P T w (work_step P w f rest op)
+  worked op n same enough done =
+      subst (λ k. StaysTyped P T w (if nat_le k (length f.stack) then perform P w f (record f { stack = drop k f.stack }) rest (work P w.memory op (reverse (take k f.stack))) else record w { halt = stuck })) (sym same)
+      (let yes : nat_le n (length f.stack) ≡ true = le-leb n (length f.stack) enough in
+      subst (λ b. StaysTyped P T w (if b then perform P w f (record f { stack = drop n f.stack }) rest (work P w.memory op (reverse (take n f.stack))) else record w { halt = stuck })) (sym yes) done)
+
+-- values are pushed onto what an operation leaves
+pub pushed : {P : Program} {s : RowScope} {h : Heap} {ts gs : List VType} (stack vs : List Value) → AllConform P s h ts (reverse stack) → AllConform P s h gs vs → AllConform P s h (ts ++ gs) (reverse (reverse vs ++ stack))
+pushed {P = P} {s = s} {h = h} {ts = ts} {gs = gs} stack vs under given =
+    subst (λ xs. AllConform P s h (ts ++ gs) xs) (sym (reverse-append (reverse vs) stack ∙ ap (λ xs. reverse stack ++ xs) (reverse-reverse vs))) (conform_append under given)
