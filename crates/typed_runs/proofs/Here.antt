@@ -14,15 +14,15 @@ use Rattle.member_link.specs.Bodies.{CodeItem, item_row, item_targets, item_fall
 use Rattle.member_link.specs.BodyTyping.{RowHolds}
 use Rattle.member_link.specs.Machine.Codes.{item_op}
 use Rattle.member_link.specs.Machine.Completions.{gives}
-use Rattle.member_link.specs.Machine.Ops.{Op}
+use Rattle.member_link.specs.Machine.Ops.{Op, meaningless}
 use Rattle.member_link.specs.Machine.Performing.{perform}
 use Rattle.member_link.specs.Machine.Programs.{Program}
-use Rattle.member_link.specs.Machine.Stepping.{with_top, work_step}
+use Rattle.member_link.specs.Machine.Stepping.{with_top, work_step, op_step}
 use Rattle.member_link.specs.Machine.Work.{arity, work}
 use Rattle.member_link.specs.Machine.Worlds.{World, Memory, Halt, stuck}
 use Rattle.member_link.specs.RowScope.{RowScope}
 use Rattle.member_link.specs.Rows.Operands.{AllFit, topmost, under}
-use Rattle.member_link.specs.Rows.Row.{Row, access_aside, row_frame, stack_left}
+use Rattle.member_link.specs.Rows.Row.{Row, access_aside, row_frame, stack_left, either, no_row}
 use Rattle.typed_runs.proofs.Kept.{Keeps, keeps_same, frames_kept, known_kept, units_kept, all_kept, stands_kept}
 use Rattle.typed_runs.proofs.Points.{does_there}
 use Rattle.typed_runs.proofs.Stacks.{Operands, operands, conform_append}
@@ -32,19 +32,20 @@ use Rattle.typed_runs.specs.TypedPoints.{LeadsTo, TypedPoint, ReadsAs, IsLinkedO
 use Rattle.typed_runs.specs.TypedPrograms.{Typings}
 use Rattle.typed_runs.specs.TypedWorlds.{TypedWorld, StaysTyped}
 
--- The world before an instruction of the top frame: the frame conforms to that of its point, whose item is a variable.
+-- The world before an instruction of the top frame: its row and its operation, whether control falls through, and the places to which it
+-- may jump.
 pub record Here (P : Program) (T : Typings) (w : World) (f : MethodState) (rest : List RunFrame)
-    (s : RowScope) (frame : Frame) (place : ℕ) (numbered : ℕ → ℕ) (item : CodeItem) : Type 0 where
+    (s : RowScope) (frame : Frame) (place : ℕ) (numbered : ℕ → ℕ) (row : Row) (op : Op) (falls : Bool) (places : List ℕ) : Type 0 where
   pub typed : TypedWorld P T w
   pub stands : StandsAt P T w.memory.heap f
   pub below : FramesConform P T w.memory.heap (above_of P (frames.Method f)) rest
   pub locals : UnitsConform P (T f.at).scope w.memory.heap frame.locals f.locals
   pub stack : AllConform P (T f.at).scope w.memory.heap frame.stack (reverse f.stack)
   pub reads : ReadsAs s (T f.at).scope frame
-  pub row : RowHolds s frame (access_aside (item_row s frame place item))
-  pub linked : IsLinkedOp P (T f.at).scope place (item_op P.links numbered s item)
-  pub next : IfSome (if item_falls_through item then row_frame frame (item_row s frame place item) else None) (LeadsTo (T f.at) (f.place + 1))
-  pub targets : AllByRecursion (λ target. IfSome (row_frame frame (item_row s frame place item)) (LeadsTo (T f.at) (numbered target))) (item_targets item)
+  pub holds : RowHolds s frame row
+  pub linked : IsLinkedOp P (T f.at).scope place op
+  pub next : IfSome (if falls then row_frame frame row else None) (LeadsTo (T f.at) (f.place + 1))
+  pub targets : AllByRecursion (λ target. IfSome (row_frame frame row) (LeadsTo (T f.at) (numbered target))) places
 
 -- ---- what another memory and other frames need to be those of a typed world
 
@@ -63,7 +64,7 @@ stays P T w m fs typed keep memory conform = record {
 
 -- ---- the top frame goes on
 
-module _ {P : Program} {T : Typings} {w : World} {f : MethodState} {rest : List RunFrame} {s : RowScope} {frame : Frame} {place : ℕ} {numbered : ℕ → ℕ} {item : CodeItem} (h : Here P T w f rest s frame place numbered item) where
+module _ {P : Program} {T : Typings} {w : World} {f : MethodState} {rest : List RunFrame} {s : RowScope} {frame : Frame} {place : ℕ} {numbered : ℕ → ℕ} {row : Row} {op : Op} {falls : Bool} {places : List ℕ} (h : Here P T w f rest s frame place numbered row op falls places) where
   -- with a memory in which each object is kept
   pub goes_with : (m : Memory) → Keeps w.memory.heap m.heap → IsTypedMemory P m
       → (n : ℕ) (from : Frame) → LeadsTo (T f.at) n from → (locals : List (Option Value)) (stack : List Value)
@@ -80,14 +81,14 @@ module _ {P : Program} {T : Typings} {w : World} {f : MethodState} {rest : List 
 
   -- ---- operands
 
-  pub operands_here : Operands P (T f.at).scope w.memory.heap frame.stack f.stack (length (item_row s frame place item).takes)
-  operands_here = operands s (item_row s frame place item).takes frame.stack f.stack h.row.operands h.stack
+  pub operands_here : Operands P (T f.at).scope w.memory.heap frame.stack f.stack (length row.takes)
+  operands_here = operands s row.takes frame.stack f.stack h.holds.operands h.stack
 
   -- an operation that takes its operands off the stack
-  pub worked : (op : Op) (n : ℕ) → arity op ≡ n → n ≤ length f.stack
+  pub worked : (n : ℕ) → arity op ≡ n → n ≤ length f.stack
       → StaysTyped P T w (perform P w f (record f { stack = drop n f.stack }) rest (work P w.memory op (reverse (take n f.stack))))
       → StaysTyped P T w (work_step P w f rest op)
-  worked op n same enough done =
+  worked n same enough done =
       subst (λ k. StaysTyped P T w (if nat_le k (length f.stack) then perform P w f (record f { stack = drop k f.stack }) rest (work P w.memory op (reverse (take k f.stack))) else record w { halt = stuck })) (sym same)
       (let yes : nat_le n (length f.stack) ≡ true = le-leb n (length f.stack) enough in
       subst (λ b. StaysTyped P T w (if b then perform P w f (record f { stack = drop n f.stack }) rest (work P w.memory op (reverse (take n f.stack))) else record w { halt = stuck })) (sym yes) done)
@@ -96,3 +97,12 @@ module _ {P : Program} {T : Typings} {w : World} {f : MethodState} {rest : List 
 pub pushed : {P : Program} {s : RowScope} {h : Heap} {ts gs : List VType} (stack vs : List Value) → AllConform P s h ts (reverse stack) → AllConform P s h gs vs → AllConform P s h (ts ++ gs) (reverse (reverse vs ++ stack))
 pushed {P = P} {s = s} {h = h} {ts = ts} {gs = gs} stack vs under given =
     subst (λ xs. AllConform P s h (ts ++ gs) xs) (sym (reverse-append (reverse vs) stack ∙ ap (λ xs. reverse stack ++ xs) (reverse-reverse vs))) (conform_append under given)
+
+-- an operation behind a test, which without it is no instruction
+pub tested : {P : Program} {T : Typings} {w : World} {f : MethodState} {rest : List RunFrame} {s : RowScope} {frame : Frame} {place : ℕ} {numbered : ℕ → ℕ} {falls : Bool} {places : List ℕ}
+    (b : Bool) (row : Row) (op : Op)
+    → (b ≡ true → Here P T w f rest s frame place numbered (access_aside row) op falls places → StaysTyped P T w (op_step P w f rest op))
+    → Here P T w f rest s frame place numbered (access_aside (either b row (no_row frame))) (if b then op else meaningless) falls places
+    → StaysTyped P T w (op_step P w f rest (if b then op else meaningless))
+tested true row op proved h = proved refl h
+tested false row op proved h = absurd h.linked

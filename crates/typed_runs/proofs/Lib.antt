@@ -3,7 +3,10 @@ mod Stacks
 mod Kept
 mod Assigned
 mod Points
+mod Taken
 mod Here
 mod Units
 mod Pairs
 mod Moves
+mod Jumps
+mod Switches
