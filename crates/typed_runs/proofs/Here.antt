@@ -21,8 +21,8 @@ use Rattle.member_link.specs.Machine.Stepping.{with_top, work_step, op_step}
 use Rattle.member_link.specs.Machine.Work.{arity, work}
 use Rattle.member_link.specs.Machine.Worlds.{World, Memory, Halt, stuck}
 use Rattle.member_link.specs.RowScope.{RowScope}
-use Rattle.member_link.specs.Rows.Operands.{AllFit, topmost, under}
-use Rattle.member_link.specs.Rows.Row.{Row, access_aside, row_frame, stack_left, either, no_row}
+use Rattle.member_link.specs.Rows.Operands.{Need, AllFit, topmost, under}
+use Rattle.member_link.specs.Rows.Row.{Row, access_aside, row_frame, stack_left, stack_behind, plain, either, no_row}
 use Rattle.typed_runs.proofs.Kept.{Keeps, keeps_same, frames_kept, known_kept, units_kept, all_kept, stands_kept}
 use Rattle.typed_runs.proofs.Points.{does_there}
 use Rattle.typed_runs.proofs.Stacks.{Operands, operands, conform_append}
@@ -62,6 +62,11 @@ stays P T w m fs typed keep memory conform = record {
   not_stuck = λ no. no;
 }
 
+-- values are pushed onto what an operation leaves
+pub pushed : {P : Program} {s : RowScope} {h : Heap} {ts gs : List VType} (stack vs : List Value) → AllConform P s h ts (reverse stack) → AllConform P s h gs vs → AllConform P s h (ts ++ gs) (reverse (reverse vs ++ stack))
+pushed {P = P} {s = s} {h = h} {ts = ts} {gs = gs} stack vs under given =
+    subst (λ xs. AllConform P s h (ts ++ gs) xs) (sym (reverse-append (reverse vs) stack ∙ ap (λ xs. reverse stack ++ xs) (reverse-reverse vs))) (conform_append under given)
+
 -- ---- the top frame goes on
 
 module _ {P : Program} {T : Typings} {w : World} {f : MethodState} {rest : List RunFrame} {s : RowScope} {frame : Frame} {place : ℕ} {numbered : ℕ → ℕ} {row : Row} {op : Op} {falls : Bool} {places : List ℕ} (h : Here P T w f rest s frame place numbered row op falls places) where
@@ -93,10 +98,14 @@ module _ {P : Program} {T : Typings} {w : World} {f : MethodState} {rest : List 
       (let yes : nat_le n (length f.stack) ≡ true = le-leb n (length f.stack) enough in
       subst (λ b. StaysTyped P T w (if b then perform P w f (record f { stack = drop n f.stack }) rest (work P w.memory op (reverse (take n f.stack))) else record w { halt = stuck })) (sym yes) done)
 
--- values are pushed onto what an operation leaves
-pub pushed : {P : Program} {s : RowScope} {h : Heap} {ts gs : List VType} (stack vs : List Value) → AllConform P s h ts (reverse stack) → AllConform P s h gs vs → AllConform P s h (ts ++ gs) (reverse (reverse vs ++ stack))
-pushed {P = P} {s = s} {h = h} {ts = ts} {gs = gs} stack vs under given =
-    subst (λ xs. AllConform P s h (ts ++ gs) xs) (sym (reverse-append (reverse vs) stack ∙ ap (λ xs. reverse stack ++ xs) (reverse-reverse vs))) (conform_append under given)
+  -- what an operation gives is pushed onto what it leaves
+  pub gives_goes : (n : ℕ) (m : Memory) → Keeps w.memory.heap m.heap → IsTypedMemory P m → (vs : List Value)
+      → LeadsTo (T f.at) (f.place + 1) (record { locals = row.locals; stack = stack_behind frame row })
+      → UnitsConform P (T f.at).scope m.heap row.locals f.locals → AllConform P (T f.at).scope m.heap (stack_left frame row) (reverse (drop n f.stack))
+      → AllConform P (T f.at).scope m.heap row.gives vs
+      → StaysTyped P T w (perform P w f (record f { stack = drop n f.stack }) rest (gives m vs))
+  gives_goes n m keep memory vs leads locals under given =
+      goes_with m keep memory (f.place + 1) _ leads f.locals (reverse vs ++ drop n f.stack) h.stands.paired locals (pushed (drop n f.stack) vs under given)
 
 -- an operation behind a test, which without it is no instruction
 pub tested : {P : Program} {T : Typings} {w : World} {f : MethodState} {rest : List RunFrame} {s : RowScope} {frame : Frame} {place : ℕ} {numbered : ℕ → ℕ} {falls : Bool} {places : List ℕ}
@@ -106,3 +115,17 @@ pub tested : {P : Program} {T : Typings} {w : World} {f : MethodState} {rest : L
     → StaysTyped P T w (op_step P w f rest (if b then op else meaningless))
 tested true row op proved h = proved refl h
 tested false row op proved h = absurd h.linked
+
+-- of a row that asks and gives, and nothing else
+pub gives_values : {P : Program} {T : Typings} {w : World} {f : MethodState} {rest : List RunFrame} {s : RowScope} {frame : Frame} {place : ℕ} {numbered : ℕ → ℕ} {op : Op} {places : List ℕ} {takes : List Need} {gs : List VType}
+    (h : Here P T w f rest s frame place numbered (plain frame takes gs) op true places) (m : Memory) → Keeps w.memory.heap m.heap → IsTypedMemory P m → (vs : List Value)
+    → AllConform P (T f.at).scope m.heap gs vs
+    → StaysTyped P T w (perform P w f (record f { stack = drop (length takes) f.stack }) rest (gives m vs))
+gives_values {takes = takes} h m keep memory vs given = gives_goes h (length takes) m keep memory vs h.next (units_kept keep h.locals) (all_kept keep (operands_here h).rest) given
+
+-- with the same memory
+pub gives_same : {P : Program} {T : Typings} {w : World} {f : MethodState} {rest : List RunFrame} {s : RowScope} {frame : Frame} {place : ℕ} {numbered : ℕ → ℕ} {op : Op} {places : List ℕ} {takes : List Need} {gs : List VType}
+    (h : Here P T w f rest s frame place numbered (plain frame takes gs) op true places) (vs : List Value)
+    → AllConform P (T f.at).scope w.memory.heap gs vs
+    → StaysTyped P T w (perform P w f (record f { stack = drop (length takes) f.stack }) rest (gives w.memory vs))
+gives_same {w = w} h vs given = gives_values h w.memory (keeps_same w.memory.heap) h.typed.memory vs given

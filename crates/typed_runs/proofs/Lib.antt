@@ -10,3 +10,4 @@ mod Pairs
 mod Moves
 mod Jumps
 mod Switches
+mod Arithmetic
