@@ -19,10 +19,9 @@ use Rattle.machine_values.specs.declared.value.Value.{Value}
 use Rattle.machine_values.specs.declared.value.Value.TheVariants as values
 use Rattle.member_link.specs.Machine.Ops.{Op}
 use Rattle.member_link.specs.Machine.Programs.{Program}
-use Rattle.member_link.specs.Machine.Shapes.{reference_conforms, shape_conforms, value_conforms}
 use Rattle.member_link.specs.References.{Reference}
 use Rattle.member_link.specs.RowScope.{RowScope}
-use Rattle.typed_runs.specs.Conforming.{IsInHeap, IsValueInHeap, HasShape, Conforms, to_top, an_int, a_long, a_float, a_double, only_null, null_object, an_object, of_new, of_this, AllConform, no_values, and_value, UnitConforms, no_value, has_value, UnitsConform, no_units, and_unit, FitsDescriptor, FitSlots, HoldsShape, IsConstantObject, IsTypedStatic}
+use Rattle.typed_runs.specs.Conforming.{IsInHeap, IsValueInHeap, HasShape, Conforms, to_top, an_int, a_long, a_float, a_double, only_null, null_object, an_object, of_new, of_this, AllConform, no_values, and_value, UnitConforms, no_value, has_value, UnitsConform, no_units, and_unit, RefersTo, to_none, to_one, FieldConforms, FitsDescriptor, FitSlots, HoldsShape, IsConstantObject, IsTypedStatic}
 use Rattle.typed_runs.specs.TypedFrames.{Above, nothing_awaited, called_method, asked_library, StandsAt, Does, Waits, FitsCall, ShowsEvent, MethodConforms, FrameConforms, FramesConform, lowest, upon}
 use Rattle.typed_runs.specs.TypedPrograms.{Typings}
 
@@ -63,29 +62,6 @@ value_kept keep values.Null is = tt
 
 -- ---- conforming
 
--- a reference conforms by the shape of its object
-pub reference_is : (P : Program) (h : Heap) (r : ℕ) (name : Name) (o : Object) → object_at h r ≡ Some o → reference_conforms P h r name ≡ shape_conforms P o.shape name
-reference_is P h r name o is = rw is refl
-
-pub record ShapeOf (P : Program) (h : Heap) (r : ℕ) (name : Name) : Type 0 where
-  pub object : Object
-  pub is_there : object_at h r ≡ Some object
-  pub conforms : IsTrue (shape_conforms P object.shape name)
-
-pub shape_of : (P : Program) (h : Heap) (r : ℕ) (name : Name) → IsTrue (reference_conforms P h r name) → ShapeOf P h r name
-shape_of P h r name is = by (object_at h r) refl where
-  by : (o : Option Object) → object_at h r ≡ o → ShapeOf P h r name
-  by None none = let no : reference_conforms P h r name ≡ false = rw none refl in cc
-  by (Some o) some = record { object = o; is_there = some; conforms = subst IsTrue (reference_is P h r name o some) is }
-
-pub conforms_by : (P : Program) (h : Heap) (r : ℕ) (name : Name) (s : Shape) → HasShape h r s → IsTrue (shape_conforms P s name) → IsTrue (reference_conforms P h r name)
-conforms_by P h r name s has is = subst IsTrue (sym (reference_is P h r name has.object has.is_there)) (subst (λ t. IsTrue (shape_conforms P t name)) (sym has.same) is)
-
-pub reference_kept : (P : Program) {h k : Heap} → Keeps h k → (r : ℕ) (name : Name) → IsTrue (reference_conforms P h r name) → IsTrue (reference_conforms P k r name)
-reference_kept P {h = h} {k = k} keep r name is =
-    let s = shape_of P h r name is in
-    conforms_by P k r name s.object.shape (keep.keeps r s.object s.is_there) s.conforms
-
 pub conforms_kept : {P : Program} {s : RowScope} {h k : Heap} {t : VType} {v : Value} → Keeps h k → Conforms P s h t v → Conforms P s k t v
 conforms_kept keep (to_top {value = v} is) = to_top (value_kept keep v is)
 conforms_kept keep an_int = an_int
@@ -94,7 +70,7 @@ conforms_kept keep a_float = a_float
 conforms_kept keep a_double = a_double
 conforms_kept keep only_null = only_null
 conforms_kept keep null_object = null_object
-conforms_kept {P = P} keep (an_object {name = name} {reference = r} is) = an_object (reference_kept P keep r name is)
+conforms_kept keep (an_object shape is) = an_object (shape_kept keep shape) is
 conforms_kept keep (of_new new shape class) = of_new new (shape_kept keep shape) class
 conforms_kept keep (of_this shape below) = of_this (shape_kept keep shape) below
 
@@ -112,13 +88,12 @@ units_kept keep (and_unit one others) = and_unit (unit_kept keep one) (units_kep
 
 -- ---- memory
 
-pub field_kept : (P : Program) {h k : Heap} → Keeps h k → (t : FieldType) (v : Value) → IsTrue (value_conforms P h t v) → IsTrue (value_conforms P k t v)
-field_kept P keep (field_types.Named name) values.Null is = is
-field_kept P keep (field_types.Named name) (values.Ref r) is = reference_kept P keep r name is
-field_kept P keep (field_types.Named name) (values.Int n) is = is
-field_kept P keep (field_types.Named name) (values.Long n) is = is
-field_kept P keep (field_types.Named name) (values.Float n) is = is
-field_kept P keep (field_types.Named name) (values.Double n) is = is
+pub refers_kept : {P : Program} {h k : Heap} {name : Name} {v : Value} → Keeps h k → RefersTo P h name v → RefersTo P k name v
+refers_kept keep to_none = to_none
+refers_kept keep (to_one shape is) = to_one (shape_kept keep shape) is
+
+pub field_kept : (P : Program) {h k : Heap} → Keeps h k → (t : FieldType) (v : Value) → FieldConforms P h t v → FieldConforms P k t v
+field_kept P keep (field_types.Named name) v is = refers_kept keep is
 field_kept P keep field_types.Byte v is = is
 field_kept P keep field_types.Char v is = is
 field_kept P keep field_types.Short v is = is
@@ -138,6 +113,7 @@ pub holds_kept : (P : Program) {h k : Heap} → Keeps h k → (s : Shape) (vs : 
 holds_kept P keep (shapes.Folder class) vs holds = record { found = holds.found; is_class = holds.is_class; fields = slots_kept P keep _ vs holds.fields }
 holds_kept P {h = h} {k = k} keep (shapes.Array desc len) vs holds = record {
   is_array = holds.is_array;
+  element_there = holds.element_there;
   as_long = holds.as_long;
   elements = AllByRecursion-weaker (FitsDescriptor P h (component_text desc)) (FitsDescriptor P k (component_text desc)) (λ v is. field_kept P keep (type_of (component_text desc)) v is) vs holds.elements;
 }

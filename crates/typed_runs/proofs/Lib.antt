@@ -1,6 +1,7 @@
 mod Starts
 mod Stacks
 mod Kept
+mod AssignedNames
 mod Assigned
 mod Points
 mod Taken

@@ -74,7 +74,7 @@ does_there P T m program memory f stands n from leads locals stack paired units 
     record {
       stands = record { point = p.point; is_point = p.is_point; fits = p.fits; paired = paired; held = stands.held };
       locals = subst (λ (g : Frame). UnitsConform P (T f.at).scope m.heap g.locals locals) (p.leads leads)
-          (units_assigned P T m program memory from.locals leads.to.locals (subst (λ hs. AreAssignable hs from.locals leads.to.locals) typed.headers a.locals) units);
+          (units_assigned P T program from.locals leads.to.locals (subst (λ hs. AreAssignable hs from.locals leads.to.locals) typed.headers a.locals) units);
       stack = subst (λ (g : Frame). AllConform P (T f.at).scope m.heap g.stack (reverse stack)) (p.leads leads)
-          (all_assigned P T m program memory from.stack leads.to.stack (subst (λ hs. AreAssignable hs from.stack leads.to.stack) typed.headers a.stack) values);
+          (all_assigned P T program from.stack leads.to.stack (subst (λ hs. AreAssignable hs from.stack leads.to.stack) typed.headers a.stack) values);
     }

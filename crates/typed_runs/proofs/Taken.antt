@@ -49,7 +49,7 @@ an_int_value e c = cc
 pub a_reference_value : {P : Program} {s : RowScope} {h : Heap} {t : VType} {v : Value} → IsReference t → Conforms P s h t v → (v ≡ values.Null) ⊎ ((r : ℕ) × (v ≡ values.Ref r))
 a_reference_value is only_null = inl refl
 a_reference_value is null_object = inl refl
-a_reference_value is (an_object {reference = r} c) = inr (r, refl)
+a_reference_value is (an_object {reference = r} sh c) = inr (r, refl)
 a_reference_value is (of_new {reference = r} n sh c) = inr (r, refl)
 a_reference_value is (of_this {reference = r} sh b) = inr (r, refl)
 a_reference_value is c = absurd is

@@ -18,7 +18,7 @@ use Rattle.member_link.specs.Machine.Codes.{item_op}
 use Rattle.member_link.specs.Machine.Ops.{Op, meaningless, push_constant, return_nothing, return_value, get_static, put_static, get_field, put_field, call_static, call_virtual, call_interface, call_special, new_object, new_array, new_arrays}
 use Rattle.member_link.specs.Machine.Programs.{Program, Catch, Point, headers_in, folder_number}
 use Rattle.member_link.specs.Methods.{FindsMethod}
-use Rattle.member_link.specs.References.{Reference}
+use Rattle.member_link.specs.References.{Reference, IsNamedThere}
 use Rattle.member_link.specs.RowScope.{RowScope}
 use Rattle.member_link.specs.Rows.Assigning.{IsFrameAssignableIn}
 use Rattle.member_link.specs.Rows.MemberRows.{NoUninitThis}
@@ -88,9 +88,9 @@ IsLinkedOp P s place (call_interface r) =
 IsLinkedOp P s place (call_special r from) = HasMethod (headers_in P) IsInstanceForm r
 IsLinkedOp P s place (new_object name) =
     IsInstantiable (headers_in P) name × (s.new_class place ≡ Some name)
-IsLinkedOp P s place (new_array desc) = IsArray desc
+IsLinkedOp P s place (new_array desc) = IsArray desc × IsNamedThere (headers_in P) desc
 IsLinkedOp P s place (new_arrays desc dimensions) =
-    HasDimensions desc dimensions × (1 ≤ dimensions)
+    HasDimensions desc dimensions × (1 ≤ dimensions) × IsNamedThere (headers_in P) desc
 IsLinkedOp P s place op = Unit {0}
 
 -- ---- a point

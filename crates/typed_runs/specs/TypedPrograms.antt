@@ -1,6 +1,6 @@
 -- A program that is typed: its folder is linked with its library, and each method with code has fitting frames (JVM Specification SE 8,
 -- 4.10 and 5.4).
-use Rattle.std.specs.Prelude.{◌≡◌, ◌+◌, ◌≤◌, ℕ, length, map, slice_get, codes, Some, None, IsTrue, IsFalse}
+use Rattle.std.specs.Prelude.{◌≡◌, ◌+◌, ◌≤◌, ℕ, List, [], ◌∷◌, length, map, slice_get, codes, Option, Some, None, IsTrue, IsFalse}
 use Rattle.std.specs.List.{AllByRecursion}
 use Rattle.class_model.specs.Code.{entry_frame}
 use Rattle.class_model.specs.Descriptors.{kind_of, parameters_of, parameter_units, type_of}
@@ -16,11 +16,11 @@ use Rattle.class_model.specs.declared.header.Header.{Header}
 use Rattle.class_model.specs.declared.header.Member.{Member}
 use Rattle.class_tree.specs.Headers.{Name, class_named}
 use Rattle.class_tree.specs.Hierarchy.{IsHierarchy}
-use Rattle.class_tree.specs.Names.{object, throwable, machine_throwables, is_interface}
+use Rattle.class_tree.specs.Names.{object, cloneable, serializable, throwable, machine_throwables, is_interface}
 use Rattle.class_tree.specs.Steps.{supers}
 use Rattle.machine_values.specs.Values.{has_kind}
 use Rattle.member_link.specs.Machine.Links.{AreLinksOf}
-use Rattle.member_link.specs.Machine.Programs.{Program, RunClass, RunMethod, Code, Point, StartValue, start_value, start_string, StaticStart, headers_in, folder_number, name_of_class, run_method, code_run}
+use Rattle.member_link.specs.Machine.Programs.{Program, RunClass, RunMethod, Code, Point, StartValue, start_value, start_string, StaticStart, headers_in, folder_number, name_of_class, is_interface_named, run_method, code_run}
 use Rattle.member_link.specs.Machine.Worlds.{field_desc}
 use Rattle.member_link.specs.Signatures.{result_of}
 use Rattle.typed_runs.specs.TypedPoints.{Typing, LeadsTo, TypedPoint, IsOfLibrary}
@@ -79,8 +79,9 @@ pub record IsTypedClass (P : Program) (number : ℕ) (class : RunClass) : Type 0
 
 -- ---- the library
 
--- What the machine needs of the library: the classes of objects that it makes are there and no class of the folder, its throwables are
--- throwables, and what is above a class of the library is of the library too.
+-- What the machine needs of the library: the classes of objects that it makes are there and no class of the folder, its
+-- throwables are throwables, what arrays are below is an interface or java/lang/Object, and what is above a class of the library
+-- is of the library too.
 pub record HasBase (P : Program) : Type 0 where
   pub of_object : IsOfLibrary P object
   pub of_strings : IsOfLibrary P (codes "java/lang/String")
@@ -88,6 +89,8 @@ pub record HasBase (P : Program) : Type 0 where
   pub of_throwables :
       AllByRecursion (λ name. IsOfLibrary P name × IsTrue (P.links.below name throwable))
       machine_throwables
+  pub of_arrays :
+      AllByRecursion (λ name. IsTrue (is_interface_named P name)) (cloneable ∷ serializable ∷ [])
   pub leans_on_itself : (name : Name) (header : Header)
       → class_named (headers_in P) name ≡ Some header
       → folder_number P name ≡ None
