@@ -12,3 +12,4 @@ mod Moves
 mod Jumps
 mod Switches
 mod Arithmetic
+mod Shuffles

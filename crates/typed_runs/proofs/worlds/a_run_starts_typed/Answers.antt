@@ -9,6 +9,7 @@ use Rattle.typed_runs.proofs.Moves.{store_stays}
 use Rattle.typed_runs.proofs.Jumps.{null_jump}
 use Rattle.typed_runs.proofs.Switches.{lookup_stays}
 use Rattle.typed_runs.proofs.Arithmetic.{pure_stays}
+use Rattle.typed_runs.proofs.Shuffles.{shuffle_stays}
 use Rattle.typed_runs.proofs.Starts.{start_typed}
 use Rattle.typed_runs.proofs.worlds.a_run_starts_typed.Goals as goal
 
