@@ -129,3 +129,30 @@ pub gives_same : {P : Program} {T : Typings} {w : World} {f : MethodState} {rest
     → AllConform P (T f.at).scope w.memory.heap gs vs
     → StaysTyped P T w (perform P w f (record f { stack = drop (length takes) f.stack }) rest (gives w.memory vs))
 gives_same {w = w} h vs given = gives_values h w.memory (keeps_same w.memory.heap) h.typed.memory vs given
+
+-- ---- a step
+
+-- the world at a typed point
+pub here_of : (P : Program) (T : Typings) (w : World) (f : MethodState) (rest : List RunFrame) → TypedWorld P T w → (d : Does P T w.memory.heap f) → FramesConform P T w.memory.heap (above_of P (frames.Method f)) rest
+    → Here P T w f rest d.stands.fits.scope d.stands.fits.frame d.stands.fits.place d.stands.fits.numbered
+    (access_aside (item_row d.stands.fits.scope d.stands.fits.frame d.stands.fits.place d.stands.fits.item)) (item_op P.links d.stands.fits.numbered d.stands.fits.scope d.stands.fits.item)
+    (item_falls_through d.stands.fits.item) (item_targets d.stands.fits.item)
+here_of P T w f rest typed d below = record {
+  typed = typed;
+  stands = d.stands;
+  below = below;
+  locals = d.locals;
+  stack = d.stack;
+  reads = d.stands.fits.reads;
+  holds = d.stands.fits.row;
+  linked = subst (λ op. IsLinkedOp P (T f.at).scope d.stands.fits.place op) d.stands.fits.is_op d.stands.fits.linked;
+  next = d.stands.fits.next;
+  targets = d.stands.fits.targets;
+}
+
+-- the same world, with its step counted
+pub counted : (P : Program) (T : Typings) (w : World) → TypedWorld P T w → TypedWorld P T (record w { steps = w.steps + 1 })
+counted P T w typed = record { program = typed.program; memory = typed.memory; frames = typed.frames; known = typed.known }
+
+pub uncounted : (P : Program) (T : Typings) (w after : World) → StaysTyped P T (record w { steps = w.steps + 1 }) after → StaysTyped P T w after
+uncounted P T w after stays = record { typed = stays.typed; not_stuck = stays.not_stuck }

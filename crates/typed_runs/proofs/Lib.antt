@@ -13,3 +13,5 @@ mod Jumps
 mod Switches
 mod Arithmetic
 mod Shuffles
+mod Constants
+mod InFrame

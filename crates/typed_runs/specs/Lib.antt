@@ -3,3 +3,4 @@ pub mod TypedPoints
 pub mod TypedPrograms
 pub mod TypedFrames
 pub mod TypedWorlds
+pub mod Families
