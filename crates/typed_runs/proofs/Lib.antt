@@ -15,3 +15,4 @@ mod Arithmetic
 mod Shuffles
 mod Constants
 mod InFrame
+mod Memories
