@@ -16,3 +16,4 @@ mod Shuffles
 mod Constants
 mod InFrame
 mod Memories
+mod Unwinding
