@@ -27,10 +27,16 @@ use Rattle.typed_runs.proofs.Kept.{Keeps, keeps_same, frames_kept, known_kept, u
 use Rattle.typed_runs.proofs.Points.{does_there}
 use Rattle.typed_runs.proofs.Stacks.{Operands, operands, conform_append}
 use Rattle.typed_runs.specs.Conforming.{IsInHeap, AllConform, no_values, and_value, UnitsConform, IsTypedMemory}
-use Rattle.typed_runs.specs.TypedFrames.{ArePaired, nothing_awaited, above_of, StandsAt, Does, FramesConform, upon}
-use Rattle.typed_runs.specs.TypedPoints.{LeadsTo, TypedPoint, ReadsAs, IsLinkedOp}
+use Rattle.typed_runs.specs.TypedFrames.{ArePaired, Above, nothing_awaited, called_method, asked_library, FitsCall, ShowsEvent, MethodConforms, above_of, StandsAt, Does, FramesConform, upon}
+use Rattle.typed_runs.specs.TypedPoints.{LeadsTo, TypedPoint, row_at, ReadsAs, IsLinkedOp}
 use Rattle.typed_runs.specs.TypedPrograms.{Typings}
 use Rattle.typed_runs.specs.TypedWorlds.{TypedWorld, StaysTyped}
+
+-- what an instruction for which its frame waits is
+abbrev pub IsAwaited : Above → Op → Type 0
+IsAwaited nothing_awaited op = ⊥
+IsAwaited (called_method member) op = FitsCall member op
+IsAwaited asked_library op = ShowsEvent op
 
 -- The world before an instruction of the top frame: its row and its operation, whether control falls through, and the places to which it
 -- may jump.
@@ -44,6 +50,8 @@ pub record Here (P : Program) (T : Typings) (w : World) (f : MethodState) (rest 
   pub reads : ReadsAs s (T f.at).scope frame
   pub holds : RowHolds s frame row
   pub linked : IsLinkedOp P (T f.at).scope place op
+  pub waits : (stack : List Value) → UnitsConform P (T f.at).scope w.memory.heap row.locals f.locals → AllConform P (T f.at).scope w.memory.heap (stack_left frame row) (reverse stack)
+      → (above : Above) → IsAwaited above op → MethodConforms P T w.memory.heap (record f { stack = stack }) above
   pub next : IfSome (if falls then row_frame frame row else None) (LeadsTo (T f.at) (f.place + 1))
   pub targets : AllByRecursion (λ target. IfSome (row_frame frame row) (LeadsTo (T f.at) (numbered target))) places
 
@@ -132,6 +140,20 @@ gives_same {w = w} h vs given = gives_values h w.memory (keeps_same w.memory.hea
 
 -- ---- a step
 
+-- a frame stands where it stood, whatever its stack
+pub stands_with : {P : Program} {T : Typings} {heap : Heap} {f : MethodState} (stack : List Value) → StandsAt P T heap f → StandsAt P T heap (record f { stack = stack })
+stands_with stack s = record { point = s.point; is_point = s.is_point; fits = s.fits; paired = s.paired; held = s.held }
+
+-- it waits with what its instruction leaves
+pub waits_of : (P : Program) (T : Typings) (heap : Heap) (f : MethodState) (d : Does P T heap f) (stack : List Value)
+    → UnitsConform P (T f.at).scope heap (row_at d.stands.fits).locals f.locals → AllConform P (T f.at).scope heap (stack_left d.stands.fits.frame (row_at d.stands.fits)) (reverse stack)
+    → (above : Above) → IsAwaited above d.stands.point.op → MethodConforms P T heap (record f { stack = stack }) above
+waits_of P T heap f d stack locals under nothing_awaited awaited = absurd awaited
+waits_of P T heap f d stack locals under (called_method m) awaited =
+    record { stands = record { point = d.stands.point; is_point = d.stands.is_point; fits = d.stands.fits; paired = d.stands.paired; held = d.stands.held }; before = d.locals; locals = locals; stack = under; waited = awaited }
+waits_of P T heap f d stack locals under asked_library awaited =
+    record { stands = record { point = d.stands.point; is_point = d.stands.is_point; fits = d.stands.fits; paired = d.stands.paired; held = d.stands.held }; before = d.locals; locals = locals; stack = under; waited = awaited }
+
 -- the world at a typed point
 pub here_of : (P : Program) (T : Typings) (w : World) (f : MethodState) (rest : List RunFrame) → TypedWorld P T w → (d : Does P T w.memory.heap f) → FramesConform P T w.memory.heap (above_of P (frames.Method f)) rest
     → Here P T w f rest d.stands.fits.scope d.stands.fits.frame d.stands.fits.place d.stands.fits.numbered
@@ -146,6 +168,7 @@ here_of P T w f rest typed d below = record {
   reads = d.stands.fits.reads;
   holds = d.stands.fits.row;
   linked = subst (λ op. IsLinkedOp P (T f.at).scope d.stands.fits.place op) d.stands.fits.is_op d.stands.fits.linked;
+  waits = λ stack locals under above awaited. waits_of P T w.memory.heap f d stack locals under above (subst (IsAwaited above) (sym d.stands.fits.is_op) awaited);
   next = d.stands.fits.next;
   targets = d.stands.fits.targets;
 }

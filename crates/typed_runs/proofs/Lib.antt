@@ -17,3 +17,5 @@ mod Constants
 mod InFrame
 mod Memories
 mod Unwinding
+mod Shown
+mod Raising
