@@ -47,6 +47,7 @@ pub record Here (P : Program) (T : Typings) (w : World) (f : MethodState) (rest 
   pub below : FramesConform P T w.memory.heap (above_of P (frames.Method f)) rest
   pub locals : UnitsConform P (T f.at).scope w.memory.heap frame.locals f.locals
   pub stack : AllConform P (T f.at).scope w.memory.heap frame.stack (reverse f.stack)
+  pub before : UnitsConform P (T f.at).scope w.memory.heap stands.fits.frame.locals f.locals
   pub reads : ReadsAs s (T f.at).scope frame
   pub holds : RowHolds s frame row
   pub linked : IsLinkedOp P (T f.at).scope place op
@@ -141,7 +142,7 @@ gives_same {w = w} h vs given = gives_values h w.memory (keeps_same w.memory.hea
 -- ---- a step
 
 -- a frame stands where it stood, whatever its stack
-pub stands_with : {P : Program} {T : Typings} {heap : Heap} {f : MethodState} (stack : List Value) → StandsAt P T heap f → StandsAt P T heap (record f { stack = stack })
+abbrev pub stands_with : {P : Program} {T : Typings} {heap : Heap} {f : MethodState} (stack : List Value) → StandsAt P T heap f → StandsAt P T heap (record f { stack = stack })
 stands_with stack s = record { point = s.point; is_point = s.is_point; fits = s.fits; paired = s.paired; held = s.held }
 
 -- it waits with what its instruction leaves
@@ -165,6 +166,7 @@ here_of P T w f rest typed d below = record {
   below = below;
   locals = d.locals;
   stack = d.stack;
+  before = d.locals;
   reads = d.stands.fits.reads;
   holds = d.stands.fits.row;
   linked = subst (λ op. IsLinkedOp P (T f.at).scope d.stands.fits.place op) d.stands.fits.is_op d.stands.fits.linked;

@@ -19,3 +19,4 @@ mod Memories
 mod Unwinding
 mod Shown
 mod Raising
+mod Performing
