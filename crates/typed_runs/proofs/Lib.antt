@@ -14,9 +14,13 @@ mod Switches
 mod Arithmetic
 mod Shuffles
 mod Constants
-mod InFrame
+mod OnOperands
 mod Memories
 mod Unwinding
 mod Shown
 mod Raising
 mod Performing
+mod Divisions
+mod Floats
+mod Monitors
+mod Casts

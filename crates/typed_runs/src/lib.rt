@@ -5,5 +5,5 @@
 mod steps;
 mod worlds;
 
-pub use steps::an_instruction_within_a_frame_stays_typed;
+pub use steps::an_instruction_on_operands_stays_typed;
 pub use worlds::a_run_starts_typed;

@@ -27,39 +27,46 @@ use Rattle.member_link.specs.RowScope.{RowScope}
 use Rattle.member_link.specs.Rows.ArrayRows.{primitive_array, array_of}
 use Rattle.member_link.specs.Rows.LocalRows.{const_row}
 use Rattle.member_link.specs.Signatures.{reference_of}
-use Rattle.member_link.specs.Rows.Row.{access_aside}
+use Rattle.member_link.specs.Rows.Operands.{initialised}
+use Rattle.member_link.specs.Rows.Row.{access_aside, plain}
+use Rattle.member_link.specs.Rows.Table.{cast_row}
+use Rattle.class_model.specs.declared.frame.VType.TheVariants as types
 use Rattle.typed_runs.proofs.Arithmetic.{pure_stays}
+use Rattle.typed_runs.proofs.Casts.{cast_stays, instance_of_stays}
 use Rattle.typed_runs.proofs.Constants.{imm_conforms, value_stays}
+use Rattle.typed_runs.proofs.Divisions.{divide_stays}
+use Rattle.typed_runs.proofs.Floats.{float_stays}
+use Rattle.typed_runs.proofs.Monitors.{enter_stays, leave_stays, null_test_stays}
 use Rattle.typed_runs.proofs.Here.{Here, here_of, counted, uncounted}
 use Rattle.typed_runs.proofs.Jumps.{if_stays, if2_stays, if_same_stays, if_null_stays, goto_stays}
 use Rattle.typed_runs.proofs.Moves.{nop_stays, load_stays, store_stays, iinc_stays}
 use Rattle.typed_runs.proofs.Shuffles.{shuffle_stays}
 use Rattle.typed_runs.proofs.Switches.{table_stays, lookup_stays}
 use Rattle.typed_runs.specs.Conforming.{an_int, a_long, a_float, a_double}
-use Rattle.typed_runs.specs.Families.{NextIs, StaysInFrame}
+use Rattle.typed_runs.specs.Families.{NextIs, WorksOnOperands}
 use Rattle.typed_runs.specs.TypedFrames.{nothing_awaited, above_of, Does, FramesConform, upon}
 use Rattle.typed_runs.specs.TypedPrograms.{Typings}
 use Rattle.typed_runs.specs.TypedWorlds.{TypedWorld, StaysTyped}
 
 -- ---- operations that are none of the family
 
-pub not_tested : (b : Bool) (op : Op) → (StaysInFrame op → ⊥) → StaysInFrame (if b then op else meaningless) → ⊥
+pub not_tested : (b : Bool) (op : Op) → (WorksOnOperands op → ⊥) → WorksOnOperands (if b then op else meaningless) → ⊥
 not_tested true op other is = other is
 not_tested false op other is = is
 
-pub not_found : {A : Type 0} (o : Option A) (op : A → Op) → ((a : A) → StaysInFrame (op a) → ⊥) → StaysInFrame (or_meaningless (option_map op o)) → ⊥
+pub not_found : {A : Type 0} (o : Option A) (op : A → Op) → ((a : A) → WorksOnOperands (op a) → ⊥) → WorksOnOperands (or_meaningless (option_map op o)) → ⊥
 not_found None op other is = is
 not_found (Some a) op other is = other a is
 
-pub not_returned : (result : Option FieldType) (kind : Option Kind) → StaysInFrame (return_op result kind) → ⊥
+pub not_returned : (result : Option FieldType) (kind : Option Kind) → WorksOnOperands (return_op result kind) → ⊥
 not_returned None None is = is
 not_returned None (Some k) is = is
 not_returned (Some t) None is = is
 not_returned (Some t) (Some k) is = not_tested (same_kind (kind_of t) k) (return_value t) (λ no. no) is
 
-pub not_called : (links : Links) (s : RowScope) (opcode : ℕ) (r : Reference) → StaysInFrame (call_op links s opcode r) → ⊥
+pub not_called : (links : Links) (s : RowScope) (opcode : ℕ) (r : Reference) → WorksOnOperands (call_op links s opcode r) → ⊥
 not_called links s opcode r is = by (opcode == INVOKEVIRTUAL) (opcode == INVOKESPECIAL) (opcode == INVOKESTATIC) (opcode == INVOKEINTERFACE) is where
-  by : (a b c d : Bool) → StaysInFrame (if a then call_virtual r else (if b then call_special r (special_start links s r.class) else (if c then call_static r else (if d then call_interface r else meaningless)))) → ⊥
+  by : (a b c d : Bool) → WorksOnOperands (if a then call_virtual r else (if b then call_special r (special_start links s r.class) else (if c then call_static r else (if d then call_interface r else meaningless)))) → ⊥
   by true b c d is = is
   by false true c d is = is
   by false false true d is = is
@@ -70,12 +77,12 @@ abbrev pub dynamic_of : RowScope → ℕ → Option (List ℕ) → Option (List 
 dynamic_of s bootstrap (Some name) (Some desc) = call_dynamic s.own.name bootstrap name desc
 dynamic_of s bootstrap name desc = meaningless
 
-pub no_dynamic_of : (s : RowScope) (bootstrap : ℕ) (n d : Option (List ℕ)) → StaysInFrame (dynamic_of s bootstrap n d) → ⊥
+pub no_dynamic_of : (s : RowScope) (bootstrap : ℕ) (n d : Option (List ℕ)) → WorksOnOperands (dynamic_of s bootstrap n d) → ⊥
 no_dynamic_of s bootstrap None d is = is
 no_dynamic_of s bootstrap (Some n) None is = is
 no_dynamic_of s bootstrap (Some n) (Some d) is = is
 
-pub not_dynamic : (s : RowScope) (c : Option Const) → StaysInFrame (dynamic_op s c) → ⊥
+pub not_dynamic : (s : RowScope) (c : Option Const) → WorksOnOperands (dynamic_op s c) → ⊥
 not_dynamic s None is = is
 not_dynamic s (Some (consts.InvokeDynamic bootstrap member)) is = no_dynamic_of s bootstrap (name_at s.pool member) (descriptor_at s.pool member) is
 not_dynamic s (Some c) is = is
@@ -83,7 +90,7 @@ not_dynamic s (Some c) is = is
 -- ---- one of the family, by its item
 
 module _ {P : Program} {T : Typings} {w : World} {f : MethodState} {rest : List RunFrame} {s : RowScope} {frame : Frame} {place : ℕ} {numbered : ℕ → ℕ} where
-  pub constant_stays : (pool : Constants) (c : Option Const) → StaysInFrame (constant_op pool c)
+  pub constant_stays : (pool : Constants) (c : Option Const) → WorksOnOperands (constant_op pool c)
       → Here P T w f rest s frame place numbered (access_aside (const_row frame c)) (constant_op pool c) true [] → StaysTyped P T w (op_step P w f rest (constant_op pool c))
   constant_stays pool (Some (consts.Integer n)) is h = value_stays _ _ an_int h
   constant_stays pool (Some (consts.Long n)) is h = value_stays _ _ a_long h
@@ -95,10 +102,20 @@ module _ {P : Program} {T : Typings} {w : World} {f : MethodState} {rest : List 
   constant_stays pool (Some (consts.MethodHandle kind reference)) is h = absurd (not_found (handle_of pool kind reference) push_constant (λ a no. no) is)
   constant_stays pool c is h = absurd is
 
-  pub item_stays : (item : CodeItem) → StaysInFrame (item_op P.links numbered s item)
+  pub cast_named : (name : Option Name) → Here P T w f rest s frame place numbered (access_aside (cast_row frame name)) (naming name check_cast) true []
+      → StaysTyped P T w (op_step P w f rest (naming name check_cast))
+  cast_named None h = absurd h.linked
+  cast_named (Some name) h = cast_stays name h
+
+  pub instance_named : (name : Option Name) → Here P T w f rest s frame place numbered (plain frame (initialised ∷ []) (types.Int ∷ [])) (naming name instance_of) true []
+      → StaysTyped P T w (op_step P w f rest (naming name instance_of))
+  instance_named None h = absurd h.linked
+  instance_named (Some name) h = instance_of_stays name h
+
+  pub item_stays : (item : CodeItem) → WorksOnOperands (item_op P.links numbered s item)
       → Here P T w f rest s frame place numbered (access_aside (item_row s frame place item)) (item_op P.links numbered s item) (item_falls_through item) (item_targets item)
       → StaysTyped P T w (op_step P w f rest (item_op P.links numbered s item))
-  item_stays (item_null_test local) is h = absurd is
+  item_stays (item_null_test local) is h = null_test_stays local h
   item_stays (item_instr instrs.Nop) is h = nop_stays h
   item_stays (item_instr (instrs.Const imm)) is h = value_stays _ _ (imm_conforms imm) h
   item_stays (item_instr (instrs.Ldc index)) is h = constant_stays s.pool (constant_at s.pool index) is h
@@ -110,8 +127,8 @@ module _ {P : Program} {T : Typings} {w : World} {f : MethodState} {rest : List 
   item_stays (item_instr (instrs.ArrayStore opcode)) is h = absurd (not_tested (nat_le IASTORE opcode && nat_le opcode SASTORE) (store_element opcode) (λ no. no) is)
   item_stays (item_instr (instrs.Shuffle opcode)) is h = shuffle_stays opcode h
   item_stays (item_instr (instrs.Pure opcode)) is h = pure_stays opcode h
-  item_stays (item_instr (instrs.Divide opcode)) is h = absurd is
-  item_stays (item_instr (instrs.FloatAsk opcode)) is h = absurd is
+  item_stays (item_instr (instrs.Divide opcode)) is h = divide_stays opcode h
+  item_stays (item_instr (instrs.FloatAsk opcode)) is h = float_stays opcode h
   item_stays (item_instr (instrs.If opcode target)) is h = if_stays opcode target h
   item_stays (item_instr (instrs.If2 opcode target)) is h = if2_stays opcode target h
   item_stays (item_instr (instrs.IfSame opcode target)) is h = if_same_stays opcode target h
@@ -132,20 +149,20 @@ module _ {P : Program} {T : Typings} {w : World} {f : MethodState} {rest : List 
   item_stays (item_instr (instrs.NewMulti index dimensions)) is h = absurd (not_found (class_at s.pool index) (λ name. new_arrays name dimensions) (λ r no. no) is)
   item_stays (item_instr instrs.Length) is h = absurd is
   item_stays (item_instr instrs.Throw) is h = absurd is
-  item_stays (item_instr (instrs.Cast index)) is h = absurd (not_found (class_at s.pool index) check_cast (λ r no. no) is)
-  item_stays (item_instr (instrs.InstanceOf index)) is h = absurd (not_found (class_at s.pool index) instance_of (λ r no. no) is)
-  item_stays (item_instr instrs.Enter) is h = absurd is
-  item_stays (item_instr instrs.Leave) is h = absurd is
+  item_stays (item_instr (instrs.Cast index)) is h = cast_named (class_at s.pool index) h
+  item_stays (item_instr (instrs.InstanceOf index)) is h = instance_named (class_at s.pool index) h
+  item_stays (item_instr instrs.Enter) is h = enter_stays h
+  item_stays (item_instr instrs.Leave) is h = leave_stays h
 
 -- ---- a step
 
 pub op_stays : (P : Program) (T : Typings) (w : World) (f : MethodState) (rest : List RunFrame) → TypedWorld P T w → (d : Does P T w.memory.heap f) → FramesConform P T w.memory.heap (above_of P (frames.Method f)) rest
-    → StaysInFrame d.stands.point.op → StaysTyped P T w (op_step P w f rest d.stands.point.op)
+    → WorksOnOperands d.stands.point.op → StaysTyped P T w (op_step P w f rest d.stands.point.op)
 op_stays P T w f rest typed d below is =
     subst (λ op. StaysTyped P T w (op_step P w f rest op)) (sym d.stands.fits.is_op)
-    (item_stays d.stands.fits.item (subst StaysInFrame d.stands.fits.is_op is) (here_of P T w f rest typed d below))
+    (item_stays d.stands.fits.item (subst WorksOnOperands d.stands.fits.is_op is) (here_of P T w f rest typed d below))
 
-pub frames_typed : (P : Program) (T : Typings) (w : World) (fs : List RunFrame) → TypedWorld P T w → FramesConform P T w.memory.heap nothing_awaited fs → NextIs StaysInFrame P fs
+pub frames_typed : (P : Program) (T : Typings) (w : World) (fs : List RunFrame) → TypedWorld P T w → FramesConform P T w.memory.heap nothing_awaited fs → NextIs WorksOnOperands P fs
     → StaysTyped P T w (if is_library_turn fs then w else frames_step P (record w { steps = w.steps + 1 }) fs)
 frames_typed P T w [] typed conform next = absurd next
 frames_typed P T w (frames.Library made ∷ rest) typed conform next = absurd next
@@ -153,7 +170,7 @@ frames_typed P T w (frames.Beginning class ∷ rest) typed conform next = absurd
 frames_typed P T w (frames.Method f ∷ rest) typed (upon d below) next =
     let v : World = record w { steps = w.steps + 1 } in
     subst (λ p. StaysTyped P T w (point_step P v f rest p)) (sym d.stands.is_point)
-    (uncounted P T w _ (op_stays P T v f rest (counted P T w typed) d below (subst (λ p. IfSome p (λ (q : Point). StaysInFrame q.op)) d.stands.is_point next)))
+    (uncounted P T w _ (op_stays P T v f rest (counted P T w typed) d below (subst (λ p. IfSome p (λ (q : Point). WorksOnOperands q.op)) d.stands.is_point next)))
 
-pub steps_typed : (P : Program) (T : Typings) (w : World) → TypedWorld P T w → NextIs StaysInFrame P w.frames → StaysTyped P T w (step P w)
+pub steps_typed : (P : Program) (T : Typings) (w : World) → TypedWorld P T w → NextIs WorksOnOperands P w.frames → StaysTyped P T w (step P w)
 steps_typed P T w typed next = frames_typed P T w w.frames typed typed.frames next
