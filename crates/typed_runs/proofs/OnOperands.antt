@@ -1,0 +1,176 @@
+use Rattle.std.specs.Prelude.{◌≡◌, ◌+◌, ◌==◌, ◌&&◌, refl, ℕ, Bool, true, false, List, [], ◌∷◌, nat_le, Option, Some, None, IfSome, option_map, if◌then◌else◌}
+use Rattle.std.proofs.Common.{arith, ap, sym, subst}
+use Rattle.class_model.specs.Pool.{Constants, constant_at}
+use Rattle.class_model.specs.PoolChecks.{utf8_at, class_at, name_at, descriptor_at}
+use Rattle.class_model.specs.declared.descriptor.FieldType.{FieldType}
+use Rattle.class_model.specs.declared.descriptor.Kind.{Kind}
+use Rattle.class_model.specs.Descriptors.{kind_of}
+use Rattle.class_model.specs.declared.frame.Frame.{Frame}
+use Rattle.class_model.specs.declared.instr.Instr.TheVariants as instrs
+use Rattle.class_model.specs.declared.opcodes.TheConstants.{IALOAD, SALOAD, IASTORE, SASTORE, INVOKEVIRTUAL, INVOKESPECIAL, INVOKESTATIC, INVOKEINTERFACE}
+use Rattle.class_model.specs.declared.pool.Const.{Const}
+use Rattle.class_model.specs.declared.pool.Const.TheVariants as consts
+use Rattle.class_tree.specs.Headers.{Name}
+use Rattle.machine_values.specs.Frames.{MethodState}
+use Rattle.machine_values.specs.declared.frame.RunFrame.{RunFrame}
+use Rattle.machine_values.specs.declared.frame.RunFrame.TheVariants as frames
+use Rattle.machine_values.specs.Heaps.{Heap}
+use Rattle.machine_values.specs.declared.object.Constant.TheVariants as objects
+use Rattle.member_link.specs.Bodies.{CodeItem, item_instr, item_null_test, item_row, item_targets, item_falls_through}
+use Rattle.member_link.specs.Machine.Codes.{item_op, constant_op, or_meaningless, naming, return_op, same_kind, call_op, dynamic_op, handle_of, special_start, initialises}
+use Rattle.member_link.specs.Machine.Ops.{Op, meaningless, return_value, push_constant, get_static, put_static, get_field, put_field, call_static, call_virtual, call_interface, call_special, call_dynamic, new_object, new_array, new_arrays, load_element, store_element, check_cast, instance_of}
+use Rattle.member_link.specs.Machine.Programs.{Program, Links, Point, point_at}
+use Rattle.member_link.specs.Machine.Stepping.{op_step, point_step, frames_step, is_library_turn, step}
+use Rattle.member_link.specs.Machine.Worlds.{World}
+use Rattle.member_link.specs.References.{Reference}
+use Rattle.member_link.specs.RowScope.{RowScope}
+use Rattle.member_link.specs.Rows.ArrayRows.{primitive_array, array_of}
+use Rattle.member_link.specs.Rows.LocalRows.{const_row}
+use Rattle.member_link.specs.Signatures.{reference_of}
+use Rattle.member_link.specs.Rows.Operands.{initialised}
+use Rattle.member_link.specs.Rows.Row.{access_aside, plain}
+use Rattle.member_link.specs.Rows.Table.{cast_row}
+use Rattle.class_model.specs.declared.frame.VType.TheVariants as types
+use Rattle.typed_runs.proofs.Arithmetic.{pure_stays}
+use Rattle.typed_runs.proofs.Casts.{cast_stays, instance_of_stays}
+use Rattle.typed_runs.proofs.Constants.{imm_conforms, value_stays}
+use Rattle.typed_runs.proofs.Divisions.{divide_stays}
+use Rattle.typed_runs.proofs.Floats.{float_stays}
+use Rattle.typed_runs.proofs.Monitors.{enter_stays, leave_stays, null_test_stays}
+use Rattle.typed_runs.proofs.Here.{Here, here_of, counted, uncounted}
+use Rattle.typed_runs.proofs.Jumps.{if_stays, if2_stays, if_same_stays, if_null_stays, goto_stays}
+use Rattle.typed_runs.proofs.Moves.{nop_stays, load_stays, store_stays, iinc_stays}
+use Rattle.typed_runs.proofs.Shuffles.{shuffle_stays}
+use Rattle.typed_runs.proofs.Switches.{table_stays, lookup_stays}
+use Rattle.typed_runs.specs.Conforming.{an_int, a_long, a_float, a_double}
+use Rattle.typed_runs.specs.Families.{NextIs, WorksOnOperands}
+use Rattle.typed_runs.specs.TypedFrames.{nothing_awaited, above_of, Does, FramesConform, upon}
+use Rattle.typed_runs.specs.TypedPrograms.{Typings}
+use Rattle.typed_runs.specs.TypedWorlds.{TypedWorld, StaysTyped}
+
+-- ---- operations that are none of the family
+
+pub not_tested : (b : Bool) (op : Op) → (WorksOnOperands op → ⊥) → WorksOnOperands (if b then op else meaningless) → ⊥
+not_tested true op other is = other is
+not_tested false op other is = is
+
+pub not_found : {A : Type 0} (o : Option A) (op : A → Op) → ((a : A) → WorksOnOperands (op a) → ⊥) → WorksOnOperands (or_meaningless (option_map op o)) → ⊥
+not_found None op other is = is
+not_found (Some a) op other is = other a is
+
+pub not_returned : (result : Option FieldType) (kind : Option Kind) → WorksOnOperands (return_op result kind) → ⊥
+not_returned None None is = is
+not_returned None (Some k) is = is
+not_returned (Some t) None is = is
+not_returned (Some t) (Some k) is = not_tested (same_kind (kind_of t) k) (return_value t) (λ no. no) is
+
+pub not_called : (links : Links) (s : RowScope) (opcode : ℕ) (r : Reference) → WorksOnOperands (call_op links s opcode r) → ⊥
+not_called links s opcode r is = by (opcode == INVOKEVIRTUAL) (opcode == INVOKESPECIAL) (opcode == INVOKESTATIC) (opcode == INVOKEINTERFACE) is where
+  by : (a b c d : Bool) → WorksOnOperands (if a then call_virtual r else (if b then call_special r (special_start links s r.class) else (if c then call_static r else (if d then call_interface r else meaningless)))) → ⊥
+  by true b c d is = is
+  by false true c d is = is
+  by false false true d is = is
+  by false false false true is = is
+  by false false false false is = is
+
+abbrev pub dynamic_of : RowScope → ℕ → Option (List ℕ) → Option (List ℕ) → Op
+dynamic_of s bootstrap (Some name) (Some desc) = call_dynamic s.own.name bootstrap name desc
+dynamic_of s bootstrap name desc = meaningless
+
+pub no_dynamic_of : (s : RowScope) (bootstrap : ℕ) (n d : Option (List ℕ)) → WorksOnOperands (dynamic_of s bootstrap n d) → ⊥
+no_dynamic_of s bootstrap None d is = is
+no_dynamic_of s bootstrap (Some n) None is = is
+no_dynamic_of s bootstrap (Some n) (Some d) is = is
+
+pub not_dynamic : (s : RowScope) (c : Option Const) → WorksOnOperands (dynamic_op s c) → ⊥
+not_dynamic s None is = is
+not_dynamic s (Some (consts.InvokeDynamic bootstrap member)) is = no_dynamic_of s bootstrap (name_at s.pool member) (descriptor_at s.pool member) is
+not_dynamic s (Some c) is = is
+
+-- ---- one of the family, by its item
+
+module _ {P : Program} {T : Typings} {w : World} {f : MethodState} {rest : List RunFrame} {s : RowScope} {frame : Frame} {place : ℕ} {numbered : ℕ → ℕ} where
+  pub constant_stays : (pool : Constants) (c : Option Const) → WorksOnOperands (constant_op pool c)
+      → Here P T w f rest s frame place numbered (access_aside (const_row frame c)) (constant_op pool c) true [] → StaysTyped P T w (op_step P w f rest (constant_op pool c))
+  constant_stays pool (Some (consts.Integer n)) is h = value_stays _ _ an_int h
+  constant_stays pool (Some (consts.Long n)) is h = value_stays _ _ a_long h
+  constant_stays pool (Some (consts.Float n)) is h = value_stays _ _ a_float h
+  constant_stays pool (Some (consts.Double n)) is h = value_stays _ _ a_double h
+  constant_stays pool (Some (consts.String t)) is h = absurd (not_found (utf8_at pool t) (λ text. push_constant (objects.Str text)) (λ a no. no) is)
+  constant_stays pool (Some (consts.Class t)) is h = absurd (not_found (utf8_at pool t) (λ text. push_constant (objects.Class text)) (λ a no. no) is)
+  constant_stays pool (Some (consts.MethodType t)) is h = absurd (not_found (utf8_at pool t) (λ text. push_constant (objects.MethodType text)) (λ a no. no) is)
+  constant_stays pool (Some (consts.MethodHandle kind reference)) is h = absurd (not_found (handle_of pool kind reference) push_constant (λ a no. no) is)
+  constant_stays pool c is h = absurd is
+
+  pub cast_named : (name : Option Name) → Here P T w f rest s frame place numbered (access_aside (cast_row frame name)) (naming name check_cast) true []
+      → StaysTyped P T w (op_step P w f rest (naming name check_cast))
+  cast_named None h = absurd h.linked
+  cast_named (Some name) h = cast_stays name h
+
+  pub instance_named : (name : Option Name) → Here P T w f rest s frame place numbered (plain frame (initialised ∷ []) (types.Int ∷ [])) (naming name instance_of) true []
+      → StaysTyped P T w (op_step P w f rest (naming name instance_of))
+  instance_named None h = absurd h.linked
+  instance_named (Some name) h = instance_of_stays name h
+
+  pub item_stays : (item : CodeItem) → WorksOnOperands (item_op P.links numbered s item)
+      → Here P T w f rest s frame place numbered (access_aside (item_row s frame place item)) (item_op P.links numbered s item) (item_falls_through item) (item_targets item)
+      → StaysTyped P T w (op_step P w f rest (item_op P.links numbered s item))
+  item_stays (item_null_test local) is h = null_test_stays local h
+  item_stays (item_instr instrs.Nop) is h = nop_stays h
+  item_stays (item_instr (instrs.Const imm)) is h = value_stays _ _ (imm_conforms imm) h
+  item_stays (item_instr (instrs.Ldc index)) is h = constant_stays s.pool (constant_at s.pool index) is h
+  item_stays (item_instr (instrs.Ldc2 index)) is h = constant_stays s.pool (constant_at s.pool index) is h
+  item_stays (item_instr (instrs.Load kind at)) is h = load_stays kind at h
+  item_stays (item_instr (instrs.Store kind at)) is h = store_stays kind at h
+  item_stays (item_instr (instrs.Iinc at by)) is h = iinc_stays at by h
+  item_stays (item_instr (instrs.ArrayLoad opcode)) is h = absurd (not_tested (nat_le IALOAD opcode && nat_le opcode SALOAD) (load_element opcode) (λ no. no) is)
+  item_stays (item_instr (instrs.ArrayStore opcode)) is h = absurd (not_tested (nat_le IASTORE opcode && nat_le opcode SASTORE) (store_element opcode) (λ no. no) is)
+  item_stays (item_instr (instrs.Shuffle opcode)) is h = shuffle_stays opcode h
+  item_stays (item_instr (instrs.Pure opcode)) is h = pure_stays opcode h
+  item_stays (item_instr (instrs.Divide opcode)) is h = divide_stays opcode h
+  item_stays (item_instr (instrs.FloatAsk opcode)) is h = float_stays opcode h
+  item_stays (item_instr (instrs.If opcode target)) is h = if_stays opcode target h
+  item_stays (item_instr (instrs.If2 opcode target)) is h = if2_stays opcode target h
+  item_stays (item_instr (instrs.IfSame opcode target)) is h = if_same_stays opcode target h
+  item_stays (item_instr (instrs.IfNull opcode target)) is h = if_null_stays opcode target h
+  item_stays (item_instr (instrs.Goto target)) is h = goto_stays target h
+  item_stays (item_instr (instrs.Table low other targets)) is h = table_stays low other targets h
+  item_stays (item_instr (instrs.Lookup other pairs)) is h = lookup_stays other pairs h
+  item_stays (item_instr (instrs.Return kind)) is h = absurd (not_returned s.result kind is)
+  item_stays (item_instr (instrs.GetStatic index)) is h = absurd (not_found (reference_of s.pool (constant_at s.pool index)) get_static (λ r no. no) is)
+  item_stays (item_instr (instrs.PutStatic index)) is h = absurd (not_found (reference_of s.pool (constant_at s.pool index)) (λ r. put_static r (initialises s.is_clinit s.own)) (λ r no. no) is)
+  item_stays (item_instr (instrs.GetField index)) is h = absurd (not_found (reference_of s.pool (constant_at s.pool index)) get_field (λ r no. no) is)
+  item_stays (item_instr (instrs.PutField index)) is h = absurd (not_found (reference_of s.pool (constant_at s.pool index)) (λ r. put_field r (initialises s.is_init s.own)) (λ r no. no) is)
+  item_stays (item_instr (instrs.Invoke opcode index count)) is h = absurd (not_found (reference_of s.pool (constant_at s.pool index)) (call_op P.links s opcode) (λ r no. not_called P.links s opcode r no) is)
+  item_stays (item_instr (instrs.Dynamic index)) is h = absurd (not_dynamic s (constant_at s.pool index) is)
+  item_stays (item_instr (instrs.New index)) is h = absurd (not_found (class_at s.pool index) new_object (λ r no. no) is)
+  item_stays (item_instr (instrs.NewArray code)) is h = absurd (not_found (primitive_array code) new_array (λ r no. no) is)
+  item_stays (item_instr (instrs.NewRefArray index)) is h = absurd (not_found (array_of (class_at s.pool index)) new_array (λ r no. no) is)
+  item_stays (item_instr (instrs.NewMulti index dimensions)) is h = absurd (not_found (class_at s.pool index) (λ name. new_arrays name dimensions) (λ r no. no) is)
+  item_stays (item_instr instrs.Length) is h = absurd is
+  item_stays (item_instr instrs.Throw) is h = absurd is
+  item_stays (item_instr (instrs.Cast index)) is h = cast_named (class_at s.pool index) h
+  item_stays (item_instr (instrs.InstanceOf index)) is h = instance_named (class_at s.pool index) h
+  item_stays (item_instr instrs.Enter) is h = enter_stays h
+  item_stays (item_instr instrs.Leave) is h = leave_stays h
+
+-- ---- a step
+
+pub op_stays : (P : Program) (T : Typings) (w : World) (f : MethodState) (rest : List RunFrame) → TypedWorld P T w → (d : Does P T w.memory.heap f) → FramesConform P T w.memory.heap (above_of P (frames.Method f)) rest
+    → WorksOnOperands d.stands.point.op → StaysTyped P T w (op_step P w f rest d.stands.point.op)
+op_stays P T w f rest typed d below is =
+    subst (λ op. StaysTyped P T w (op_step P w f rest op)) (sym d.stands.fits.is_op)
+    (item_stays d.stands.fits.item (subst WorksOnOperands d.stands.fits.is_op is) (here_of P T w f rest typed d below))
+
+pub frames_typed : (P : Program) (T : Typings) (w : World) (fs : List RunFrame) → TypedWorld P T w → FramesConform P T w.memory.heap nothing_awaited fs → NextIs WorksOnOperands P fs
+    → StaysTyped P T w (if is_library_turn fs then w else frames_step P (record w { steps = w.steps + 1 }) fs)
+frames_typed P T w [] typed conform next = absurd next
+frames_typed P T w (frames.Library made ∷ rest) typed conform next = absurd next
+frames_typed P T w (frames.Beginning class ∷ rest) typed conform next = absurd next
+frames_typed P T w (frames.Method f ∷ rest) typed (upon d below) next =
+    let v : World = record w { steps = w.steps + 1 } in
+    subst (λ p. StaysTyped P T w (point_step P v f rest p)) (sym d.stands.is_point)
+    (uncounted P T w _ (op_stays P T v f rest (counted P T w typed) d below (subst (λ p. IfSome p (λ (q : Point). WorksOnOperands q.op)) d.stands.is_point next)))
+
+pub steps_typed : (P : Program) (T : Typings) (w : World) → TypedWorld P T w → NextIs WorksOnOperands P w.frames → StaysTyped P T w (step P w)
+steps_typed P T w typed next = frames_typed P T w w.frames typed typed.frames next

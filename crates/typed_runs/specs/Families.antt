@@ -1,0 +1,37 @@
+-- Families of operations, and the operation that a step does.
+use Rattle.std.specs.Prelude.{ℕ, List, [], ◌∷◌, IfSome}
+use Rattle.machine_values.specs.declared.frame.RunFrame.{RunFrame}
+use Rattle.machine_values.specs.declared.frame.RunFrame.TheVariants.{Method}
+use Rattle.member_link.specs.Machine.Ops.{Op, no_operation, push_value, load_local, store_local, increment_local, shuffle_stack, pure_arithmetic, jump_by_int, jump_by_ints, jump_by_references, jump_by_null, jump_to, table_switch, lookup_switch, division, float_arithmetic, test_local, check_cast, instance_of, enter_monitor, leave_monitor}
+use Rattle.member_link.specs.Machine.Programs.{Program, point_at}
+
+-- what a family says of an operation holds of the one at which the top frame stands
+abbrev pub NextIs : (Op → Type 0) → Program → List RunFrame → Type 0
+NextIs Family P (Method f ∷ rest) = (IfSome (point_at P f.at f.place) (λ point. Family point.op))
+NextIs Family P frames = ⊥
+
+-- It pushes a number or null, moves values between locals and the operand stack, computes, jumps, tests what class an object is of, or
+-- enters or leaves a monitor: it names no member, and makes no object but a throwable of the machine.
+abbrev pub WorksOnOperands : Op → Type 0
+WorksOnOperands no_operation = Unit {0}
+WorksOnOperands (push_value value) = Unit {0}
+WorksOnOperands (load_local kind at) = Unit {0}
+WorksOnOperands (store_local kind at) = Unit {0}
+WorksOnOperands (increment_local at by) = Unit {0}
+WorksOnOperands (shuffle_stack opcode) = Unit {0}
+WorksOnOperands (pure_arithmetic opcode) = Unit {0}
+WorksOnOperands (jump_by_int opcode to) = Unit {0}
+WorksOnOperands (jump_by_ints opcode to) = Unit {0}
+WorksOnOperands (jump_by_references opcode to) = Unit {0}
+WorksOnOperands (jump_by_null opcode to) = Unit {0}
+WorksOnOperands (jump_to to) = Unit {0}
+WorksOnOperands (table_switch low other targets) = Unit {0}
+WorksOnOperands (lookup_switch other pairs) = Unit {0}
+WorksOnOperands (division opcode) = Unit {0}
+WorksOnOperands (float_arithmetic opcode) = Unit {0}
+WorksOnOperands (test_local at) = Unit {0}
+WorksOnOperands (check_cast name) = Unit {0}
+WorksOnOperands (instance_of name) = Unit {0}
+WorksOnOperands enter_monitor = Unit {0}
+WorksOnOperands leave_monitor = Unit {0}
+WorksOnOperands op = ⊥

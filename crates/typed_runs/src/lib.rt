@@ -1,0 +1,9 @@
+//! What holds of each world in a run of a folder that verifies, and that such a run is never stuck: functions that do nothing,
+//! whose contracts say what always holds.
+#![tactic(auto)]
+
+mod steps;
+mod worlds;
+
+pub use steps::an_instruction_on_operands_stays_typed;
+pub use worlds::a_run_starts_typed;

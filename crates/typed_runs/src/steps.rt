@@ -1,0 +1,17 @@
+//! Steps of a typed world.
+ghost use Rattle.member_link.specs.Machine.Programs.{Program};
+ghost use Rattle.member_link.specs.Machine.Stepping.{step};
+ghost use Rattle.member_link.specs.Machine.Worlds.{World};
+ghost use Rattle.typed_runs.specs.Families.{NextIs, WorksOnOperands};
+ghost use Rattle.typed_runs.specs.TypedPrograms.{Typings};
+ghost use Rattle.typed_runs.specs.TypedWorlds.{TypedWorld, StaysTyped};
+
+/// An instruction leaves a typed world that is not stuck, if it pushes a number or null, moves values between locals and the operand
+/// stack, computes, jumps, tests what class an object is of, or enters or leaves a monitor. It may raise a throwable of the machine,
+/// which ends in a handler, in the library or out of a class initialiser, and it may ask the library.
+pub fn an_instruction_on_operands_stays_typed()
+    ensures { (P : Program) (T : Typings) (w : World)
+        → TypedWorld P T w
+        → NextIs WorksOnOperands P w.frames
+        → StaysTyped P T w (step P w) }
+{}
