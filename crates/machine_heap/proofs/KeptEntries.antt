@@ -1,6 +1,6 @@
 -- The constants that have references, by value and by reference.
-use Rattle.std.proofs.Common.{◌≡◌, ◌↔◌, IsTrue, ℕ, suc, ◌+◌, ◌<◌, ◌≤◌, ◌-◌, Bool, true, false, cond, not, List, [], ◌∷◌, ◌++◌, length, map, slice_get, position, Option, Some, None, is_some, option_map, refl, sym, ap, subst, ◌∙◌, arith, nat_eq, ◌||◌}
-use Rattle.std.specs.List.{list_any, position_or_len, AllByRecursion}
+use Rattle.std.proofs.Common.{◌≡◌, ◌↔◌, IsTrue, ℕ, suc, ◌+◌, ◌<◌, Bool, true, false, cond, not, List, [], ◌∷◌, ◌++◌, slice_get, position, Some, None, option_map, refl, sym, ap, ◌∙◌, arith, nat_eq, ◌||◌}
+use Rattle.std.specs.List.{list_any, position_or_len}
 use Rattle.std.specs.Map.{lookup}
 use Rattle.std.proofs.lemmas.Bool.{eqb-true, eq-eqb}
 use Rattle.machine_values.specs.Heaps.{Kept, constant_in, kept_in, same_constant}
