@@ -2,3 +2,12 @@ mod HeldWords
 mod EventLines
 mod HexTexts
 mod Appended
+mod Numerals
+mod PrintedBytes
+mod PrintedTexts
+mod Pieces
+mod Taken
+mod GivenWords
+mod EachWord
+mod ActionLines
+mod ScriptLines

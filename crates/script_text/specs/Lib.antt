@@ -3,4 +3,5 @@ pub mod PrintedTexts
 pub mod Scripts
 pub mod PrintedScripts
 pub mod Events
+pub mod Faults
 pub mod Inner

@@ -1,0 +1,6 @@
+-- There is no mark before the index.
+use Rattle.std.proofs.Common.{◌≢◌, ◌<◌, ℕ, get_or}
+use Rattle.script_text.proofs.words.cut_at.Given as goal
+
+abbrev pub invariant-loop-at : goal.invariant-loop-at
+invariant-loop-at l = (k : ℕ) → k < l.at → get_or l.bytes k 0 ≢ l.mark
