@@ -1,10 +1,16 @@
 -- Lines, one by one.
-use Rattle.std.proofs.Common.{◌≡◌, ◌++◌, ◌∷◌, [], ◌+◌, ℕ, zero, suc, List, Option, Some, None, ap, sym, refl, subst, ◌∙◌, arith, append_assoc}
+use Rattle.std.specs.Prelude.{IfErr}
+use Rattle.std.specs.Result.{IsErrAnd}
+use Rattle.std.proofs.Common.{Result, Ok, Err, ◌≡◌, ◌++◌, ◌∷◌, [], ◌+◌, ℕ, zero, suc, ◌≤◌, Bool, true, false, List, Option, Some, None, ap, sym, refl, subst, ◌∙◌, arith, append_assoc}
+use Rattle.std.proofs.lemmas.Bool.{eqb-true}
 use Rattle.std.proofs.lemmas.List.{append-nil}
 use Rattle.machine_values.specs.declared.action.Action.{Action}
+use Rattle.script_text.specs.Faults.{IsFaultOf}
+use Rattle.script_text.specs.declared.scripts.ScriptFault.{ScriptFault}
+use Rattle.script_text.specs.declared.scripts.ScriptFault.TheVariants.{BadScript, NoMemory}
 use Rattle.script_text.specs.PrintedTexts.{Bytes}
-use Rattle.script_text.specs.Scripts.{IsLine, SpellsLine, SpellsLines, no_lines, line_without_action, line_with_action, IsFirstOutside, outside_here, outside_behind, SpellsAction, empty_line, comment_line, action_line, words_of}
-use Rattle.script_text.specs.Inner.Lines.{AddsLine, adds_nothing, adds_action}
+use Rattle.script_text.specs.Scripts.{IsLine, SpellsLine, SpellsLines, no_lines, line_without_action, line_with_action, IsFirstOutside, outside_here, outside_behind, SpellsAction, empty_line, comment_line, action_line, words_of, lines_of}
+use Rattle.script_text.specs.Inner.Lines.{is_blank_line, IsLineFault, AddsLine, adds_nothing, adds_action}
 
 -- what was read of lines: it goes on with what is left, and the first line outside is counted from there
 pub record LinesSoFar (lines : List Bytes) (done : List Action) (count : ℕ) (left : List Bytes) : Type 0 where
@@ -43,9 +49,30 @@ lines_read lines done count so = subst (λ (t : List Action). SpellsLines t line
 
 -- ---- one line
 
-pub no_line : (line : Bytes) → ((rest : Bytes) → line ≡ 35 ∷ rest → ⊥) → (line ≡ [] → ⊥) → ((action : Action) → ¬ SpellsAction action (words_of line)) → ¬ IsLine line
-no_line line no_hash some never (None, spelled) = by spelled where
-  by : SpellsLine None line → ⊥
-  by empty_line = some refl
-  by (comment_line {text = text}) = no_hash text refl
-no_line line no_hash some never (Some action, action_line spelled) = never action spelled
+pub blank_line : (line : Bytes) → is_blank_line line ≡ true → SpellsLine None line
+blank_line [] is = empty_line
+blank_line (first ∷ rest) is = subst (λ (n : ℕ). SpellsLine None (n ∷ rest)) (sym (eqb-true first 35 is)) comment_line
+
+true_is_not_false : true ≡ false → ⊥
+true_is_not_false h = cc
+
+not_blank : (line : Bytes) → is_blank_line line ≡ false → ¬ SpellsLine None line
+not_blank line is empty_line = true_is_not_false is
+not_blank line is comment_line = true_is_not_false is
+
+pub no_line : (line : Bytes) → is_blank_line line ≡ false → ((action : Action) → ¬ SpellsAction action (words_of line)) → ¬ IsLine line
+no_line line is never (None, spelled) = not_blank line is spelled
+no_line line is never (Some action, action_line spelled) = never action spelled
+
+pub room_more : (number before after all text : ℕ) → number + before ≤ all → after ≤ text → before ≡ text + 1 → number + 1 + after ≤ all
+room_more number before after all text room shorter is = omega (arith, room, shorter, is)
+
+pub fault_of : (bytes : Bytes) (done : List Action) (count : ℕ) (left : List Bytes) (line : Bytes) (rest : List Bytes) (fault : ScriptFault) → LinesSoFar (lines_of bytes) done count left → left ≡ line ∷ rest → IsLineFault line (count + 1) fault → IsFaultOf bytes fault
+fault_of bytes done count left line rest (BadScript at) so is fault =
+    subst (λ (n : ℕ). IsFirstOutside (lines_of bytes) n) (sym fault.0) (line_outside (lines_of bytes) done count left line rest so is fault.1)
+fault_of bytes done count left line rest NoMemory so is fault = tt
+
+-- a ? passes on the error
+pub errs_by : {A E : Type 0} (P : E → Type 0) (result : Result A E) (error : E) → IsErrAnd result (λ e. e ≡ error) → P error → IfErr result P
+errs_by P (Ok value) error is fact = tt
+errs_by P (Err e) error is fact = subst P (sym is) fact

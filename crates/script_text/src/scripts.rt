@@ -4,7 +4,7 @@ ghost use Rattle.std.specs.Option.{option_copied};
 ghost use Rattle.machine_values.specs.declared.action.Action.{Action};
 ghost use Rattle.script_text.specs.Scripts.{IsScript, lines_of};
 ghost use Rattle.script_text.specs.Faults.{IsFaultOf};
-ghost use Rattle.script_text.specs.Inner.Lines.{AddsLine, IsLineFault, ReadsLine};
+ghost use Rattle.script_text.specs.Inner.Lines.{AddsLine, IsLineFault, ReadsLine, is_blank_line};
 
 use crate::actions::action_of;
 use crate::words::cut_at;
@@ -77,11 +77,22 @@ pub(crate) enum Line {
 fn line_of(alloc: Global, line: &[u8]) -> Result<Line, NoMemory>
     ensures { IfOk result (ReadsLine line.now) }
 {
+    if is_blank(line) {
+        return Ok(Line::Empty);
+    }
+    let answer = action_of(alloc, line)?;
+    match answer {
+        Some(action) => Ok(Line::Action(action)),
+        None => Ok(Line::Outside),
+    }
+}
+
+/// Whether a line is empty or a comment.
+fn is_blank(line: &[u8]) -> bool
+    ensures { result ≡ is_blank_line line.now }
+{
     match line {
-        [] | [b'#', ..] => Ok(Line::Empty),
-        _ => match action_of(alloc, line)? {
-            Some(action) => Ok(Line::Action(action)),
-            None => Ok(Line::Outside),
-        },
+        [] => true,
+        [first, ..] => *first == b'#',
     }
 }

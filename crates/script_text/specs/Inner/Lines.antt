@@ -1,12 +1,18 @@
 -- What a line was read as.
-use Rattle.std.specs.Prelude.{◌≡◌, ◌++◌, ℕ, List, [], ◌∷◌, Option, Some, None}
+use Rattle.std.specs.Prelude.{◌≡◌, ◌==◌, Bool, true, ◌++◌, ℕ, List, [], ◌∷◌, Option, Some, None}
 use Rattle.machine_values.specs.declared.action.Action.{Action}
+use Rattle.script_text.specs.Characters.{hash}
 use Rattle.script_text.specs.PrintedTexts.{Bytes}
 use Rattle.script_text.specs.Scripts.{IsLine, SpellsLine}
 use Rattle.script_text.specs.declared.scripts.Line.{Line}
 use Rattle.script_text.specs.declared.scripts.Line.TheVariants as lines
 use Rattle.script_text.specs.declared.scripts.ScriptFault.{ScriptFault}
 use Rattle.script_text.specs.declared.scripts.ScriptFault.TheVariants.{BadScript, NoMemory}
+
+-- an empty line or a comment
+abbrev pub is_blank_line : Bytes → Bool
+is_blank_line [] = true
+is_blank_line (first ∷ rest) = first == hash
 
 abbrev pub ReadsLine : Bytes → Line → Type 0
 ReadsLine line lines.Empty = SpellsLine None line
