@@ -1,5 +1,5 @@
 -- A list of words, one by one.
-use Rattle.std.proofs.Common.{◌≡◌, ◌++◌, ◌∷◌, [], List, ap, sym, refl, subst, append_assoc}
+use Rattle.std.proofs.Common.{◌≡◌, ◌++◌, ◌∷◌, [], List, sym, subst, append_assoc}
 use Rattle.std.proofs.lemmas.List.{append-nil}
 use Rattle.script_text.specs.Scripts.{Word, SpellsEach, none_spelled, more_spelled}
 

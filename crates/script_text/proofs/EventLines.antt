@@ -1,5 +1,5 @@
 -- One more event is one more line.
-use Rattle.std.proofs.Common.{◌≡◌, ◌++◌, ◌∷◌, [], ◌-◌, ◌+◌, ◌<◌, ◌≤◌, ℕ, zero, suc, List, ap, sym, refl, ◌∙◌, arith, take, length, get_or, append_assoc, add-one, subst}
+use Rattle.std.proofs.Common.{◌≡◌, ◌++◌, ◌∷◌, [], ◌+◌, ◌<◌, ℕ, zero, suc, List, ap, sym, ◌∙◌, arith, take, length, get_or, append_assoc}
 use Rattle.std.proofs.lemmas.List.{append-nil}
 use Rattle.script_text.specs.Events.{event_lines, event_line}
 use Rattle.machine_values.specs.declared.event.Event.{Event}

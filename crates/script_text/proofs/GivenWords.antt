@@ -1,9 +1,8 @@
 -- The word of a value, by its kind.
 use Rattle.script_text.specs.Inner.Reading.{IsRead}
-use Rattle.std.proofs.Common.{◌≡◌, ◌≢◌, ◌<◌, ◌^◌, ◌∷◌, [], ℕ, ℤ, List, Option, Some, None, codes, length, sym, refl, subst, ap, ◌∙◌, arith}
+use Rattle.std.proofs.Common.{◌≡◌, ◌≢◌, ◌∷◌, ℕ, ℤ, List, Option, Some, None, codes, length, refl, ap, ◌∙◌}
 use Rattle.std.specs.Int.{w32, w64}
 use Rattle.machine_values.specs.declared.action.Given.{Given}
-use Rattle.script_text.specs.PrintedTexts.{hex_text}
 use Rattle.script_text.specs.Scripts.{Word, SpellsInteger, SpellsBits, SpellsNumber, SpellsGiven, given_int, given_long, given_float, given_double, given_known, given_null, SpellsKnown, spells_known}
 use Rattle.script_text.proofs.HexTexts.{hex_length}
 

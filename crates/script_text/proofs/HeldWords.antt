@@ -1,5 +1,5 @@
 -- What is held is what the counts above zero say, and zeros say nothing.
-use Rattle.std.proofs.Common.{◌≡◌, ◌++◌, ◌∷◌, [], ◌-◌, ◌+◌, ◌<◌, ◌≤◌, ℕ, zero, suc, List, ap, sym, refl, ◌∙◌, arith, map, replicate, subst, length}
+use Rattle.std.proofs.Common.{◌≡◌, ◌++◌, ◌∷◌, [], ◌-◌, ◌+◌, ◌<◌, ℕ, zero, suc, List, ap, refl, ◌∙◌, arith, map, replicate}
 use Rattle.machine_values.specs.Counts.{all_counts, AreHeld}
 use Rattle.machine_values.specs.declared.count_list.HeldCount.{HeldCount}
 use Rattle.script_text.specs.Events.{held_words, held_word}

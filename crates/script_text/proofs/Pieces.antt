@@ -1,5 +1,5 @@
 -- The first piece ends at the first mark.
-use Rattle.std.proofs.Common.{◌≡◌, ◌≢◌, ◌++◌, ◌∷◌, [], ◌==◌, ◌+◌, ◌<◌, ◌≤◌, ℕ, zero, suc, Bool, true, false, List, Option, Some, None, length, take, drop, get_or, ◌-◌, length-drop, ap, sym, refl, subst, ◌∙◌, arith}
+use Rattle.std.proofs.Common.{◌≡◌, ◌≢◌, ◌∷◌, [], ◌==◌, ◌+◌, ◌<◌, ◌≤◌, ℕ, zero, suc, Bool, true, false, List, Option, Some, None, length, take, drop, get_or, ◌-◌, length-drop, ap, sym, refl, subst, ◌∙◌, arith}
 use Rattle.std.proofs.lemmas.Bool.{eqb-true}
 use Rattle.script_text.specs.Scripts.{pieces}
 use Rattle.std.specs.Borrow.{Bor}
@@ -58,16 +58,16 @@ pub some_left : (words : Option (List ℕ)) (bytes : List ℕ) → words ≡ Som
 some_left words bytes some alone =
     let piece = some_piece 32 bytes in
     no_piece (sym piece.1.1 ∙ subst (λ (o : Option (List ℕ)). words_left o ≡ []) some alone) where
-  no_piece : {piece : List ℕ} {others : List (List ℕ)} → piece ∷ others ≡ [] → ⊥
-  no_piece h = cc
+      no_piece : {piece : List ℕ} {others : List (List ℕ)} → piece ∷ others ≡ [] → ⊥
+      no_piece h = cc
 
 pub two_words : (words : List (List ℕ)) (first bytes : List ℕ) (rest : Option (List ℕ)) → words ≡ first ∷ words_left rest → rest ≡ Some bytes → (word : List ℕ) → words ≢ word ∷ []
 two_words words first bytes rest is some word alone =
     let piece = some_piece 32 bytes in
     let left : first ∷ pieces 32 bytes ≡ word ∷ [] = subst (λ (o : Option (List ℕ)). first ∷ words_left o ≡ word ∷ []) some (sym is ∙ alone) in
     no_others (subst (λ (others : List (List ℕ)). first ∷ others ≡ word ∷ []) piece.1.1 left) where
-  no_others : {piece : List ℕ} {others : List (List ℕ)} → first ∷ piece ∷ others ≡ word ∷ [] → ⊥
-  no_others h = cc
+      no_others : {piece : List ℕ} {others : List (List ℕ)} → first ∷ piece ∷ others ≡ word ∷ [] → ⊥
+      no_others h = cc
 
 pub words_none : (words : Option (Bor (List ℕ))) → is_some words ≡ false → words_left (option_copied words) ≡ []
 words_none None is = refl

@@ -1,11 +1,11 @@
 -- How a byte is printed: each in one way, and none as the front of another.
-use Rattle.std.proofs.Common.{◌≡◌, ◌≢◌, ◌⊎◌, inl, inr, ◌++◌, ◌∷◌, [], ◌==◌, ◌-◌, ◌+◌, ◌*◌, ◌/◌, ◌%◌, ◌<◌, ◌≤◌, ℕ, zero, suc, Bool, true, false, List, length, ap, sym, refl, subst, ◌∙◌, arith, append_assoc}
+use Rattle.std.proofs.Common.{◌≡◌, ◌≢◌, ◌⊎◌, inl, inr, ◌++◌, ◌∷◌, [], ◌/◌, ◌%◌, ◌<◌, ◌≤◌, ℕ, Bool, true, false, List, length, ap, sym, refl, subst, ◌∙◌, arith, append_assoc}
 use Rattle.std.specs.List.{flat_map}
 use Rattle.std.proofs.lemmas.Bool.Decides.{nat_tests}
 use Rattle.std.proofs.lemmas.List.{append-nil, length-append}
 use Rattle.class_model.specs.Cutting.{IsBytes}
 use Rattle.script_text.specs.Inner.Reading.{PrintsBytes}
-use Rattle.script_text.specs.PrintedTexts.{hex_digit, hex_text, is_plain_byte, printed_byte}
+use Rattle.script_text.specs.PrintedTexts.{hex_digit, is_plain_byte, printed_byte}
 
 pub digit_once : (a b : ℕ) → a < 16 → b < 16 → hex_digit a ≡ hex_digit b → a ≡ b
 digit_once a b ha hb e = grind (arith, nat_tests)
@@ -41,23 +41,23 @@ one_byte_first a b x y ha hb e =
         | inr ob ↦ both_escaped (ap (λ (t : List ℕ). t ++ x) (sym (escaped_form a oa)) ∙ (e ∙ ap (λ (t : List ℕ). t ++ y) (escaped_form b ob)))
       ]
     ] where
-  both_plain : a ∷ x ≡ b ∷ y → (a ≡ b) × (x ≡ y)
-  both_plain h = (cc, cc)
+      both_plain : a ∷ x ≡ b ∷ y → (a ≡ b) × (x ≡ y)
+      both_plain h = (cc, cc)
 
-  first_percent : (n : ℕ) (s t : List ℕ) → n ∷ s ≡ 37 ∷ t → n ≡ 37
-  first_percent n s t h = cc
+      first_percent : (n : ℕ) (s t : List ℕ) → n ∷ s ≡ 37 ∷ t → n ≡ 37
+      first_percent n s t h = cc
 
-  both_escaped : 37 ∷ hex_digit (a / 16 % 16) ∷ hex_digit (a % 16) ∷ x ≡ 37 ∷ hex_digit (b / 16 % 16) ∷ hex_digit (b % 16) ∷ y → (a ≡ b) × (x ≡ y)
-  both_escaped h =
-      let high = digit_once (a / 16 % 16) (b / 16 % 16) (omega arith) (omega arith) (cc) in
-      let low = digit_once (a % 16) (b % 16) (omega arith) (omega arith) (cc) in
-      (omega (arith, high, low, ha, hb), cc)
+      both_escaped : 37 ∷ hex_digit (a / 16 % 16) ∷ hex_digit (a % 16) ∷ x ≡ 37 ∷ hex_digit (b / 16 % 16) ∷ hex_digit (b % 16) ∷ y → (a ≡ b) × (x ≡ y)
+      both_escaped h =
+          let high = digit_once (a / 16 % 16) (b / 16 % 16) (omega arith) (omega arith) (cc) in
+          let low = digit_once (a % 16) (b % 16) (omega arith) (omega arith) (cc) in
+          (omega (arith, high, low, ha, hb), cc)
 
 pub some_bytes : (byte : ℕ) → 1 ≤ length (printed_byte byte)
 some_bytes byte = elim (plain_or_not byte) [
-    | inl plain ↦ rw (plain_form byte plain) (omega arith)
-    | inr other ↦ rw (escaped_form byte other) (omega arith)
-  ]
+  | inl plain ↦ rw (plain_form byte plain) (omega arith)
+  | inr other ↦ rw (escaped_form byte other) (omega arith)
+]
 
 -- ---- bytes one by one
 

@@ -1,12 +1,12 @@
 -- A text is printed in one way, and as no other text is.
-use Rattle.std.proofs.Common.{◌≡◌, ◌≢◌, ◌⊎◌, inl, inr, ◌++◌, ◌∷◌, [], ◌==◌, ◌-◌, ◌+◌, ◌*◌, ◌/◌, ◌%◌, ◌<◌, ◌≤◌, ℕ, zero, suc, Bool, true, false, List, length, ap, sym, refl, subst, ◌∙◌, arith, append_assoc}
+use Rattle.std.proofs.Common.{◌≡◌, ◌≢◌, inl, inr, ◌++◌, ◌∷◌, [], ◌==◌, ◌/◌, ◌%◌, ◌<◌, ℕ, Bool, true, false, List, length, ap, sym, refl, subst, ◌∙◌, arith}
 use Rattle.std.specs.List.{flat_map, AllByRecursion}
 use Rattle.std.proofs.lemmas.Bool.{eqb-true}
 use Rattle.std.proofs.lemmas.List.{append-nil}
 use Rattle.class_model.specs.Cutting.{IsBytes}
 use Rattle.class_model.specs.ModifiedUtf8.{IsText, IsCodeUnit, unit_bytes}
 use Rattle.class_model.specs.Laws.Texts.{unit_forms}
-use Rattle.script_text.specs.PrintedTexts.{hex_digit, hex_text, is_plain_byte, printed_byte, printed_text}
+use Rattle.script_text.specs.PrintedTexts.{hex_digit, is_plain_byte, printed_byte, printed_text}
 use Rattle.script_text.specs.Scripts.{SpellsText}
 use Rattle.script_text.specs.Inner.Reading.{PrintsBytes, PrintsText}
 use Rattle.script_text.proofs.PrintedBytes.{plain_or_not, plain_form, escaped_form, plain_is_no_percent, digit_once, bytes_once, some_bytes}
@@ -29,8 +29,8 @@ one_byte_text : (byte : ℕ) (dash : Bool) → (byte == 45) ≡ dash → TextFor
 one_byte_text byte true is = subst (λ (n : ℕ). TextForm (n ∷ [])) (sym (eqb-true byte 45 is)) dash_text
 one_byte_text byte false is =
     other_text (λ e. cc) (λ e. true_is_not_false (subst (λ (n : ℕ). (n == 45) ≡ false) (only e) is)) (rw is (sym (append-nil (printed_byte byte)))) where
-  only : byte ∷ [] ≡ 45 ∷ [] → byte ≡ 45
-  only h = cc
+      only : byte ∷ [] ≡ 45 ∷ [] → byte ≡ 45
+      only h = cc
 
 pub text_form : (bytes : List ℕ) → TextForm bytes
 text_form [] = empty_text
@@ -72,15 +72,15 @@ no_escaped_dash byte rest small e =
       | inl plain ↦ plain_is_no_percent byte plain (first_percent (ap (λ (t : List ℕ). t ++ rest) (sym (plain_form byte plain)) ∙ e))
       | inr other ↦ escaped other (ap (λ (t : List ℕ). t ++ rest) (sym (escaped_form byte other)) ∙ e)
     ] where
-  first_percent : byte ∷ rest ≡ 37 ∷ 50 ∷ 100 ∷ [] → byte ≡ 37
-  first_percent h = cc
+      first_percent : byte ∷ rest ≡ 37 ∷ 50 ∷ 100 ∷ [] → byte ≡ 37
+      first_percent h = cc
 
-  escaped : is_plain_byte byte ≡ false → 37 ∷ hex_digit (byte / 16 % 16) ∷ hex_digit (byte % 16) ∷ rest ≡ 37 ∷ 50 ∷ 100 ∷ [] → ⊥
-  escaped other h =
-      let high = digit_once (byte / 16 % 16) 2 (omega arith) (omega arith) (cc) in
-      let low = digit_once (byte % 16) 13 (omega arith) (omega arith) (cc) in
-      let is : byte ≡ 45 = omega (arith, high, low, small) in
-      true_is_not_false (subst (λ (n : ℕ). is_plain_byte n ≡ false) is other)
+      escaped : is_plain_byte byte ≡ false → 37 ∷ hex_digit (byte / 16 % 16) ∷ hex_digit (byte % 16) ∷ rest ≡ 37 ∷ 50 ∷ 100 ∷ [] → ⊥
+      escaped other h =
+          let high = digit_once (byte / 16 % 16) 2 (omega arith) (omega arith) (cc) in
+          let low = digit_once (byte % 16) 13 (omega arith) (omega arith) (cc) in
+          let is : byte ≡ 45 = omega (arith, high, low, small) in
+          true_is_not_false (subst (λ (n : ℕ). is_plain_byte n ≡ false) is other)
 
 dash_alone : (bytes : List ℕ) → IsBytes bytes → flat_map printed_byte bytes ≢ 37 ∷ 50 ∷ 100 ∷ []
 dash_alone [] are e = cc
@@ -108,12 +108,12 @@ bytes-join (first ∷ one) other are also = (are.0, bytes-join one other are.1 a
 
 unit_is_bytes : (unit : ℕ) → IsCodeUnit unit → IsBytes (unit_bytes unit)
 unit_is_bytes unit small = elim (unit_forms unit) [
-    | inl one ↦ rw one.bytes (omega (arith, one.high), tt)
-    | inr more ↦ elim more [
-      | inl two ↦ rw two.bytes (omega (arith, two.high), (omega arith, tt))
-      | inr three ↦ rw three.bytes (omega (arith, small), (omega arith, (omega arith, tt)))
-    ]
+  | inl one ↦ rw one.bytes (omega (arith, one.high), tt)
+  | inr more ↦ elim more [
+    | inl two ↦ rw two.bytes (omega (arith, two.high), (omega arith, tt))
+    | inr three ↦ rw three.bytes (omega (arith, small), (omega arith, (omega arith, tt)))
   ]
+]
 
 units_are_bytes : (units : List ℕ) → AllByRecursion IsCodeUnit units → IsBytes (flat_map unit_bytes units)
 units_are_bytes [] each = tt

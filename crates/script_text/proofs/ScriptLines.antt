@@ -1,7 +1,7 @@
 -- Lines, one by one.
 use Rattle.std.specs.Prelude.{IfErr}
 use Rattle.std.specs.Result.{IsErrAnd}
-use Rattle.std.proofs.Common.{Result, Ok, Err, ◌≡◌, ◌++◌, ◌∷◌, [], ◌+◌, ℕ, zero, suc, ◌≤◌, Bool, true, false, List, Option, Some, None, ap, sym, refl, subst, ◌∙◌, arith, append_assoc}
+use Rattle.std.proofs.Common.{Result, Ok, Err, ◌≡◌, ◌++◌, ◌∷◌, [], ◌+◌, ℕ, suc, ◌≤◌, true, false, List, Some, None, sym, subst, arith, append_assoc}
 use Rattle.std.proofs.lemmas.Bool.{eqb-true}
 use Rattle.std.proofs.lemmas.List.{append-nil}
 use Rattle.machine_values.specs.declared.action.Action.{Action}

@@ -1,6 +1,6 @@
 -- A word that is taken from the front, and the last one.
 use Rattle.std.proofs.Common.{◌≡◌, ◌≢◌, ◌∷◌, [], List, Option, Some, None, sym, refl, subst}
-use Rattle.script_text.specs.Scripts.{Word, pieces}
+use Rattle.script_text.specs.Scripts.{Word}
 use Rattle.std.specs.Borrow.{Bor}
 use Rattle.std.specs.Option.{option_copied}
 use Rattle.script_text.specs.PrintedTexts.{Bytes}

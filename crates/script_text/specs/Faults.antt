@@ -1,5 +1,4 @@
 -- Why bytes are no script.
-use Rattle.std.specs.Prelude.{List}
 use Rattle.script_text.specs.PrintedTexts.{Bytes}
 use Rattle.script_text.specs.Scripts.{IsFirstOutside, lines_of}
 use Rattle.script_text.specs.declared.scripts.ScriptFault.{ScriptFault}

@@ -1,5 +1,5 @@
 -- The text of a script: one line for each action.
-use Rattle.std.specs.Prelude.{ℕ, List, [], ◌∷◌, ◌++◌, codes, map, decimal, Option, None, Some}
+use Rattle.std.specs.Prelude.{ℕ, List, [], ◌∷◌, ◌++◌, codes, map, decimal, None, Some}
 use Rattle.std.specs.Fmt.{signed_decimal}
 use Rattle.std.specs.List.{flat_map, join_with_byte}
 use Rattle.machine_values.specs.declared.action.Action.{Action}

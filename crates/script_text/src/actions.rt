@@ -6,7 +6,9 @@ ghost use Rattle.script_text.specs.Inner.Reading.{words_left, IsRead};
 
 use crate::lists::{givens_of, texts_of};
 use crate::texts::is_same;
-use crate::words::{cut_at, last_given, last_int, last_known, next_int, next_known, next_text, Words};
+use crate::words::{
+    Words, cut_at, last_given, last_int, last_known, next_int, next_known, next_text,
+};
 use class_model::NoMemory;
 use machine_values::Action;
 use std::alloc::Global;

@@ -26,7 +26,11 @@ pub(crate) fn given_of(word: &[u8]) -> Option<Given>
     if let Some(number) = behind(word, b'r') {
         return known_given(number);
     }
-    if is_same(word, b"null") { Some(Given::Null) } else { None }
+    if is_same(word, b"null") {
+        Some(Given::Null)
+    } else {
+        None
+    }
 }
 
 /// What stands behind the letter of a kind and a colon.

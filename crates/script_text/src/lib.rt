@@ -15,4 +15,4 @@ mod words;
 
 pub use events::print_events;
 pub use printed::push_text;
-pub use scripts::{read_script, ScriptFault};
+pub use scripts::{ScriptFault, read_script};

@@ -6,7 +6,7 @@ ghost use Rattle.script_text.specs.Inner.Reading.{words_left, IsRead};
 
 use crate::given::given_of;
 use crate::texts::text_of;
-use crate::words::{next_word, Words};
+use crate::words::{Words, next_word};
 use class_model::{ListOf, NoMemory, TextList};
 use machine_values::GivenList;
 use std::alloc::Global;

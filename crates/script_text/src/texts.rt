@@ -90,5 +90,9 @@ fn escaped(high: u8, low: u8) -> Option<u8>
         ((byte : ℕ) → byte < 256 → printed_byte byte ≢ 37 ∷ high ∷ low ∷ []) }
 {
     let byte = digit_of(high)? * 16 + digit_of(low)?;
-    if is_plain_byte(byte) { None } else { Some(byte) }
+    if is_plain_byte(byte) {
+        None
+    } else {
+        Some(byte)
+    }
 }

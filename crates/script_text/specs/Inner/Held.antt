@@ -1,5 +1,4 @@
 -- The counts above zero, as they are kept.
-use Rattle.std.specs.Prelude.{ℕ, List}
 use Rattle.machine_values.specs.declared.count_list.HeldCount.{HeldCount}
 use Rattle.script_text.specs.Events.{held_word}
 use Rattle.script_text.specs.PrintedTexts.{Bytes}

@@ -1,5 +1,5 @@
 -- What a line was read as.
-use Rattle.std.specs.Prelude.{◌≡◌, ◌==◌, Bool, true, ◌++◌, ℕ, List, [], ◌∷◌, Option, Some, None}
+use Rattle.std.specs.Prelude.{◌≡◌, ◌==◌, Bool, true, ◌++◌, ℕ, List, [], ◌∷◌, Some, None}
 use Rattle.machine_values.specs.declared.action.Action.{Action}
 use Rattle.script_text.specs.Characters.{hash}
 use Rattle.script_text.specs.PrintedTexts.{Bytes}
@@ -22,11 +22,11 @@ ReadsLine line lines.Outside = ¬ IsLine line
 -- the action of a line stands behind those before, if it has one
 pub data AddsLine : Bytes → List Action → List Action → Type 0 where
   adds_nothing : {line : Bytes} {actions : List Action}
-    → SpellsLine None line
-    → AddsLine line actions actions
+      → SpellsLine None line
+      → AddsLine line actions actions
   adds_action : {line : Bytes} {actions : List Action} {action : Action}
-    → SpellsLine (Some action) line
-    → AddsLine line actions (actions ++ action ∷ [])
+      → SpellsLine (Some action) line
+      → AddsLine line actions (actions ++ action ∷ [])
 
 abbrev pub IsLineFault : Bytes → ℕ → ScriptFault → Type 0
 IsLineFault line number (BadScript at) = (at ≡ number) × ¬ IsLine line

@@ -30,15 +30,15 @@ words_left rest = pieces_left space rest
 -- the first word spells a value, and the others are left
 pub data Takes {X : Type 0} (Spells : X → Word → Type 0) : List Word → X → List Word → Type 0 where
   takes_word : {found : X} {word : Word} {rest : List Word}
-    → Spells found word
-    → Takes Spells (word ∷ rest) found rest
+      → Spells found word
+      → Takes Spells (word ∷ rest) found rest
 
 -- what was taken, and the words that are left, where the first word spells a value
 abbrev pub TakesOne : {X : Type 0}
-  → (X → Word → Type 0)
-  → List Word
-  → Option (X × Option (Bor Bytes))
-  → Type 0
+    → (X → Word → Type 0)
+    → List Word
+    → Option (X × Option (Bor Bytes))
+    → Type 0
 TakesOne Spells words (Some found) = Takes Spells words found.0 (words_left (option_copied found.1))
 TakesOne {X} Spells words None = (found : X) (rest : List Word) → ¬ Takes Spells words found rest
 

@@ -1,8 +1,8 @@
 -- The words of the line.
 use Rattle.std.specs.Option.{option_copied}
-use Rattle.script_text.specs.Scripts.{SpellsText, SpellsEach, SpellsGiven}
+use Rattle.script_text.specs.Scripts.{SpellsText}
 use Rattle.script_text.specs.Inner.Reading.{words_left}
-use Rattle.script_text.proofs.Taken.{took, took_none, was_read, was_none}
+use Rattle.script_text.proofs.Taken.{took, took_none}
 use Rattle.script_text.proofs.ActionLines.{array_again, array_desc, array_len}
 use Rattle.script_text.proofs.actions.array_of.Goals as goal
 

@@ -1,6 +1,6 @@
 -- The words of the line.
 use Rattle.std.specs.Option.{option_copied}
-use Rattle.script_text.specs.Scripts.{SpellsText, SpellsEach, SpellsGiven}
+use Rattle.script_text.specs.Scripts.{SpellsText, SpellsEach}
 use Rattle.script_text.specs.Inner.Reading.{words_left}
 use Rattle.script_text.proofs.Taken.{took, took_none, was_read, was_none}
 use Rattle.script_text.proofs.ActionLines.{is_new, new_class, new_also}

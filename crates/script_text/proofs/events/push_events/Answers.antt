@@ -1,5 +1,5 @@
 -- One more event is one more line.
-use Rattle.std.proofs.Common.{rules, ◌≡◌, ◌++◌, ◌∷◌, ℕ, List, arith, ap, ◌∙◌, sym, append_assoc, take}
+use Rattle.std.proofs.Common.{◌++◌, ℕ, List, ap, ◌∙◌, sym, append_assoc, take}
 use Rattle.script_text.specs.Events.{event_lines, event_line}
 use Rattle.script_text.proofs.EventLines.{one_more_line}
 use Rattle.script_text.proofs.events.push_events.Goals as goal

@@ -1,5 +1,5 @@
 -- The counts above zero say all.
-use Rattle.std.proofs.Common.{rules, ◌≡◌, ◌∷◌, ◌++◌, OnOk, ℕ, List, [], length, map, ap, ◌∙◌, sym, subst}
+use Rattle.std.proofs.Common.{◌≡◌, ◌++◌, OnOk, ℕ, List, length, map, ap, ◌∙◌, sym, subst}
 use Rattle.script_text.specs.Events.{held_text, held_words}
 use Rattle.script_text.specs.Inner.Held.{held_listed}
 use Rattle.script_text.proofs.HeldWords.{held_by_counts}

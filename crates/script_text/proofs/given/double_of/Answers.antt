@@ -1,5 +1,5 @@
 -- No bits are spelled by digits of another number.
-use Rattle.std.proofs.Common.{◌≡◌, ℕ, length, subst, sym}
+use Rattle.std.proofs.Common.{ℕ, subst, sym}
 use Rattle.script_text.specs.Scripts.{SpellsBits}
 use Rattle.script_text.proofs.GivenWords.{bits_len}
 use Rattle.script_text.proofs.given.double_of.Goals as goal

@@ -1,5 +1,5 @@
 -- The word of null.
-use Rattle.std.proofs.Common.{◌≡◌, List, ℕ, refl, subst, sym, codes}
+use Rattle.std.proofs.Common.{List, ℕ, refl, subst, sym}
 use Rattle.machine_values.specs.declared.action.Given.TheVariants.{Null}
 use Rattle.script_text.specs.Scripts.{SpellsGiven, given_null}
 use Rattle.script_text.proofs.given.given_of.Goals as goal

@@ -1,5 +1,5 @@
 -- The word of the value.
-use Rattle.std.proofs.Common.{◌≡◌, ◌∷◌, ℤ, subst, sym}
+use Rattle.std.proofs.Common.{◌∷◌, ℤ, subst, sym}
 use Rattle.std.proofs.lemmas.Int.{to_z-of_z}
 use Rattle.std.specs.Int.{w32}
 use Rattle.machine_values.specs.declared.action.Given.TheVariants.{Int}

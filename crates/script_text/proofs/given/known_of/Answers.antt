@@ -1,5 +1,5 @@
 -- The number behind the letter and the colon.
-use Rattle.std.proofs.Common.{◌≡◌, ◌∷◌, List, ℕ, subst, sym}
+use Rattle.std.proofs.Common.{List, ℕ, subst, sym}
 use Rattle.script_text.specs.Scripts.{SpellsKnown}
 use Rattle.script_text.specs.Inner.Reading.{IsRead}
 use Rattle.script_text.proofs.GivenWords.{reference_read}

@@ -1,9 +1,9 @@
 -- One word more, or none.
-use Rattle.std.proofs.Common.{◌≡◌, ℕ, List, Option, sym, subst}
+use Rattle.std.proofs.Common.{List, sym, subst}
 use Rattle.std.specs.Option.{option_copied}
 use Rattle.machine_values.specs.declared.action.Given.{Given}
 use Rattle.script_text.specs.Scripts.{SpellsGiven}
-use Rattle.script_text.specs.Inner.Reading.{words_left, IsRead}
+use Rattle.script_text.specs.Inner.Reading.{words_left}
 use Rattle.script_text.proofs.EachWord.{EachSoFar, each_more, each_done, each_stuck}
 use Rattle.script_text.proofs.lists.givens_of.Goals as goal
 

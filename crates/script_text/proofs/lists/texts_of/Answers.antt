@@ -1,7 +1,6 @@
 -- One word more, or none.
-use Rattle.std.proofs.Common.{◌≡◌, ℕ, List, Option, sym, subst}
+use Rattle.std.proofs.Common.{ℕ, List, Option, sym, subst}
 use Rattle.std.specs.Option.{option_copied}
-use Rattle.machine_values.specs.declared.action.Given.{Given}
 use Rattle.script_text.specs.Scripts.{SpellsText}
 use Rattle.script_text.specs.Inner.Reading.{words_left, IsRead}
 use Rattle.script_text.proofs.EachWord.{EachSoFar, each_more, each_done, each_stuck}

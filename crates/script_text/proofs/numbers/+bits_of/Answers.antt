@@ -1,8 +1,6 @@
 -- The last digit and those before it.
-use Rattle.std.proofs.Common.{rules, ◌≡◌, ◌≢◌, ◌-◌, ◌<◌, ◌≤◌, ◌^◌, ℕ, length, take, get_or, arith, subst, sym}
-use Rattle.script_text.proofs.HexTexts.{more_spelled, front_unspelled, last_unspelled, by_last, by_last_length, room}
-use Rattle.script_text.specs.Inner.Reading.{IsRead}
-use Rattle.script_text.specs.Scripts.{SpellsBits}
+use Rattle.std.proofs.Common.{◌-◌, ◌≤◌, length, take, arith}
+use Rattle.script_text.proofs.HexTexts.{front_unspelled, by_last, by_last_length, room}
 use Rattle.script_text.proofs.numbers.+bits_of.Goals as goal
 
 pub returns-in_err-high-in-len1-up : goal.returns-in_err-high-in-len1-up

@@ -1,6 +1,5 @@
 -- The last digit is that of the remainder.
-use Rattle.std.proofs.Common.{◌≡◌, ◌++◌, ◌∷◌, [], ◌-◌, ◌/◌, ◌%◌, ℕ, List, ap, ◌∙◌}
-use Rattle.script_text.specs.PrintedTexts.{hex_digit, hex_text}
+use Rattle.std.proofs.Common.{◌++◌, ◌∷◌, [], ℕ, ap, ◌∙◌}
 use Rattle.script_text.proofs.Appended.{behind}
 use Rattle.script_text.proofs.HexTexts.{more_digits}
 use Rattle.script_text.proofs.printed.+push_hex.Goals as goal

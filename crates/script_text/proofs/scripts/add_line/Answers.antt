@@ -1,5 +1,5 @@
 -- The action of a line, if it has one.
-use Rattle.std.proofs.Common.{◌≡◌, List, subst, sym}
+use Rattle.std.proofs.Common.{List, subst, sym}
 use Rattle.machine_values.specs.declared.action.Action.{Action}
 use Rattle.script_text.specs.declared.scripts.Line.{Line}
 use Rattle.script_text.specs.Inner.Lines.{AddsLine, adds_nothing, adds_action, ReadsLine}

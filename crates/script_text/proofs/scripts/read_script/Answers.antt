@@ -1,5 +1,5 @@
 -- One line more, or a line outside the grammar.
-use Rattle.std.proofs.Common.{◌≡◌, ◌≤◌, ◌+◌, ◌∷◌, ◌∙◌, ap, subst, length, List, ℕ, Option}
+use Rattle.std.proofs.Common.{◌+◌, ◌∙◌, ap, subst, length, List, ℕ, Option}
 use Rattle.std.specs.Borrow.{Bor}
 use Rattle.std.specs.Option.{option_copied}
 use Rattle.script_text.specs.Scripts.{lines_of}

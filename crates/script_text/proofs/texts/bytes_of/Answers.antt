@@ -1,6 +1,6 @@
 -- One byte more, or none.
-use Rattle.std.proofs.Common.{rules, ◌≡◌, ◌≤◌, ◌∷◌, [], ◌++◌, ℕ, List, length, subst, sym, arith}
-use Rattle.script_text.proofs.PrintedBytes.{BytesSoFar, byte_read, none_read, all_read}
+use Rattle.std.proofs.Common.{ℕ, List, subst, sym, arith}
+use Rattle.script_text.proofs.PrintedBytes.{BytesSoFar, byte_read, none_read}
 use Rattle.script_text.proofs.texts.bytes_of.Goals as goal
 
 pub returns-in_default : goal.returns-in_default

@@ -1,5 +1,5 @@
 -- What prints as a word is one text, or none.
-use Rattle.std.proofs.Common.{rules, ◌≡◌, ℕ, List, Option, subst, sym, refl}
+use Rattle.std.proofs.Common.{ℕ, List, Option, subst, sym, refl}
 use Rattle.class_model.specs.ModifiedUtf8.{IsText}
 use Rattle.script_text.specs.Inner.Reading.{IsRead, PrintsText}
 use Rattle.script_text.proofs.PrintedTexts.{text_prints, no_such_text}

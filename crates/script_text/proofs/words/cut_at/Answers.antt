@@ -1,5 +1,5 @@
 -- The first mark ends the first piece.
-use Rattle.std.proofs.Common.{rules, ◌≡◌, ◌∷◌, ◌∙◌, ℕ, List, take, arith, ap, sym}
+use Rattle.std.proofs.Common.{◌∷◌, ◌∙◌, ℕ, List, take, arith, ap, sym}
 use Rattle.script_text.specs.Scripts.{pieces}
 use Rattle.script_text.proofs.Pieces.{cut_found, uncut, rest_behind}
 use Rattle.script_text.proofs.words.cut_at.Goals as goal

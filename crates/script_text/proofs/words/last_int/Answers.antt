@@ -1,6 +1,6 @@
 -- The last word is taken.
 use Rattle.std.specs.Int.{w32}
-use Rattle.script_text.specs.Scripts.{SpellsKnown, SpellsInteger, SpellsGiven}
+use Rattle.script_text.specs.Scripts.{SpellsInteger}
 use Rattle.script_text.proofs.Taken.{last_read}
 use Rattle.script_text.proofs.words.last_int.Goals as goal
 

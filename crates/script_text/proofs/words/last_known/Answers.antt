@@ -1,6 +1,5 @@
 -- The last word is taken.
-use Rattle.std.specs.Int.{w32}
-use Rattle.script_text.specs.Scripts.{SpellsKnown, SpellsInteger, SpellsGiven}
+use Rattle.script_text.specs.Scripts.{SpellsKnown}
 use Rattle.script_text.proofs.Taken.{last_read}
 use Rattle.script_text.proofs.words.last_known.Goals as goal
 

@@ -1,5 +1,5 @@
 -- The word is taken.
-use Rattle.std.proofs.Common.{◌≡◌, ℤ, sym, subst}
+use Rattle.std.proofs.Common.{ℤ, sym, subst}
 use Rattle.std.proofs.lemmas.Int.{to_z-of_z}
 use Rattle.std.specs.Int.{w32}
 use Rattle.std.specs.Option.{option_copied}

@@ -1,5 +1,5 @@
 -- The word is taken.
-use Rattle.std.proofs.Common.{◌≡◌, ℕ, List, Option, subst}
+use Rattle.std.proofs.Common.{ℕ, List, Option, subst}
 use Rattle.script_text.specs.Scripts.{SpellsText}
 use Rattle.script_text.specs.Inner.Reading.{IsRead}
 use Rattle.script_text.proofs.Taken.{taken}
