@@ -9,3 +9,4 @@ pub mod Agreeing
 pub mod Joining
 pub mod Comparisons
 pub mod LostSites
+pub mod ClosedSets

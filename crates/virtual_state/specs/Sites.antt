@@ -1,7 +1,9 @@
 -- Sets of sites, as lists of their numbers.
-use Rattle.std.specs.Prelude.{◌==◌, ℕ, Bool, not, List}
+use Rattle.std.specs.Prelude.{◌==◌, ℕ, Bool, not, List, IsTrue}
 use Rattle.std.specs.List.{filter, list_any}
 use Rattle.virtual_state.specs.States.{State, is_present, sites_of}
+use Rattle.virtual_state.specs.Without.{IsClosed}
+use Rattle.virtual_state.specs.declared.slot.VObject.{VObject}
 
 -- whether a site is one of these
 abbrev pub has : List ℕ → ℕ → Bool
@@ -11,3 +13,14 @@ has sites site = list_any (λ one. one == site) sites
 abbrev pub differing : State → State → List ℕ
 differing state other =
     filter (λ site. not (is_present other.objects site)) (sites_of state.objects)
+
+-- The least closed set that has some sites.
+pub record IsClosure (sites : List ℕ) (objects : List VObject) (closed_set : List ℕ) : Type 0 where
+  pub starts : (site : ℕ) → IsTrue (has sites site) → IsTrue (has closed_set site)
+  pub closed : IsClosed (has closed_set) objects
+  pub least : (other : ℕ → Bool)
+      → ((site : ℕ) → IsTrue (has sites site) → IsTrue (other site))
+      → IsClosed other objects
+      → (site : ℕ)
+      → IsTrue (has closed_set site)
+      → IsTrue (other site)

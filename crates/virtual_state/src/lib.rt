@@ -3,6 +3,7 @@
 //! Replacement for Java", CGO 2014; the definitions are this project's profile).
 #![tactic(auto)]
 
+mod closing;
 mod compare;
 mod depth;
 mod laws;
@@ -18,6 +19,7 @@ mod spread;
 mod state;
 mod table;
 
+pub use closing::closure;
 pub use compare::below;
 pub use depth::{enter, leave};
 pub use laws::{
