@@ -15,3 +15,4 @@ pub mod Inside
 pub mod Raising
 pub mod Iterating
 pub mod LeastPlans
+pub mod Fitting

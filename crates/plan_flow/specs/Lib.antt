@@ -7,3 +7,4 @@ pub mod Effect
 pub mod Plans
 pub mod Gain
 pub mod Orders
+pub mod Inner

@@ -5,6 +5,7 @@
 
 mod edge;
 mod laws;
+mod slots;
 
 pub use edge::{Edge, EdgeKind, EdgeList};
 pub use laws::{effect_grows, flat_code_has_one_least_plan, must_grows, no_valid_plan_keeps_more};
