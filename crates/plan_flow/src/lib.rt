@@ -4,6 +4,7 @@
 #![tactic(auto)]
 
 mod edge;
+mod edge_states;
 mod laws;
 mod slots;
 
