@@ -5,7 +5,9 @@ use std::fmt::Write;
 use std::process::Abort;
 use std::rc::Rc;
 use std::test::Fail;
-use virtual_state::{SiteSet, Slot, SlotList, VObject, VObjectList, VState, below, differing};
+use virtual_state::{
+    SiteSet, Slot, SlotList, VObject, VObjectList, VState, below, closure, differing,
+};
 
 // ---- states in letters
 
@@ -322,6 +324,20 @@ fn sites_that_differ(rt: HostRuntime) -> Result<(), Fail> {
     assert!(&rt;
         sites.as_slice() == [1, 2].as_slice() && none.is_empty(),
         "{sites:?}"
+    );
+    Ok(())
+}
+
+#[test]
+fn closed_sets(rt: HostRuntime) -> Result<(), Fail> {
+    let state = state(rt.alloc(), b"0123", b"0-,00,0-,01,")?;
+    let mut sites = SiteSet::new(rt.alloc());
+    let none = closure(rt.alloc(), &state, &sites)?;
+    sites.add(3)?;
+    let held = closure(rt.alloc(), &state, &sites)?;
+    assert!(&rt;
+        held.as_slice() == [0, 1, 3].as_slice() && none.is_empty(),
+        "{held:?}"
     );
     Ok(())
 }
