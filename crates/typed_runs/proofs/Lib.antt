@@ -24,3 +24,4 @@ mod Divisions
 mod Floats
 mod Monitors
 mod Casts
+mod ConstantObjects
