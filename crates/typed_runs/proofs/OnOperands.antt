@@ -11,6 +11,7 @@ use Rattle.class_model.specs.declared.opcodes.TheConstants.{IALOAD, SALOAD, IAST
 use Rattle.class_model.specs.declared.pool.Const.{Const}
 use Rattle.class_model.specs.declared.pool.Const.TheVariants as consts
 use Rattle.class_tree.specs.Headers.{Name}
+use Rattle.class_tree.specs.Names.{method_handle}
 use Rattle.machine_values.specs.Frames.{MethodState}
 use Rattle.machine_values.specs.declared.frame.RunFrame.{RunFrame}
 use Rattle.machine_values.specs.declared.frame.RunFrame.TheVariants as frames
@@ -33,7 +34,7 @@ use Rattle.member_link.specs.Rows.Table.{cast_row}
 use Rattle.class_model.specs.declared.frame.VType.TheVariants as types
 use Rattle.typed_runs.proofs.Arithmetic.{pure_stays}
 use Rattle.typed_runs.proofs.Casts.{cast_stays, instance_of_stays}
-use Rattle.typed_runs.proofs.Constants.{imm_conforms, value_stays}
+use Rattle.typed_runs.proofs.Constants.{imm_conforms, value_stays, named_stays, pushed_stays}
 use Rattle.typed_runs.proofs.Divisions.{divide_stays}
 use Rattle.typed_runs.proofs.Floats.{float_stays}
 use Rattle.typed_runs.proofs.Monitors.{enter_stays, leave_stays, null_test_stays}
@@ -90,16 +91,22 @@ not_dynamic s (Some c) is = is
 -- ---- one of the family, by its item
 
 module _ {P : Program} {T : Typings} {w : World} {f : MethodState} {rest : List RunFrame} {s : RowScope} {frame : Frame} {place : ℕ} {numbered : ℕ → ℕ} where
+  pub handle_stays : (r : Option Reference) (kind : ℕ)
+      → Here P T w f rest s frame place numbered (plain frame [] (types.Object method_handle ∷ [])) (or_meaningless (option_map push_constant (option_map (λ (x : Reference). objects.Handle kind x.class x.name x.desc) r))) true []
+      → StaysTyped P T w (op_step P w f rest (or_meaningless (option_map push_constant (option_map (λ (x : Reference). objects.Handle kind x.class x.name x.desc) r))))
+  handle_stays None kind h = absurd h.linked
+  handle_stays (Some r) kind h = pushed_stays (objects.Handle kind r.class r.name r.desc) h
+
   pub constant_stays : (pool : Constants) (c : Option Const) → WorksOnOperands (constant_op pool c)
       → Here P T w f rest s frame place numbered (access_aside (const_row frame c)) (constant_op pool c) true [] → StaysTyped P T w (op_step P w f rest (constant_op pool c))
   constant_stays pool (Some (consts.Integer n)) is h = value_stays _ _ an_int h
   constant_stays pool (Some (consts.Long n)) is h = value_stays _ _ a_long h
   constant_stays pool (Some (consts.Float n)) is h = value_stays _ _ a_float h
   constant_stays pool (Some (consts.Double n)) is h = value_stays _ _ a_double h
-  constant_stays pool (Some (consts.String t)) is h = absurd (not_found (utf8_at pool t) (λ text. push_constant (objects.Str text)) (λ a no. no) is)
-  constant_stays pool (Some (consts.Class t)) is h = absurd (not_found (utf8_at pool t) (λ text. push_constant (objects.Class text)) (λ a no. no) is)
-  constant_stays pool (Some (consts.MethodType t)) is h = absurd (not_found (utf8_at pool t) (λ text. push_constant (objects.MethodType text)) (λ a no. no) is)
-  constant_stays pool (Some (consts.MethodHandle kind reference)) is h = absurd (not_found (handle_of pool kind reference) push_constant (λ a no. no) is)
+  constant_stays pool (Some (consts.String t)) is h = named_stays (utf8_at pool t) objects.Str _ (λ a. refl) h
+  constant_stays pool (Some (consts.Class t)) is h = named_stays (utf8_at pool t) objects.Class _ (λ a. refl) h
+  constant_stays pool (Some (consts.MethodType t)) is h = named_stays (utf8_at pool t) objects.MethodType _ (λ a. refl) h
+  constant_stays pool (Some (consts.MethodHandle kind reference)) is h = handle_stays (reference_of pool (constant_at pool reference)) kind h
   constant_stays pool c is h = absurd is
 
   pub cast_named : (name : Option Name) → Here P T w f rest s frame place numbered (access_aside (cast_row frame name)) (naming name check_cast) true []
