@@ -25,3 +25,4 @@ mod Floats
 mod Monitors
 mod Casts
 mod ConstantObjects
+mod Starting
