@@ -26,3 +26,4 @@ mod Monitors
 mod Casts
 mod ConstantObjects
 mod Starting
+mod BeginningSteps

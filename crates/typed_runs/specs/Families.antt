@@ -1,7 +1,7 @@
 -- Families of operations, and the operation that a step does.
 use Rattle.std.specs.Prelude.{ℕ, List, [], ◌∷◌, IfSome}
 use Rattle.machine_values.specs.declared.frame.RunFrame.{RunFrame}
-use Rattle.machine_values.specs.declared.frame.RunFrame.TheVariants.{Method}
+use Rattle.machine_values.specs.declared.frame.RunFrame.TheVariants.{Beginning, Method}
 use Rattle.member_link.specs.Machine.Ops.{Op, no_operation, push_value, push_constant, load_local, store_local, increment_local, shuffle_stack, pure_arithmetic, jump_by_int, jump_by_ints, jump_by_references, jump_by_null, jump_to, table_switch, lookup_switch, division, float_arithmetic, test_local, check_cast, instance_of, enter_monitor, leave_monitor}
 use Rattle.member_link.specs.Machine.Programs.{Program, point_at}
 
@@ -9,6 +9,11 @@ use Rattle.member_link.specs.Machine.Programs.{Program, point_at}
 abbrev pub NextIs : (Op → Type 0) → Program → List RunFrame → Type 0
 NextIs Family P (Method f ∷ rest) = (IfSome (point_at P f.at f.place) (λ point. Family point.op))
 NextIs Family P frames = ⊥
+
+-- the beginning of a class is on top
+abbrev pub BeginsClass : List RunFrame → Type 0
+BeginsClass (Beginning class ∷ rest) = Unit {0}
+BeginsClass frames = ⊥
 
 -- It pushes a constant or null, moves values between locals and the operand stack, computes, jumps, tests what class an object is of, or
 -- enters or leaves a monitor: it names no member, and makes no object but that of a constant or a

@@ -1,4 +1,3 @@
-use Rattle.typed_runs.proofs.Starting.{begun_typed}
 use Rattle.typed_runs.proofs.Starts.{start_typed}
 use Rattle.typed_runs.proofs.worlds.a_run_starts_typed.Goals as goal
 
