@@ -1,6 +1,5 @@
-use Rattle.std.specs.Prelude.{◌≡◌, ◌+◌, ◌-◌, ◌&&◌, ◌++◌, not, refl, ℕ, zero, suc, Bool, true, false, List, [], ◌∷◌, map, length, replicate, reverse, slice_get, bytes_eq, codes, Option, Some, None, IfSome, IsTrue, is_some, option_map, option_and_then, if◌then◌else◌}
-use Rattle.std.specs.List.{AllByRecursion}
-use Rattle.std.proofs.Common.{arith, ap, sym, ◌∙◌, subst}
+use Rattle.std.specs.Prelude.{◌≡◌, ◌+◌, ◌-◌, refl, ℕ, zero, suc, Bool, true, false, List, [], ◌∷◌, replicate, slice_get, bytes_eq, codes, Option, Some, None, is_some, option_map, option_and_then, if◌then◌else◌}
+use Rattle.std.proofs.Common.{ap, sym, ◌∙◌, subst}
 use Rattle.std.proofs.lemmas.Option.{slice_get-map}
 use Rattle.std.proofs.lemmas.Slice.Eq.{bytes_eq-Decides}
 use Rattle.class_model.specs.Descriptors.{types_before}
@@ -8,7 +7,6 @@ use Rattle.class_model.specs.Laws.Lists.{at_index}
 use Rattle.class_model.specs.Members.{has, STATIC}
 use Rattle.class_model.specs.Names.{clinit}
 use Rattle.class_model.specs.declared.class_file.MethodAt.{MethodAt}
-use Rattle.class_model.specs.declared.frame.Frame.{Frame}
 use Rattle.class_model.specs.declared.frame.VType.TheVariants as types
 use Rattle.class_model.specs.declared.header.Member.{Member}
 use Rattle.class_tree.specs.Headers.{Name}
@@ -16,7 +14,6 @@ use Rattle.machine_values.specs.Frames.{MethodState}
 use Rattle.machine_values.specs.Heaps.{Heap}
 use Rattle.machine_values.specs.declared.frame.RunFrame.{RunFrame}
 use Rattle.machine_values.specs.declared.frame.RunFrame.TheVariants as frames
-use Rattle.machine_values.specs.declared.value.Value.{Value}
 use Rattle.member_link.specs.Machine.Beginnings.{begun_on, begun_memory, first_unbegun, come_first, initialiser_of, frame_with, past_beginning, begun_next, beginning_of, beginning_step}
 use Rattle.member_link.specs.Machine.Performing.{is_initialiser}
 use Rattle.member_link.specs.Machine.Programs.{Program, RunClass, RunMethod, Code, number_of_first, folder_number, name_of_class, member_of, place_of_method, run_method, code_run, code_at}
@@ -79,7 +76,7 @@ of_map f (Some a) b is = (a, refl, some_of is)
 pub method_found : (P : Program) (r : Reference) (at : MethodAt) → place_of_method P r ≡ Some at → MethodFound P r at
 method_found P r at is =
     let c = of_chain (λ (number : ℕ). option_and_then (λ (class : RunClass). option_map (λ (method : ℕ). record { class = number; method = method }) (number_of_first (λ (m : RunMethod). member_of r m.member) class.methods)) (slice_get P.classes number))
-        (folder_number P r.class) at is in
+    (folder_number P r.class) at is in
     let d = of_chain (λ (class : RunClass). option_map (λ (method : ℕ). record { class = c.0; method = method }) (number_of_first (λ (m : RunMethod). member_of r m.member) class.methods)) (slice_get P.classes c.0) at c.2 in
     let m = of_map (λ (method : ℕ). record { class = c.0; method = method }) (number_of_first (λ (m : RunMethod). member_of r m.member) d.0.methods) at d.2 in
     let f = first_found (λ (m : RunMethod). member_of r m.member) d.0.methods m.0 m.1 in
@@ -130,9 +127,9 @@ initialises_with P T m program r at code name desc place is_code =
     let new : MethodState = record { at = at; place = 0; locals = replicate (code.locals - 0) None; stack = []; held = None } in
     let same : frame_with P at [] None ≡ new = rw is_code refl in
     let does : Does P T m.heap new =
-        does_first P T m program new code is_code tt (entry P at f.method.member code) typed.entry_leads (blank_paired (code.locals - 0))
-        (subst (λ ts. UnitsConform P (T at).scope m.heap ts (replicate (code.locals - 0) None)) (sym (initialiser_locals P at f.method.member code (flags.of_clinit named) (f.desc ∙ desc))) (blank_units (code.locals - 0)))
-        no_values in
+    does_first P T m program new code is_code tt (entry P at f.method.member code) typed.entry_leads (blank_paired (code.locals - 0))
+    (subst (λ ts. UnitsConform P (T at).scope m.heap ts (replicate (code.locals - 0) None)) (sym (initialiser_locals P at f.method.member code (flags.of_clinit named) (f.desc ∙ desc))) (blank_units (code.locals - 0)))
+    no_values in
     let test : is_initialiser f.method ≡ true = (bytes_eq-Decides f.method.member.name clinit).1 named in
     record { does = subst (λ (g : MethodState). Does P T m.heap g) (sym same) does; above = ap above_method f.run ∙ (rw test refl) }
 

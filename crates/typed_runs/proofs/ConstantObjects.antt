@@ -1,16 +1,15 @@
-use Rattle.std.specs.Prelude.{◌≡◌, ◌&&◌, refl, ℕ, zero, suc, Bool, true, false, List, [], ◌∷◌, ◌++◌, length, slice_get, Option, Some, None, codes}
+use Rattle.std.specs.Prelude.{◌≡◌, refl, ℕ, Bool, true, false, List, [], ◌∷◌, ◌++◌, length, Option, Some, None}
 use Rattle.std.specs.List.{AllByRecursion}
-use Rattle.std.proofs.Common.{ap, sym, ◌∙◌, subst}
-use Rattle.machine_values.specs.Heaps.{Heap, Kept, Made, object_at, external, constant_made, kept_in, same_constant, class_of_constant}
+use Rattle.std.proofs.Common.{subst}
+use Rattle.machine_values.specs.Heaps.{Heap, Kept, Made, external, constant_made, kept_in, same_constant, class_of_constant}
 use Rattle.machine_values.specs.declared.object.Constant.{Constant}
 use Rattle.machine_values.specs.declared.object.Constant.TheVariants as constants
-use Rattle.machine_values.specs.declared.object.Object.{Object}
 use Rattle.machine_values.specs.declared.object.Shape.TheVariants as shapes
 use Rattle.member_link.specs.Machine.Programs.{Program}
 use Rattle.member_link.specs.Machine.Worlds.{Memory, with_heap}
 use Rattle.typed_runs.proofs.Kept.{Keeps, keeps_same, keeps_through, holds_kept, constants_kept, shape_kept}
 use Rattle.typed_runs.proofs.Memories.{made_keeps, made_shape, made_typed, statics_kept}
-use Rattle.typed_runs.specs.Conforming.{HasShape, HoldsShape, IsConstantObject, IsTypedMemory}
+use Rattle.typed_runs.specs.Conforming.{HasShape, IsConstantObject, IsTypedMemory}
 use Rattle.typed_runs.specs.TypedPoints.{IsOfLibrary}
 
 pub same_class : (a b : Constant) → same_constant a b ≡ true → class_of_constant a ≡ class_of_constant b
@@ -55,7 +54,7 @@ new_constant P m c typed is =
     let made = external m.heap (class_of_constant c) in
     let keep : Keeps m.heap made.heap = made_keeps m.heap (shapes.External (class_of_constant c) []) [] in
     let memory : IsTypedMemory P (with_heap m made.heap) =
-        made_typed P m (shapes.External (class_of_constant c) []) [] typed (record { is_there = is.is_there; of_library = is.outside; interfaces = tt }) in
+    made_typed P m (shapes.External (class_of_constant c) []) [] typed (record { is_there = is.is_there; of_library = is.outside; interfaces = tt }) in
     let shape : HasShape made.heap made.reference (shapes.External (class_of_constant c) []) = made_shape m.heap (shapes.External (class_of_constant c) []) [] in
     let same : Keeps made.heap (with_constant m.heap c) = record { keeps = λ r o there. record { object = o; is_there = there; same = refl } } in
     let now : HasShape (with_constant m.heap c) made.reference (shapes.External (class_of_constant c) []) = shape_kept same shape in

@@ -1,5 +1,5 @@
-use Rattle.std.specs.Prelude.{◌≡◌, ◌+◌, ◌==◌, ◌&&◌, refl, ℕ, Bool, true, false, List, [], ◌∷◌, nat_le, Option, Some, None, IfSome, option_map, if◌then◌else◌}
-use Rattle.std.proofs.Common.{arith, ap, sym, subst}
+use Rattle.std.specs.Prelude.{◌+◌, ◌==◌, ◌&&◌, refl, ℕ, Bool, true, false, List, [], ◌∷◌, nat_le, Option, Some, None, IfSome, option_map, if◌then◌else◌}
+use Rattle.std.proofs.Common.{sym, subst}
 use Rattle.class_model.specs.Pool.{Constants, constant_at}
 use Rattle.class_model.specs.PoolChecks.{utf8_at, class_at, name_at, descriptor_at}
 use Rattle.class_model.specs.declared.descriptor.FieldType.{FieldType}
@@ -15,12 +15,11 @@ use Rattle.class_tree.specs.Names.{method_handle}
 use Rattle.machine_values.specs.Frames.{MethodState}
 use Rattle.machine_values.specs.declared.frame.RunFrame.{RunFrame}
 use Rattle.machine_values.specs.declared.frame.RunFrame.TheVariants as frames
-use Rattle.machine_values.specs.Heaps.{Heap}
 use Rattle.machine_values.specs.declared.object.Constant.TheVariants as objects
 use Rattle.member_link.specs.Bodies.{CodeItem, item_instr, item_null_test, item_row, item_targets, item_falls_through}
-use Rattle.member_link.specs.Machine.Codes.{item_op, constant_op, or_meaningless, naming, return_op, same_kind, call_op, dynamic_op, handle_of, special_start, initialises}
+use Rattle.member_link.specs.Machine.Codes.{item_op, constant_op, or_meaningless, naming, return_op, same_kind, call_op, dynamic_op, special_start, initialises}
 use Rattle.member_link.specs.Machine.Ops.{Op, meaningless, return_value, push_constant, get_static, put_static, get_field, put_field, call_static, call_virtual, call_interface, call_special, call_dynamic, new_object, new_array, new_arrays, load_element, store_element, check_cast, instance_of}
-use Rattle.member_link.specs.Machine.Programs.{Program, Links, Point, point_at}
+use Rattle.member_link.specs.Machine.Programs.{Program, Links, Point}
 use Rattle.member_link.specs.Machine.Stepping.{op_step, point_step, frames_step, is_library_turn, step}
 use Rattle.member_link.specs.Machine.Worlds.{World}
 use Rattle.member_link.specs.References.{Reference}

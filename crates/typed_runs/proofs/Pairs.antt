@@ -1,4 +1,4 @@
-use Rattle.std.specs.Prelude.{◌≡◌, ◌+◌, refl, ℕ, zero, suc, Bool, true, false, List, [], ◌∷◌, length, nat_le, slice_get, slice_set, Option, Some, None, IsTrue, if◌then◌else◌}
+use Rattle.std.specs.Prelude.{◌≡◌, ◌+◌, refl, ℕ, zero, suc, Bool, true, false, List, [], ◌∷◌, length, nat_le, slice_get, slice_set, Option, Some, None, if◌then◌else◌}
 use Rattle.std.proofs.Common.{arith, ap, sym, ◌∙◌, subst}
 use Rattle.std.proofs.Math.Numerals.{add-one}
 use Rattle.machine_values.specs.Values.{is_wide_value}
@@ -95,6 +95,7 @@ before_value (Some u ∷ None ∷ us) (suc at) v is there zero w e other = cc
 before_value (Some u ∷ Some x ∷ us) (suc at) v is there zero w e other = by (is_wide_value w) refl where
   same : u ≡ w
   same = cc
+
   by : (b : Bool) → is_wide_value w ≡ b → is_wide_value w ≡ false
   by true wide = absurd (is.0 (subst (λ y. is_wide_value y ≡ true) (sym same) wide))
   by false narrow = narrow

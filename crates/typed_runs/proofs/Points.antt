@@ -1,22 +1,18 @@
-use Rattle.std.specs.Prelude.{◌≡◌, ◌≢◌, ◌+◌, ◌<◌, refl, ℕ, suc, List, [], ◌∷◌, length, reverse, slice_get, Option, Some, None, IfSome, option_map, option_and_then}
+use Rattle.std.specs.Prelude.{◌≡◌, ◌<◌, refl, ℕ, List, [], ◌∷◌, length, reverse, slice_get, Option, Some, None, IfSome, option_and_then}
 use Rattle.std.proofs.Common.{arith, ap, sym, ◌∙◌, subst}
 use Rattle.std.proofs.lemmas.Option.{slice_get_within, slice_get-get_or}
 use Rattle.class_model.specs.declared.class_file.MethodAt.{MethodAt}
 use Rattle.class_model.specs.declared.frame.Frame.{Frame}
 use Rattle.machine_values.specs.Frames.{MethodState}
-use Rattle.machine_values.specs.Heaps.{Heap}
-use Rattle.machine_values.specs.declared.frame.RunFrame.{RunFrame}
-use Rattle.machine_values.specs.declared.frame.RunFrame.TheVariants as frames
 use Rattle.machine_values.specs.declared.value.Value.{Value}
-use Rattle.member_link.specs.Machine.Programs.{Program, Code, Point, RunMethod, headers_in, run_method, code_run, code_at, point_at}
-use Rattle.member_link.specs.Machine.Worlds.{World, Memory, Halt, stuck}
+use Rattle.member_link.specs.Machine.Programs.{Program, Code, Point, run_method, code_run, code_at, point_at}
+use Rattle.member_link.specs.Machine.Worlds.{Memory}
 use Rattle.member_link.specs.Rows.FrameAssignability.{AreAssignable}
 use Rattle.typed_runs.proofs.Assigned.{all_assigned, units_assigned}
 use Rattle.typed_runs.specs.Conforming.{IsInHeap, AllConform, UnitsConform, IsTypedMemory}
-use Rattle.typed_runs.specs.TypedFrames.{ArePaired, nothing_awaited, above_of, StandsAt, Does, FramesConform, upon}
+use Rattle.typed_runs.specs.TypedFrames.{ArePaired, StandsAt, Does}
 use Rattle.typed_runs.specs.TypedPoints.{LeadsTo, TypedPoint}
 use Rattle.typed_runs.specs.TypedPrograms.{Typings, IsTypedMethod, IsTypedProgram}
-use Rattle.typed_runs.specs.TypedWorlds.{TypedWorld, StaysTyped}
 
 -- ---- the point at a number
 

@@ -1,8 +1,6 @@
-use Rattle.std.specs.Prelude.{◌≡◌, ◌-◌, ◌+◌, ◌≤◌, ◌&&◌, not, refl, ℕ, zero, suc, Bool, true, false, List, [], ◌∷◌, ◌++◌, map, length, take, drop, reverse, slice_get, Option, Some, None, IsTrue, if◌then◌else◌, option_map}
-use Rattle.std.specs.List.{AllByRecursion, flat_map}
+use Rattle.std.specs.Prelude.{◌≡◌, ◌-◌, ◌+◌, ◌≤◌, ◌&&◌, not, refl, ℕ, zero, suc, Bool, true, false, List, [], ◌∷◌, ◌++◌, map, length, take, drop, reverse, slice_get, Option, Some, None}
 use Rattle.std.proofs.Common.{arith, ap, sym, ◌∙◌, subst}
 use Rattle.std.proofs.lemmas.List.{length-map, length-reverse, length-take, drop-drop}
-use Rattle.class_model.specs.Frames.{is_wide}
 use Rattle.class_model.specs.declared.frame.Frame.{Frame}
 use Rattle.class_model.specs.declared.frame.VType.{VType}
 use Rattle.machine_values.specs.Frames.{MethodState}
@@ -14,15 +12,15 @@ use Rattle.member_link.specs.Machine.Locals as machine
 use Rattle.member_link.specs.Machine.Locals.{fits_width, fit_widths, form_for, chosen_values, shuffled}
 use Rattle.member_link.specs.Machine.Ops.{shuffle_stack}
 use Rattle.member_link.specs.Machine.Programs.{Program}
-use Rattle.member_link.specs.Machine.Stepping.{op_step, shuffle_step}
+use Rattle.member_link.specs.Machine.Stepping.{op_step}
 use Rattle.member_link.specs.Machine.Worlds.{World}
 use Rattle.member_link.specs.RowScope.{RowScope}
 use Rattle.member_link.specs.Rows.Operands.{AllFit, nothing, topmost, under}
 use Rattle.member_link.specs.Rows.Row.{access_aside, plain}
 use Rattle.member_link.specs.Rows.ShuffleRows.{Width, one, two, Form, forms_of, need_of, has_width, have_widths, form_in, picked, form_row, shuffle_row}
 use Rattle.typed_runs.proofs.Here.{Here, goes, operands_here, pushed}
-use Rattle.typed_runs.proofs.Stacks.{Operands, top_is, as_many}
-use Rattle.typed_runs.specs.Conforming.{Conforms, to_top, an_int, a_long, a_float, a_double, only_null, null_object, an_object, of_new, of_this, AllConform, no_values, and_value}
+use Rattle.typed_runs.proofs.Stacks.{Operands, top_is}
+use Rattle.typed_runs.specs.Conforming.{Conforms, an_int, a_long, a_float, a_double, only_null, null_object, an_object, of_new, of_this, AllConform, no_values, and_value}
 use Rattle.typed_runs.specs.TypedPrograms.{Typings}
 use Rattle.typed_runs.specs.TypedWorlds.{StaysTyped}
 
@@ -135,7 +133,7 @@ fits_agree ws xs stack e d =
     let enough : length ws ≤ length stack = topmost_enough (length ws) stack le in
     let enough_other : length xs ≤ length stack = topmost_enough (length xs) stack ld in
     let top : machine.topmost (length ws - (length ws - length xs)) stack ≡ machine.topmost (length xs - (length xs - length ws)) stack =
-        ap (λ n. machine.topmost n stack) (let m : length ws - (length ws - length xs) ≡ length xs - (length xs - length ws) = omega arith in m) in
+    ap (λ n. machine.topmost n stack) (let m : length ws - (length ws - length xs) ≡ length xs - (length xs - length ws) = omega arith in m) in
     same_of_fit (drop (length ws - length xs) ws) (drop (length xs - length ws) xs) (machine.topmost (length ws - (length ws - length xs)) stack)
     (subst (λ vs. fit_widths (drop (length ws - length xs) ws) vs ≡ true) (drop_topmost (length ws) (length xs) stack enough) (fit_drop (length ws - length xs) ws _ e))
     (subst (λ vs. fit_widths (drop (length xs - length ws) xs) vs ≡ true) (drop_topmost (length xs) (length ws) stack enough_other ∙ sym top) (fit_drop (length xs - length ws) xs _ d))

@@ -1,6 +1,6 @@
-use Rattle.std.specs.Prelude.{◌≡◌, ◌==◌, ◌&&◌, ◌++◌, refl, ℕ, ℤ, Bool, true, false, List, [], ◌∷◌, slice_get, Option, Some, None, IsTrue, IsFalse, codes, if◌then◌else◌}
+use Rattle.std.specs.Prelude.{◌≡◌, ◌==◌, ◌&&◌, ◌++◌, refl, ℕ, Bool, true, false, List, [], ◌∷◌, slice_get, Some, codes, if◌then◌else◌}
 use Rattle.std.specs.List.{AllByRecursion}
-use Rattle.std.proofs.Common.{arith, ap, sym, ◌∙◌, subst}
+use Rattle.std.proofs.Common.{arith, sym, ◌∙◌, subst}
 use Rattle.class_model.specs.Descriptors.{kind_of, type_of}
 use Rattle.class_model.specs.declared.descriptor.FieldType.{FieldType}
 use Rattle.class_model.specs.declared.descriptor.FieldType.TheVariants as types
@@ -62,6 +62,7 @@ number_narrowed P h types.Double (values.Double n) is flat = refl
 number_narrowed P h (types.Named name) v is flat = absurd (by (is_both is flat)) where
   is_both : has_kind kinds.Ref v ≡ true → has_kind kinds.Ref v ≡ false → true ≡ false
   is_both a b = sym a ∙ b
+
   by : true ≡ false → ⊥
   by e = cc
 number_narrowed P h t v is flat = cc
@@ -81,7 +82,7 @@ module _ (P : Program) (T : Typings) (program : IsTypedProgram P T) (class : ℕ
       let k : Memory = with_heap m (constant_made m.heap (Str text)).heap in
       let name : List ℕ = codes "java/lang/String" in
       let conforms : FieldConforms P k.heap (types.Named (codes "java/lang/String")) (narrowed (types.Named (codes "java/lang/String")) (values.Ref (constant_made m.heap (Str text)).reference)) =
-          to_one made.shape (by_class (to_below ((program.links.below (codes "java/lang/String") (codes "java/lang/String")).1 (itself (codes "java/lang/String"))))) in
+      to_one made.shape (by_class (to_below ((program.links.below (codes "java/lang/String") (codes "java/lang/String")).1 (itself (codes "java/lang/String"))))) in
       record {
         keep = made.keep;
         typed = static_typed P k class field (narrowed (type_of (field_desc P class field)) (values.Ref (constant_made m.heap (Str text)).reference)) made.typed

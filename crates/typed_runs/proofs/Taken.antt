@@ -8,7 +8,7 @@ use Rattle.machine_values.specs.declared.value.Value.TheVariants as values
 use Rattle.member_link.specs.Machine.Programs.{Program}
 use Rattle.member_link.specs.RowScope.{RowScope}
 use Rattle.member_link.specs.Rows.Operands.{Need, AllFit, Fits, IsReference}
-use Rattle.typed_runs.specs.Conforming.{Conforms, to_top, an_int, a_long, a_float, a_double, only_null, null_object, an_object, of_new, of_this, AllConform, no_values, and_value}
+use Rattle.typed_runs.specs.Conforming.{Conforms, an_int, only_null, null_object, an_object, of_new, of_this, AllConform, and_value}
 
 -- ---- operands that are taken one by one
 
