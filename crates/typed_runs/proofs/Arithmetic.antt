@@ -18,9 +18,11 @@ use Rattle.member_link.specs.Machine.Stepping.{op_step}
 use Rattle.member_link.specs.Machine.Worlds.{World}
 use Rattle.member_link.specs.RowScope.{RowScope}
 use Rattle.member_link.specs.Rows.ArithmeticRows.{Operation, pure_operations, operation_in, operation_row, type_of_kind}
-use Rattle.member_link.specs.Rows.Operands.{AllFit, of_kind, nothing, topmost}
+use Rattle.member_link.specs.Rows.Operands.{AllFit, of_kind, topmost}
 use Rattle.member_link.specs.Rows.Row.{access_aside, plain}
+use Rattle.typed_runs.proofs.Basics.{same_number}
 use Rattle.typed_runs.proofs.Here.{Here, operands_here, worked, gives_same}
+use Rattle.typed_runs.proofs.Taken.{takes_nothing}
 use Rattle.typed_runs.proofs.Units.{kind_conforms}
 use Rattle.typed_runs.specs.Conforming.{Conforms, an_int, a_long, AllConform, no_values, and_value}
 use Rattle.typed_runs.specs.TypedPrograms.{Typings}
@@ -71,9 +73,6 @@ IsMeaningOf o (Some m) = (o.takes ≡ taken_by m) × (o.gives ≡ given_by m)
 -- each opcode of each operation has a meaning of its kinds
 abbrev pub HaveMeanings : (ℕ → Option Meaning) → List Operation → Type 0
 HaveMeanings meaning os = AllByRecursion (λ (o : Operation). AllByRecursion (λ (opcode : ℕ). IsMeaningOf o (meaning opcode)) o.opcodes) os
-
-same_number : (a b : ℕ) → (a == b) ≡ true → a ≡ b
-same_number a b is = search arith
 
 pub member_has : (Q : ℕ → Type 0) (xs : List ℕ) (n : ℕ) → list_any (λ x. x == n) xs ≡ true → AllByRecursion Q xs → Q n
 member_has Q [] n is all = cc
@@ -128,10 +127,6 @@ takes_many (long_to_int f) = refl
 takes_many (longs_to_int f) = refl
 
 -- ---- the instruction
-
-pub takes_nothing : (r : RowScope) (ts : List VType) → AllFit r (nothing ∷ []) ts → ⊥
-takes_nothing r [] fit = fit
-takes_nothing r (t ∷ ts) fit = fit.0
 
 module _ {P : Program} {T : Typings} {w : World} {f : MethodState} {rest : List RunFrame} {s : RowScope} {frame : Frame} {place : ℕ} {numbered : ℕ → ℕ} where
   pub meant_stays : (opcode : ℕ) (takes : List Kind) (given : Kind) (m : Meaning) → takes ≡ taken_by m → given ≡ given_by m → meaning_in pure_meanings opcode ≡ Some m

@@ -13,6 +13,7 @@ use Rattle.machine_values.specs.Values.{component_text}
 use Rattle.member_link.specs.Assignability.{IsNameAssignable, to_itself, to_interface as to_interface_name, to_class_above, from_array, of_components as of_component_names}
 use Rattle.member_link.specs.Machine.Programs.{Program, headers_in, is_interface_named}
 use Rattle.member_link.specs.Machine.Shapes.{component_named}
+use Rattle.typed_runs.proofs.Basics.{some_of}
 use Rattle.typed_runs.specs.Conforming.{NameConforms, to_below, to_interface, to_object, of_components}
 use Rattle.typed_runs.specs.TypedPrograms.{Typings, IsTypedProgram}
 
@@ -31,9 +32,6 @@ array_of_text (first ∷ rest) component is = by (first == left_bracket) refl is
 
 pub no_object_array : IsArray object → ⊥
 no_object_array is = let e : 106 ≡ left_bracket = ap (λ xs. get_or xs 0 0) is.1 in absurd (omega (arith, e))
-
-some_of : {A : Type 0} {a b : A} → Some a ≡ Some b → a ≡ b
-some_of e = cc
 
 module _ (P : Program) (T : Typings) (program : IsTypedProgram P T) where
   -- ---- what is above

@@ -21,18 +21,16 @@ use Rattle.member_link.specs.Machine.Stepping.{frames_step, is_library_turn, ste
 use Rattle.member_link.specs.Machine.Worlds.{World, Memory, is_begun}
 use Rattle.member_link.specs.References.{Reference}
 use Rattle.member_link.specs.RowScope.{RowScope}
+use Rattle.typed_runs.proofs.Basics.{and_first, and_second, some_of}
 use Rattle.typed_runs.proofs.Here.{stays, counted, uncounted}
 use Rattle.typed_runs.proofs.Kept.{keeps_same, frames_kept}
 use Rattle.typed_runs.proofs.Points.{of_chain, does_first}
-use Rattle.typed_runs.proofs.Starting.{begun_typed, and_first, and_second}
+use Rattle.typed_runs.proofs.Starting.{begun_typed}
 use Rattle.typed_runs.specs.Conforming.{UnitsConform, no_units, and_unit, no_value, no_values}
 use Rattle.typed_runs.specs.Families.{BeginsClass}
 use Rattle.typed_runs.specs.TypedFrames.{nothing_awaited, above_method, above_of, ArePaired, Does, FramesConform, upon}
 use Rattle.typed_runs.specs.TypedPrograms.{Typings, IsTypedProgram, IsTypedMethod, FitsFlags, entry}
 use Rattle.typed_runs.specs.TypedWorlds.{TypedWorld, StaysTyped}
-
-some_of : {A : Type 0} {a b : A} → Some a ≡ Some b → a ≡ b
-some_of e = cc
 
 -- ---- what a search found
 

@@ -7,6 +7,7 @@ use Rattle.machine_values.specs.declared.object.Constant.TheVariants as constant
 use Rattle.machine_values.specs.declared.object.Shape.TheVariants as shapes
 use Rattle.member_link.specs.Machine.Programs.{Program}
 use Rattle.member_link.specs.Machine.Worlds.{Memory, with_heap}
+use Rattle.typed_runs.proofs.Basics.{some_of}
 use Rattle.typed_runs.proofs.Kept.{Keeps, keeps_same, keeps_through, holds_kept, constants_kept, shape_kept}
 use Rattle.typed_runs.proofs.Memories.{made_keeps, made_shape, made_typed, statics_kept}
 use Rattle.typed_runs.specs.Conforming.{HasShape, IsConstantObject, IsTypedMemory}
@@ -18,9 +19,6 @@ same_class (constants.Class a) (constants.Class b) is = refl
 same_class (constants.MethodType a) (constants.MethodType b) is = refl
 same_class (constants.Handle a b c d) (constants.Handle e f g h) is = refl
 same_class a b is = cc
-
-some_of : {A : Type 0} {a b : A} → Some a ≡ Some b → a ≡ b
-some_of e = cc
 
 pub kept_object : (h : Heap) (ks : List Kept) (c : Constant) (r : ℕ) → AllByRecursion (IsConstantObject h) ks → kept_in ks c ≡ Some r → HasShape h r (shapes.External (class_of_constant c) [])
 kept_object h [] c r all is = cc

@@ -19,7 +19,8 @@ use Rattle.member_link.specs.RowScope.{RowScope}
 use Rattle.member_link.specs.Rows.ArithmeticRows.{Operation, divide_operations, operation_in, operation_row, type_of_kind}
 use Rattle.member_link.specs.Rows.Operands.{of_kind, topmost}
 use Rattle.member_link.specs.Rows.Row.{access_aside, plain}
-use Rattle.typed_runs.proofs.Arithmetic.{taken_by, given_by, IsMeaningOf, HaveMeanings, has_meaning, of_kinds, result_of_meaning, of_number, takes_many, takes_nothing}
+use Rattle.typed_runs.proofs.Arithmetic.{taken_by, given_by, IsMeaningOf, HaveMeanings, has_meaning, of_kinds, result_of_meaning, of_number, takes_many}
+use Rattle.typed_runs.proofs.Taken.{takes_nothing}
 use Rattle.typed_runs.proofs.Here.{Here, operands_here, worked, gives_same}
 use Rattle.typed_runs.proofs.Performing.{raises_goes}
 use Rattle.typed_runs.proofs.Raising.{raises_arithmetic}

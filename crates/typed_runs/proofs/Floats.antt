@@ -20,8 +20,9 @@ use Rattle.member_link.specs.RowScope.{RowScope}
 use Rattle.member_link.specs.Rows.ArithmeticRows.{Operation, float_operations, operation_in, operation_row}
 use Rattle.member_link.specs.Rows.Operands.{of_kind, topmost}
 use Rattle.member_link.specs.Rows.Row.{access_aside}
-use Rattle.typed_runs.proofs.Arithmetic.{AreOfKinds, of_kinds, takes_nothing}
+use Rattle.typed_runs.proofs.Arithmetic.{AreOfKinds, of_kinds}
 use Rattle.typed_runs.proofs.Assigned.{conforms_in_heap}
+use Rattle.typed_runs.proofs.Taken.{takes_nothing}
 use Rattle.typed_runs.proofs.Here.{Here, operands_here, worked}
 use Rattle.typed_runs.proofs.Performing.{asks_goes}
 use Rattle.typed_runs.specs.Conforming.{AllConform, no_values, and_value, IsValueInHeap}

@@ -1,3 +1,4 @@
+mod Basics
 mod Starts
 mod Stacks
 mod Kept

@@ -4,6 +4,7 @@ use Rattle.std.proofs.Math.Numerals.{add-one}
 use Rattle.machine_values.specs.Values.{is_wide_value}
 use Rattle.machine_values.specs.declared.value.Value.{Value}
 use Rattle.member_link.specs.Machine.Locals.{cut_before, stored}
+use Rattle.typed_runs.proofs.Basics.{some_of}
 use Rattle.typed_runs.specs.TypedFrames.{ArePaired, BeginsEmpty}
 
 -- a value of one unit stands before a place, or none
@@ -56,9 +57,6 @@ cut_of us at v is = rw is refl
 pub record Cut (at : ℕ) (us cut : List (Option Value)) : Type 0 where
   pub paired : ArePaired cut
   pub narrow : NarrowBefore at cut
-
-some_of : {A : Type 0} {a b : A} → Some a ≡ Some b → a ≡ b
-some_of e = cc
 
 suc_is : {a b : ℕ} → suc a ≡ suc b → a ≡ b
 suc_is e = omega (arith, e)

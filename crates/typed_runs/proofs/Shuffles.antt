@@ -15,10 +15,12 @@ use Rattle.member_link.specs.Machine.Programs.{Program}
 use Rattle.member_link.specs.Machine.Stepping.{op_step}
 use Rattle.member_link.specs.Machine.Worlds.{World}
 use Rattle.member_link.specs.RowScope.{RowScope}
-use Rattle.member_link.specs.Rows.Operands.{AllFit, nothing, topmost, under}
+use Rattle.member_link.specs.Rows.Operands.{topmost, under}
 use Rattle.member_link.specs.Rows.Row.{access_aside, plain}
 use Rattle.member_link.specs.Rows.ShuffleRows.{Width, one, two, Form, forms_of, need_of, has_width, have_widths, form_in, picked, form_row, shuffle_row}
+use Rattle.typed_runs.proofs.Basics.{and_first, and_second, some_of}
 use Rattle.typed_runs.proofs.Here.{Here, goes, operands_here, pushed}
+use Rattle.typed_runs.proofs.Taken.{takes_nothing}
 use Rattle.typed_runs.proofs.Stacks.{Operands, top_is}
 use Rattle.typed_runs.specs.Conforming.{Conforms, an_int, a_long, a_float, a_double, only_null, null_object, an_object, of_new, of_this, AllConform, no_values, and_value}
 use Rattle.typed_runs.specs.TypedPrograms.{Typings}
@@ -37,14 +39,6 @@ width_conforms one is (of_this sh b) = refl
 width_conforms two is a_long = refl
 width_conforms two is a_double = refl
 width_conforms w is c = cc
-
-pub and_first : (a b : Bool) → (a && b) ≡ true → a ≡ true
-and_first true b is = refl
-and_first false b is = is
-
-pub and_second : (a b : Bool) → (a && b) ≡ true → b ≡ true
-and_second true b is = is
-and_second false b is = cc
 
 pub both_true : (a b : Bool) → a ≡ true → b ≡ true → (a && b) ≡ true
 both_true a b e d = rw e d
@@ -156,9 +150,6 @@ conform_at all (n ∷ ns) = conform_entry all n (conform_at all ns)
 
 -- ---- the form that is chosen
 
-some_of : {A : Type 0} {a b : A} → Some a ≡ Some b → a ≡ b
-some_of e = cc
-
 not_true : (b : Bool) → not b ≡ true → b ≡ false
 not_true true is = cc
 not_true false is = refl
@@ -207,10 +198,6 @@ pub forms_apart : (opcode : ℕ) → none_agree (forms_of opcode) ≡ true
 forms_apart opcode = grind arith
 
 -- ---- the instruction
-
-pub takes_nothing : (r : RowScope) (ts : List VType) → AllFit r (nothing ∷ []) ts → ⊥
-takes_nothing r [] fit = fit
-takes_nothing r (t ∷ ts) fit = fit.0
 
 module _ {P : Program} {T : Typings} {w : World} {f : MethodState} {rest : List RunFrame} {s : RowScope} {frame : Frame} {place : ℕ} {numbered : ℕ → ℕ} where
   pub formed_stays : (opcode : ℕ) (form : Form) → form_in (forms_of opcode) frame.stack ≡ Some form

@@ -1,6 +1,6 @@
-use Rattle.std.specs.Prelude.{◌≡◌, ◌==◌, ◌&&◌, ◌++◌, refl, ℕ, Bool, true, false, List, [], ◌∷◌, slice_get, Some, codes, if◌then◌else◌}
+use Rattle.std.specs.Prelude.{◌≡◌, ◌==◌, ◌++◌, refl, ℕ, Bool, true, false, List, [], ◌∷◌, slice_get, Some, codes, if◌then◌else◌}
 use Rattle.std.specs.List.{AllByRecursion}
-use Rattle.std.proofs.Common.{arith, sym, ◌∙◌, subst}
+use Rattle.std.proofs.Common.{sym, ◌∙◌, subst}
 use Rattle.class_model.specs.Descriptors.{kind_of, type_of}
 use Rattle.class_model.specs.declared.descriptor.FieldType.{FieldType}
 use Rattle.class_model.specs.declared.descriptor.FieldType.TheVariants as types
@@ -14,23 +14,13 @@ use Rattle.machine_values.specs.declared.value.Value.TheVariants as values
 use Rattle.member_link.specs.Machine.Beginnings.{with_start, with_starts, starts_of, begun_memory}
 use Rattle.member_link.specs.Machine.Programs.{Program, RunClass, StartValue, start_value, start_string, StaticStart}
 use Rattle.member_link.specs.Machine.Worlds.{Memory, StaticValue, with_heap, with_static, put_static_in, is_static_of, field_desc}
+use Rattle.typed_runs.proofs.Basics.{and_first, and_second, same_number}
 use Rattle.typed_runs.proofs.ConstantObjects.{constant_typed}
 use Rattle.typed_runs.proofs.Kept.{Keeps, keeps_same, keeps_through}
 use Rattle.typed_runs.specs.Conforming.{to_below, by_class, to_one, FieldConforms, FitsDescriptor, IsTypedStatic, IsTypedMemory}
 use Rattle.typed_runs.specs.TypedPrograms.{Typings, IsTypedProgram, FitsStart, IsTypedStart}
 
 -- ---- static fields
-
-same_number : (a b : ℕ) → (a == b) ≡ true → a ≡ b
-same_number a b is = search arith
-
-pub and_first : (a b : Bool) → (a && b) ≡ true → a ≡ true
-and_first true b is = refl
-and_first false b is = is
-
-pub and_second : (a b : Bool) → (a && b) ≡ true → b ≡ true
-and_second true b is = is
-and_second false b is = cc
 
 pub put_statics : (P : Program) (h : Heap) (ss : List StaticValue) (class field : ℕ) (v : Value) → AllByRecursion (IsTypedStatic P h) ss → FitsDescriptor P h (field_desc P class field) v
     → AllByRecursion (IsTypedStatic P h) (put_static_in ss class field v)

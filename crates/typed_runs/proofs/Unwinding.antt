@@ -18,6 +18,7 @@ use Rattle.member_link.specs.Machine.Performing.{handler_for, handler_at, Landin
 use Rattle.member_link.specs.Machine.Programs.{Program, Catch, Code, RunMethod, run_method, code_run, code_at, point_at}
 use Rattle.member_link.specs.Machine.Shapes.{is_instance}
 use Rattle.member_link.specs.Machine.Worlds.{Memory}
+use Rattle.typed_runs.proofs.Basics.{some_of}
 use Rattle.typed_runs.proofs.Kept.{Keeps, keeps_same, keeps_through, frames_kept}
 use Rattle.typed_runs.proofs.Memories.{unlocked_typed}
 use Rattle.typed_runs.proofs.Points.{of_chain, does_there}
@@ -62,9 +63,6 @@ pub record Caught (P : Program) (Q : Catch → Type 0) (s : Shape) (to : ℕ) : 
   pub holds : Q catch
   pub is_to : catch.to ≡ to
   pub conforms : ShapeConforms P s (caught_name catch.class)
-
-some_of : {A : Type 0} {a b : A} → Some a ≡ Some b → a ≡ b
-some_of e = cc
 
 abbrev pub caught_by : Program → Option Name → Option Object → Bool
 caught_by P None object = true
