@@ -1,6 +1,6 @@
-use Rattle.std.specs.Prelude.{◌≡◌, ◌==◌, refl, ℕ, Bool, true, false, List, [], ◌∷◌, map, length, drop, Option, Some, None, IsTrue, if◌then◌else◌}
+use Rattle.std.specs.Prelude.{◌≡◌, ◌==◌, refl, ℕ, Bool, true, false, List, [], ◌∷◌, map, length, Option, Some, None}
 use Rattle.std.specs.List.{AllByRecursion, list_any}
-use Rattle.std.proofs.Common.{arith, ap, sym, ◌∙◌, subst}
+use Rattle.std.proofs.Common.{arith, ap, ◌∙◌, subst}
 use Rattle.class_model.specs.declared.descriptor.Kind.{Kind}
 use Rattle.class_model.specs.declared.descriptor.Kind.TheVariants as kinds
 use Rattle.class_model.specs.declared.frame.Frame.{Frame}
@@ -12,20 +12,19 @@ use Rattle.machine_values.specs.declared.frame.RunFrame.{RunFrame}
 use Rattle.machine_values.specs.declared.value.Value.{Value}
 use Rattle.machine_values.specs.declared.value.Value.TheVariants as values
 use Rattle.member_link.specs.Machine.Arithmetic.{Meaning, of_ints, of_longs, of_long_and_int, of_int, of_long, int_to_long, long_to_int, longs_to_int, meaning_in, pure_meanings, result_by, operands_of}
-use Rattle.member_link.specs.Machine.Completions.{gives}
-use Rattle.member_link.specs.Machine.Ops.{Op, pure_arithmetic}
-use Rattle.member_link.specs.Machine.Performing.{perform}
+use Rattle.member_link.specs.Machine.Ops.{pure_arithmetic}
 use Rattle.member_link.specs.Machine.Programs.{Program}
 use Rattle.member_link.specs.Machine.Stepping.{op_step}
-use Rattle.member_link.specs.Machine.Work.{arithmetic_work, of_result}
 use Rattle.member_link.specs.Machine.Worlds.{World}
 use Rattle.member_link.specs.RowScope.{RowScope}
 use Rattle.member_link.specs.Rows.ArithmeticRows.{Operation, pure_operations, operation_in, operation_row, type_of_kind}
-use Rattle.member_link.specs.Rows.Operands.{AllFit, of_kind, nothing, topmost}
+use Rattle.member_link.specs.Rows.Operands.{AllFit, of_kind, topmost}
 use Rattle.member_link.specs.Rows.Row.{access_aside, plain}
+use Rattle.typed_runs.proofs.Basics.{same_number}
 use Rattle.typed_runs.proofs.Here.{Here, operands_here, worked, gives_same}
+use Rattle.typed_runs.proofs.Taken.{takes_nothing}
 use Rattle.typed_runs.proofs.Units.{kind_conforms}
-use Rattle.typed_runs.specs.Conforming.{Conforms, an_int, a_long, a_float, a_double, AllConform, no_values, and_value}
+use Rattle.typed_runs.specs.Conforming.{Conforms, an_int, a_long, AllConform, no_values, and_value}
 use Rattle.typed_runs.specs.TypedPrograms.{Typings}
 use Rattle.typed_runs.specs.TypedWorlds.{StaysTyped}
 
@@ -74,9 +73,6 @@ IsMeaningOf o (Some m) = (o.takes ≡ taken_by m) × (o.gives ≡ given_by m)
 -- each opcode of each operation has a meaning of its kinds
 abbrev pub HaveMeanings : (ℕ → Option Meaning) → List Operation → Type 0
 HaveMeanings meaning os = AllByRecursion (λ (o : Operation). AllByRecursion (λ (opcode : ℕ). IsMeaningOf o (meaning opcode)) o.opcodes) os
-
-same_number : (a b : ℕ) → (a == b) ≡ true → a ≡ b
-same_number a b is = search arith
 
 pub member_has : (Q : ℕ → Type 0) (xs : List ℕ) (n : ℕ) → list_any (λ x. x == n) xs ≡ true → AllByRecursion Q xs → Q n
 member_has Q [] n is all = cc
@@ -132,18 +128,14 @@ takes_many (longs_to_int f) = refl
 
 -- ---- the instruction
 
-pub takes_nothing : (r : RowScope) (ts : List VType) → AllFit r (nothing ∷ []) ts → ⊥
-takes_nothing r [] fit = fit
-takes_nothing r (t ∷ ts) fit = fit.0
-
 module _ {P : Program} {T : Typings} {w : World} {f : MethodState} {rest : List RunFrame} {s : RowScope} {frame : Frame} {place : ℕ} {numbered : ℕ → ℕ} where
   pub meant_stays : (opcode : ℕ) (takes : List Kind) (given : Kind) (m : Meaning) → takes ≡ taken_by m → given ≡ given_by m → meaning_in pure_meanings opcode ≡ Some m
       → Here P T w f rest s frame place numbered (plain frame (map of_kind takes) (type_of_kind given ∷ [])) (pure_arithmetic opcode) true []
       → StaysTyped P T w (op_step P w f rest (pure_arithmetic opcode))
   meant_stays opcode takes given m t g is h =
       let k : Here P T w f rest s frame place numbered (plain frame (map of_kind (taken_by m)) (type_of_kind (given_by m) ∷ [])) (pure_arithmetic opcode) true [] =
-          subst (λ x. Here P T w f rest s frame place numbered (plain frame (map of_kind (taken_by m)) (type_of_kind x ∷ [])) (pure_arithmetic opcode) true []) g
-          (subst (λ x. Here P T w f rest s frame place numbered (plain frame (map of_kind x) (type_of_kind given ∷ [])) (pure_arithmetic opcode) true []) t h) in
+      subst (λ x. Here P T w f rest s frame place numbered (plain frame (map of_kind (taken_by m)) (type_of_kind x ∷ [])) (pure_arithmetic opcode) true []) g
+      (subst (λ x. Here P T w f rest s frame place numbered (plain frame (map of_kind x) (type_of_kind given ∷ [])) (pure_arithmetic opcode) true []) t h) in
       let o = operands_here k in
       let result = result_of_meaning m _ (of_kinds s (taken_by m) (topmost (length (map of_kind (taken_by m))) frame.stack) k.holds.operands o.values) in
       worked k (length (map of_kind (taken_by m))) (ap operands_of is ∙ takes_many m) o.enough

@@ -1,22 +1,16 @@
-use Rattle.std.specs.Prelude.{◌≡◌, refl, ℕ, List, [], ◌∷◌, Option, Some, None, IsTrue}
-use Rattle.class_model.specs.declared.frame.Frame.{Frame}
+use Rattle.std.specs.Prelude.{List, [], ◌∷◌, Option}
 use Rattle.class_model.specs.declared.frame.VType.{VType}
-use Rattle.class_model.specs.declared.frame.VType.TheVariants as types
 use Rattle.class_tree.specs.Headers.{Name}
 use Rattle.machine_values.specs.Heaps.{Heap}
 use Rattle.machine_values.specs.declared.object.Shape.{Shape}
 use Rattle.machine_values.specs.declared.value.Value.{Value}
-use Rattle.machine_values.specs.declared.value.Value.TheVariants as values
 use Rattle.member_link.specs.Assignability.{IsAssignable, to_same, to_top as to_top_type, from_null, of_names, IsNameAssignable}
 use Rattle.member_link.specs.Machine.Programs.{Program, headers_in}
-use Rattle.member_link.specs.Machine.Shapes.{reference_conforms}
-use Rattle.member_link.specs.Machine.Worlds.{Memory}
 use Rattle.member_link.specs.RowScope.{RowScope}
-use Rattle.member_link.specs.Rows.Assigning.{IsAssignableIn, IsFrameAssignableIn}
 use Rattle.member_link.specs.Rows.FrameAssignability.{AreAssignable}
 use Rattle.typed_runs.proofs.AssignedNames.{name_assigned}
 use Rattle.typed_runs.proofs.Kept.{there}
-use Rattle.typed_runs.specs.Conforming.{IsValueInHeap, ShapeConforms, by_class, by_interface, Conforms, to_top, an_int, a_long, a_float, a_double, only_null, null_object, an_object, of_new, of_this, AllConform, no_values, and_value, UnitConforms, no_value, has_value, UnitsConform, no_units, and_unit, IsTypedMemory}
+use Rattle.typed_runs.specs.Conforming.{IsValueInHeap, ShapeConforms, by_class, by_interface, Conforms, to_top, an_int, a_long, a_float, a_double, only_null, null_object, an_object, of_new, of_this, AllConform, no_values, and_value, UnitConforms, no_value, has_value, UnitsConform, no_units, and_unit}
 use Rattle.typed_runs.specs.TypedPrograms.{Typings, IsTypedProgram}
 
 pub conforms_in_heap : {P : Program} {s : RowScope} {h : Heap} {t : VType} {v : Value} → Conforms P s h t v → IsValueInHeap h v

@@ -1,18 +1,19 @@
-use Rattle.std.specs.Prelude.{◌≡◌, ◌⊎◌, ◌==◌, ◌-◌, refl, ℕ, Bool, true, false, List, [], ◌∷◌, ◌++◌, length, get_or, Option, Some, None, IsFalse, IsTrue, if◌then◌else◌}
+use Rattle.std.specs.Prelude.{◌≡◌, ◌==◌, ◌-◌, refl, Bool, true, false, [], ◌∷◌, ◌++◌, length, get_or, Some, IsTrue, if◌then◌else◌}
 use Rattle.std.proofs.Common.{arith, inl, inr, ap, sym, ◌∙◌, subst}
 use Rattle.std.proofs.lemmas.List.{length_push, take_at}
 use Rattle.class_model.specs.Characters.{left_bracket, semicolon}
 use Rattle.class_model.specs.declared.header.Header.{Header}
-use Rattle.class_tree.specs.Headers.{Name, Headers, class_named, IsThere}
+use Rattle.class_tree.specs.Headers.{Name, class_named}
 use Rattle.class_tree.specs.Laws.Above.{hierarchy_is_sound, hierarchy_is_rooted, low_is_there, above_is_there, directly_there, nothing_above_object, class_above_interface, there_is_no_array, class_is_subtype}
 use Rattle.class_tree.specs.Laws.Arrays.{is_array_of, same_component, not_above_arrays, not_below}
 use Rattle.class_tree.specs.Laws.Headers.{class_there}
-use Rattle.class_tree.specs.Names.{object, cloneable, serializable, is_interface}
+use Rattle.class_tree.specs.Names.{object, is_interface}
 use Rattle.class_tree.specs.Subtype.{IsDirectlyBelow, IsBelow, IsArray, IsReferenceComponent, array, class, IsAboveArrays, IsSubtype, itself, below, of_arrays, components}
 use Rattle.machine_values.specs.Values.{component_text}
 use Rattle.member_link.specs.Assignability.{IsNameAssignable, to_itself, to_interface as to_interface_name, to_class_above, from_array, of_components as of_component_names}
-use Rattle.member_link.specs.Machine.Programs.{Program, headers_in, header_named, is_interface_named}
+use Rattle.member_link.specs.Machine.Programs.{Program, headers_in, is_interface_named}
 use Rattle.member_link.specs.Machine.Shapes.{component_named}
+use Rattle.typed_runs.proofs.Basics.{some_of}
 use Rattle.typed_runs.specs.Conforming.{NameConforms, to_below, to_interface, to_object, of_components}
 use Rattle.typed_runs.specs.TypedPrograms.{Typings, IsTypedProgram}
 
@@ -29,12 +30,8 @@ array_of_text (first ∷ rest) component is = by (first == left_bracket) refl is
   by false e is = cc
   by true e is = let same : first ≡ left_bracket = search arith in (rest, ap (λ x. x ∷ rest) same)
 
-
 pub no_object_array : IsArray object → ⊥
 no_object_array is = let e : 106 ≡ left_bracket = ap (λ xs. get_or xs 0 0) is.1 in absurd (omega (arith, e))
-
-some_of : {A : Type 0} {a b : A} → Some a ≡ Some b → a ≡ b
-some_of e = cc
 
 module _ (P : Program) (T : Typings) (program : IsTypedProgram P T) where
   -- ---- what is above
@@ -57,7 +54,7 @@ module _ (P : Program) (T : Typings) (program : IsTypedProgram P T) where
         by header found first first_found false e =
             let sound = hierarchy_is_sound (headers_in P) program.hierarchy in
             let top : high ≡ object =
-                class_above_interface (headers_in P) sound (hierarchy_is_rooted (headers_in P) program.hierarchy) up first header first_found (sym (interface_is low first first_found) ∙ is) found e in
+            class_above_interface (headers_in P) sound (hierarchy_is_rooted (headers_in P) program.hierarchy) up first header first_found (sym (interface_is low first first_found) ∙ is) found e in
             subst (λ n. NameConforms P a n) (sym top) to_object
 
   -- what arrays are below is an interface or java/lang/Object

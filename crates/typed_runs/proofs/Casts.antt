@@ -1,5 +1,5 @@
-use Rattle.std.specs.Prelude.{◌≡◌, ◌⊎◌, refl, ℕ, pos, Bool, true, false, List, [], ◌∷◌, length, drop, take, reverse, Option, Some, None, if◌then◌else◌}
-use Rattle.std.proofs.Common.{arith, inl, inr, sym, subst}
+use Rattle.std.specs.Prelude.{◌≡◌, ◌⊎◌, refl, ℕ, pos, Bool, true, false, List, [], ◌∷◌, drop, take, reverse, Some, if◌then◌else◌}
+use Rattle.std.proofs.Common.{arith, inl, inr}
 use Rattle.class_model.specs.declared.frame.Frame.{Frame}
 use Rattle.class_model.specs.declared.frame.VType.{VType}
 use Rattle.class_model.specs.declared.frame.VType.TheVariants as types

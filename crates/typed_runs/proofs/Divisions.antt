@@ -1,5 +1,5 @@
 use Rattle.std.specs.Prelude.{◌≡◌, refl, ℕ, Bool, true, false, List, [], ◌∷◌, map, length, take, drop, reverse, Option, Some, None, if◌then◌else◌}
-use Rattle.std.proofs.Common.{arith, ap, sym, ◌∙◌, subst}
+use Rattle.std.proofs.Common.{arith, sym, ◌∙◌, subst}
 use Rattle.class_model.specs.declared.descriptor.Kind.{Kind}
 use Rattle.class_model.specs.declared.frame.Frame.{Frame}
 use Rattle.machine_values.specs.Frames.{MethodState}
@@ -19,7 +19,8 @@ use Rattle.member_link.specs.RowScope.{RowScope}
 use Rattle.member_link.specs.Rows.ArithmeticRows.{Operation, divide_operations, operation_in, operation_row, type_of_kind}
 use Rattle.member_link.specs.Rows.Operands.{of_kind, topmost}
 use Rattle.member_link.specs.Rows.Row.{access_aside, plain}
-use Rattle.typed_runs.proofs.Arithmetic.{taken_by, given_by, IsMeaningOf, HaveMeanings, has_meaning, of_kinds, result_of_meaning, of_number, takes_many, takes_nothing}
+use Rattle.typed_runs.proofs.Arithmetic.{taken_by, given_by, IsMeaningOf, HaveMeanings, has_meaning, of_kinds, result_of_meaning, of_number, takes_many}
+use Rattle.typed_runs.proofs.Taken.{takes_nothing}
 use Rattle.typed_runs.proofs.Here.{Here, operands_here, worked, gives_same}
 use Rattle.typed_runs.proofs.Performing.{raises_goes}
 use Rattle.typed_runs.proofs.Raising.{raises_arithmetic}
@@ -40,8 +41,8 @@ module _ {P : Program} {T : Typings} {w : World} {f : MethodState} {rest : List 
       → StaysTyped P T w (op_step P w f rest (division opcode))
   meant_stays opcode takes given m t g is h =
       let k : Here P T w f rest s frame place numbered (plain frame (map of_kind (taken_by m)) (type_of_kind (given_by m) ∷ [])) (division opcode) true [] =
-          subst (λ x. Here P T w f rest s frame place numbered (plain frame (map of_kind (taken_by m)) (type_of_kind x ∷ [])) (division opcode) true []) g
-          (subst (λ x. Here P T w f rest s frame place numbered (plain frame (map of_kind x) (type_of_kind given ∷ [])) (division opcode) true []) t h) in
+      subst (λ x. Here P T w f rest s frame place numbered (plain frame (map of_kind (taken_by m)) (type_of_kind x ∷ [])) (division opcode) true []) g
+      (subst (λ x. Here P T w f rest s frame place numbered (plain frame (map of_kind x) (type_of_kind given ∷ [])) (division opcode) true []) t h) in
       let o = operands_here k in
       let result = result_of_meaning m _ (of_kinds s (taken_by m) (topmost (length (map of_kind (taken_by m))) frame.stack) k.holds.operands o.values) in
       worked k (length (map of_kind (taken_by m))) (sym (takes_two opcode m is) ∙ takes_many m) o.enough

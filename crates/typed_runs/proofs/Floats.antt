@@ -1,6 +1,6 @@
-use Rattle.std.specs.Prelude.{◌≡◌, ◌&&◌, refl, ℕ, Bool, true, false, List, [], ◌∷◌, map, length, drop, take, reverse, Option, Some, None, IsSome, if◌then◌else◌}
+use Rattle.std.specs.Prelude.{◌≡◌, ◌&&◌, refl, ℕ, Bool, true, false, List, [], ◌∷◌, map, length, drop, take, reverse, Option, Some, None}
 use Rattle.std.specs.List.{AllByRecursion}
-use Rattle.std.proofs.Common.{ap, sym, ◌∙◌, subst}
+use Rattle.std.proofs.Common.{ap, sym, ◌∙◌}
 use Rattle.std.proofs.lemmas.List.{length-map}
 use Rattle.class_model.specs.declared.descriptor.Kind.{Kind}
 use Rattle.class_model.specs.declared.frame.Frame.{Frame}
@@ -10,18 +10,19 @@ use Rattle.machine_values.specs.Heaps.{Heap}
 use Rattle.machine_values.specs.Values.{has_kind}
 use Rattle.machine_values.specs.declared.frame.RunFrame.{RunFrame}
 use Rattle.machine_values.specs.declared.value.Value.{Value}
-use Rattle.member_link.specs.Machine.Completions.{asks, asks_float}
+use Rattle.member_link.specs.Machine.Completions.{asks_float}
 use Rattle.member_link.specs.Machine.Ops.{float_arithmetic}
 use Rattle.member_link.specs.Machine.Programs.{Program}
 use Rattle.member_link.specs.Machine.Stepping.{op_step}
 use Rattle.member_link.specs.Machine.Work.{float_operands}
 use Rattle.member_link.specs.Machine.Worlds.{World}
 use Rattle.member_link.specs.RowScope.{RowScope}
-use Rattle.member_link.specs.Rows.ArithmeticRows.{Operation, float_operations, operation_in, operation_row, type_of_kind}
+use Rattle.member_link.specs.Rows.ArithmeticRows.{Operation, float_operations, operation_in, operation_row}
 use Rattle.member_link.specs.Rows.Operands.{of_kind, topmost}
-use Rattle.member_link.specs.Rows.Row.{access_aside, plain}
-use Rattle.typed_runs.proofs.Arithmetic.{AreOfKinds, of_kinds, takes_nothing}
+use Rattle.member_link.specs.Rows.Row.{access_aside}
+use Rattle.typed_runs.proofs.Arithmetic.{AreOfKinds, of_kinds}
 use Rattle.typed_runs.proofs.Assigned.{conforms_in_heap}
+use Rattle.typed_runs.proofs.Taken.{takes_nothing}
 use Rattle.typed_runs.proofs.Here.{Here, operands_here, worked}
 use Rattle.typed_runs.proofs.Performing.{asks_goes}
 use Rattle.typed_runs.specs.Conforming.{AllConform, no_values, and_value, IsValueInHeap}
@@ -55,7 +56,7 @@ module _ {P : Program} {T : Typings} {w : World} {f : MethodState} {rest : List 
         let n : ℕ = length (map of_kind o.takes) in
         let ops = operands_here k in
         let have : have_all o.takes (reverse (take (length (map of_kind o.takes)) f.stack)) ≡ true =
-            have_of_kinds o.takes _ (of_kinds s o.takes (topmost (length (map of_kind o.takes)) frame.stack) k.holds.operands ops.values) in
+        have_of_kinds o.takes _ (of_kinds s o.takes (topmost (length (map of_kind o.takes)) frame.stack) k.holds.operands ops.values) in
         let shows : ShowsEvent (float_arithmetic opcode) = rw is refl in
         worked k (length (map of_kind o.takes)) (ap float_operands is ∙ sym (length-map o.takes of_kind)) ops.enough
         (rw is (rw have (asks_goes k (asks_float opcode (reverse (take (length (map of_kind o.takes)) f.stack))) (drop (length (map of_kind o.takes)) f.stack) k.locals ops.rest shows (all_in_heap ops.values))))

@@ -1,6 +1,6 @@
-use Rattle.std.specs.Prelude.{◌≡◌, ◌+◌, ◌≤◌, nat_le, refl, ℕ, Bool, true, false, List, [], ◌∷◌, ◌++◌, length, take, drop, reverse, Option, Some, None, IfSome, if◌then◌else◌}
+use Rattle.std.specs.Prelude.{◌≡◌, ◌+◌, ◌≤◌, nat_le, refl, ℕ, Bool, true, false, List, ◌∷◌, ◌++◌, length, take, drop, reverse, Option, None, IfSome, if◌then◌else◌}
 use Rattle.std.specs.List.{AllByRecursion}
-use Rattle.std.proofs.Common.{arith, ap, sym, ◌∙◌, subst}
+use Rattle.std.proofs.Common.{ap, sym, ◌∙◌, subst}
 use Rattle.std.proofs.lemmas.Bool.{le-leb}
 use Rattle.std.proofs.lemmas.List.{reverse-append, reverse-reverse}
 use Rattle.class_model.specs.declared.frame.Frame.{Frame}
@@ -10,7 +10,7 @@ use Rattle.machine_values.specs.Heaps.{Heap}
 use Rattle.machine_values.specs.declared.frame.RunFrame.{RunFrame}
 use Rattle.machine_values.specs.declared.frame.RunFrame.TheVariants as frames
 use Rattle.machine_values.specs.declared.value.Value.{Value}
-use Rattle.member_link.specs.Bodies.{CodeItem, item_row, item_targets, item_falls_through}
+use Rattle.member_link.specs.Bodies.{item_row, item_targets, item_falls_through}
 use Rattle.member_link.specs.BodyTyping.{RowHolds}
 use Rattle.member_link.specs.Machine.Codes.{item_op}
 use Rattle.member_link.specs.Machine.Completions.{gives}
@@ -19,16 +19,16 @@ use Rattle.member_link.specs.Machine.Performing.{perform}
 use Rattle.member_link.specs.Machine.Programs.{Program}
 use Rattle.member_link.specs.Machine.Stepping.{with_top, work_step, op_step}
 use Rattle.member_link.specs.Machine.Work.{arity, work}
-use Rattle.member_link.specs.Machine.Worlds.{World, Memory, Halt, stuck}
+use Rattle.member_link.specs.Machine.Worlds.{World, Memory, stuck}
 use Rattle.member_link.specs.RowScope.{RowScope}
-use Rattle.member_link.specs.Rows.Operands.{Need, AllFit, topmost, under}
+use Rattle.member_link.specs.Rows.Operands.{Need, under}
 use Rattle.member_link.specs.Rows.Row.{Row, access_aside, row_frame, stack_left, stack_behind, plain, either, no_row}
 use Rattle.typed_runs.proofs.Kept.{Keeps, keeps_same, frames_kept, known_kept, units_kept, all_kept, stands_kept}
 use Rattle.typed_runs.proofs.Points.{does_there}
 use Rattle.typed_runs.proofs.Stacks.{Operands, operands, conform_append}
-use Rattle.typed_runs.specs.Conforming.{IsInHeap, AllConform, no_values, and_value, UnitsConform, IsTypedMemory}
+use Rattle.typed_runs.specs.Conforming.{AllConform, UnitsConform, IsTypedMemory}
 use Rattle.typed_runs.specs.TypedFrames.{ArePaired, Above, nothing_awaited, called_method, asked_library, FitsCall, ShowsEvent, MethodConforms, above_of, StandsAt, Does, FramesConform, upon}
-use Rattle.typed_runs.specs.TypedPoints.{LeadsTo, TypedPoint, row_at, ReadsAs, IsLinkedOp}
+use Rattle.typed_runs.specs.TypedPoints.{LeadsTo, row_at, ReadsAs, IsLinkedOp}
 use Rattle.typed_runs.specs.TypedPrograms.{Typings}
 use Rattle.typed_runs.specs.TypedWorlds.{TypedWorld, StaysTyped}
 

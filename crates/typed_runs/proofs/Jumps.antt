@@ -1,11 +1,8 @@
-use Rattle.std.specs.Prelude.{◌≡◌, ◌⊎◌, ◌+◌, ◌-◌, ◌≤◌, ◌<◌, ◌&&◌, ◌==◌, not, refl, ℕ, ℤ, pos, zero, suc, Bool, true, false, List, [], ◌∷◌, ◌++◌, map, length, take, drop, reverse, nat_le, slice_get, int_lt, Option, Some, None, IfSome, if◌then◌else◌}
-use Rattle.std.specs.List.{AllByRecursion}
-use Rattle.std.proofs.Common.{arith, inl, inr, ap, sym, ◌∙◌, subst}
+use Rattle.std.specs.Prelude.{◌≡◌, ◌⊎◌, ◌+◌, ◌-◌, ◌<◌, ◌&&◌, ◌==◌, not, refl, ℕ, ℤ, pos, zero, suc, Bool, true, false, List, [], ◌∷◌, length, reverse, nat_le, Some, if◌then◌else◌}
+use Rattle.std.proofs.Common.{arith, inl, inr, sym, subst}
 use Rattle.std.proofs.lemmas.Bool.{leb-true}
 use Rattle.class_model.specs.declared.descriptor.Kind.TheVariants as kinds
 use Rattle.class_model.specs.declared.frame.Frame.{Frame}
-use Rattle.class_model.specs.declared.frame.VType.{VType}
-use Rattle.class_model.specs.declared.instr.Pair.{Pair}
 use Rattle.class_model.specs.declared.opcodes.TheConstants.{IFEQ, IFLE, IF_ICMPEQ, IF_ICMPLE, IF_ACMPEQ, IF_ACMPNE, IFNULL, IFNONNULL}
 use Rattle.machine_values.specs.Frames.{MethodState}
 use Rattle.machine_values.specs.declared.frame.RunFrame.{RunFrame}
@@ -13,10 +10,10 @@ use Rattle.machine_values.specs.declared.value.Value.{Value}
 use Rattle.machine_values.specs.declared.value.Value.TheVariants as values
 use Rattle.member_link.specs.Machine.Arithmetic.{holds_for}
 use Rattle.member_link.specs.Machine.Codes.{if_between}
-use Rattle.member_link.specs.Machine.Locals.{with_rest, jump_of_int, jump_of_ints, same_references, jump_of_references, jump_of_null, table_target, lookup_target}
-use Rattle.member_link.specs.Machine.Ops.{Op, jump_by_int, jump_by_ints, jump_by_references, jump_by_null, jump_to, table_switch, lookup_switch}
+use Rattle.member_link.specs.Machine.Locals.{with_rest, jump_of_int, jump_of_ints, same_references, jump_of_references, jump_of_null}
+use Rattle.member_link.specs.Machine.Ops.{Op, jump_by_int, jump_by_ints, jump_by_references, jump_by_null, jump_to}
 use Rattle.member_link.specs.Machine.Programs.{Program}
-use Rattle.member_link.specs.Machine.Stepping.{op_step, jump_step, switch_step}
+use Rattle.member_link.specs.Machine.Stepping.{op_step, jump_step}
 use Rattle.member_link.specs.Machine.Worlds.{World}
 use Rattle.member_link.specs.RowScope.{RowScope}
 use Rattle.member_link.specs.Rows.Operands.{Need, of_kind, topmost, under}
@@ -26,7 +23,6 @@ use Rattle.typed_runs.proofs.Here.{Here, goes, operands_here, pushed, tested}
 use Rattle.typed_runs.proofs.Stacks.{Operands}
 use Rattle.typed_runs.proofs.Taken.{one_of, two_of, an_int_value, a_reference_value}
 use Rattle.typed_runs.specs.Conforming.{AllConform, no_values}
-use Rattle.typed_runs.specs.TypedPoints.{LeadsTo}
 use Rattle.typed_runs.specs.TypedPrograms.{Typings}
 use Rattle.typed_runs.specs.TypedWorlds.{StaysTyped}
 

@@ -1,6 +1,6 @@
-use Rattle.std.specs.Prelude.{◌≡◌, refl, ℕ, Bool, true, false, List, [], ◌∷◌, slice_get, Option, Some, None, IfSome, IsSome, IsTrue}
+use Rattle.std.specs.Prelude.{◌≡◌, refl, ℕ, List, [], ◌∷◌, Option, Some, None, IfSome, IsSome}
 use Rattle.std.specs.List.{AllByRecursion}
-use Rattle.std.proofs.Common.{ap, sym, ◌∙◌, subst}
+use Rattle.std.proofs.Common.{subst}
 use Rattle.class_model.specs.Laws.Lists.{AllByRecursion-weaker}
 use Rattle.class_model.specs.declared.descriptor.FieldType.{FieldType}
 use Rattle.class_model.specs.declared.descriptor.FieldType.TheVariants as field_types
@@ -21,8 +21,8 @@ use Rattle.member_link.specs.Machine.Ops.{Op}
 use Rattle.member_link.specs.Machine.Programs.{Program}
 use Rattle.member_link.specs.References.{Reference}
 use Rattle.member_link.specs.RowScope.{RowScope}
-use Rattle.typed_runs.specs.Conforming.{IsInHeap, IsValueInHeap, HasShape, Conforms, to_top, an_int, a_long, a_float, a_double, only_null, null_object, an_object, of_new, of_this, AllConform, no_values, and_value, UnitConforms, no_value, has_value, UnitsConform, no_units, and_unit, RefersTo, to_none, to_one, FieldConforms, FitsDescriptor, FitSlots, HoldsShape, IsConstantObject, IsTypedStatic}
-use Rattle.typed_runs.specs.TypedFrames.{Above, nothing_awaited, called_method, asked_library, StandsAt, Does, Waits, FitsCall, ShowsEvent, MethodConforms, FrameConforms, FramesConform, lowest, upon}
+use Rattle.typed_runs.specs.Conforming.{IsInHeap, IsValueInHeap, HasShape, Conforms, to_top, an_int, a_long, a_float, a_double, only_null, null_object, an_object, of_new, of_this, AllConform, no_values, and_value, UnitConforms, no_value, has_value, UnitsConform, no_units, and_unit, RefersTo, to_none, to_one, FieldConforms, FitsDescriptor, FitSlots, HoldsShape, IsConstantObject}
+use Rattle.typed_runs.specs.TypedFrames.{Above, nothing_awaited, called_method, asked_library, StandsAt, Does, Waits, MethodConforms, FrameConforms, FramesConform, lowest, upon}
 use Rattle.typed_runs.specs.TypedPrograms.{Typings}
 
 -- each object is still there, and is what it was

@@ -1,3 +1,4 @@
+mod Basics
 mod Starts
 mod Stacks
 mod Kept
@@ -24,3 +25,6 @@ mod Divisions
 mod Floats
 mod Monitors
 mod Casts
+mod ConstantObjects
+mod Starting
+mod BeginningSteps

@@ -1,17 +1,18 @@
-use Rattle.std.specs.Prelude.{◌≡◌, ◌⊎◌, ◌+◌, ◌-◌, refl, ℕ, zero, suc, List, [], ◌∷◌, ◌++◌, length, slice_get, slice_set, Option, Some, None, IfSome}
+use Rattle.std.specs.Prelude.{◌≡◌, ◌⊎◌, ◌-◌, refl, ℕ, zero, suc, List, [], ◌∷◌, ◌++◌, length, slice_get, slice_set, Option, Some, None}
 use Rattle.std.specs.List.{AllByRecursion}
 use Rattle.std.proofs.Common.{inl, inr, ap, sym, ◌∙◌, subst}
 use Rattle.class_model.specs.Laws.Lists.{AllByRecursion-weaker}
 use Rattle.class_model.specs.Descriptors.{type_of}
-use Rattle.machine_values.specs.Heaps.{Heap, Kept, object_at, with_object, allocated, with_monitor, monitor_count, entered, left}
+use Rattle.machine_values.specs.Heaps.{Heap, object_at, with_object, allocated, with_monitor, monitor_count}
 use Rattle.machine_values.specs.declared.object.Object.{Object}
 use Rattle.machine_values.specs.declared.object.Shape.{Shape}
 use Rattle.machine_values.specs.declared.value.Value.{Value}
 use Rattle.member_link.specs.Machine.Performing.{unlocked}
 use Rattle.member_link.specs.Machine.Programs.{Program}
 use Rattle.member_link.specs.Machine.Worlds.{Memory, StaticValue, field_desc, with_heap}
-use Rattle.typed_runs.proofs.Kept.{Keeps, keeps_same, keeps_through, holds_kept, constants_kept, field_kept, in_heap, there}
-use Rattle.typed_runs.specs.Conforming.{IsInHeap, HasShape, HoldsShape, IsConstantObject, IsTypedStatic, IsTypedMemory}
+use Rattle.typed_runs.proofs.Basics.{some_of}
+use Rattle.typed_runs.proofs.Kept.{Keeps, keeps_same, holds_kept, constants_kept, field_kept}
+use Rattle.typed_runs.specs.Conforming.{HasShape, HoldsShape, IsConstantObject, IsTypedStatic, IsTypedMemory}
 
 -- ---- a list with one more, and with one changed
 
@@ -23,9 +24,6 @@ append_get (z ∷ xs) y x (suc n) is = append_get xs y x n is
 pub append_new : {A : Type 0} (xs : List A) (y : A) → slice_get (xs ++ y ∷ []) (length xs) ≡ Some y
 append_new [] y = refl
 append_new (z ∷ xs) y = append_new xs y
-
-some_of : {A : Type 0} {a b : A} → Some a ≡ Some b → a ≡ b
-some_of e = cc
 
 pub append_cases : {A : Type 0} (xs : List A) (y x : A) (n : ℕ) → slice_get (xs ++ y ∷ []) n ≡ Some x → (slice_get xs n ≡ Some x) ⊎ (y ≡ x)
 append_cases [] y x zero is = inr (some_of is)

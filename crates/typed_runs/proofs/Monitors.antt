@@ -1,5 +1,5 @@
-use Rattle.std.specs.Prelude.{◌≡◌, ◌⊎◌, ◌==◌, ◌+◌, ◌-◌, refl, ℕ, Bool, true, false, List, [], ◌∷◌, length, drop, take, reverse, Option, Some, None, if◌then◌else◌}
-use Rattle.std.proofs.Common.{arith, inl, inr, ap, sym, ◌∙◌, subst}
+use Rattle.std.specs.Prelude.{◌≡◌, ◌⊎◌, ◌==◌, ◌+◌, ◌-◌, refl, ℕ, Bool, true, false, List, [], ◌∷◌, drop, take, reverse, Some, if◌then◌else◌}
+use Rattle.std.proofs.Common.{arith, inl, inr, sym, subst}
 use Rattle.class_model.specs.declared.descriptor.Kind.TheVariants as kinds
 use Rattle.class_model.specs.declared.frame.Frame.{Frame}
 use Rattle.machine_values.specs.Frames.{MethodState}
@@ -19,10 +19,10 @@ use Rattle.member_link.specs.Machine.Throwables.{null_pointer, illegal_monitor}
 use Rattle.member_link.specs.Machine.Worlds.{World, Memory, with_heap}
 use Rattle.member_link.specs.RowScope.{RowScope}
 use Rattle.member_link.specs.Rows.LocalRows.{null_test_row}
-use Rattle.member_link.specs.Rows.Operands.{Need, of_kind, topmost}
+use Rattle.member_link.specs.Rows.Operands.{of_kind, topmost}
 use Rattle.member_link.specs.Rows.Row.{plain}
 use Rattle.typed_runs.proofs.Assigned.{conforms_in_heap}
-use Rattle.typed_runs.proofs.Here.{Here, operands_here, worked, gives_values, gives_same, goes, pushed}
+use Rattle.typed_runs.proofs.Here.{Here, operands_here, worked, gives_values, goes, pushed}
 use Rattle.typed_runs.proofs.Kept.{in_heap}
 use Rattle.typed_runs.proofs.Memories.{monitor_typed}
 use Rattle.typed_runs.proofs.Performing.{raises_goes, can_throw}
@@ -30,7 +30,7 @@ use Rattle.typed_runs.proofs.Raising.{raises_null, raises_monitor, raised_stays}
 use Rattle.typed_runs.proofs.Stacks.{Operands}
 use Rattle.typed_runs.proofs.Taken.{one_of, a_reference_value}
 use Rattle.typed_runs.proofs.Units.{local_at}
-use Rattle.typed_runs.specs.Conforming.{Conforms, IsInHeap, IsValueInHeap, IsTypedMemory, no_values}
+use Rattle.typed_runs.specs.Conforming.{IsValueInHeap, IsTypedMemory, no_values}
 use Rattle.typed_runs.specs.TypedPrograms.{Typings}
 use Rattle.typed_runs.specs.TypedWorlds.{StaysTyped}
 

@@ -1,14 +1,12 @@
-use Rattle.std.specs.Prelude.{◌≡◌, ◌+◌, ◌≤◌, ◌<◌, refl, ℕ, ℤ, zero, suc, Bool, true, false, List, [], ◌∷◌, ◌++◌, length, take, drop, reverse, slice_get, slice_set, nat_le, Option, Some, None, IsTrue, if◌then◌else◌}
+use Rattle.std.specs.Prelude.{◌≡◌, ◌+◌, ◌<◌, refl, ℕ, ℤ, true, List, [], ◌∷◌, ◌++◌, length, reverse, slice_get, slice_set, nat_le, Option, Some}
 use Rattle.std.proofs.Common.{arith, ap, sym, ◌∙◌, subst}
 use Rattle.std.proofs.lemmas.Bool.{le-leb}
 use Rattle.std.proofs.lemmas.Option.{slice_get_within}
 use Rattle.class_model.specs.declared.descriptor.Kind.{Kind}
 use Rattle.class_model.specs.declared.descriptor.Kind.TheVariants as kinds
 use Rattle.class_model.specs.declared.frame.Frame.{Frame}
-use Rattle.class_model.specs.declared.frame.VType.{VType}
 use Rattle.class_model.specs.declared.frame.VType.TheVariants as types
 use Rattle.machine_values.specs.Frames.{MethodState}
-use Rattle.machine_values.specs.Heaps.{Heap}
 use Rattle.machine_values.specs.Values.{has_kind}
 use Rattle.machine_values.specs.declared.frame.RunFrame.{RunFrame}
 use Rattle.machine_values.specs.declared.value.Value.{Value}
@@ -22,14 +20,13 @@ use Rattle.member_link.specs.Machine.Worlds.{World}
 use Rattle.member_link.specs.RowScope.{RowScope}
 use Rattle.member_link.specs.Rows.LocalRows.{local_entry, stored, load_row, store_row, iinc_row}
 use Rattle.member_link.specs.Rows.Row.{plain}
-use Rattle.member_link.specs.Rows.Operands.{Need, AllFit, Fits, of_kind, topmost, under, lowest_of}
+use Rattle.member_link.specs.Rows.Operands.{of_kind, topmost, under, lowest_of}
 use Rattle.typed_runs.proofs.Here.{Here, goes, operands_here, pushed}
 use Rattle.typed_runs.proofs.Pairs.{uncut, before_value, stored_paired}
 use Rattle.typed_runs.proofs.Stacks.{Operands, lowest_is}
 use Rattle.typed_runs.proofs.Taken.{one_of}
-use Rattle.typed_runs.proofs.Units.{LocalAt, local_at, kind_conforms, Stored, store_conforms, set_conforms, set_same, as_many_units}
+use Rattle.typed_runs.proofs.Units.{local_at, kind_conforms, store_conforms, set_conforms, set_same}
 use Rattle.typed_runs.specs.Conforming.{Conforms, an_int, AllConform, no_values, and_value, UnitsConform, has_value}
-use Rattle.typed_runs.specs.TypedFrames.{ArePaired}
 use Rattle.typed_runs.specs.TypedPrograms.{Typings}
 use Rattle.typed_runs.specs.TypedWorlds.{StaysTyped}
 

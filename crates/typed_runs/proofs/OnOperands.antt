@@ -1,5 +1,5 @@
-use Rattle.std.specs.Prelude.{◌≡◌, ◌+◌, ◌==◌, ◌&&◌, refl, ℕ, Bool, true, false, List, [], ◌∷◌, nat_le, Option, Some, None, IfSome, option_map, if◌then◌else◌}
-use Rattle.std.proofs.Common.{arith, ap, sym, subst}
+use Rattle.std.specs.Prelude.{◌+◌, ◌==◌, ◌&&◌, refl, ℕ, Bool, true, false, List, [], ◌∷◌, nat_le, Option, Some, None, IfSome, option_map, if◌then◌else◌}
+use Rattle.std.proofs.Common.{sym, subst}
 use Rattle.class_model.specs.Pool.{Constants, constant_at}
 use Rattle.class_model.specs.PoolChecks.{utf8_at, class_at, name_at, descriptor_at}
 use Rattle.class_model.specs.declared.descriptor.FieldType.{FieldType}
@@ -11,15 +11,15 @@ use Rattle.class_model.specs.declared.opcodes.TheConstants.{IALOAD, SALOAD, IAST
 use Rattle.class_model.specs.declared.pool.Const.{Const}
 use Rattle.class_model.specs.declared.pool.Const.TheVariants as consts
 use Rattle.class_tree.specs.Headers.{Name}
+use Rattle.class_tree.specs.Names.{method_handle}
 use Rattle.machine_values.specs.Frames.{MethodState}
 use Rattle.machine_values.specs.declared.frame.RunFrame.{RunFrame}
 use Rattle.machine_values.specs.declared.frame.RunFrame.TheVariants as frames
-use Rattle.machine_values.specs.Heaps.{Heap}
 use Rattle.machine_values.specs.declared.object.Constant.TheVariants as objects
 use Rattle.member_link.specs.Bodies.{CodeItem, item_instr, item_null_test, item_row, item_targets, item_falls_through}
-use Rattle.member_link.specs.Machine.Codes.{item_op, constant_op, or_meaningless, naming, return_op, same_kind, call_op, dynamic_op, handle_of, special_start, initialises}
+use Rattle.member_link.specs.Machine.Codes.{item_op, constant_op, or_meaningless, naming, return_op, same_kind, call_op, dynamic_op, special_start, initialises}
 use Rattle.member_link.specs.Machine.Ops.{Op, meaningless, return_value, push_constant, get_static, put_static, get_field, put_field, call_static, call_virtual, call_interface, call_special, call_dynamic, new_object, new_array, new_arrays, load_element, store_element, check_cast, instance_of}
-use Rattle.member_link.specs.Machine.Programs.{Program, Links, Point, point_at}
+use Rattle.member_link.specs.Machine.Programs.{Program, Links, Point}
 use Rattle.member_link.specs.Machine.Stepping.{op_step, point_step, frames_step, is_library_turn, step}
 use Rattle.member_link.specs.Machine.Worlds.{World}
 use Rattle.member_link.specs.References.{Reference}
@@ -33,7 +33,7 @@ use Rattle.member_link.specs.Rows.Table.{cast_row}
 use Rattle.class_model.specs.declared.frame.VType.TheVariants as types
 use Rattle.typed_runs.proofs.Arithmetic.{pure_stays}
 use Rattle.typed_runs.proofs.Casts.{cast_stays, instance_of_stays}
-use Rattle.typed_runs.proofs.Constants.{imm_conforms, value_stays}
+use Rattle.typed_runs.proofs.Constants.{imm_conforms, value_stays, named_stays, pushed_stays}
 use Rattle.typed_runs.proofs.Divisions.{divide_stays}
 use Rattle.typed_runs.proofs.Floats.{float_stays}
 use Rattle.typed_runs.proofs.Monitors.{enter_stays, leave_stays, null_test_stays}
@@ -90,16 +90,22 @@ not_dynamic s (Some c) is = is
 -- ---- one of the family, by its item
 
 module _ {P : Program} {T : Typings} {w : World} {f : MethodState} {rest : List RunFrame} {s : RowScope} {frame : Frame} {place : ℕ} {numbered : ℕ → ℕ} where
+  pub handle_stays : (r : Option Reference) (kind : ℕ)
+      → Here P T w f rest s frame place numbered (plain frame [] (types.Object method_handle ∷ [])) (or_meaningless (option_map push_constant (option_map (λ (x : Reference). objects.Handle kind x.class x.name x.desc) r))) true []
+      → StaysTyped P T w (op_step P w f rest (or_meaningless (option_map push_constant (option_map (λ (x : Reference). objects.Handle kind x.class x.name x.desc) r))))
+  handle_stays None kind h = absurd h.linked
+  handle_stays (Some r) kind h = pushed_stays (objects.Handle kind r.class r.name r.desc) h
+
   pub constant_stays : (pool : Constants) (c : Option Const) → WorksOnOperands (constant_op pool c)
       → Here P T w f rest s frame place numbered (access_aside (const_row frame c)) (constant_op pool c) true [] → StaysTyped P T w (op_step P w f rest (constant_op pool c))
   constant_stays pool (Some (consts.Integer n)) is h = value_stays _ _ an_int h
   constant_stays pool (Some (consts.Long n)) is h = value_stays _ _ a_long h
   constant_stays pool (Some (consts.Float n)) is h = value_stays _ _ a_float h
   constant_stays pool (Some (consts.Double n)) is h = value_stays _ _ a_double h
-  constant_stays pool (Some (consts.String t)) is h = absurd (not_found (utf8_at pool t) (λ text. push_constant (objects.Str text)) (λ a no. no) is)
-  constant_stays pool (Some (consts.Class t)) is h = absurd (not_found (utf8_at pool t) (λ text. push_constant (objects.Class text)) (λ a no. no) is)
-  constant_stays pool (Some (consts.MethodType t)) is h = absurd (not_found (utf8_at pool t) (λ text. push_constant (objects.MethodType text)) (λ a no. no) is)
-  constant_stays pool (Some (consts.MethodHandle kind reference)) is h = absurd (not_found (handle_of pool kind reference) push_constant (λ a no. no) is)
+  constant_stays pool (Some (consts.String t)) is h = named_stays (utf8_at pool t) objects.Str _ (λ a. refl) h
+  constant_stays pool (Some (consts.Class t)) is h = named_stays (utf8_at pool t) objects.Class _ (λ a. refl) h
+  constant_stays pool (Some (consts.MethodType t)) is h = named_stays (utf8_at pool t) objects.MethodType _ (λ a. refl) h
+  constant_stays pool (Some (consts.MethodHandle kind reference)) is h = handle_stays (reference_of pool (constant_at pool reference)) kind h
   constant_stays pool c is h = absurd is
 
   pub cast_named : (name : Option Name) → Here P T w f rest s frame place numbered (access_aside (cast_row frame name)) (naming name check_cast) true []

@@ -1,9 +1,10 @@
-use Rattle.std.specs.Prelude.{◌≡◌, ◌+◌, refl, ℕ, zero, suc, Bool, true, false, List, [], ◌∷◌, length, nat_le, slice_get, slice_set, Option, Some, None, IsTrue, if◌then◌else◌}
+use Rattle.std.specs.Prelude.{◌≡◌, ◌+◌, refl, ℕ, zero, suc, Bool, true, false, List, [], ◌∷◌, length, nat_le, slice_get, slice_set, Option, Some, None, if◌then◌else◌}
 use Rattle.std.proofs.Common.{arith, ap, sym, ◌∙◌, subst}
 use Rattle.std.proofs.Math.Numerals.{add-one}
 use Rattle.machine_values.specs.Values.{is_wide_value}
 use Rattle.machine_values.specs.declared.value.Value.{Value}
 use Rattle.member_link.specs.Machine.Locals.{cut_before, stored}
+use Rattle.typed_runs.proofs.Basics.{some_of}
 use Rattle.typed_runs.specs.TypedFrames.{ArePaired, BeginsEmpty}
 
 -- a value of one unit stands before a place, or none
@@ -57,9 +58,6 @@ pub record Cut (at : ℕ) (us cut : List (Option Value)) : Type 0 where
   pub paired : ArePaired cut
   pub narrow : NarrowBefore at cut
 
-some_of : {A : Type 0} {a b : A} → Some a ≡ Some b → a ≡ b
-some_of e = cc
-
 suc_is : {a b : ℕ} → suc a ≡ suc b → a ≡ b
 suc_is e = omega (arith, e)
 
@@ -95,6 +93,7 @@ before_value (Some u ∷ None ∷ us) (suc at) v is there zero w e other = cc
 before_value (Some u ∷ Some x ∷ us) (suc at) v is there zero w e other = by (is_wide_value w) refl where
   same : u ≡ w
   same = cc
+
   by : (b : Bool) → is_wide_value w ≡ b → is_wide_value w ≡ false
   by true wide = absurd (is.0 (subst (λ y. is_wide_value y ≡ true) (sym same) wide))
   by false narrow = narrow

@@ -1,15 +1,10 @@
-use Rattle.std.specs.Prelude.{◌≡◌, ◌≢◌, refl, ℕ, Bool, List, [], ◌∷◌, length, drop, reverse, Option, Some, None, IfSome, IsSome}
-use Rattle.std.specs.List.{AllByRecursion}
-use Rattle.std.proofs.Common.{arith, ap, sym, subst}
+use Rattle.std.specs.Prelude.{◌≢◌, ℕ, Bool, List, ◌∷◌, reverse, None}
 use Rattle.class_model.specs.declared.frame.Frame.{Frame}
-use Rattle.class_model.specs.declared.frame.VType.{VType}
 use Rattle.class_tree.specs.Headers.{Name}
 use Rattle.machine_values.specs.Frames.{MethodState}
-use Rattle.machine_values.specs.Heaps.{Heap}
 use Rattle.machine_values.specs.declared.frame.RunFrame.{RunFrame}
 use Rattle.machine_values.specs.declared.frame.RunFrame.TheVariants as frames
 use Rattle.machine_values.specs.declared.value.Value.{Value}
-use Rattle.member_link.specs.Machine.Acting.{pending_of}
 use Rattle.member_link.specs.Machine.Completions.{Asked, raises, throws, asks, ends}
 use Rattle.member_link.specs.Machine.Ops.{Op}
 use Rattle.member_link.specs.Machine.Performing.{perform}
@@ -17,9 +12,8 @@ use Rattle.member_link.specs.Machine.Programs.{Program}
 use Rattle.member_link.specs.Machine.Showing.{asked_kind}
 use Rattle.member_link.specs.Machine.Worlds.{World, Halt, stuck}
 use Rattle.member_link.specs.RowScope.{RowScope}
-use Rattle.member_link.specs.Rows.Operands.{Need}
-use Rattle.member_link.specs.Rows.Row.{Row, plain, stack_left}
-use Rattle.typed_runs.proofs.Here.{Here, stays, stands_with, operands_here}
+use Rattle.member_link.specs.Rows.Row.{Row, stack_left}
+use Rattle.typed_runs.proofs.Here.{Here, stays, stands_with}
 use Rattle.typed_runs.proofs.Kept.{keeps_same}
 use Rattle.typed_runs.proofs.Raising.{IsRaised, raised_stays, thrown_stays}
 use Rattle.typed_runs.proofs.Shown.{AskedInHeap, asked_known, showing_stays}
@@ -27,7 +21,7 @@ use Rattle.typed_runs.proofs.Unwinding.{IsThrown, CanUnwind}
 use Rattle.typed_runs.specs.Conforming.{AllConform, UnitsConform}
 use Rattle.typed_runs.specs.TypedFrames.{asked_library, ShowsEvent, upon}
 use Rattle.typed_runs.specs.TypedPrograms.{Typings}
-use Rattle.typed_runs.specs.TypedWorlds.{TypedWorld, StaysTyped}
+use Rattle.typed_runs.specs.TypedWorlds.{StaysTyped}
 
 module _ {P : Program} {T : Typings} {w : World} {f : MethodState} {rest : List RunFrame} {s : RowScope} {frame : Frame} {place : ℕ} {numbered : ℕ → ℕ} {row : Row} {op : Op} {falls : Bool} {places : List ℕ} (h : Here P T w f rest s frame place numbered row op falls places) where
   -- whatever its stack, the frame may throw

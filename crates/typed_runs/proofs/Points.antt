@@ -1,22 +1,18 @@
-use Rattle.std.specs.Prelude.{◌≡◌, ◌≢◌, ◌+◌, ◌<◌, refl, ℕ, suc, List, [], ◌∷◌, length, reverse, slice_get, Option, Some, None, IfSome, option_map, option_and_then}
+use Rattle.std.specs.Prelude.{◌≡◌, ◌<◌, refl, ℕ, List, [], ◌∷◌, length, reverse, slice_get, Option, Some, None, IfSome, option_and_then}
 use Rattle.std.proofs.Common.{arith, ap, sym, ◌∙◌, subst}
 use Rattle.std.proofs.lemmas.Option.{slice_get_within, slice_get-get_or}
 use Rattle.class_model.specs.declared.class_file.MethodAt.{MethodAt}
 use Rattle.class_model.specs.declared.frame.Frame.{Frame}
 use Rattle.machine_values.specs.Frames.{MethodState}
-use Rattle.machine_values.specs.Heaps.{Heap}
-use Rattle.machine_values.specs.declared.frame.RunFrame.{RunFrame}
-use Rattle.machine_values.specs.declared.frame.RunFrame.TheVariants as frames
 use Rattle.machine_values.specs.declared.value.Value.{Value}
-use Rattle.member_link.specs.Machine.Programs.{Program, Code, Point, RunMethod, headers_in, run_method, code_run, code_at, point_at}
-use Rattle.member_link.specs.Machine.Worlds.{World, Memory, Halt, stuck}
+use Rattle.member_link.specs.Machine.Programs.{Program, Code, Point, run_method, code_run, code_at, point_at}
+use Rattle.member_link.specs.Machine.Worlds.{Memory}
 use Rattle.member_link.specs.Rows.FrameAssignability.{AreAssignable}
 use Rattle.typed_runs.proofs.Assigned.{all_assigned, units_assigned}
-use Rattle.typed_runs.specs.Conforming.{AllConform, UnitsConform, IsTypedMemory}
-use Rattle.typed_runs.specs.TypedFrames.{ArePaired, nothing_awaited, above_of, StandsAt, Does, FramesConform, upon}
+use Rattle.typed_runs.specs.Conforming.{IsInHeap, AllConform, UnitsConform, IsTypedMemory}
+use Rattle.typed_runs.specs.TypedFrames.{ArePaired, StandsAt, Does}
 use Rattle.typed_runs.specs.TypedPoints.{LeadsTo, TypedPoint}
 use Rattle.typed_runs.specs.TypedPrograms.{Typings, IsTypedMethod, IsTypedProgram}
-use Rattle.typed_runs.specs.TypedWorlds.{TypedWorld, StaysTyped}
 
 -- ---- the point at a number
 
@@ -76,5 +72,23 @@ does_there P T m program memory f stands n from leads locals stack paired units 
       locals = subst (λ (g : Frame). UnitsConform P (T f.at).scope m.heap g.locals locals) (p.leads leads)
           (units_assigned P T program from.locals leads.to.locals (subst (λ hs. AreAssignable hs from.locals leads.to.locals) typed.headers a.locals) units);
       stack = subst (λ (g : Frame). AllConform P (T f.at).scope m.heap g.stack (reverse stack)) (p.leads leads)
+          (all_assigned P T program from.stack leads.to.stack (subst (λ hs. AreAssignable hs from.stack leads.to.stack) typed.headers a.stack) values);
+    }
+
+-- a new frame that begins there
+pub does_first : (P : Program) (T : Typings) (m : Memory) → IsTypedProgram P T → (f : MethodState) (code : Code) → code_at P f.at ≡ Some code → IfSome f.held (IsInHeap m.heap)
+    → (from : Frame) → LeadsTo (T f.at) f.place from → ArePaired f.locals
+    → UnitsConform P (T f.at).scope m.heap from.locals f.locals → AllConform P (T f.at).scope m.heap from.stack (reverse f.stack)
+    → Does P T m.heap f
+does_first P T m program f code is_code held from leads paired units values =
+    let e = of_chain code_run (run_method P f.at) code is_code in
+    let typed : IsTypedMethod P f.at e.0.member code (T f.at) = program.methods f.at e.0 code e.1 e.2 in
+    let p = point_there P T program f.at code is_code f.place from leads in
+    let a = leads.assignable in
+    record {
+      stands = record { point = p.point; is_point = p.is_point; fits = p.fits; paired = paired; held = held };
+      locals = subst (λ (g : Frame). UnitsConform P (T f.at).scope m.heap g.locals f.locals) (p.leads leads)
+          (units_assigned P T program from.locals leads.to.locals (subst (λ hs. AreAssignable hs from.locals leads.to.locals) typed.headers a.locals) units);
+      stack = subst (λ (g : Frame). AllConform P (T f.at).scope m.heap g.stack (reverse f.stack)) (p.leads leads)
           (all_assigned P T program from.stack leads.to.stack (subst (λ hs. AreAssignable hs from.stack leads.to.stack) typed.headers a.stack) values);
     }

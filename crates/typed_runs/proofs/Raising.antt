@@ -1,9 +1,7 @@
-use Rattle.std.specs.Prelude.{◌≡◌, ◌≢◌, ◌||◌, refl, ℕ, Bool, true, false, List, [], ◌∷◌, Option, Some, None, IsTrue, codes}
-use Rattle.std.specs.List.{AllByRecursion}
-use Rattle.std.proofs.Common.{arith, ap, sym, ◌∙◌, subst}
+use Rattle.std.specs.Prelude.{◌≡◌, refl, ℕ, true, List, [], ◌∷◌}
+use Rattle.std.proofs.Common.{sym, subst}
 use Rattle.class_tree.specs.Headers.{Name}
 use Rattle.class_tree.specs.Names.{throwable}
-use Rattle.machine_values.specs.Frames.{MethodState}
 use Rattle.machine_values.specs.Heaps.{Heap, external}
 use Rattle.machine_values.specs.declared.frame.RunFrame.{RunFrame}
 use Rattle.machine_values.specs.declared.frame.RunFrame.TheVariants as frames
@@ -11,16 +9,14 @@ use Rattle.machine_values.specs.declared.object.Shape.TheVariants as shapes
 use Rattle.member_link.specs.Machine.Performing.{Landing, lands_in, lands_in_library, leaves_initialiser, lands_nowhere, unwind, landed, thrown, thrown_in, raised}
 use Rattle.member_link.specs.Machine.Programs.{Program}
 use Rattle.member_link.specs.Machine.Shapes.{is_instance}
-use Rattle.member_link.specs.Machine.Showing.{numbered_reference}
 use Rattle.member_link.specs.Machine.Throwables as throwables
-use Rattle.member_link.specs.Machine.Worlds.{World, Memory, with_heap, stuck, init_threw}
+use Rattle.member_link.specs.Machine.Worlds.{World, Memory, with_heap}
 use Rattle.typed_runs.proofs.Here.{stays}
 use Rattle.typed_runs.proofs.Kept.{Keeps, keeps_same, keeps_through, known_kept, frames_kept, units_kept, stands_kept, in_heap_kept, there}
 use Rattle.typed_runs.proofs.Memories.{made_keeps, made_shape, made_typed}
 use Rattle.typed_runs.proofs.Shown.{reference_known, showing_stays}
-use Rattle.typed_runs.proofs.Unwinding.{IsThrown, thrown_kept, CanUnwind, Throws, LandsTyped, lands_through, unwinds}
+use Rattle.typed_runs.proofs.Unwinding.{IsThrown, CanUnwind, LandsTyped, unwinds}
 use Rattle.typed_runs.specs.Conforming.{IsInHeap, HasShape, IsTypedMemory}
-use Rattle.typed_runs.specs.TypedFrames.{nothing_awaited, above_of, FramesConform, lowest, upon}
 use Rattle.typed_runs.specs.TypedPoints.{IsOfLibrary}
 use Rattle.typed_runs.specs.TypedPrograms.{Typings, IsTypedProgram}
 use Rattle.typed_runs.specs.TypedWorlds.{TypedWorld, StaysTyped}
@@ -76,7 +72,7 @@ raised_stays P T w name fs typed is can =
     let keep : Keeps w.memory.heap made.heap = made_keeps w.memory.heap (shapes.External name []) [] in
     let shape : HasShape made.heap made.reference (shapes.External name []) = made_shape w.memory.heap (shapes.External name []) [] in
     let memory : IsTypedMemory P (with_heap w.memory made.heap) =
-        made_typed P w.memory (shapes.External name []) [] typed.memory (record { is_there = is.library.is_there; of_library = is.library.outside; interfaces = tt }) in
+    made_typed P w.memory (shapes.External name []) [] typed.memory (record { is_there = is.library.is_there; of_library = is.library.outside; interfaces = tt }) in
     thrown_in_stays P T w made.reference fs (with_heap w.memory made.heap) typed keep memory
     (record { object = shape.object; is_there = shape.is_there; is_throwable = subst (λ s. is_instance P s throwable ≡ true) (sym shape.same) (rw is.is_throwable refl) })
     (can_kept P T w.memory.heap made.heap keep fs can)

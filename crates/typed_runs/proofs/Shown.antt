@@ -1,4 +1,4 @@
-use Rattle.std.specs.Prelude.{◌≡◌, refl, ℕ, List, [], ◌∷◌, ◌++◌, length, Option, Some, None}
+use Rattle.std.specs.Prelude.{◌≡◌, refl, ℕ, List, [], ◌∷◌, ◌++◌, Option, Some, None}
 use Rattle.std.specs.List.{AllByRecursion}
 use Rattle.machine_values.specs.Heaps.{Heap}
 use Rattle.machine_values.specs.declared.event.EventKind.{EventKind}
@@ -6,11 +6,11 @@ use Rattle.machine_values.specs.declared.value.Value.{Value}
 use Rattle.machine_values.specs.declared.value.Value.TheVariants as values
 use Rattle.member_link.specs.Machine.Completions.{Asked, asks_call, asks_dynamic, asks_get, asks_put, asks_float}
 use Rattle.member_link.specs.Machine.Programs.{Program}
-use Rattle.member_link.specs.Machine.Showing.{Numbered, numbered_reference, numbered, numbered_all, numbered_option, known_number, asked_kind, first_of, showing}
+use Rattle.member_link.specs.Machine.Showing.{Numbered, numbered_reference, numbered, numbered_all, numbered_option, known_number, asked_kind, showing}
 use Rattle.member_link.specs.Machine.Worlds.{World}
 use Rattle.typed_runs.specs.Conforming.{IsInHeap, IsValueInHeap}
 use Rattle.typed_runs.specs.TypedPrograms.{Typings}
-use Rattle.typed_runs.specs.TypedWorlds.{TypedWorld, StaysTyped}
+use Rattle.typed_runs.specs.TypedWorlds.{TypedWorld}
 
 pub one_more : (Q : ℕ → Type 0) (xs : List ℕ) (x : ℕ) → AllByRecursion Q xs → Q x → AllByRecursion Q (xs ++ x ∷ [])
 one_more Q [] x all is = (is, tt)

@@ -1,8 +1,6 @@
-use Rattle.std.specs.Prelude.{◌≡◌, ◌-◌, ◌+◌, ◌≤◌, ◌&&◌, not, refl, ℕ, zero, suc, Bool, true, false, List, [], ◌∷◌, ◌++◌, map, length, take, drop, reverse, slice_get, Option, Some, None, IsTrue, if◌then◌else◌, option_map}
-use Rattle.std.specs.List.{AllByRecursion, flat_map}
+use Rattle.std.specs.Prelude.{◌≡◌, ◌-◌, ◌+◌, ◌≤◌, ◌&&◌, not, refl, ℕ, zero, suc, Bool, true, false, List, [], ◌∷◌, ◌++◌, map, length, take, drop, reverse, slice_get, Option, Some, None}
 use Rattle.std.proofs.Common.{arith, ap, sym, ◌∙◌, subst}
 use Rattle.std.proofs.lemmas.List.{length-map, length-reverse, length-take, drop-drop}
-use Rattle.class_model.specs.Frames.{is_wide}
 use Rattle.class_model.specs.declared.frame.Frame.{Frame}
 use Rattle.class_model.specs.declared.frame.VType.{VType}
 use Rattle.machine_values.specs.Frames.{MethodState}
@@ -14,15 +12,17 @@ use Rattle.member_link.specs.Machine.Locals as machine
 use Rattle.member_link.specs.Machine.Locals.{fits_width, fit_widths, form_for, chosen_values, shuffled}
 use Rattle.member_link.specs.Machine.Ops.{shuffle_stack}
 use Rattle.member_link.specs.Machine.Programs.{Program}
-use Rattle.member_link.specs.Machine.Stepping.{op_step, shuffle_step}
+use Rattle.member_link.specs.Machine.Stepping.{op_step}
 use Rattle.member_link.specs.Machine.Worlds.{World}
 use Rattle.member_link.specs.RowScope.{RowScope}
-use Rattle.member_link.specs.Rows.Operands.{AllFit, nothing, topmost, under}
+use Rattle.member_link.specs.Rows.Operands.{topmost, under}
 use Rattle.member_link.specs.Rows.Row.{access_aside, plain}
 use Rattle.member_link.specs.Rows.ShuffleRows.{Width, one, two, Form, forms_of, need_of, has_width, have_widths, form_in, picked, form_row, shuffle_row}
+use Rattle.typed_runs.proofs.Basics.{and_first, and_second, some_of}
 use Rattle.typed_runs.proofs.Here.{Here, goes, operands_here, pushed}
-use Rattle.typed_runs.proofs.Stacks.{Operands, top_is, as_many}
-use Rattle.typed_runs.specs.Conforming.{Conforms, to_top, an_int, a_long, a_float, a_double, only_null, null_object, an_object, of_new, of_this, AllConform, no_values, and_value}
+use Rattle.typed_runs.proofs.Taken.{takes_nothing}
+use Rattle.typed_runs.proofs.Stacks.{Operands, top_is}
+use Rattle.typed_runs.specs.Conforming.{Conforms, an_int, a_long, a_float, a_double, only_null, null_object, an_object, of_new, of_this, AllConform, no_values, and_value}
 use Rattle.typed_runs.specs.TypedPrograms.{Typings}
 use Rattle.typed_runs.specs.TypedWorlds.{StaysTyped}
 
@@ -39,14 +39,6 @@ width_conforms one is (of_this sh b) = refl
 width_conforms two is a_long = refl
 width_conforms two is a_double = refl
 width_conforms w is c = cc
-
-pub and_first : (a b : Bool) → (a && b) ≡ true → a ≡ true
-and_first true b is = refl
-and_first false b is = is
-
-pub and_second : (a b : Bool) → (a && b) ≡ true → b ≡ true
-and_second true b is = is
-and_second false b is = cc
 
 pub both_true : (a b : Bool) → a ≡ true → b ≡ true → (a && b) ≡ true
 both_true a b e d = rw e d
@@ -135,7 +127,7 @@ fits_agree ws xs stack e d =
     let enough : length ws ≤ length stack = topmost_enough (length ws) stack le in
     let enough_other : length xs ≤ length stack = topmost_enough (length xs) stack ld in
     let top : machine.topmost (length ws - (length ws - length xs)) stack ≡ machine.topmost (length xs - (length xs - length ws)) stack =
-        ap (λ n. machine.topmost n stack) (let m : length ws - (length ws - length xs) ≡ length xs - (length xs - length ws) = omega arith in m) in
+    ap (λ n. machine.topmost n stack) (let m : length ws - (length ws - length xs) ≡ length xs - (length xs - length ws) = omega arith in m) in
     same_of_fit (drop (length ws - length xs) ws) (drop (length xs - length ws) xs) (machine.topmost (length ws - (length ws - length xs)) stack)
     (subst (λ vs. fit_widths (drop (length ws - length xs) ws) vs ≡ true) (drop_topmost (length ws) (length xs) stack enough) (fit_drop (length ws - length xs) ws _ e))
     (subst (λ vs. fit_widths (drop (length xs - length ws) xs) vs ≡ true) (drop_topmost (length xs) (length ws) stack enough_other ∙ sym top) (fit_drop (length xs - length ws) xs _ d))
@@ -157,9 +149,6 @@ conform_at all [] = no_values
 conform_at all (n ∷ ns) = conform_entry all n (conform_at all ns)
 
 -- ---- the form that is chosen
-
-some_of : {A : Type 0} {a b : A} → Some a ≡ Some b → a ≡ b
-some_of e = cc
 
 not_true : (b : Bool) → not b ≡ true → b ≡ false
 not_true true is = cc
@@ -209,10 +198,6 @@ pub forms_apart : (opcode : ℕ) → none_agree (forms_of opcode) ≡ true
 forms_apart opcode = grind arith
 
 -- ---- the instruction
-
-pub takes_nothing : (r : RowScope) (ts : List VType) → AllFit r (nothing ∷ []) ts → ⊥
-takes_nothing r [] fit = fit
-takes_nothing r (t ∷ ts) fit = fit.0
 
 module _ {P : Program} {T : Typings} {w : World} {f : MethodState} {rest : List RunFrame} {s : RowScope} {frame : Frame} {place : ℕ} {numbered : ℕ → ℕ} where
   pub formed_stays : (opcode : ℕ) (form : Form) → form_in (forms_of opcode) frame.stack ≡ Some form

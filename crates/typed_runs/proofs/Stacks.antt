@@ -1,13 +1,13 @@
 use Rattle.std.specs.Prelude.{◌≡◌, ◌-◌, ◌≤◌, refl, ℕ, zero, suc, List, [], ◌∷◌, ◌++◌, length, take, drop, reverse}
 use Rattle.std.proofs.Common.{arith, ap, sym, ◌∙◌, subst}
-use Rattle.std.proofs.lemmas.List.{take-append-drop, reverse-append, reverse-reverse, length-reverse, length-drop, length-take-le, drop_at, take_at}
+use Rattle.std.proofs.lemmas.List.{take-append-drop, reverse-append, length-reverse, length-drop, drop_at, take_at}
 use Rattle.class_model.specs.declared.frame.VType.{VType}
 use Rattle.machine_values.specs.Heaps.{Heap}
 use Rattle.machine_values.specs.declared.value.Value.{Value}
 use Rattle.member_link.specs.Machine.Programs.{Program}
 use Rattle.member_link.specs.RowScope.{RowScope}
 use Rattle.member_link.specs.Rows.Operands.{Need, AllFit, topmost, under, lowest_of}
-use Rattle.typed_runs.specs.Conforming.{Conforms, AllConform, no_values, and_value}
+use Rattle.typed_runs.specs.Conforming.{AllConform, no_values, and_value}
 
 -- ---- a stack whose top is first, and the same with its top last
 

@@ -1,21 +1,20 @@
-use Rattle.std.specs.Prelude.{◌≡◌, ◌+◌, refl, ℕ, ℤ, zero, suc, Bool, true, false, List, [], ◌∷◌, map, length, reverse, slice_get, int_lt, not, Option, Some, None, IfSome, if◌then◌else◌}
+use Rattle.std.specs.Prelude.{◌≡◌, refl, ℕ, ℤ, zero, suc, Bool, true, false, List, [], ◌∷◌, map, slice_get, int_lt, not, Option, Some, None, IfSome, if◌then◌else◌}
 use Rattle.std.specs.Int.{int_gap}
 use Rattle.std.specs.List.{AllByRecursion}
-use Rattle.std.proofs.Common.{arith, ap, sym, ◌∙◌, subst}
+use Rattle.std.proofs.Common.{arith, subst}
 use Rattle.class_model.specs.declared.descriptor.Kind.TheVariants as kinds
 use Rattle.class_model.specs.declared.frame.Frame.{Frame}
 use Rattle.class_model.specs.declared.instr.Pair.{Pair}
 use Rattle.machine_values.specs.Frames.{MethodState}
 use Rattle.machine_values.specs.declared.frame.RunFrame.{RunFrame}
 use Rattle.machine_values.specs.declared.value.Value.{Value}
-use Rattle.machine_values.specs.declared.value.Value.TheVariants as values
 use Rattle.member_link.specs.Machine.Locals.{table_target, lookup_target}
 use Rattle.member_link.specs.Machine.Ops.{Op, table_switch, lookup_switch}
 use Rattle.member_link.specs.Machine.Programs.{Program}
 use Rattle.member_link.specs.Machine.Stepping.{op_step, switch_step}
 use Rattle.member_link.specs.Machine.Worlds.{World}
 use Rattle.member_link.specs.RowScope.{RowScope}
-use Rattle.member_link.specs.Rows.Operands.{of_kind, topmost, under}
+use Rattle.member_link.specs.Rows.Operands.{of_kind, topmost}
 use Rattle.member_link.specs.Rows.Row.{plain, row_frame}
 use Rattle.typed_runs.proofs.Here.{Here, goes, operands_here, pushed}
 use Rattle.typed_runs.proofs.Stacks.{Operands}

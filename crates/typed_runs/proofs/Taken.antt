@@ -7,8 +7,8 @@ use Rattle.machine_values.specs.declared.value.Value.{Value}
 use Rattle.machine_values.specs.declared.value.Value.TheVariants as values
 use Rattle.member_link.specs.Machine.Programs.{Program}
 use Rattle.member_link.specs.RowScope.{RowScope}
-use Rattle.member_link.specs.Rows.Operands.{Need, AllFit, Fits, IsReference}
-use Rattle.typed_runs.specs.Conforming.{Conforms, to_top, an_int, a_long, a_float, a_double, only_null, null_object, an_object, of_new, of_this, AllConform, no_values, and_value}
+use Rattle.member_link.specs.Rows.Operands.{Need, nothing, AllFit, Fits, IsReference}
+use Rattle.typed_runs.specs.Conforming.{Conforms, an_int, only_null, null_object, an_object, of_new, of_this, AllConform, and_value}
 
 -- ---- operands that are taken one by one
 
@@ -53,3 +53,8 @@ a_reference_value is (an_object {reference = r} sh c) = inr (r, refl)
 a_reference_value is (of_new {reference = r} n sh c) = inr (r, refl)
 a_reference_value is (of_this {reference = r} sh b) = inr (r, refl)
 a_reference_value is c = absurd is
+
+-- no operand fits where there is no instruction
+pub takes_nothing : (r : RowScope) (ts : List VType) → AllFit r (nothing ∷ []) ts → ⊥
+takes_nothing r [] fit = fit
+takes_nothing r (t ∷ ts) fit = fit.0

@@ -1,13 +1,12 @@
-use Rattle.std.specs.Prelude.{◌≡◌, ◌≢◌, ◌⊎◌, ◌||◌, refl, ℕ, zero, suc, Bool, true, false, List, [], ◌∷◌, ◌++◌, length, reverse, slice_get, Option, Some, None, IfSome, IsTrue, if◌then◌else◌}
+use Rattle.std.specs.Prelude.{◌≡◌, refl, ℕ, zero, suc, Bool, true, false, List, [], ◌∷◌, slice_get, Option, Some, None, if◌then◌else◌}
 use Rattle.std.specs.List.{AllByRecursion, list_any}
-use Rattle.std.proofs.Common.{arith, inl, inr, ap, sym, ◌∙◌, subst}
+use Rattle.std.proofs.Common.{sym, subst}
 use Rattle.class_model.specs.declared.frame.Frame.{Frame}
-use Rattle.class_model.specs.declared.frame.VType.TheVariants as types
 use Rattle.class_model.specs.declared.header.Member.{Member}
 use Rattle.class_tree.specs.Headers.{Name}
 use Rattle.class_tree.specs.Names.{throwable}
 use Rattle.machine_values.specs.Frames.{MethodState}
-use Rattle.machine_values.specs.Heaps.{Heap, object_at, external}
+use Rattle.machine_values.specs.Heaps.{Heap, object_at}
 use Rattle.machine_values.specs.declared.frame.RunFrame.{RunFrame}
 use Rattle.machine_values.specs.declared.frame.RunFrame.TheVariants as frames
 use Rattle.machine_values.specs.declared.object.Object.{Object}
@@ -15,20 +14,18 @@ use Rattle.machine_values.specs.declared.object.Shape.{Shape}
 use Rattle.machine_values.specs.declared.object.Shape.TheVariants as shapes
 use Rattle.machine_values.specs.declared.value.Value.TheVariants as values
 use Rattle.member_link.specs.Bodies.{catch_frame}
-use Rattle.member_link.specs.Machine.Performing.{handler_for, handler_at, Landing, lands_in, lands_in_library, leaves_initialiser, lands_nowhere, past_method, past_handler, unwind, landed, thrown, thrown_in, raised, unlocked, is_initialiser}
-use Rattle.member_link.specs.Machine.Programs.{Program, Catch, Code, Point, RunMethod, run_method, code_run, code_at, point_at}
+use Rattle.member_link.specs.Machine.Performing.{handler_for, handler_at, Landing, lands_in, lands_in_library, leaves_initialiser, lands_nowhere, past_method, past_handler, unwind, unlocked, is_initialiser}
+use Rattle.member_link.specs.Machine.Programs.{Program, Catch, Code, RunMethod, run_method, code_run, code_at, point_at}
 use Rattle.member_link.specs.Machine.Shapes.{is_instance}
-use Rattle.member_link.specs.Machine.Showing.{shows_threw, numbered_reference, known_number}
-use Rattle.member_link.specs.Machine.Worlds.{World, Memory, with_heap, stuck, init_threw}
-use Rattle.typed_runs.proofs.Here.{stays}
-use Rattle.typed_runs.proofs.Kept.{Keeps, keeps_same, keeps_through, shape_kept, frames_kept, known_kept, stands_kept, units_kept, there}
-use Rattle.typed_runs.proofs.Memories.{made_keeps, made_shape, made_typed, unlocked_typed}
+use Rattle.member_link.specs.Machine.Worlds.{Memory}
+use Rattle.typed_runs.proofs.Basics.{some_of}
+use Rattle.typed_runs.proofs.Kept.{Keeps, keeps_same, keeps_through, frames_kept}
+use Rattle.typed_runs.proofs.Memories.{unlocked_typed}
 use Rattle.typed_runs.proofs.Points.{of_chain, does_there}
-use Rattle.typed_runs.specs.Conforming.{IsInHeap, HasShape, NameConforms, to_below, ShapeConforms, by_class, by_interface, Conforms, an_object, AllConform, no_values, and_value, UnitsConform, IsTypedMemory}
-use Rattle.typed_runs.specs.TypedFrames.{Above, nothing_awaited, called_method, asked_library, above_method, above_of, StandsAt, Does, Waits, FramesConform, lowest, upon}
-use Rattle.typed_runs.specs.TypedPoints.{IsOfLibrary, LeadsTo, LeadsToHandler, caught_name}
+use Rattle.typed_runs.specs.Conforming.{HasShape, to_below, ShapeConforms, by_class, by_interface, an_object, no_values, and_value, UnitsConform, IsTypedMemory}
+use Rattle.typed_runs.specs.TypedFrames.{nothing_awaited, called_method, above_method, above_of, StandsAt, FramesConform, lowest, upon}
+use Rattle.typed_runs.specs.TypedPoints.{LeadsTo, LeadsToHandler, caught_name}
 use Rattle.typed_runs.specs.TypedPrograms.{Typings, IsTypedProgram}
-use Rattle.typed_runs.specs.TypedWorlds.{TypedWorld, StaysTyped}
 
 -- ---- what is thrown
 
@@ -66,9 +63,6 @@ pub record Caught (P : Program) (Q : Catch → Type 0) (s : Shape) (to : ℕ) : 
   pub holds : Q catch
   pub is_to : catch.to ≡ to
   pub conforms : ShapeConforms P s (caught_name catch.class)
-
-some_of : {A : Type 0} {a b : A} → Some a ≡ Some b → a ≡ b
-some_of e = cc
 
 abbrev pub caught_by : Program → Option Name → Option Object → Bool
 caught_by P None object = true
@@ -147,9 +141,11 @@ unwinds_method P T program r f rest m memory is can below next proved =
           let c = handler_found P m.heap (LeadsToHandler (T f.at) can.stands.fits.frame) can.stands.point.catches r to can.stands.fits.handlers is e in
           let from : Frame = catch_frame can.stands.fits.frame (Some (caught_name c.catch.class)) in
           let leads : LeadsTo (T f.at) to from = subst (λ n. LeadsTo (T f.at) n from) c.is_to c.holds in
-          let shape : HasShape m.heap r is.object.shape = record { object = is.object; is_there = is.is_there; same = refl } in
-          (keeps_same m.heap, memory,
-          upon (does_there P T m program memory f can.stands to from leads f.locals (values.Ref r ∷ []) can.stands.paired can.before (and_value (an_object shape c.conforms) no_values)) below)
+          let shape : HasShape m.heap r is.object.shape = record { object = is.object; is_there = is.is_there; same = refl } in (
+            keeps_same m.heap,
+            memory,
+            upon (does_there P T m program memory f can.stands to from leads f.locals (values.Ref r ∷ []) can.stands.paired can.before (and_value (an_object shape c.conforms) no_values)) below,
+          )
       by None e =
           subst (λ n. LandsTyped P T m.heap (past_method f.held rest n next m)) (sym method.1)
           (by_initialiser (is_initialiser method.0) (subst (λ n. FramesConform P T m.heap (above_method n) rest) method.1 below))

@@ -94,7 +94,8 @@ pub data Conforms (P : Program) (s : RowScope) (heap : Heap) : VType → Value �
       → Conforms P s heap types.UninitThis (values.Ref reference)
 
 -- values one by one, the lowest of the stack first
-pub data AllConform (P : Program) (s : RowScope) (heap : Heap) : List VType → List Value → Type 0 where
+pub data AllConform (P : Program) (s : RowScope) (heap : Heap) : List VType → List Value
+    → Type 0 where
   no_values : AllConform P s heap [] []
   and_value : {type : VType} {value : Value} {types : List VType} {values : List Value}
       → Conforms P s heap type value
@@ -102,7 +103,8 @@ pub data AllConform (P : Program) (s : RowScope) (heap : Heap) : List VType → 
       → AllConform P s heap (type ∷ types) (value ∷ values)
 
 -- a local unit without a value, as the second of a long is one, conforms to Top alone
-pub data UnitConforms (P : Program) (s : RowScope) (heap : Heap) : VType → Option Value → Type 0 where
+pub data UnitConforms (P : Program) (s : RowScope) (heap : Heap) : VType → Option Value
+    → Type 0 where
   no_value : UnitConforms P s heap types.Top None
   has_value : {type : VType} {value : Value}
       → Conforms P s heap type value

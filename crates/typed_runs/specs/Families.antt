@@ -1,8 +1,8 @@
 -- Families of operations, and the operation that a step does.
-use Rattle.std.specs.Prelude.{ℕ, List, [], ◌∷◌, IfSome}
+use Rattle.std.specs.Prelude.{List, ◌∷◌, IfSome}
 use Rattle.machine_values.specs.declared.frame.RunFrame.{RunFrame}
-use Rattle.machine_values.specs.declared.frame.RunFrame.TheVariants.{Method}
-use Rattle.member_link.specs.Machine.Ops.{Op, no_operation, push_value, load_local, store_local, increment_local, shuffle_stack, pure_arithmetic, jump_by_int, jump_by_ints, jump_by_references, jump_by_null, jump_to, table_switch, lookup_switch, division, float_arithmetic, test_local, check_cast, instance_of, enter_monitor, leave_monitor}
+use Rattle.machine_values.specs.declared.frame.RunFrame.TheVariants.{Beginning, Method}
+use Rattle.member_link.specs.Machine.Ops.{Op, no_operation, push_value, push_constant, load_local, store_local, increment_local, shuffle_stack, pure_arithmetic, jump_by_int, jump_by_ints, jump_by_references, jump_by_null, jump_to, table_switch, lookup_switch, division, float_arithmetic, test_local, check_cast, instance_of, enter_monitor, leave_monitor}
 use Rattle.member_link.specs.Machine.Programs.{Program, point_at}
 
 -- what a family says of an operation holds of the one at which the top frame stands
@@ -10,11 +10,18 @@ abbrev pub NextIs : (Op → Type 0) → Program → List RunFrame → Type 0
 NextIs Family P (Method f ∷ rest) = (IfSome (point_at P f.at f.place) (λ point. Family point.op))
 NextIs Family P frames = ⊥
 
--- It pushes a number or null, moves values between locals and the operand stack, computes, jumps, tests what class an object is of, or
--- enters or leaves a monitor: it names no member, and makes no object but a throwable of the machine.
+-- the beginning of a class is on top
+abbrev pub BeginsClass : List RunFrame → Type 0
+BeginsClass (Beginning class ∷ rest) = Unit {0}
+BeginsClass frames = ⊥
+
+-- It pushes a constant or null, moves values between locals and the operand stack, computes, jumps, tests what class an object is of, or
+-- enters or leaves a monitor: it names no member, and makes no object but that of a constant or a
+-- throwable of the machine.
 abbrev pub WorksOnOperands : Op → Type 0
 WorksOnOperands no_operation = Unit {0}
 WorksOnOperands (push_value value) = Unit {0}
+WorksOnOperands (push_constant constant) = Unit {0}
 WorksOnOperands (load_local kind at) = Unit {0}
 WorksOnOperands (store_local kind at) = Unit {0}
 WorksOnOperands (increment_local at by) = Unit {0}

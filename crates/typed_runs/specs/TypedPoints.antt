@@ -129,5 +129,8 @@ pub record TypedPoint (P : Program) (t : Typing) (number : ℕ) (point : Point) 
   pub handlers : AllByRecursion (LeadsToHandler t frame) point.catches
 
 -- the row of a typed point
-abbrev pub row_at : {P : Program} {t : Typing} {number : ℕ} {point : Point} → TypedPoint P t number point → Row
+abbrev pub row_at :
+    {P : Program} {t : Typing} {number : ℕ} {point : Point}
+    → TypedPoint P t number point
+    → Row
 row_at p = item_row p.scope p.frame p.place p.item

@@ -1,6 +1,6 @@
 -- A program that is typed: its folder is linked with its library, and each method with code has fitting frames (JVM Specification SE 8,
 -- 4.10 and 5.4).
-use Rattle.std.specs.Prelude.{◌≡◌, ◌+◌, ◌≤◌, ℕ, List, [], ◌∷◌, length, map, slice_get, codes, Option, Some, None, IsTrue, IsFalse}
+use Rattle.std.specs.Prelude.{◌≡◌, ◌+◌, ◌≤◌, ℕ, [], ◌∷◌, length, map, slice_get, codes, Some, None, IsTrue, IsFalse}
 use Rattle.std.specs.List.{AllByRecursion}
 use Rattle.class_model.specs.Code.{entry_frame}
 use Rattle.class_model.specs.Descriptors.{kind_of, parameters_of, parameter_units, type_of}

@@ -2,7 +2,7 @@
 ghost use Rattle.member_link.specs.Machine.Programs.{Program};
 ghost use Rattle.member_link.specs.Machine.Stepping.{step};
 ghost use Rattle.member_link.specs.Machine.Worlds.{World};
-ghost use Rattle.typed_runs.specs.Families.{NextIs, WorksOnOperands};
+ghost use Rattle.typed_runs.specs.Families.{BeginsClass, NextIs, WorksOnOperands};
 ghost use Rattle.typed_runs.specs.TypedPrograms.{Typings};
 ghost use Rattle.typed_runs.specs.TypedWorlds.{TypedWorld, StaysTyped};
 
@@ -13,5 +13,14 @@ pub fn an_instruction_on_operands_stays_typed()
     ensures { (P : Program) (T : Typings) (w : World)
         → TypedWorld P T w
         → NextIs WorksOnOperands P w.frames
+        → StaysTyped P T w (step P w) }
+{}
+
+/// So does a step of a class's initialisation: it begins a class that comes first, puts the class initialiser in the place of the
+/// beginning, or ends it.
+pub fn a_step_of_a_beginning_stays_typed()
+    ensures { (P : Program) (T : Typings) (w : World)
+        → TypedWorld P T w
+        → BeginsClass w.frames
         → StaysTyped P T w (step P w) }
 {}

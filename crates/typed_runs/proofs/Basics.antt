@@ -1,0 +1,16 @@
+use Rattle.std.specs.Prelude.{◌≡◌, ◌==◌, ◌&&◌, refl, ℕ, Bool, true, false, Some}
+use Rattle.std.proofs.Common.{arith}
+
+pub some_of : {A : Type 0} {a b : A} → Some a ≡ Some b → a ≡ b
+some_of e = cc
+
+pub and_first : (a b : Bool) → (a && b) ≡ true → a ≡ true
+and_first true b is = refl
+and_first false b is = is
+
+pub and_second : (a b : Bool) → (a && b) ≡ true → b ≡ true
+and_second true b is = is
+and_second false b is = cc
+
+pub same_number : (a b : ℕ) → (a == b) ≡ true → a ≡ b
+same_number a b is = search arith
