@@ -1,0 +1,11 @@
+//! One step of the bounded machine (JVM Specification SE 8, chapter 2 and 6.5), as member_link defines it.
+#![tactic(auto)]
+
+mod reference;
+mod run_op;
+
+pub use reference::Reference;
+pub use run_op::{
+    CallOp, CallTarget, Callee, CastOp, DynamicOp, FieldHome, FieldOp, FieldTarget, LookupOp,
+    NewOp, RunOp, SeenAnswer, SeenCallee, SeenSlot, TableOp, Throwable,
+};
