@@ -1,6 +1,7 @@
 //! One step of the bounded machine (JVM Specification SE 8, chapter 2 and 6.5), as member_link defines it.
 #![tactic(auto)]
 
+mod questions;
 mod reference;
 mod run_op;
 
