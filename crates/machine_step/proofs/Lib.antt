@@ -1,2 +1,3 @@
 pub mod FirstTests
 pub mod ProgramHeaders
+pub mod ProgramMembers

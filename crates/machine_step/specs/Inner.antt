@@ -1,1 +1,2 @@
+pub mod QuestionWords
 pub mod RunOps
