@@ -1,2 +1,3 @@
 pub mod QuestionWords
+pub mod Resolved
 pub mod RunOps

@@ -3,6 +3,7 @@
 
 mod questions;
 mod reference;
+mod resolving;
 mod run_op;
 
 pub use reference::Reference;

@@ -2,7 +2,9 @@
 use Rattle.std.specs.Prelude.{◌≡◌, ℕ, Bool, true, false, List, [], map, Option, Some, None, option_map, IfSome}
 use Rattle.class_model.specs.Descriptors.{kind_of, type_of, parameters_of}
 use Rattle.class_model.specs.Members.{STATIC, ABSTRACT}
+use Rattle.class_model.specs.declared.descriptor.FieldType.{FieldType}
 use Rattle.class_tree.specs.Headers.{Name}
+use Rattle.machine_values.specs.Values.{narrowed}
 use Rattle.machine_values.specs.declared.object.Shape.TheVariants.{Folder}
 use Rattle.machine_values.specs.declared.value.Value.{Value}
 use Rattle.member_link.specs.Machine.CallSteps.{as_asked, found_special, is_polymorphic, is_object_init, run_call, run_chosen, special_choice}
@@ -100,6 +102,12 @@ throwable_name raised.AbstractCalled = throwables.abstract_called
 
 -- ---- fields
 
+-- the type keeps values as the type of a descriptor does: they have the same kind and are narrowed alike. Which class a type of
+-- references names does not matter to a field.
+pub record IsStoredAs (type : FieldType) (desc : List ℕ) : Type 0 where
+  pub kind : kind_of (type_of desc) ≡ kind_of type
+  pub narrows : (value : Value) → narrowed (type_of desc) value ≡ narrowed type value
+
 abbrev pub home_class : FieldHome → Option ℕ
 home_class homes.Library = None
 home_class (homes.Folder class number) = Some class
@@ -116,7 +124,7 @@ pub record IsFieldTarget (P : Program) (op : FieldOp) (target : FieldTarget) : T
   pub link : P.links.field op.named ≡ Some target.field
   pub static : target.is_static ≡ has_flag (field_of P target.field) STATIC
   pub barred : target.is_barred ≡ is_barred P target.field op.initialises
-  pub desc : target.desc ≡ type_of target.field.desc
+  pub desc : IsStoredAs target.desc target.field.desc
   pub home : folder_number P target.field.class ≡ home_class target.home
   pub number : IsNumberAt P target.field target.home
   pub seen : IfSome target.seen (IsSeenSlot P op.named.class target.field)

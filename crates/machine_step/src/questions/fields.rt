@@ -46,8 +46,8 @@ pub(crate) fn is_barred(tree: &Tree, field: &Reference, initialises: Option<&Tex
     has_field_flag(tree, field, ACC_FINAL) && !is_inside(&field.class, initialises)
 }
 
-// Whether the class is that of the initialiser.
-fn is_inside(class: &Text, initialises: Option<&Text>) -> bool
+/// Whether the class is that of the initialiser.
+pub(crate) fn is_inside(class: &Text, initialises: Option<&Text>) -> bool
     ensures { result ≡ is_class_of (option_copied initialises.entry) class.now }
 {
     match initialises {
