@@ -1,3 +1,4 @@
+pub mod FieldTargets
 pub mod FirstTests
 pub mod ProgramHeaders
 pub mod ProgramMembers
