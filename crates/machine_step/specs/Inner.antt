@@ -1,1 +1,3 @@
 pub mod RunOps
+pub mod Completing
+pub mod Preparing
