@@ -1,3 +1,5 @@
+pub mod Completing
+pub mod Preparing
 pub mod QuestionWords
 pub mod Resolved
 pub mod RunOps

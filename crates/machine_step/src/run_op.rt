@@ -177,11 +177,12 @@ pub struct DynamicOp {
     pub parameters: Vec<Kind>,
 }
 
-/// A `new`: the named class, and its number where it is the folder's.
+/// A `new`: the named class, its number where it is the folder's, and what the fields of its objects hold at first.
 #[derive(Debug, Drop)]
 pub struct NewOp {
     pub class: Text,
     pub home: Option<usize>,
+    pub blanks: Vec<Value>,
 }
 
 /// A `checkcast` or `instanceof`: the named class or array.

@@ -4,7 +4,8 @@ use Rattle.class_model.specs.Descriptors.{kind_of, type_of, parameters_of}
 use Rattle.class_model.specs.Members.{STATIC, ABSTRACT}
 use Rattle.class_model.specs.declared.descriptor.FieldType.{FieldType}
 use Rattle.class_tree.specs.Headers.{Name}
-use Rattle.machine_values.specs.Values.{narrowed}
+use Rattle.class_tree.specs.Layouts.{instance_fields}
+use Rattle.machine_values.specs.Values.{blank_values, narrowed}
 use Rattle.machine_values.specs.declared.object.Shape.TheVariants.{Folder}
 use Rattle.machine_values.specs.declared.value.Value.{Value}
 use Rattle.member_link.specs.Machine.CallSteps.{as_asked, found_special, is_polymorphic, is_object_init, run_call, run_chosen, special_choice}
@@ -12,7 +13,7 @@ use Rattle.member_link.specs.Machine.Completions.{Completion, gives, raises, cal
 use Rattle.member_link.specs.Machine.FieldSteps.{is_barred, static_number}
 use Rattle.member_link.specs.Machine.Layouts.{slot_number}
 use Rattle.member_link.specs.Machine.Ops as ops
-use Rattle.member_link.specs.Machine.Programs.{Program, field_of, folder_number, has_flag, method_of, name_of_class}
+use Rattle.member_link.specs.Machine.Programs.{Program, headers_in, field_of, folder_number, has_flag, method_of, name_of_class}
 use Rattle.member_link.specs.Machine.Shapes.{is_instance, shape_conforms}
 use Rattle.member_link.specs.Machine.Throwables as throwables
 use Rattle.member_link.specs.Machine.Worlds.{Memory}
@@ -173,7 +174,7 @@ RunsStatic P target (Some callee) =
     (memory : Memory) (values : List Value)
     → run_call P target.asked values ≡ called memory callee values
 
--- what a special call runs, unless the library is asked
+-- what a special call runs, unless the library is asked; of a static method, which such a call does not run, nothing is said
 abbrev pub RunsSpecial : Program → Name → CallTarget → Option Callee → Type 0
 RunsSpecial P from target None = ⊥
 RunsSpecial P from target (Some callees.Nothing) = is_object_init target.method ≡ true
@@ -197,7 +198,7 @@ pub record IsSpecialTarget (P : Program) (op : CallOp) (from : Name) (target : C
     : Type 0 where
   pub link : found_special P op.named ≡ Some target.method
   pub found : IsFoundMethod P op.named target
-  pub runs : RunsSpecial P from target target.fixed
+  pub runs : target.is_static ≡ false → RunsSpecial P from target target.fixed
 
 -- the arguments of a call by their kinds
 abbrev pub HasParameters : CallOp → Type 0
@@ -224,6 +225,15 @@ pub record IsSeenAnswer (P : Program) (name : Name) (seen : SeenAnswer) : Type 0
 abbrev pub IsCastOp : Program → CastOp → Type 0
 IsCastOp P op = IfSome op.seen (IsSeenAnswer P op.name)
 
+-- what the fields of an object of a class hold at first; an object of the library has none that are known
+abbrev pub blanks_of : Program → Option ℕ → List Value
+blanks_of P None = []
+blanks_of P (Some class) = blank_values (instance_fields (headers_in P) (name_of_class P class))
+
+pub record IsNewOp (P : Program) (op : NewOp) : Type 0 where
+  pub home : folder_number P op.class ≡ op.home
+  pub blanks : op.blanks.items ≡ blanks_of P op.home
+
 -- ---- an operation
 
 -- what is resolved and remembered is true of the program
@@ -237,7 +247,7 @@ IsResolved P (run.CallVirtual op) = HasParameters op.value × IsFoundByReceiver 
 IsResolved P (run.CallInterface op) = HasParameters op.value × IsFoundByReceiver P Interface op.value op.value.found
 IsResolved P (run.CallSpecial op) = HasParameters op.value × IsFoundSpecial P op.value op.value.from op.value.found
 IsResolved P (run.CallDynamic op) = map kind_of (parameters_of op.value.desc) ≡ op.value.parameters.items
-IsResolved P (run.New op) = folder_number P op.value.class ≡ op.value.home
+IsResolved P (run.New op) = IsNewOp P op.value
 IsResolved P (run.Cast op) = IsCastOp P op.value
 IsResolved P (run.InstanceOf op) = IsCastOp P op.value
 IsResolved P op = Unit {0}
