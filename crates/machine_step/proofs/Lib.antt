@@ -1,4 +1,6 @@
 pub mod FieldTargets
 pub mod FirstTests
+pub mod OwnMethods
+pub mod Parameters
 pub mod ProgramHeaders
 pub mod ProgramMembers

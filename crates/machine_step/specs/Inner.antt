@@ -1,4 +1,5 @@
 pub mod Completing
+pub mod ParameterWords
 pub mod Preparing
 pub mod QuestionWords
 pub mod Resolved
