@@ -1,3 +1,4 @@
+pub mod CallTargets
 pub mod FieldTargets
 pub mod FirstTests
 pub mod OwnMethods

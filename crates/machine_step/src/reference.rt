@@ -1,5 +1,7 @@
 //! Members as operations name them.
-use class_model::Text;
+ghost use Rattle.std.specs.Prelude.{◌≡◌, IfOk};
+
+use class_model::{NoMemory, Text};
 use std::marker::Model;
 
 /// A member by the class or array that it is looked up in or declared in, its name and its descriptor.
@@ -20,4 +22,20 @@ impl Model for Reference {
       name = reference.name;
       desc = reference.desc;
     } };
+}
+
+impl Reference {
+    /// An equal reference, which shares the bytes of its texts.
+    ///
+    /// # Errors
+    /// `NoMemory`, where memory runs out.
+    pub fn copy(&self) -> Result<Reference, NoMemory>
+        ensures { IfOk result (λ copy. copy ≡ self.now) }
+    {
+        Ok(Reference {
+            class: self.class.copy()?,
+            name: self.name.copy()?,
+            desc: self.desc.copy()?,
+        })
+    }
 }

@@ -2,3 +2,4 @@
 pub(crate) mod calls;
 pub(crate) mod fields;
 pub(crate) mod parameters;
+pub(crate) mod targets;

@@ -12,6 +12,7 @@ ghost use Rattle.member_link.specs.Machine.Links.{chosen_by, reference_to};
 ghost use Rattle.member_link.specs.Machine.Programs.{Program, has_flag, method_of, name_of_class};
 ghost use Rattle.member_link.specs.Machine.Worlds.{Memory};
 ghost use Rattle.member_link.specs.Selection.{Choice};
+ghost use Rattle.machine_step.specs.Inner.Resolved.{is_nothing};
 ghost use Rattle.machine_step.specs.Inner.RunOps.{called};
 ghost use Rattle.machine_step.specs.Programs.{IsProgram};
 
@@ -28,7 +29,8 @@ use std::alloc::Global;
 /// What a call of a method runs: the method, if it is one of the folder with code; else the library is asked for it. It does not
 /// allocate.
 pub(crate) fn run_call(tree: &Tree, method: Reference) -> Callee
-    ensures { (P : Program) (memory : Memory) (values : List Value) → IsProgram tree.now P
+    ensures something { is_nothing result ≡ false }
+    ensures runs { (P : Program) (memory : Memory) (values : List Value) → IsProgram tree.now P
         → run_call P method values ≡ called memory result values }
 {
     match place_of_method(tree, &method) {
@@ -49,7 +51,8 @@ pub(crate) fn run_call(tree: &Tree, method: Reference) -> Callee
 /// `NoMemory`, where memory runs out.
 pub(crate) fn run_chosen(tree: &Tree, selected: Selected) -> Result<Callee, NoMemory>
     requires { (choice : Choice) × IsChoice (headers_of tree.now) selected choice }
-    ensures { IfOk result (λ callee. (choice : Choice) (P : Program) (memory : Memory)
+    ensures something { IfOk result (λ callee. is_nothing callee ≡ false) }
+    ensures runs { IfOk result (λ callee. (choice : Choice) (P : Program) (memory : Memory)
         (values : List Value)
         → IsChoice (headers_of tree.now) selected choice
         → IsProgram tree.now P
@@ -69,7 +72,8 @@ pub(crate) fn run_chosen(tree: &Tree, selected: Selected) -> Result<Callee, NoMe
 /// `NoMemory`, where memory runs out.
 pub(crate) fn run_found(tree: &Tree, found: Found) -> Result<Callee, NoMemory>
     requires { (method : Declared) × IsMethodFound (headers_of tree.now) found method }
-    ensures { IfOk result (λ callee. (method : Declared) (P : Program) (memory : Memory)
+    ensures something { IfOk result (λ callee. is_nothing callee ≡ false) }
+    ensures runs { IfOk result (λ callee. (method : Declared) (P : Program) (memory : Memory)
         (values : List Value)
         → IsMethodFound (headers_of tree.now) found method
         → IsProgram tree.now P
@@ -108,7 +112,8 @@ pub(crate) fn run_selected(
     method: &Reference,
     form: CallForm,
 ) -> Result<Callee, NoMemory>
-    ensures { IfOk result (λ callee. (P : Program) (memory : Memory) (values : List Value)
+    ensures something { IfOk result (λ callee. is_nothing callee ≡ false) }
+    ensures runs { IfOk result (λ callee. (P : Program) (memory : Memory) (values : List Value)
         → IsProgram tree.now P
         → has_flag (method_of P method.now) STATIC ≡ false
         → run_chosen P (P.links.select receiver.now method.now form) values
@@ -142,7 +147,8 @@ pub(crate) fn callee_of(
     method: &Reference,
     form: CallForm,
 ) -> Result<Callee, NoMemory>
-    ensures { IfOk result (λ callee. (P : Program) (memory : Memory) (values : List Value)
+    ensures something { IfOk result (λ callee. is_nothing callee ≡ false) }
+    ensures runs { IfOk result (λ callee. (P : Program) (memory : Memory) (values : List Value)
         → IsProgram tree.now P
         → has_flag (method_of P method.now) STATIC ≡ false
         → run_chosen P (P.links.select (name_of_class P class) method.now form) values
