@@ -1,6 +1,7 @@
 //! Methods that calls name, resolved once (JVM Specification SE 8, 5.4.3.3, 5.4.3.4 and 6.5 on the instructions of calls).
-ghost use Rattle.std.specs.Prelude.{◌≡◌, IfOk, IfSome, Some, None, false, if◌then◌else◌};
+ghost use Rattle.std.specs.Prelude.{◌≡◌, bytes_eq, IfOk, IfSome, Some, None, false, if◌then◌else◌};
 ghost use Rattle.class_model.specs.Members.{STATIC};
+ghost use Rattle.class_model.specs.Names.{init};
 ghost use Rattle.class_tree.specs.Headers.{headers_of};
 ghost use Rattle.member_link.specs.DeclaredMembers.{Declared};
 ghost use Rattle.member_link.specs.Found.{IsMethodFound};
@@ -176,9 +177,9 @@ fn static_target(tree: &Tree, named: &Reference, found: Found) -> Result<CallTar
     ensures runs { IfOk result (λ target. (P : Program) → IsProgram tree.now P
         → RunsStatic P target target.fixed) }
 {
-    let mut target = method_target(tree, named, found)?;
-    target.fixed = Some(run_call(tree, target.asked.copy()?));
-    Ok(target)
+    let target = method_target(tree, named, found)?;
+    let callee = run_call(tree, target.asked.copy()?);
+    Ok(with_fixed(target, callee))
 }
 
 // Of a method that a special call finds, with what it runs.
@@ -198,9 +199,18 @@ fn special_target(
         → target.is_static ≡ false
         → RunsSpecial P from.now target target.fixed) }
 {
-    let mut target = method_target(tree, named, found)?;
-    target.fixed = Some(run_special(tree, from, &target.method)?);
-    Ok(target)
+    let target = method_target(tree, named, found)?;
+    let callee = run_special(tree, from, &target.method)?;
+    Ok(with_fixed(target, callee))
+}
+
+// With what runs without a receiver's class.
+fn with_fixed(target: CallTarget, callee: Callee) -> CallTarget
+    ensures { result ≡ record target { fixed = Some callee } }
+{
+    let mut target = target;
+    target.fixed = Some(callee);
+    target
 }
 
 // What a special call from a class on runs. Of a static method nothing is said.
@@ -213,13 +223,21 @@ fn run_special(tree: &Tree, from: &Text, method: &Reference) -> Result<Callee, N
 {
     if is_object_init(method) {
         Ok(Callee::Nothing)
-    } else if method.name.bytes() != INIT {
-        run_selected(tree, from, method, CallForm::Special)
+    } else if !is_init(method) {
+        let callee = run_selected(tree, from, method, CallForm::Special)?;
+        Ok(callee)
     } else if has_method_flag(tree, method, ACC_ABSTRACT) {
         Ok(Callee::Raises(Throwable::AbstractCalled))
     } else {
         Ok(run_call(tree, method.copy()?))
     }
+}
+
+// Whether a method is an instance initialiser.
+fn is_init(method: &Reference) -> bool
+    ensures { result ≡ bytes_eq method.now.name init }
+{
+    method.name.bytes() == INIT
 }
 
 // The method as the library is asked for it.
