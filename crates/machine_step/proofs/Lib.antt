@@ -5,3 +5,4 @@ pub mod OwnMethods
 pub mod Parameters
 pub mod ProgramHeaders
 pub mod ProgramMembers
+pub mod Slots

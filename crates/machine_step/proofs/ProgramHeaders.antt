@@ -133,3 +133,7 @@ none_at_number classes P is number at = by (slice_get P.classes number) (class_a
     by : (class : Option RunClass) → option_map (λ (class : RunClass). class.header) class ≡ None → class ≡ None
     by None none = refl
     by (Some class) none = absurd cc
+
+-- where there is no class the name is empty
+pub no_name : (P : Program) (number : ℕ) → slice_get P.classes number ≡ None → [] ≡ name_of_class P number
+no_name P number none = rw none refl

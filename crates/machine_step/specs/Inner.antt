@@ -4,3 +4,4 @@ pub mod Preparing
 pub mod QuestionWords
 pub mod Resolved
 pub mod RunOps
+pub mod SlotWords

@@ -3,3 +3,4 @@ pub(crate) mod classes;
 pub(crate) mod fields;
 pub(crate) mod members;
 pub(crate) mod methods;
+pub(crate) mod slots;
