@@ -1,0 +1,10 @@
+//! Steps of the bounded machine (JVM Specification SE 8, chapter 2): what `step` and `act` of member_link's definitions do to a world, executed.
+#![tactic(auto)]
+
+mod begun;
+mod known;
+mod statics;
+
+pub use begun::ClassNumberList;
+pub use known::KnownRefs;
+pub use statics::{StaticField, StaticValueList};
