@@ -4,6 +4,7 @@ ghost use Rattle.std.specs.Option.{option_copied};
 ghost use Rattle.machine_heap.specs.Objects.{value_at};
 ghost use Rattle.machine_values.specs.Heaps.{Heap as HeapState, allocated, constant_in, constant_made, entered, left, monitor_count, object_at, with_value};
 
+use crate::classes::constant_object;
 use crate::kept::KeptConstants;
 use class_model::NoMemory;
 use machine_values::{Constant, Object, Ref, Shape, Value, ValueList};
@@ -115,5 +116,56 @@ impl Heap {
             }
             _ => false,
         }
+    }
+
+    /// A new object with these values, whose monitor is not entered, and its reference.
+    ///
+    /// # Errors
+    ///
+    /// `NoMemory` where memory runs out; the heap stays as it was.
+    pub fn alloc_with(&mut self, shape: Shape, values: ValueList) -> Result<Ref, NoMemory>
+        ensures heap { OnOk result (self.new ≡ (allocated self.old shape values).heap) }
+        ensures reference { IfOk result (λ at. at ≡ (allocated self.old shape values).reference) }
+        ensures err { OnErr result (self.new ≡ self.old) }
+    {
+        let number = self.objects.len() as u64;
+        self.objects.push(Object {
+            shape,
+            values,
+            monitor: 0,
+        })?;
+        Ok(Ref { number })
+    }
+
+    /// The constant that a reference is, if it is one. It does not allocate.
+    pub fn constant_of(&self, at: Ref) -> Option<&Constant>
+        ensures { option_copied result ≡ constant_in self.now.constants at }
+    {
+        self.kept.constant_of(at)
+    }
+
+    /// The reference of a constant: the one that it has, else that of a new object of the constant's class.
+    ///
+    /// # Errors
+    ///
+    /// `NoMemory` where memory runs out; the heap stays as it was.
+    pub fn constant(&mut self, value: &Constant) -> Result<Ref, NoMemory>
+        ensures heap { OnOk result (self.new ≡ (constant_made self.old value.now).heap) }
+        ensures reference { IfOk result
+            (λ at. at ≡ (constant_made self.old value.now).reference) }
+        ensures err { OnErr result (self.new ≡ self.old) }
+    {
+        if let Some(at) = self.kept.reference_of(value) {
+            return Ok(at);
+        }
+        let object = constant_object(*self.objects.allocator(), value)?;
+        let constant = value.copy()?;
+        let at = Ref {
+            number: self.objects.len() as u64,
+        };
+        self.objects.reserve(1)?;
+        self.kept.push(constant, at)?;
+        self.objects.push_reserved(object);
+        Ok(at)
     }
 }

@@ -2,6 +2,7 @@
 //! the references of constants.
 #![tactic(auto)]
 
+mod classes;
 mod comparison;
 mod heap;
 mod kept;
