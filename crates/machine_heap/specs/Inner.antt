@@ -1,0 +1,2 @@
+-- Words for private functions.
+pub mod Kept

@@ -1,0 +1,11 @@
+//! The heap of the bounded machine (JVM Specification SE 8, 2.4, 2.5.3 and 5.1): objects by their references, their monitors, and
+//! the references of constants.
+#![tactic(auto)]
+
+mod classes;
+mod comparison;
+mod heap;
+mod kept;
+
+pub use heap::{Heap, Put};
+pub use machine_values::{Constant, Object, Ref, Shape, Value, ValueList};
