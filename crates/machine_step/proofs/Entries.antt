@@ -1,6 +1,5 @@
 -- Static fields in a map.
-use Rattle.std.proofs.Common.{◌≡◌, ◌↔◌, IsTrue, ℕ, Bool, true, false, List, [], ◌∷◌, map, Option, Some, None, if◌then◌else◌, ◌&&◌, ◌==◌, refl, sym, ap, ◌∙◌, arith, eqb-true, eq-eqb}
-use Rattle.std.proofs.lemmas.Grind.{common_steps}
+use Rattle.std.proofs.Common.{◌≡◌, ◌↔◌, IsTrue, ℕ, Bool, true, false, List, [], ◌∷◌, map, if◌then◌else◌, ◌&&◌, ◌==◌, refl, sym, ap, ◌∙◌, eqb-true, eq-eqb}
 use Rattle.std.specs.Cmp.Derive.{both_true}
 use Rattle.std.specs.Map.{lookup}
 use Rattle.indexmap.specs.IndexMap.{insert_entry}
@@ -8,7 +7,7 @@ use Rattle.machine_values.specs.declared.value.Value.{Value}
 use Rattle.member_link.specs.Machine.Worlds.{StaticValue, is_static_of, written_static, put_static_in}
 use Rattle.machine_step.specs.Inner.Statics.{static_of}
 use Rattle.machine_step.specs.declared.statics.StaticField.{StaticField}
-use Rattle.machine_step.proofs.Firsts.{eq-sym, same-bool}
+use Rattle.machine_step.proofs.Firsts.{same-bool}
 
 both-parts : (one other : Bool) → (one && other) ≡ true → (one ≡ true) × (other ≡ true)
 both-parts true true is = (refl, refl)

@@ -1,8 +1,7 @@
 -- The first number of a list that is this one, by two definitions.
-use Rattle.std.proofs.Common.{◌≡◌, IsTrue, ℕ, zero, suc, ◌+◌, ◌==◌, ◌||◌, Bool, true, false, List, [], ◌∷◌, length, nat_eq, nat_lt, Option, Some, None, option_map, not, cond, if◌then◌else◌, refl, sym, ap, ◌∙◌, arith, eqb-true, eq-eqb}
+use Rattle.std.proofs.Common.{◌≡◌, IsTrue, ℕ, zero, suc, ◌+◌, ◌==◌, ◌||◌, Bool, true, false, List, [], ◌∷◌, length, nat_eq, nat_lt, Option, Some, None, option_map, not, cond, if◌then◌else◌, refl, sym, arith, eqb-true, eq-eqb}
 use Rattle.std.proofs.lemmas.Grind.{common_steps}
 use Rattle.std.specs.List.{list_any, position, position_or_len}
-use Rattle.member_link.specs.Machine.Programs.{number_of_first}
 use Rattle.member_link.specs.Machine.Showing.{known_number}
 
 pub same-bool : (one other : Bool) → (IsTrue one → IsTrue other) → (IsTrue other → IsTrue one) → one ≡ other

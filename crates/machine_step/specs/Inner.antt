@@ -1,1 +1,3 @@
+-- Words for private functions.
 pub mod Statics
+pub mod Monitors

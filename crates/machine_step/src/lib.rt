@@ -3,8 +3,10 @@
 
 mod begun;
 mod known;
+mod monitors;
 mod statics;
 
 pub use begun::ClassNumberList;
 pub use known::KnownRefs;
+pub use monitors::MonitorHeap;
 pub use statics::{StaticField, StaticValueList};
