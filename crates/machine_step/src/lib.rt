@@ -3,10 +3,12 @@
 
 mod begun;
 mod known;
+mod memory;
 mod monitors;
 mod statics;
 
 pub use begun::ClassNumberList;
 pub use known::KnownRefs;
+pub use memory::Memory;
 pub use monitors::MonitorHeap;
 pub use statics::{StaticField, StaticValueList};
