@@ -6,9 +6,11 @@ mod known;
 mod memory;
 mod monitors;
 mod statics;
+mod world;
 
 pub use begun::ClassNumberList;
 pub use known::KnownRefs;
 pub use memory::Memory;
 pub use monitors::MonitorHeap;
 pub use statics::{StaticField, StaticValueList};
+pub use world::{Acted, Outcome, World};

@@ -1,5 +1,5 @@
 //! What a run remembers beside its frames.
-ghost use Rattle.std.specs.Prelude.{◌≡◌, ◌+◌, ◌↔◌, [], true, false, IsSome, OnOk, OnErr, IfOk};
+ghost use Rattle.std.specs.Prelude.{◌≡◌, ◌+◌, ◌-◌, ◌^◌, ◌<◌, ◌↔◌, [], true, false, IsSome, OnOk, OnErr, IfOk};
 ghost use Rattle.machine_heap.specs.Objects.{value_at};
 ghost use Rattle.machine_values.specs.Heaps.{allocated, constant_made, left, monitor_count, object_at, with_value};
 ghost use Rattle.member_link.specs.Machine.ObjectSteps.{with_entered};
@@ -119,13 +119,14 @@ impl Memory {
         self.heap.alloc_with(shape, values)
     }
 
-    /// A new object with these values, whose monitor is not entered, and its reference. It is counted.
+    /// A new object with these values, whose monitor is not entered, and its reference. It is counted. A run that `HasRoom` counts
+    /// far less than 2^128 objects.
     ///
     /// # Errors
     ///
     /// `NoMemory` where memory runs out; all stays as it was.
     pub fn allocate_counted(&mut self, shape: Shape, values: ValueList) -> Result<Ref, NoMemory>
-        requires { HasRoom self.old }
+        requires { self.old.allocations < 2 ^ 128 - 1 }
         ensures memory { OnOk result
             (self.new
             ≡ record self.old {
