@@ -32,10 +32,10 @@ use Rattle.member_link.specs.Machine.ObjectSteps.{blank_object}
 use Rattle.member_link.specs.Machine.Performing.{called, thrown}
 use Rattle.member_link.specs.Machine.Programs.{Program, RunMethod, folder_number, header_named, is_interface_named, place_of_method, run_method, code_at}
 use Rattle.member_link.specs.Machine.Runs.{Run, begins_with, behind_action, at_library_turn, going_turn, turn_by, turn, turns}
-use Rattle.member_link.specs.Machine.Shapes.{component_text, value_conforms}
+use Rattle.member_link.specs.Machine.Shapes.{value_conforms}
 use Rattle.member_link.specs.Machine.Stepping.{step, is_library_turn}
 use Rattle.member_link.specs.Machine.Throwables.{null_pointer}
-use Rattle.machine_values.specs.Values.{narrowed}
+use Rattle.machine_values.specs.Values.{narrowed, component_text}
 use Rattle.member_link.specs.Machine.Worlds.{World, Halt, start, with_heap, is_begun}
 use Rattle.member_link.specs.Machine.Worlds as halts
 

@@ -21,7 +21,7 @@ use Rattle.member_link.specs.Machine.ObjectSteps.{new_object_work, check_cast_wo
 use Rattle.member_link.specs.Machine.Ops.{Op}
 use Rattle.member_link.specs.Machine.Ops as ops
 use Rattle.class_model.specs.Members.{STATIC}
-use Rattle.member_link.specs.Machine.Shapes.{component_text}
+use Rattle.machine_values.specs.Values.{component_text}
 use Rattle.member_link.specs.Machine.Programs.{Program, Chosen, has_flag, field_of}
 use Rattle.member_link.specs.Machine.Work.{work}
 use Rattle.member_link.specs.Machine.Worlds.{Memory, stuck, array_too_long, put_static_in}

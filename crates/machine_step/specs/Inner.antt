@@ -1,3 +1,6 @@
 -- Words for private functions.
+pub mod RunOps
+pub mod Completing
+pub mod Preparing
 pub mod Statics
 pub mod Monitors
