@@ -1,3 +1,5 @@
+pub mod FirstTests
+pub mod ProgramHeaders
 pub mod Firsts
 pub mod Entries
 pub mod MonitorCounts

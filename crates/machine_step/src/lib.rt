@@ -7,6 +7,7 @@ mod known;
 mod memory;
 mod monitors;
 mod prepared_method;
+mod questions;
 mod reference;
 mod run_op;
 mod statics;
