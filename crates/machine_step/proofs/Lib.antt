@@ -3,3 +3,4 @@ pub mod ProgramHeaders
 pub mod Firsts
 pub mod Entries
 pub mod MonitorCounts
+pub mod CountedLists

@@ -4,3 +4,4 @@ pub mod Completing
 pub mod Preparing
 pub mod Statics
 pub mod Monitors
+pub mod Counting

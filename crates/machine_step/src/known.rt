@@ -1,5 +1,5 @@
 //! The references that the library knows.
-ghost use Rattle.std.specs.Prelude.{◌≡◌, [], ◌∷◌, ◌++◌, length, slice_get, None, OnOk, OnErr};
+ghost use Rattle.std.specs.Prelude.{◌≡◌, [], ◌∷◌, ◌++◌, length, slice_get, ℕ, Some, None, IfSome, OnOk, OnErr};
 ghost use Rattle.member_link.specs.Machine.Showing.{known_number};
 
 use class_model::NoMemory;
@@ -16,11 +16,14 @@ pub struct KnownRefs {
 }
 
 impl Model for KnownRefs {
-    ghost use Rattle.std.specs.Prelude.{ℕ, List};
+    ghost use Rattle.std.specs.Prelude.{ℕ, List, nat_eq};
+    ghost use Rattle.indexmap.specs.IndexSet.{IsUnique};
 
     ghost Value = { List ℕ };
 
     ghost view = { λ list. list.references.keys };
+
+    ghost invariant = { λ list. IsUnique nat_eq list.references };
 }
 
 impl KnownRefs {
@@ -42,7 +45,11 @@ impl KnownRefs {
 
     /// The number of a reference.
     pub fn number_of(&self, reference: Ref) -> Option<u64>
-        ensures { result ≡ known_number self.now reference }
+        ensures number { result ≡ known_number self.now reference }
+        ensures there { IfSome result (λ number. slice_get self.now number ≡ Some reference) }
+        ensures once { (number : ℕ)
+            → slice_get self.now number ≡ Some reference
+            → result ≡ Some number }
     {
         match self.references.get_index_of(&reference.number) {
             Some(number) => Some(number as u64),

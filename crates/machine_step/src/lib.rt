@@ -3,6 +3,7 @@
 
 mod begun;
 mod completed;
+mod counting;
 mod known;
 mod memory;
 mod monitors;
