@@ -5,3 +5,4 @@ pub mod Preparing
 pub mod Statics
 pub mod Monitors
 pub mod Counting
+pub mod Numbering

@@ -7,10 +7,12 @@ mod counting;
 mod known;
 mod memory;
 mod monitors;
+mod numbering;
 mod prepared_method;
 mod questions;
 mod reference;
 mod run_op;
+mod showing;
 mod statics;
 mod world;
 
@@ -24,6 +26,9 @@ pub use reference::Reference;
 pub use run_op::{
     CallOp, CallTarget, Callee, CastOp, DynamicOp, FieldHome, FieldOp, FieldTarget, LookupOp,
     NewOp, RunOp, SeenAnswer, SeenCallee, SeenSlot, TableOp, Throwable,
+};
+pub use showing::{
+    show_asked, show_got, show_length, show_made, show_result, show_threw,
 };
 pub use statics::{StaticField, StaticValueList};
 pub use world::{Acted, Outcome, World};

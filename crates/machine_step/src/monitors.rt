@@ -1,13 +1,15 @@
 //! A heap that knows which monitors are entered.
-ghost use Rattle.std.specs.Prelude.{◌≡◌, ◌<◌, ◌↔◌, ◌^◌, ◌-◌, [], length, true, false, IsSome, OnOk, OnErr, IfOk};
+ghost use Rattle.std.specs.Prelude.{◌≡◌, ◌<◌, ◌↔◌, ◌^◌, ◌-◌, [], map, length, true, false, IsSome, OnOk, OnErr, IfOk};
 ghost use Rattle.std.specs.Option.{option_copied};
 ghost use Rattle.machine_heap.specs.Objects.{value_at};
 ghost use Rattle.machine_values.specs.Heaps.{allocated, constant_in, constant_made, entered, left, monitor_count, object_at, with_value};
 
+use crate::counting::known_counts;
+use crate::known::KnownRefs;
 use class_model::NoMemory;
 use indexmap::IndexSet;
 use machine_heap::{Heap, Put};
-use machine_values::{Constant, Object, Ref, Shape, Value, ValueList};
+use machine_values::{Constant, CountList, Object, Ref, Shape, Value, ValueList};
 use std::alloc::Global;
 use std::marker::Model;
 
@@ -47,6 +49,17 @@ impl MonitorHeap {
         ensures { result.now ≡ self.now }
     {
         &self.heap
+    }
+
+    /// The monitor counts of all known references, in time that grows with how many monitors are entered.
+    ///
+    /// # Errors
+    ///
+    /// `NoMemory` where memory runs out.
+    pub fn monitor_counts(&self, alloc: Global, known: &KnownRefs) -> Result<CountList, NoMemory>
+        ensures { IfOk result (λ counts. counts ≡ map (monitor_count self.now) known.now) }
+    {
+        known_counts(alloc, &self.heap, known, self.held.as_slice())
     }
 
     /// Writes the value of an object's field or element, by its number among the object's values. It does not allocate.
