@@ -4,4 +4,3 @@ pub mod Firsts
 pub mod Entries
 pub mod MonitorCounts
 pub mod CountedLists
-pub mod NumberedLists
