@@ -27,8 +27,6 @@ pub use run_op::{
     CallOp, CallTarget, Callee, CastOp, DynamicOp, FieldHome, FieldOp, FieldTarget, LookupOp,
     NewOp, RunOp, SeenAnswer, SeenCallee, SeenSlot, TableOp, Throwable,
 };
-pub use showing::{
-    show_asked, show_got, show_length, show_made, show_result, show_threw,
-};
+pub use showing::{show_asked, show_got, show_length, show_made, show_result, show_threw};
 pub use statics::{StaticField, StaticValueList};
 pub use world::{Acted, Outcome, World};

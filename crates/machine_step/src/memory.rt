@@ -61,6 +61,21 @@ impl Memory {
         }
     }
 
+    /// Forgets all: what a world remembers in which memory ran out, so that its counts stay within their bounds. It does not
+    /// allocate.
+    pub fn clear(&mut self, alloc: Global)
+        ensures { self.new
+            ≡ record {
+              heap = record { objects = []; constants = [] };
+              statics = [];
+              begun = [];
+              allocations = 0;
+              entries = 0;
+            } }
+    {
+        *self = Memory::new(alloc);
+    }
+
     /// The heap.
     pub fn heap(&self) -> &Heap
         ensures { result.now ≡ self.now.heap }

@@ -55,12 +55,7 @@ fn also_of(alloc: Global, shape: &Shape) -> Result<TextList, NoMemory>
 /// # Errors
 ///
 /// `NoMemory` where memory runs out.
-pub(crate) fn first_of(
-    alloc: Global,
-    tree: &Tree,
-    heap: &Heap,
-    at: Ref,
-) -> Result<First, NoMemory>
+pub(crate) fn first_of(alloc: Global, tree: &Tree, heap: &Heap, at: Ref) -> Result<First, NoMemory>
     ensures { IfOk result (λ first.
         (P : Program) → IsProgram tree.now P → first ≡ first_of P heap.now at) }
 {

@@ -138,13 +138,7 @@ pub fn show_result(
         → IsProgram tree.now P
         → world.new ≡ record world.old { world = shows_result P world.old.world value }) }
 {
-    let seen = number_option(
-        alloc,
-        tree,
-        world.memory.heap(),
-        &mut world.known,
-        value,
-    )?;
+    let seen = number_option(alloc, tree, world.memory.heap(), &mut world.known, value)?;
     let kind = EventKind::Result(seen);
     push_event(alloc, &world.memory, &world.known, &mut world.events, kind)
 }
@@ -154,12 +148,7 @@ pub fn show_result(
 /// # Errors
 ///
 /// `NoMemory` where memory runs out.
-pub fn show_threw(
-    alloc: Global,
-    tree: &Tree,
-    world: &mut World,
-    at: Ref,
-) -> Result<(), NoMemory>
+pub fn show_threw(alloc: Global, tree: &Tree, world: &mut World, at: Ref) -> Result<(), NoMemory>
     ensures { OnOk result
         ((P : Program)
         → IsProgram tree.now P
@@ -175,12 +164,7 @@ pub fn show_threw(
 /// # Errors
 ///
 /// `NoMemory` where memory runs out.
-pub fn show_got(
-    alloc: Global,
-    tree: &Tree,
-    world: &mut World,
-    value: Value,
-) -> Result<(), NoMemory>
+pub fn show_got(alloc: Global, tree: &Tree, world: &mut World, value: Value) -> Result<(), NoMemory>
     ensures { OnOk result
         ((P : Program)
         → IsProgram tree.now P
@@ -196,12 +180,7 @@ pub fn show_got(
 /// # Errors
 ///
 /// `NoMemory` where memory runs out.
-pub fn show_made(
-    alloc: Global,
-    tree: &Tree,
-    world: &mut World,
-    at: Ref,
-) -> Result<(), NoMemory>
+pub fn show_made(alloc: Global, tree: &Tree, world: &mut World, at: Ref) -> Result<(), NoMemory>
     ensures { OnOk result
         ((P : Program)
         → IsProgram tree.now P

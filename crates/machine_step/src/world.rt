@@ -13,8 +13,8 @@ use std::marker::Model;
 
 /// The frames, the memory, the references that the library knows, the events, how many steps were taken, and whether memory
 /// ran out in one of them: then the world is spent, and nothing else is said of it. Contracts see the world of the definitions,
-/// which goes on. The type keeps that the monitor counts and the count of entered monitors are at most the number of steps, and
-/// the count of allocations at most 2^28 times that number.
+/// which goes on. A world that is spent has an empty memory (`Memory::clear`). The type keeps that the monitor counts and the
+/// count of entered monitors are at most the number of steps, and the count of allocations at most 2^28 times that number.
 #[derive(Drop)]
 pub struct World {
     pub frames: RunFrameList,

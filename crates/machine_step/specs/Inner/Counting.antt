@@ -1,5 +1,5 @@
 -- Monitor counts that are collected reference by reference.
-use Rattle.std.specs.Prelude.{◌≡◌, ◌<◌, ℕ, List, true, nat_eq, slice_get, Option, Some}
+use Rattle.std.specs.Prelude.{◌≡◌, ◌<◌, ℕ, List, true, nat_eq, slice_get, Some}
 use Rattle.std.specs.List.{list_any}
 use Rattle.std.specs.BTreeMap.{BTreeMap, get}
 use Rattle.std.specs.Ordering.{nat_cmp}

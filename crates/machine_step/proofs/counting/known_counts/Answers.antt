@@ -1,7 +1,6 @@
-use Rattle.std.proofs.Common.{ℕ, List, length, map, sym, subst, ap, ◌∙◌}
+use Rattle.std.proofs.Common.{ℕ, List, length, sym, subst, ap, ◌∙◌}
 use Rattle.machine_values.specs.Counts.{AreHeld, all_counts}
 use Rattle.machine_values.specs.declared.count_list.HeldCount.{HeldCount}
-use Rattle.machine_step.specs.Inner.Counting.{held_of}
 use Rattle.machine_step.proofs.CountedLists.{collected-counts, collected-held}
 use Rattle.machine_step.proofs.counting.known_counts.Goals as goal
 
