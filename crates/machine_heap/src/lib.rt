@@ -2,10 +2,12 @@
 //! the references of constants.
 #![tactic(auto)]
 
+mod blanks;
 mod classes;
 mod comparison;
 mod heap;
 mod kept;
 
+pub use blanks::{blank, blank_fields};
 pub use heap::{Heap, Put};
 pub use machine_values::{Constant, Object, Ref, Shape, Value, ValueList};
