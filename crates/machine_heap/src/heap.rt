@@ -3,7 +3,7 @@ ghost use Rattle.std.specs.Prelude.{◌≡◌, ◌≢◌, ◌<◌, ◌↔◌, �
 ghost use Rattle.std.specs.Option.{option_copied};
 ghost use Rattle.class_tree.specs.Headers.{headers_of};
 ghost use Rattle.machine_heap.specs.Blanks.{IsAllocatable, blank_for};
-ghost use Rattle.machine_heap.specs.Objects.{value_at};
+ghost use Rattle.machine_heap.specs.Objects.{ConstantsAreThere, value_at};
 ghost use Rattle.machine_values.specs.Heaps.{Heap as HeapState, allocated, constant_in, constant_made, entered, left, monitor_count, object_at, with_value};
 
 use crate::blanks::blanks_for;
@@ -57,7 +57,8 @@ impl Heap {
 
     /// How many objects there are.
     pub fn len(&self) -> usize
-        ensures { result ≡ length self.now.objects }
+        ensures len { result ≡ length self.now.objects }
+        ensures constants { ConstantsAreThere self.now }
     {
         self.objects.len()
     }
