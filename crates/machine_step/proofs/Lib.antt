@@ -1,0 +1,6 @@
+pub mod FirstTests
+pub mod ProgramHeaders
+pub mod Firsts
+pub mod Entries
+pub mod MonitorCounts
+pub mod CountedLists

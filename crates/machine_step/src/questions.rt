@@ -1,0 +1,3 @@
+//! What the machine asks of the classes of a tree: the definitions' words, answered without a search over all classes.
+pub(crate) mod classes;
+pub(crate) mod fields;

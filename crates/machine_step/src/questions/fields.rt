@@ -1,0 +1,1 @@
+//! Fields by the class that declares them.
