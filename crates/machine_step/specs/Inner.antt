@@ -5,3 +5,5 @@ pub mod Preparing
 pub mod Statics
 pub mod Monitors
 pub mod Counting
+pub mod QuestionWords
+pub mod Resolved

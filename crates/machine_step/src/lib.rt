@@ -10,6 +10,7 @@ mod monitors;
 mod prepared_method;
 mod questions;
 mod reference;
+mod resolving;
 mod run_op;
 mod statics;
 mod world;
