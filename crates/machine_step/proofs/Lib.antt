@@ -6,3 +6,9 @@ pub mod Entries
 pub mod MonitorCounts
 pub mod CountedLists
 pub mod ProgramMembers
+pub mod KindLists
+pub mod UnitLists
+pub mod Stacks
+pub mod Switches
+pub mod Results
+pub mod FloatOperands

@@ -7,3 +7,9 @@ pub mod Monitors
 pub mod Counting
 pub mod QuestionWords
 pub mod Resolved
+-- Words for private functions, measures, and the steps of the code: no definition of the machine cites them.
+pub mod Narrowings
+pub mod Kinds
+pub mod Jumps
+pub mod Units
+pub mod Results
