@@ -1,10 +1,14 @@
-//! One step of the bounded machine (JVM Specification SE 8, chapter 2 and 6.5), as member_link defines it.
+//! One step of the bounded machine (JVM Specification SE 8, 2.6, 2.11, 5.5 and 6.5), as member_link defines it.
 #![tactic(auto)]
 
+mod arithmetic;
 mod begun;
 mod completed;
 mod counting;
+mod floats;
+mod jumps;
 mod known;
+mod locals;
 mod memory;
 mod monitors;
 mod prepared_method;
@@ -12,12 +16,20 @@ mod questions;
 mod reference;
 mod resolving;
 mod run_op;
+mod stack;
 mod statics;
+mod values;
 mod world;
 
+pub use arithmetic::{Divided, divide, pure, pure_operands};
 pub use begun::ClassNumberList;
 pub use completed::{Asked, Completed};
+pub use floats::{float_fits, float_operands};
+pub use jumps::{
+    jump_by_int, jump_by_ints, jump_by_null, jump_by_references, lookup_target, table_target,
+};
 pub use known::KnownRefs;
+pub use locals::{increment, local_value, store};
 pub use memory::Memory;
 pub use monitors::MonitorHeap;
 pub use prepared_method::{Locks, PreparedHandler, PreparedMethod};
@@ -26,19 +38,7 @@ pub use run_op::{
     CallOp, CallTarget, Callee, CastOp, DynamicOp, FieldHome, FieldOp, FieldTarget, LookupOp,
     NewOp, RunOp, SeenAnswer, SeenCallee, SeenSlot, TableOp, Throwable,
 };
-pub use statics::{StaticField, StaticValueList};
-pub use world::{Acted, Outcome, World};
-//! The steps of the bounded machine (JVM Specification SE 8, 2.6, 2.11 and 6.5), as member_link defines them.
-mod arithmetic;
-mod floats;
-mod jumps;
-mod locals;
-mod stack;
-mod values;
-pub use arithmetic::{Divided, divide, pure, pure_operands};
-pub use floats::{float_fits, float_operands};
-pub use jumps::{
-    jump_by_int, jump_by_ints, jump_by_null, jump_by_references, lookup_target, table_target,
-pub use locals::{increment, local_value, store};
 pub use stack::{drop_top, entry};
+pub use statics::{StaticField, StaticValueList};
 pub use values::{Narrowing, blank, has_kind, have_kinds, is_wide, locals_of, narrow};
+pub use world::{Acted, Outcome, World};
