@@ -1,2 +1,4 @@
 pub mod KindLists
 pub mod UnitLists
+pub mod Stacks
+pub mod Switches

@@ -1,6 +1,12 @@
 //! The steps of the bounded machine (JVM Specification SE 8, 2.6, 2.11 and 6.5), as member_link defines them.
 #![tactic(auto)]
 
+mod jumps;
+mod stack;
 mod values;
 
+pub use jumps::{
+    jump_by_int, jump_by_ints, jump_by_null, jump_by_references, lookup_target, table_target,
+};
+pub use stack::{drop_top, entry};
 pub use values::{Narrowing, blank, has_kind, have_kinds, is_wide, locals_of, narrow};
