@@ -2,3 +2,4 @@
 pub mod Narrowings
 pub mod Kinds
 pub mod Jumps
+pub mod Units

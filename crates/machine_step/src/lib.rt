@@ -2,11 +2,13 @@
 #![tactic(auto)]
 
 mod jumps;
+mod locals;
 mod stack;
 mod values;
 
 pub use jumps::{
     jump_by_int, jump_by_ints, jump_by_null, jump_by_references, lookup_target, table_target,
 };
+pub use locals::{increment, local_value, store};
 pub use stack::{drop_top, entry};
 pub use values::{Narrowing, blank, has_kind, have_kinds, is_wide, locals_of, narrow};
