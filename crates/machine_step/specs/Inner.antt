@@ -3,3 +3,4 @@ pub mod Narrowings
 pub mod Kinds
 pub mod Jumps
 pub mod Units
+pub mod Results

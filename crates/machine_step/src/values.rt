@@ -77,7 +77,7 @@ impl Narrowing {
 }
 
 /// What is kept of the number of an int.
-fn narrow_int(narrowing: Narrowing, number: i32) -> i32
+pub(crate) fn narrow_int(narrowing: Narrowing, number: i32) -> i32
     ensures { result ≡ narrowed_int narrowing number }
 {
     match narrowing {
