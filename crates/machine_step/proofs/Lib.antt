@@ -4,3 +4,4 @@ pub mod Stacks
 pub mod Switches
 pub mod Results
 pub mod FloatOperands
+pub mod WidthMoves

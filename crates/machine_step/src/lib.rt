@@ -5,6 +5,7 @@ mod arithmetic;
 mod floats;
 mod jumps;
 mod locals;
+mod shuffles;
 mod stack;
 mod values;
 
@@ -14,5 +15,6 @@ pub use jumps::{
     jump_by_int, jump_by_ints, jump_by_null, jump_by_references, lookup_target, table_target,
 };
 pub use locals::{increment, local_value, store};
-pub use stack::{drop_top, entry};
+pub use shuffles::shuffle;
+pub use stack::{drop_top, entry, push_top};
 pub use values::{Narrowing, blank, has_kind, have_kinds, is_wide, locals_of, narrow};

@@ -1,6 +1,7 @@
 //! The operand stack (JVM Specification SE 8, 2.6.2). Its list has the top last; contracts see the top first.
-ghost use Rattle.std.specs.Prelude.{◌≡◌, drop, reverse, slice_get};
+ghost use Rattle.std.specs.Prelude.{◌≡◌, ◌∷◌, drop, reverse, slice_get, OnOk, OnErr};
 
+use class_model::NoMemory;
 use machine_values::{Value, ValueList};
 
 /// The entry at a depth, counted from the top, which is at 0.
@@ -21,4 +22,24 @@ pub fn drop_top(stack: &mut ValueList, count: usize)
 {
     let left = stack.len().saturating_sub(count);
     stack.items.truncate(left);
+}
+
+/// Puts a value on the top.
+///
+/// # Errors
+///
+/// `NoMemory` where memory runs out; the stack stays.
+pub fn push_top(stack: &mut ValueList, value: &Value) -> Result<(), NoMemory>
+    ensures ok { OnOk result (reverse stack.new ≡ value.now ∷ reverse stack.old) }
+    ensures err { OnErr result (stack.new ≡ stack.old) }
+{
+    stack.push(*value)
+}
+
+/// Puts two values on the top, the second above the first.
+pub(crate) fn push_two(stack: &mut ValueList, below: &Value, above: &Value) -> Result<(), NoMemory>
+    ensures { OnOk result (reverse stack.new ≡ above.now ∷ below.now ∷ reverse stack.old) }
+{
+    push_top(stack, below)?;
+    push_top(stack, above)
 }
