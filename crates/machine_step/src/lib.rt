@@ -16,5 +16,5 @@ pub use jumps::{
 };
 pub use locals::{increment, local_value, store};
 pub use shuffles::shuffle;
-pub use stack::{drop_top, entry, push_top};
+pub use stack::{drop_top, entry, operands, push_top};
 pub use values::{Narrowing, blank, has_kind, have_kinds, is_wide, locals_of, narrow};

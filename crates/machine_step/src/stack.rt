@@ -1,5 +1,6 @@
 //! The operand stack (JVM Specification SE 8, 2.6.2). Its list has the top last; contracts see the top first.
-ghost use Rattle.std.specs.Prelude.{◌≡◌, ◌∷◌, drop, reverse, slice_get, OnOk, OnErr};
+ghost use Rattle.std.specs.Prelude.{◌≡◌, ◌∷◌, drop, reverse, slice_get, length, ◌≤◌, ◌↔◌, IfSome, IsSome, OnOk, OnErr};
+ghost use Rattle.member_link.specs.Machine.Locals.{topmost};
 
 use class_model::NoMemory;
 use machine_values::{Value, ValueList};
@@ -42,4 +43,17 @@ pub(crate) fn push_two(stack: &mut ValueList, below: &Value, above: &Value) -> R
 {
     push_top(stack, below)?;
     push_top(stack, above)
+}
+
+/// The topmost entries, so many, the topmost last. None where there are fewer.
+pub fn operands(stack: &ValueList, count: usize) -> Option<&[Value]>
+    ensures some { IfSome result (λ values. values.now ≡ topmost count (reverse stack.now)) }
+    ensures enough { IsSome result ↔ (count ≤ length stack.now) }
+{
+    let values = stack.as_slice();
+    if count <= values.len() {
+        Some(&values[values.len() - count..])
+    } else {
+        None
+    }
 }
