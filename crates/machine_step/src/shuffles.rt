@@ -34,11 +34,12 @@ enum Move {
 }
 
 /// Moves entries of the operand stack by an opcode: pop, pop2, dup, dup_x1, dup_x2, dup2, dup2_x1, dup2_x2 or swap (JVM
-/// Specification SE 8, 6.5), in the form that the widths of the topmost entries choose. It says whether there was one; where not, the stack stays.
+/// Specification SE 8, 6.5), in the form that the widths of the topmost entries choose. False where no form fits them, and for
+/// another opcode; the stack is then as it was.
 ///
 /// # Errors
 ///
-/// `NoMemory` where memory runs out; the stack then has lost entries.
+/// `NoMemory` where memory runs out; the stack may then lack entries.
 pub fn shuffle(opcode: u8, stack: &mut ValueList) -> Result<bool, NoMemory>
     ensures shuffled { IfOk result (λ moved. shuffled opcode (reverse stack.old)
         ≡ written moved (reverse stack.new)) }

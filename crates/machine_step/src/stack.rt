@@ -17,7 +17,7 @@ pub fn entry(stack: &ValueList, depth: usize) -> Option<Value>
     }
 }
 
-/// Takes the topmost entries off, so many or as many as there are. It does not allocate.
+/// Takes off so many of the topmost entries, or all where there are fewer. It does not allocate.
 pub fn drop_top(stack: &mut ValueList, count: usize)
     ensures { reverse stack.new ≡ drop count (reverse stack.old) }
 {
@@ -29,7 +29,7 @@ pub fn drop_top(stack: &mut ValueList, count: usize)
 ///
 /// # Errors
 ///
-/// `NoMemory` where memory runs out; the stack stays.
+/// `NoMemory` where memory runs out; the stack is then as it was.
 pub fn push_top(stack: &mut ValueList, value: &Value) -> Result<(), NoMemory>
     ensures ok { OnOk result (reverse stack.new ≡ value.now ∷ reverse stack.old) }
     ensures err { OnErr result (stack.new ≡ stack.old) }
