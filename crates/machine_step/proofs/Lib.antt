@@ -12,3 +12,4 @@ pub mod Stacks
 pub mod Switches
 pub mod Results
 pub mod FloatOperands
+pub mod WidthMoves

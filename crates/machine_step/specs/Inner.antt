@@ -13,3 +13,4 @@ pub mod Kinds
 pub mod Jumps
 pub mod Units
 pub mod Results
+pub mod Moves

@@ -98,7 +98,7 @@ fn jumped(stack: &mut ValueList, count: usize, taken: Option<bool>) -> Option<bo
 }
 
 /// Whether a jump by an int is taken: ifeq, ifne, iflt, ifge, ifgt, ifle (JVM Specification SE 8, 6.5). Its operand is taken off. None
-/// where the topmost entry is no int; the stack then stays.
+/// where the topmost entry is no int; the stack is then as it was.
 pub fn jump_by_int(opcode: u8, stack: &mut ValueList) -> Option<bool>
     ensures jump { jump_of_int opcode (reverse stack.old) ≡ with_rest (reverse stack.new) result }
     ensures stuck { IfNone result (stack.new ≡ stack.old) }
@@ -108,7 +108,7 @@ pub fn jump_by_int(opcode: u8, stack: &mut ValueList) -> Option<bool>
 }
 
 /// Whether a jump by two ints is taken: if_icmpeq, ne, lt, ge, gt, le (JVM Specification SE 8, 6.5). Its operands are taken off. None
-/// where the topmost entries are no ints; the stack then stays.
+/// where the topmost entries are no ints; the stack is then as it was.
 pub fn jump_by_ints(opcode: u8, stack: &mut ValueList) -> Option<bool>
     ensures jump { jump_of_ints opcode (reverse stack.old) ≡ with_rest (reverse stack.new) result }
     ensures stuck { IfNone result (stack.new ≡ stack.old) }
@@ -118,7 +118,7 @@ pub fn jump_by_ints(opcode: u8, stack: &mut ValueList) -> Option<bool>
 }
 
 /// Whether a jump by two references is taken: if_acmpeq, if_acmpne (JVM Specification SE 8, 6.5). Its operands are taken off. None
-/// where the topmost entries are no references; the stack then stays.
+/// where the topmost entries are no references; the stack is then as it was.
 pub fn jump_by_references(opcode: u8, stack: &mut ValueList) -> Option<bool>
     ensures jump { jump_of_references opcode (reverse stack.old)
         ≡ with_rest (reverse stack.new) result }
@@ -129,7 +129,7 @@ pub fn jump_by_references(opcode: u8, stack: &mut ValueList) -> Option<bool>
 }
 
 /// Whether a jump by a test for null is taken: ifnull, ifnonnull (JVM Specification SE 8, 6.5). Its operand is taken off. None where the
-/// topmost entry is no reference; the stack then stays.
+/// topmost entry is no reference; the stack is then as it was.
 pub fn jump_by_null(opcode: u8, stack: &mut ValueList) -> Option<bool>
     ensures jump { jump_of_null opcode (reverse stack.old) ≡ with_rest (reverse stack.new) result }
     ensures stuck { IfNone result (stack.new ≡ stack.old) }

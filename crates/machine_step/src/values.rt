@@ -115,7 +115,7 @@ pub fn have_kinds(kinds: &[Kind], values: &[Value]) -> bool
     true
 }
 
-/// The locals with which a method starts: its arguments in local units, and units without a value behind them, so many in all
+/// The locals with which a method starts: its arguments in local units, then units without a value, up to so many units in all
 /// (JVM Specification SE 8, 2.6.1).
 ///
 /// # Errors

@@ -16,7 +16,7 @@ incremented_at at by locals =
     option_and_then (λ value. stored at (incremented by value) locals)
     (local_value kinds.Int locals at)
 
--- the units after a write that was made or not
-abbrev pub written : Bool → List (Option Value) → Option (List (Option Value))
+-- what is there after a change that was made or not
+abbrev pub written : {X : Type 0} → Bool → X → Option X
 written true units = Some units
 written false units = None
