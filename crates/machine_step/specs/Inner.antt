@@ -1,4 +1,4 @@
--- Words for private functions.
+-- Words for private functions, measures, and the steps of the code: no definition of the machine cites them.
 pub mod RunOps
 pub mod Completing
 pub mod Preparing
@@ -7,7 +7,6 @@ pub mod Monitors
 pub mod Counting
 pub mod QuestionWords
 pub mod Resolved
--- Words for private functions, measures, and the steps of the code: no definition of the machine cites them.
 pub mod Narrowings
 pub mod Kinds
 pub mod Jumps

@@ -16,6 +16,7 @@ mod questions;
 mod reference;
 mod resolving;
 mod run_op;
+mod shuffles;
 mod stack;
 mod statics;
 mod values;
@@ -24,8 +25,6 @@ mod world;
 pub use arithmetic::{Divided, divide, pure, pure_operands};
 pub use begun::ClassNumberList;
 pub use completed::{Asked, Completed};
-//! The steps of the bounded machine (JVM Specification SE 8, 2.6, 2.11 and 6.5), as member_link defines them.
-mod shuffles;
 pub use floats::{float_fits, float_operands};
 pub use jumps::{
     jump_by_int, jump_by_ints, jump_by_null, jump_by_references, lookup_target, table_target,
@@ -40,9 +39,8 @@ pub use run_op::{
     CallOp, CallTarget, Callee, CastOp, DynamicOp, FieldHome, FieldOp, FieldTarget, LookupOp,
     NewOp, RunOp, SeenAnswer, SeenCallee, SeenSlot, TableOp, Throwable,
 };
-pub use stack::{drop_top, entry};
+pub use shuffles::shuffle;
+pub use stack::{drop_top, entry, operands, push_top};
 pub use statics::{StaticField, StaticValueList};
 pub use values::{Narrowing, blank, has_kind, have_kinds, is_wide, locals_of, narrow};
 pub use world::{Acted, Outcome, World};
-pub use shuffles::shuffle;
-pub use stack::{drop_top, entry, operands, push_top};
