@@ -1,12 +1,16 @@
 //! The heap (JVM Specification SE 8, 2.5.3).
 ghost use Rattle.std.specs.Prelude.{◌≡◌, ◌≢◌, ◌<◌, ◌↔◌, ◌^◌, ◌-◌, [], length, true, false, OnOk, OnErr, IfOk, IsSome};
 ghost use Rattle.std.specs.Option.{option_copied};
-ghost use Rattle.machine_heap.specs.Objects.{value_at};
+ghost use Rattle.class_tree.specs.Headers.{headers_of};
+ghost use Rattle.machine_heap.specs.Blanks.{IsAllocatable, blank_for};
+ghost use Rattle.machine_heap.specs.Objects.{ConstantsAreThere, value_at};
 ghost use Rattle.machine_values.specs.Heaps.{Heap as HeapState, allocated, constant_in, constant_made, entered, left, monitor_count, object_at, with_value};
 
+use crate::blanks::blanks_for;
 use crate::classes::constant_object;
 use crate::kept::KeptConstants;
 use class_model::NoMemory;
+use class_tree::Tree;
 use machine_values::{Constant, Object, Ref, Shape, Value, ValueList};
 use std::alloc::Global;
 use std::marker::Model;
@@ -53,7 +57,8 @@ impl Heap {
 
     /// How many objects there are.
     pub fn len(&self) -> usize
-        ensures { result ≡ length self.now.objects }
+        ensures len { result ≡ length self.now.objects }
+        ensures constants { ConstantsAreThere self.now }
     {
         self.objects.len()
     }
@@ -116,6 +121,24 @@ impl Heap {
             }
             _ => false,
         }
+    }
+
+    /// A new object, whose values are zero or null by their declared types and whose monitor is not entered, and its reference.
+    ///
+    /// # Errors
+    ///
+    /// `NoMemory` where memory runs out; the heap stays as it was.
+    pub fn alloc(&mut self, tree: &Tree, shape: Shape) -> Result<Ref, NoMemory>
+        requires { IsAllocatable tree.now shape }
+        ensures heap { OnOk result
+            (self.new
+            ≡ (allocated self.old shape (blank_for (headers_of tree.now) shape)).heap) }
+        ensures reference { IfOk result (λ at.
+            at ≡ (allocated self.old shape (blank_for (headers_of tree.now) shape)).reference) }
+        ensures err { OnErr result (self.new ≡ self.old) }
+    {
+        let values = blanks_for(*self.objects.allocator(), tree, &shape)?;
+        self.alloc_with(shape, values)
     }
 
     /// A new object with these values, whose monitor is not entered, and its reference.

@@ -1,6 +1,15 @@
+pub mod FieldTargets
 pub mod FirstTests
 pub mod ProgramHeaders
 pub mod Firsts
 pub mod Entries
 pub mod MonitorCounts
 pub mod CountedLists
+pub mod ProgramMembers
+pub mod KindLists
+pub mod UnitLists
+pub mod Stacks
+pub mod Switches
+pub mod Results
+pub mod FloatOperands
+pub mod WidthMoves

@@ -2,9 +2,10 @@
 use Rattle.std.specs.Prelude.{◌≡◌, ℕ, Bool, true, false, List, [], map, Option, Some, None, option_map, IfSome}
 use Rattle.class_model.specs.Descriptors.{kind_of, type_of, parameters_of}
 use Rattle.class_model.specs.Members.{STATIC, ABSTRACT}
+use Rattle.class_model.specs.declared.descriptor.FieldType.{FieldType}
 use Rattle.class_tree.specs.Headers.{Name}
 use Rattle.class_tree.specs.Layouts.{instance_fields}
-use Rattle.machine_values.specs.Values.{blank_values}
+use Rattle.machine_values.specs.Values.{blank_values, narrowed}
 use Rattle.machine_values.specs.declared.object.Shape.TheVariants.{Folder}
 use Rattle.machine_values.specs.declared.value.Value.{Value}
 use Rattle.member_link.specs.Machine.CallSteps.{as_asked, found_special, is_polymorphic, is_object_init, run_call, run_chosen, special_choice}
@@ -102,6 +103,12 @@ throwable_name raised.AbstractCalled = throwables.abstract_called
 
 -- ---- fields
 
+-- the type keeps values as the type of a descriptor does: they have the same kind and are narrowed alike. Which class a type of
+-- references names does not matter to a field.
+pub record IsStoredAs (type : FieldType) (desc : List ℕ) : Type 0 where
+  pub kind : kind_of (type_of desc) ≡ kind_of type
+  pub narrows : (value : Value) → narrowed (type_of desc) value ≡ narrowed type value
+
 abbrev pub home_class : FieldHome → Option ℕ
 home_class homes.Library = None
 home_class (homes.Folder class number) = Some class
@@ -118,7 +125,7 @@ pub record IsFieldTarget (P : Program) (op : FieldOp) (target : FieldTarget) : T
   pub link : P.links.field op.named ≡ Some target.field
   pub static : target.is_static ≡ has_flag (field_of P target.field) STATIC
   pub barred : target.is_barred ≡ is_barred P target.field op.initialises
-  pub desc : target.desc ≡ type_of target.field.desc
+  pub desc : IsStoredAs target.desc target.field.desc
   pub home : folder_number P target.field.class ≡ home_class target.home
   pub number : IsNumberAt P target.field target.home
   pub seen : IfSome target.seen (IsSeenSlot P op.named.class target.field)
@@ -167,7 +174,7 @@ RunsStatic P target (Some callee) =
     (memory : Memory) (values : List Value)
     → run_call P target.asked values ≡ called memory callee values
 
--- what a special call runs, unless the library is asked
+-- what a special call runs, unless the library is asked; of a static method, which such a call does not run, nothing is said
 abbrev pub RunsSpecial : Program → Name → CallTarget → Option Callee → Type 0
 RunsSpecial P from target None = ⊥
 RunsSpecial P from target (Some callees.Nothing) = is_object_init target.method ≡ true
@@ -191,7 +198,7 @@ pub record IsSpecialTarget (P : Program) (op : CallOp) (from : Name) (target : C
     : Type 0 where
   pub link : found_special P op.named ≡ Some target.method
   pub found : IsFoundMethod P op.named target
-  pub runs : RunsSpecial P from target target.fixed
+  pub runs : target.is_static ≡ false → RunsSpecial P from target target.fixed
 
 -- the arguments of a call by their kinds
 abbrev pub HasParameters : CallOp → Type 0

@@ -1,0 +1,2 @@
+//! Operations whose names are resolved once (JVM Specification SE 8, 5.4.3).
+pub(crate) mod fields;
