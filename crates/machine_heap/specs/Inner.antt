@@ -1,0 +1,3 @@
+-- Words for private functions.
+pub mod Climbs
+pub mod Kept

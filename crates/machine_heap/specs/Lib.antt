@@ -1,0 +1,4 @@
+pub mod Objects
+pub mod Blanks
+pub mod Laws
+pub mod Inner
