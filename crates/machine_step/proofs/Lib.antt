@@ -6,3 +6,4 @@ pub mod Parameters
 pub mod ProgramHeaders
 pub mod ProgramMembers
 pub mod Slots
+pub mod Subtypes
