@@ -1,4 +1,5 @@
 pub mod CallTargets
+pub mod Conforming
 pub mod FieldTargets
 pub mod FirstTests
 pub mod OwnMethods

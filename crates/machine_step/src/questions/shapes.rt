@@ -60,10 +60,12 @@ fn is_one_below(tree: &Tree, classes: &[Text], name: &[u8]) -> bool
     ensures { (P : Program) → IsProgram tree.now P
         → result ≡ list_any (λ class. P.links.below class name.now) classes.now }
 {
-    for class in classes {
+    let mut rest = classes;
+    while let Some((class, more)) = rest.split_first() {
         if is_type_below(tree, class.bytes(), name) {
             return true;
         }
+        rest = more;
     }
     false
 }
