@@ -1,4 +1,5 @@
-use Rattle.std.proofs.Common.{◌≡◌, ◌∷◌, ◌||◌, Bool, true, false, List, [], ℕ, sym, ap, ◌∙◌, rules}
+use Rattle.std.proofs.Common.{arith, ◌≡◌, ◌∷◌, ◌||◌, Bool, true, false, List, [], ℕ, sym, ap, ◌∙◌, rules}
+use Rattle.std.proofs.lemmas.Grind.{common_steps}
 use Rattle.std.specs.List.{list_any}
 use Rattle.machine_step.proofs.questions.shapes.is_one_below.Goals as goal
 
@@ -24,5 +25,5 @@ returns-then-is_type_below c = λ P is.
 
 pub returns : goal.returns
 returns c = λ P is.
-    let none : c.loop-class.rest.now ≡ [] = search rules in
+    let none : c.loop-class.rest.now ≡ [] = grind (arith, common_steps) in
     sym (c.loop-class.invariant P is ∙ ap (list_any (λ (class : List ℕ). P.links.below class c.args.name.now)) none)
