@@ -1,4 +1,5 @@
 pub mod CallTargets
+pub mod Conforming
 pub mod CountedLists
 pub mod Entries
 pub mod FieldTargets
@@ -14,6 +15,7 @@ pub mod ProgramMembers
 pub mod Results
 pub mod Slots
 pub mod Stacks
+pub mod Subtypes
 pub mod Switches
 pub mod UnitLists
 pub mod WidthMoves

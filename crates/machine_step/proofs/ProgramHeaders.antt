@@ -1,5 +1,5 @@
 -- The program of a tree's classes has their headers, and asks the same of them.
-use Rattle.std.proofs.Common.{◌≡◌, ℕ, Bool, false, List, [], ◌∷◌, map, bytes_eq, slice_get, Option, Some, None, option_map, option_and_then, refl, sym, ap, subst, ◌∙◌}
+use Rattle.std.proofs.Common.{◌≡◌, ℕ, Bool, true, false, IsTrue, List, [], ◌∷◌, map, bytes_eq, slice_get, Option, Some, None, option_map, option_and_then, refl, sym, ap, subst, ◌∙◌}
 use Rattle.std.specs.Option.{option_map_or}
 use Rattle.std.proofs.lemmas.Option.{slice_get-map}
 use Rattle.class_model.specs.Header.{header_of}
@@ -137,3 +137,9 @@ none_at_number classes P is number at = by (slice_get P.classes number) (class_a
 -- where there is no class the name is empty
 pub no_name : (P : Program) (number : ℕ) → slice_get P.classes number ≡ None → [] ≡ name_of_class P number
 no_name P number none = rw none refl
+
+-- tests that are true together are the same
+pub same_truth : (one other : Bool) → (IsTrue one → IsTrue other) → (IsTrue other → IsTrue one) → one ≡ other
+same_truth true other there back = sym (there refl)
+same_truth false true there back = back refl
+same_truth false false there back = refl

@@ -3,4 +3,5 @@ pub(crate) mod classes;
 pub(crate) mod fields;
 pub(crate) mod members;
 pub(crate) mod methods;
+pub(crate) mod shapes;
 pub(crate) mod slots;

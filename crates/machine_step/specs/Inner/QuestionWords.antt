@@ -1,6 +1,7 @@
 -- Words of the questions that the machine asks of a tree.
-use Rattle.std.specs.Prelude.{◌&&◌, not, Bool, true, false, List, ℕ, bytes_eq, slice_get, Option, Some, None, option_and_then}
+use Rattle.std.specs.Prelude.{◌==◌, [], ◌∷◌, if◌then◌else◌, ◌&&◌, not, Bool, true, false, List, ℕ, bytes_eq, slice_get, Option, Some, None, option_and_then}
 use Rattle.std.specs.List.{list_any}
+use Rattle.class_model.specs.Characters.{left_bracket}
 use Rattle.class_model.specs.Members.{has, NATIVE}
 use Rattle.class_model.specs.declared.class_file.Attr.{Attr}
 use Rattle.class_model.specs.declared.class_file.Attr.TheVariants.{Raw, Code}
@@ -25,3 +26,8 @@ is_code (Raw name bytes) = false
 -- a method that is not native and has a Code attribute
 abbrev pub runs_code : Method → Bool
 runs_code method = not (has method.flags NATIVE) && list_any is_code method.attrs
+
+-- what stands behind a bracket at the front
+abbrev pub behind_bracket : List ℕ → Option (List ℕ)
+behind_bracket [] = None
+behind_bracket (first ∷ rest) = if first == left_bracket then Some rest else None

@@ -32,15 +32,15 @@ pub(crate) fn class_name(tree: &Tree, class: usize) -> Option<&Text>
 }
 
 /// The header of the class of a name, of the folder or the library. It does not allocate.
-pub(crate) fn header_named<'a>(tree: &'a Tree, name: &Text) -> Option<&'a Header>
+pub(crate) fn header_named<'a>(tree: &'a Tree, name: &[u8]) -> Option<&'a Header>
     ensures { option_copied result ≡ class_in (headers_of tree.now) name.now }
 {
     a_tree_is_a_hierarchy(tree);
-    tree.header(tree.place(name)?)
+    tree.header(tree.find(name)?)
 }
 
 /// Whether the class of a name is an interface. It does not allocate.
-pub(crate) fn is_interface_named(tree: &Tree, name: &Text) -> bool
+pub(crate) fn is_interface_named(tree: &Tree, name: &[u8]) -> bool
     ensures { (P : Program) → IsProgram tree.now P → result ≡ is_interface_named P name.now }
 {
     match header_named(tree, name) {
