@@ -1,0 +1,159 @@
+-- Methods that classes declare themselves, in a tree and in its program, and what is selected for them.
+use Rattle.std.proofs.Common.{◌≡◌, ◌≢◌, ℕ, Bool, true, false, List, [], ◌∷◌, bytes_eq, slice_get, Option, Some, None, option_map, option_and_then, refl, sym, ap, subst, ◌∙◌}
+use Rattle.std.proofs.lemmas.Bool.{and_parts}
+use Rattle.std.proofs.lemmas.Option.{same_Some}
+use Rattle.std.proofs.lemmas.Slice.Eq.{bytes_eq-Decides}
+use Rattle.class_model.specs.Members.{has, STATIC}
+use Rattle.class_model.specs.Names.{init}
+use Rattle.class_model.specs.declared.header.Header.{Header}
+use Rattle.class_model.specs.declared.header.Member.{Member}
+use Rattle.class_tree.specs.Headers.{Name, Classes, Headers, class_named, headers_of}
+use Rattle.class_tree.specs.Hierarchy.{IsHierarchy}
+use Rattle.class_tree.specs.Laws.FirstPlaces.{first_passes}
+use Rattle.class_tree.specs.Names.{is_member}
+use Rattle.class_tree.specs.Order.{header_at, member_place, place_of}
+use Rattle.class_tree.specs.declared.place.Place.{Place}
+use Rattle.member_link.specs.DeclaredMembers.{Declared, declared_by, declared, own_method}
+use Rattle.member_link.specs.Found.{AreSame, IsMethodFound}
+use Rattle.member_link.specs.Machine.Links.{IsSelection, chosen_by}
+use Rattle.member_link.specs.Machine.Programs.{Program, abstract_method, has_flag, method_of}
+use Rattle.member_link.specs.References.{Reference}
+use Rattle.member_link.specs.Selection.{Choice, Selects}
+use Rattle.member_link.specs.declared.found.Found.{Found}
+use Rattle.member_link.specs.declared.selection.CallForm.{CallForm}
+use Rattle.machine_step.specs.Programs.{IsProgram}
+use Rattle.machine_step.proofs.ProgramHeaders.{links_are}
+use Rattle.machine_step.proofs.ProgramMembers.{class_at_place, declared_at, method_is}
+
+-- ---- what the search of a class answers
+
+module _ (headers : Headers) where
+  no_own :
+      (class : Name) (name desc : List ℕ) (found : Option Header)
+      → None ≡ option_and_then (λ (header : Header). declared name desc header.methods) found
+      → option_and_then (λ (header : Header). option_map (declared_by class) (declared name desc header.methods)) found ≡ None
+  no_own class name desc None none = refl
+  no_own class name desc (Some header) none = ap (option_map (declared_by class)) (sym none)
+
+  pub own_none :
+      (class : Name) (name desc : List ℕ) (result : Option Found)
+      → result ≡ None
+      → None ≡ option_and_then (λ (header : Header). declared name desc header.methods) (class_named headers class)
+      → AreSame (IsMethodFound headers) result (own_method headers class name desc)
+  own_none class name desc result is none =
+      subst (λ (r : Option Found). AreSame (IsMethodFound headers) r (own_method headers class name desc)) (sym is)
+      (subst (AreSame (IsMethodFound headers) None) (sym (no_own class name desc (class_named headers class) none)) tt)
+
+  pub own_some :
+      IsHierarchy headers
+      → (class : Name) (name desc : List ℕ) (place : Place) (header : Header) (number : ℕ) (member : Member)
+      → place_of headers class ≡ Some place
+      → header_at headers place ≡ Some header
+      → option_and_then (λ (header : Header). member_place name desc header.methods) (header_at headers place) ≡ Some number
+      → slice_get header.methods number ≡ Some member
+      → AreSame (IsMethodFound headers) (Some (record { place = place; member = number; flags = member.flags })) (own_method headers class name desc)
+  own_some hierarchy class name desc place header number member at is first stands =
+      let there : class_named headers class ≡ Some header = sym (class_at_place headers hierarchy class place at) ∙ is in
+      let numbered : member_place name desc header.methods ≡ Some number =
+      sym (ap (option_and_then (λ (header : Header). member_place name desc header.methods)) is) ∙ first
+      in
+      let passes = first_passes (is_member name desc) header.methods number numbered in
+      let same : passes.item ≡ member = same_Some passes.item member (sym passes.there ∙ stands) in
+      let tested : is_member name desc member ≡ true = ap (is_member name desc) (sym same) ∙ passes.passes in
+      let own_name : name ≡ member.name = (bytes_eq-Decides name member.name).0 (and_parts _ _ tested).0 in
+      let own_desc : desc ≡ member.desc = (bytes_eq-Decides desc member.desc).0 (and_parts _ _ tested).1 in
+      let found : own_method headers class name desc ≡ Some (declared_by class member) =
+      ap (option_and_then (λ (header : Header). option_map (declared_by class) (declared name desc header.methods))) there
+      ∙ ap (option_map (declared_by class)) (declared_at name desc header.methods ∙ ap (option_and_then (slice_get header.methods)) numbered ∙ stands)
+      in
+      subst (AreSame (IsMethodFound headers) (Some (record { place = place; member = number; flags = member.flags }))) (sym found) (record {
+        header = header;
+        at = is;
+        own_class = (let stands = hierarchy.placed class place at in
+            ap (λ (h : Header). h.name) (same_Some header stands.0 (sym is ∙ stands.1.at)) ∙ stands.1.own_name);
+        stands = stands;
+        first =
+            ap (λ (n : List ℕ). member_place n member.desc header.methods) (sym own_name)
+            ∙ ap (λ (d : List ℕ). member_place name d header.methods) (sym own_desc)
+            ∙ numbered;
+        same_flags = refl;
+      })
+
+  -- one is found
+  pub one_own :
+      (found : Found) (own : Option Declared)
+      → AreSame (IsMethodFound headers) (Some found) own
+      → (method : Declared) × (own ≡ Some method) × IsMethodFound headers found method
+  one_own found None same = absurd same
+  one_own found (Some method) same = (method, refl, same)
+
+  pub nothing_own :
+      (own : Option Declared) → AreSame (IsMethodFound headers) None own → own ≡ None
+  nothing_own None same = refl
+  nothing_own (Some method) same = absurd same
+
+-- ---- in a program
+
+-- a selection chooses one
+pub record OneChoice : Type 0 where
+  pub one :
+      (headers : Headers) (receiver : Name) (resolved : Declared) (form : CallForm)
+      (one other : Choice)
+      → Selects headers receiver resolved form one
+      → Selects headers receiver resolved form other
+      → one ≡ other
+
+module _ (classes : Classes) (P : Program) (is : IsProgram classes P) where
+  member_in :
+      (class : Name) (name desc : List ℕ) (found : Option Header)
+      → option_map (λ (d : Declared). d.member) (option_and_then (λ (header : Header). option_map (declared_by class) (declared name desc header.methods)) found)
+      ≡ option_and_then (λ (header : Header). declared name desc header.methods) found
+  member_in class name desc None = refl
+  member_in class name desc (Some header) = by (declared name desc header.methods)
+    where
+      by : (found : Option Member) → option_map (λ (d : Declared). d.member) (option_map (declared_by class) found) ≡ found
+      by None = refl
+      by (Some member) = refl
+
+  pub own_member :
+      (r : Reference)
+      → option_map (λ (d : Declared). d.member) (own_method (headers_of classes) r.class r.name r.desc) ≡ method_of P r
+  own_member r = member_in r.class r.name r.desc (class_named (headers_of classes) r.class) ∙ method_is classes P is r
+
+  pub own_flag :
+      (r : Reference) (method : Declared) (mask : ℕ)
+      → own_method (headers_of classes) r.class r.name r.desc ≡ Some method
+      → has_flag (method_of P r) mask ≡ has method.member.flags mask
+  own_flag r method mask own =
+      ap (λ (member : Option Member). has_flag member mask) (sym (own_member r) ∙ ap (option_map (λ (d : Declared). d.member)) own)
+
+  -- ---- what is selected
+
+  module _ (receiver : Name) (r : Reference) (form : CallForm) where
+    pub initialiser_selected : r.name ≡ init → P.links.select receiver r form ≡ abstract_method
+    initialiser_selected name = (links_are classes P is).no_initialiser receiver r form name
+
+    selection :
+        r.name ≢ init
+        → (own : Option Declared)
+        → own_method (headers_of classes) r.class r.name r.desc ≡ own
+        → IsSelection (headers_of classes) receiver form own (P.links.select receiver r form)
+    selection name own same =
+        subst (λ (o : Option Declared). IsSelection (headers_of classes) receiver form o (P.links.select receiver r form)) same ((links_are classes P is).select receiver r form name)
+
+    pub none_selected :
+        r.name ≢ init
+        → own_method (headers_of classes) r.class r.name r.desc ≡ None
+        → P.links.select receiver r form ≡ abstract_method
+    none_selected name own = selection name None own
+
+    pub one_selected :
+        OneChoice
+        → r.name ≢ init
+        → (method : Declared) (choice : Choice)
+        → own_method (headers_of classes) r.class r.name r.desc ≡ Some method
+        → Selects (headers_of classes) receiver method form choice
+        → P.links.select receiver r form ≡ chosen_by choice
+    one_selected law name method choice own selects =
+        let link = selection name (Some method) own in
+        link.same ∙ ap chosen_by (law.one (headers_of classes) receiver method form link.choice choice link.selects selects)

@@ -1,0 +1,9 @@
+use Rattle.std.proofs.Common.{sym}
+use Rattle.machine_step.proofs.ProgramHeaders.{name_at_number, none_at_number}
+use Rattle.machine_step.proofs.questions.classes.class_name.Goals as goal
+
+pub returns-in-Some-clause-some : goal.returns-in-Some-clause-some
+returns-in-Some-clause-some c = λ P is. name_at_number c.args.tree.now P is c.args.class c.in-Some.header.now (sym c.in-Some.ensures)
+
+pub returns-in-None-clause-none : goal.returns-in-None-clause-none
+returns-in-None-clause-none c = λ P is. none_at_number c.args.tree.now P is c.args.class (sym c.in-None.ensures)

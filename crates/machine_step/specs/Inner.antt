@@ -1,0 +1,17 @@
+pub mod Completing
+pub mod Counting
+pub mod Jumps
+pub mod Kinds
+pub mod Monitors
+pub mod Moves
+pub mod Narrowings
+pub mod Numbering
+pub mod ParameterWords
+pub mod Preparing
+pub mod QuestionWords
+pub mod Resolved
+pub mod Results
+pub mod RunOps
+pub mod SlotWords
+pub mod Statics
+pub mod Units

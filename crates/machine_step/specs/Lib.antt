@@ -1,0 +1,4 @@
+pub mod Programs
+pub mod Room
+pub mod SpentWorlds
+pub mod Inner

@@ -1,0 +1,49 @@
+//! One step of the bounded machine (JVM Specification SE 8, 2.6, 2.11, 5.5 and 6.5), as member_link defines it.
+#![tactic(auto)]
+
+mod arithmetic;
+mod begun;
+mod completed;
+mod counting;
+mod floats;
+mod jumps;
+mod known;
+mod locals;
+mod memory;
+mod monitors;
+mod numbering;
+mod prepared_method;
+mod questions;
+mod reference;
+mod resolving;
+mod run_op;
+mod showing;
+mod shuffles;
+mod stack;
+mod statics;
+mod values;
+mod world;
+
+pub use arithmetic::{Divided, divide, pure, pure_operands};
+pub use begun::ClassNumberList;
+pub use completed::{Asked, Completed};
+pub use floats::{float_fits, float_operands};
+pub use jumps::{
+    jump_by_int, jump_by_ints, jump_by_null, jump_by_references, lookup_target, table_target,
+};
+pub use known::KnownRefs;
+pub use locals::{increment, local_value, store};
+pub use memory::Memory;
+pub use monitors::MonitorHeap;
+pub use prepared_method::{Locks, PreparedHandler, PreparedMethod};
+pub use reference::Reference;
+pub use run_op::{
+    CallOp, CallTarget, Callee, CastOp, DynamicOp, FieldHome, FieldOp, FieldTarget, LookupOp,
+    NewOp, RunOp, SeenAnswer, SeenCallee, SeenSlot, TableOp, Throwable,
+};
+pub use showing::{show_asked, show_got, show_length, show_made, show_result, show_threw};
+pub use shuffles::shuffle;
+pub use stack::{drop_top, entry, operands, push_top};
+pub use statics::{StaticField, StaticValueList};
+pub use values::{Narrowing, blank, has_kind, have_kinds, is_wide, locals_of, narrow};
+pub use world::{Acted, Outcome, World};

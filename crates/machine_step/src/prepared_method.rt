@@ -1,0 +1,34 @@
+//! The code of a method with its operations prepared.
+use crate::run_op::RunOp;
+use class_model::Text;
+
+/// A handler of a method's exception table: the range of offsets, in bytes, around which it stands, the point at which it begins,
+/// and the class that it catches; without one everything.
+#[derive(Debug, Drop)]
+pub struct PreparedHandler {
+    pub start: u32,
+    pub end: u32,
+    pub to: u32,
+    pub class: Option<Text>,
+}
+
+/// Which monitor a method enters as it is called.
+#[derive(Clone, Copy, Debug, PartialEq, Eq)]
+pub enum Locks {
+    None,
+    Receiver,
+    Class,
+}
+
+/// The code of a method: the operations at its points, the offset of each in bytes, the handlers in the order of the exception
+/// table, and how many local units it has; and what its flags and name say.
+#[derive(Debug, Drop)]
+pub struct PreparedMethod {
+    pub ops: Vec<RunOp>,
+    pub offsets: Vec<u32>,
+    pub handlers: Vec<PreparedHandler>,
+    pub locals: u16,
+    pub locks: Locks,
+    /// It is a class initialiser.
+    pub is_initialiser: bool,
+}

@@ -1,0 +1,97 @@
+//! The world of a run.
+ghost use Rattle.std.specs.Prelude.{◌≡◌, IfOk};
+ghost use Rattle.member_link.specs.Machine.Worlds.{start};
+ghost use Rattle.machine_step.specs.SpentWorlds.{unspent};
+
+use crate::known::KnownRefs;
+use crate::memory::Memory;
+use class_model::NoMemory;
+use class_tree::Tree;
+use machine_values::{EventList, RunFrame, RunFrameList};
+use std::alloc::Global;
+use std::marker::Model;
+
+/// The frames, the memory, the references that the library knows, the events, how many steps were taken, and whether memory
+/// ran out in one of them: then the world is spent, and nothing else is said of it. Contracts see the world of the definitions,
+/// which goes on. A world that is spent has an empty memory (`Memory::clear`). The type keeps that the monitor counts and the
+/// count of entered monitors are at most the number of steps, and the count of allocations at most 2^28 times that number.
+#[derive(Drop)]
+pub struct World {
+    pub frames: RunFrameList,
+    pub memory: Memory,
+    pub known: KnownRefs,
+    pub events: EventList,
+    pub steps: u64,
+    pub spent: bool,
+}
+
+impl Model for World {
+    ghost use Rattle.member_link.specs.Machine.Bounds.{IsBounded};
+    ghost use Rattle.member_link.specs.Machine.Worlds.{going};
+    ghost use Rattle.machine_step.specs.SpentWorlds.{SpentWorld};
+
+    ghost Value = { SpentWorld };
+
+    ghost view = { λ world. record {
+      world = record {
+        frames = world.frames;
+        memory = world.memory;
+        known = world.known;
+        events = world.events;
+        steps = world.steps;
+        halt = going;
+      };
+      spent = world.spent;
+    } };
+
+    ghost invariant = { λ world. IsBounded world.memory world.steps };
+}
+
+/// What a step comes to.
+#[derive(Clone, Copy, Debug, PartialEq, Eq)]
+pub enum Outcome {
+    /// The run goes on.
+    Running,
+    /// The library's frame is on top; nothing was done.
+    LibraryTurn,
+    /// An array has a greater length than this project's profile allows.
+    ArrayTooLong,
+    /// An exception left a class initialiser.
+    InitThrew,
+    /// An operand, a local or a receiver is not as the instruction needs it.
+    Stuck,
+}
+
+/// What an action of the library comes to.
+#[derive(Clone, Copy, Debug, PartialEq, Eq)]
+pub enum Acted {
+    Done,
+    /// The run ends by it.
+    Stopped,
+    /// The exception that it throws leaves a class initialiser.
+    InitThrew,
+    /// The library may not take it; nothing was done.
+    Fault,
+}
+
+impl World {
+    /// The world in which a run of a tree begins: the library's frame alone.
+    ///
+    /// # Errors
+    ///
+    /// `NoMemory` where memory runs out.
+    pub fn start(alloc: Global, _tree: &Tree) -> Result<World, NoMemory>
+        ensures { IfOk result (λ world. world ≡ unspent start) }
+    {
+        let mut frames = Vec::new(alloc);
+        frames.push(RunFrame::Library { made: None })?;
+        Ok(World {
+            frames: RunFrameList { frames },
+            memory: Memory::new(alloc),
+            known: KnownRefs::new(alloc),
+            events: EventList::new(alloc),
+            steps: 0,
+            spent: false,
+        })
+    }
+}

@@ -1,0 +1,11 @@
+//! Tests of the heap: what each call answers that allocates, and a few of the others, as tables.
+#![tactic(auto)]
+
+#[cfg(test)]
+mod constant_tests;
+#[cfg(test)]
+mod heap_tests;
+#[cfg(test)]
+mod object_tests;
+#[cfg(test)]
+mod trees;
