@@ -1,12 +1,12 @@
 -- The instance fields of a class by the places of the class and its superclasses.
-use Rattle.std.proofs.Common.{◌≡◌, ◌<◌, ◌≤◌, ◌+◌, ℕ, zero, suc, Bool, true, false, cond, not, List, [], ◌∷◌, ◌++◌, length, map, filter, drop, reverse, bytes_eq, slice_get, slice_index_or, Option, Some, None, IsSome, IfSome, is_some, option_map, option_and_then, refl, sym, ap, subst, ◌∙◌, arith}
+use Rattle.std.proofs.Common.{◌≡◌, ◌<◌, ◌≤◌, ℕ, zero, suc, List, [], ◌∷◌, ◌++◌, length, reverse, bytes_eq, slice_get, Option, Some, None, option_map, option_and_then, refl, sym, ap, subst, ◌∙◌, arith}
 use Rattle.std.specs.List.{flat_map}
 use Rattle.std.proofs.lemmas.List.{append-nil, map-append, reverse-append}
 use Rattle.std.proofs.lemmas.List.Concat.{flat_map-append}
 use Rattle.class_model.specs.Laws.Lists.{none_behind}
 use Rattle.class_model.specs.declared.header.Header.{Header}
 use Rattle.class_model.specs.declared.header.Member.{Member}
-use Rattle.class_tree.specs.Headers.{Name, Headers, all_headers, named, class_named, IsThere}
+use Rattle.class_tree.specs.Headers.{Name, Headers, all_headers, named, class_named}
 use Rattle.class_tree.specs.Hierarchy.{IsHierarchy, StandsAt, climb, height, superclass_of}
 use Rattle.class_tree.specs.Laws.FirstPlaces.{first_at}
 use Rattle.class_tree.specs.Laws.Headers.{class_there, no_superclass, super_is_there, superclass_is}
@@ -17,7 +17,7 @@ use Rattle.class_tree.specs.declared.place.Place.TheVariants.{Folder, Library}
 use Rattle.machine_values.specs.Values.{blank_value, blank_values}
 use Rattle.machine_values.specs.declared.value.Value.{Value}
 use Rattle.machine_heap.specs.Blanks.{blank_object}
-use Rattle.machine_heap.specs.Inner.Climbs.{Climbs, blanks_at, blanks_up, fields_at, instance}
+use Rattle.machine_heap.specs.Inner.Climbs.{Climbs, blanks_at, blanks_up, fields_at}
 
 -- ---- the loops
 

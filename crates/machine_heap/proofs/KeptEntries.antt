@@ -1,9 +1,9 @@
 -- The constants that have references, by value and by reference.
-use Rattle.std.proofs.Common.{◌≡◌, ◌↔◌, IsTrue, ℕ, suc, ◌+◌, ◌<◌, ◌≤◌, ◌-◌, Bool, true, false, cond, not, List, [], ◌∷◌, ◌++◌, length, map, slice_get, position, Option, Some, None, is_some, option_map, refl, sym, ap, subst, ◌∙◌, arith, nat_eq, ◌||◌}
-use Rattle.std.specs.List.{list_any, position_or_len, AllByRecursion}
+use Rattle.std.proofs.Common.{◌≡◌, ◌↔◌, IsTrue, ℕ, suc, ◌+◌, Bool, true, false, cond, not, List, [], ◌∷◌, slice_get, position, Some, None, option_map, refl, sym, ap, ◌∙◌, arith, nat_eq, ◌||◌}
+use Rattle.std.specs.List.{list_any, position_or_len}
 use Rattle.std.specs.Map.{lookup}
 use Rattle.std.proofs.lemmas.Bool.{eqb-true, eq-eqb}
-use Rattle.machine_values.specs.Heaps.{Kept, constant_in, kept_in, same_constant}
+use Rattle.machine_values.specs.Heaps.{constant_in, kept_in, same_constant}
 use Rattle.machine_values.specs.declared.object.Constant.{Constant}
 use Rattle.machine_heap.specs.Inner.Kept.{AreBelow, kept_of, numbers_of}
 
@@ -69,11 +69,3 @@ none_above at (e ∷ entries) below = by (nat_eq at e.1) (λ t. eqb-true at e.1 
     by : (b : Bool) → (b ≡ true → at ≡ e.1) → list_any (nat_eq at) (numbers_of entries) ≡ false → (b || list_any (nat_eq at) (numbers_of entries)) ≡ false
     by true same later = absurd (let s = same refl in omega (arith, below.0))
     by false same later = later
-
-pub below_more : (bound : ℕ) (kept : List Kept) → AreBelow bound kept → AreBelow (bound + 1) kept
-below_more bound [] below = tt
-below_more bound (one ∷ kept) below = (omega (arith, below.0), below_more bound kept below.1)
-
-pub below_push : (bound : ℕ) (kept : List Kept) (one : Kept) → AreBelow bound kept → one.reference < bound → AreBelow bound (kept ++ one ∷ [])
-below_push bound [] one below is = (is, tt)
-below_push bound (first ∷ kept) one below is = (below.0, below_push bound kept one below.1 is)

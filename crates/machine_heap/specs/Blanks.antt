@@ -1,4 +1,4 @@
--- What a new object holds (JVM Specification SE 8, 2.3, 2.4 and 4.10.1.9, new, newarray and anewarray).
+-- What a new object holds (JVM Specification SE 8, 2.3, 2.4 and 2.5.3).
 use Rattle.std.specs.Prelude.{ℕ, ◌<◌, List, [], length, replicate, slice_get, Option, Some, None}
 use Rattle.class_model.specs.Descriptors.{IsArrayType}
 use Rattle.class_model.specs.declared.header.Header.{Header}

@@ -1,9 +1,9 @@
 //! What new objects hold: zeros and nulls by the types of their fields or elements (JVM Specification SE 8, 2.3 and 2.4).
-ghost use Rattle.std.specs.Prelude.{◌≡◌, ◌<◌, ◌++◌, length, replicate, drop, None, Some, IfOk, OnOk, IsSome};
+ghost use Rattle.std.specs.Prelude.{◌≡◌, ◌<◌, ◌++◌, length, replicate, None, Some, IfOk, OnOk, IsSome};
 ghost use Rattle.class_tree.specs.Headers.{headers_of};
 ghost use Rattle.class_tree.specs.Order.{header_at};
 ghost use Rattle.machine_heap.specs.Blanks.{IsAllocatable, blank_for, blank_object};
-ghost use Rattle.machine_heap.specs.Inner.Climbs.{Climbs, blanks_at, blanks_up, instance};
+ghost use Rattle.machine_heap.specs.Inner.Climbs.{Climbs, blanks_at, instance};
 ghost use Rattle.machine_values.specs.Values.{blank_value, blank_values, component_text};
 
 use class_model::{ACC_STATIC, Member, NoMemory, Text, has};

@@ -1,10 +1,10 @@
 //! The heap (JVM Specification SE 8, 2.5.3).
-ghost use Rattle.std.specs.Prelude.{◌≡◌, ◌≢◌, ◌<◌, ◌↔◌, ◌^◌, ◌-◌, [], length, true, false, OnOk, OnErr, IfOk, IsSome};
+ghost use Rattle.std.specs.Prelude.{◌≡◌, ◌<◌, ◌↔◌, ◌^◌, ◌-◌, [], length, true, false, OnOk, OnErr, IfOk, IsSome};
 ghost use Rattle.std.specs.Option.{option_copied};
 ghost use Rattle.class_tree.specs.Headers.{headers_of};
 ghost use Rattle.machine_heap.specs.Blanks.{IsAllocatable, blank_for};
 ghost use Rattle.machine_heap.specs.Objects.{ConstantsAreThere, value_at};
-ghost use Rattle.machine_values.specs.Heaps.{Heap as HeapState, allocated, constant_in, constant_made, entered, left, monitor_count, object_at, with_value};
+ghost use Rattle.machine_values.specs.Heaps.{allocated, constant_in, constant_made, entered, left, monitor_count, object_at, with_value};
 
 use crate::blanks::blanks_for;
 use crate::classes::constant_object;
@@ -96,7 +96,8 @@ impl Heap {
         }
     }
 
-    /// Enters the monitor of an object once more. It does not allocate.
+    /// Enters the monitor of an object once more (JVM Specification SE 8, 2.11.10). The object is there, and the count is below its
+    /// type's end. It does not allocate.
     pub fn enter(&mut self, at: Ref)
         requires there { IsSome (object_at self.old at) }
         requires few { monitor_count self.old at < 2 ^ 64 - 1 }
@@ -123,7 +124,9 @@ impl Heap {
         }
     }
 
-    /// A new object, whose values are zero or null by their declared types and whose monitor is not entered, and its reference.
+    /// A new object, whose values are zero or null by their declared types and whose monitor is not entered, and its reference
+    /// (JVM Specification SE 8, 2.3 and 2.4). A class is one of the tree's folder by its number, and an array's descriptor is an
+    /// array type.
     ///
     /// # Errors
     ///

@@ -1,5 +1,5 @@
 //! The constants that have references.
-ghost use Rattle.std.specs.Prelude.{◌≡◌, ◌<◌, ◌++◌, ◌∷◌, [], None, OnOk, OnErr};
+ghost use Rattle.std.specs.Prelude.{◌≡◌, ◌++◌, ◌∷◌, [], None, OnOk, OnErr};
 ghost use Rattle.std.specs.Option.{option_copied};
 ghost use Rattle.machine_heap.specs.Inner.Kept.{AreBelow};
 ghost use Rattle.machine_values.specs.Heaps.{constant_in, kept_in};

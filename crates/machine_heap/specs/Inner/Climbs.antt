@@ -1,5 +1,5 @@
 -- A class and its superclasses by their places, and the fields of each.
-use Rattle.std.specs.Prelude.{◌≡◌, ℕ, List, [], ◌∷◌, ◌++◌, not, filter, slice_get, Option, Some, None}
+use Rattle.std.specs.Prelude.{◌≡◌, List, [], ◌∷◌, ◌++◌, not, filter, slice_get, Option, Some, None}
 use Rattle.class_model.specs.Members.{has, STATIC}
 use Rattle.class_model.specs.declared.header.Header.{Header}
 use Rattle.class_model.specs.declared.header.Member.{Member}

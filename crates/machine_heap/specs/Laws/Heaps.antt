@@ -1,8 +1,8 @@
 -- What a heap keeps where one object or value is new or changed.
-use Rattle.std.proofs.Common.{◌≡◌, ◌≢◌, ◌⊎◌, inl, inr, ℕ, zero, suc, ◌+◌, ◌-◌, ◌<◌, ◌==◌, is_some, Bool, true, false, cond, List, [], ◌∷◌, ◌++◌, length, slice_get, slice_set, Option, Some, None, IsSome, option_and_then, option_map, unwrap_or, refl, sym, ap, subst, ◌∙◌, arith}
+use Rattle.std.proofs.Common.{◌≡◌, ◌≢◌, ◌⊎◌, inl, inr, ℕ, zero, suc, ◌==◌, is_some, Bool, true, false, cond, List, [], ◌∷◌, ◌++◌, length, slice_get, slice_set, Option, Some, None, IsSome, option_and_then, option_map, unwrap_or, refl, sym, ap, subst, ◌∙◌, arith}
 use Rattle.std.proofs.lemmas.Bool.{cases_Bool, eq-eqb, eqb-true, eqb-false}
 use Rattle.std.proofs.lemmas.Option.{slice_get_past}
-use Rattle.machine_values.specs.Heaps.{Heap, Kept, Made, allocated, class_of_constant, constant_in, constant_made, entered, external, kept_in, left, monitor_count, object_at, same_constant, with_monitor, with_object, with_value}
+use Rattle.machine_values.specs.Heaps.{Heap, Kept, Made, allocated, class_of_constant, constant_made, external, kept_in, monitor_count, object_at, same_constant, with_monitor, with_object, with_value}
 use Rattle.std.proofs.lemmas.Slice.Eq.{bytes_eq-Decides}
 use Rattle.machine_values.specs.declared.object.Constant.{Constant}
 use Rattle.machine_values.specs.declared.object.Constant.TheVariants.{Str, Class, MethodType, Handle}

@@ -1,4 +1,4 @@
-use Rattle.std.proofs.Common.{List, ◌++◌, [], ◌∷◌, Option, Some, sym, subst}
+use Rattle.std.proofs.Common.{List, Option, Some, sym, subst}
 use Rattle.class_tree.specs.Headers.{headers_of}
 use Rattle.class_tree.specs.Hierarchy.{superclass_of}
 use Rattle.class_tree.specs.Laws.Headers.{superclass_there}
