@@ -12,8 +12,12 @@ in_memory() {
     cd "$work"
 }
 
-# build_bench: proves and builds the program $bench, of which the scripts time what a word says (crates/bench)
+# build_bench: proves and builds the program $bench, of which the scripts time what a word says (crates/bench); $BENCH names one that is built
 build_bench() {
+    if [ -n "${BENCH:-}" ]; then
+        bench=$BENCH
+        return
+    fi
     (cd "$root/crates/bench" && rt check && rt run -- jumps 1 1) >/dev/null
     bench=$root/crates/bench/out/bench
 }
