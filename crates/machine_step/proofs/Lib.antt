@@ -12,10 +12,12 @@ pub mod OwnMethods
 pub mod Parameters
 pub mod ProgramHeaders
 pub mod ProgramMembers
+pub mod UnitLists
+pub mod Stacks
+pub mod Switches
 pub mod Results
 pub mod Slots
-pub mod Stacks
 pub mod Subtypes
-pub mod Switches
-pub mod UnitLists
 pub mod WidthMoves
+pub mod EmptyNames
+pub mod WorkFirst

@@ -15,3 +15,5 @@ pub mod RunOps
 pub mod SlotWords
 pub mod Statics
 pub mod Units
+pub mod Works
+pub mod Translating

@@ -2,7 +2,9 @@
 #![tactic(auto)]
 
 mod arithmetic;
+mod arrays;
 mod begun;
+mod calls;
 mod completed;
 mod counting;
 mod floats;
@@ -12,6 +14,7 @@ mod locals;
 mod memory;
 mod monitors;
 mod numbering;
+mod objects;
 mod prepared_method;
 mod questions;
 mod reference;
@@ -21,6 +24,7 @@ mod showing;
 mod shuffles;
 mod stack;
 mod statics;
+mod translating;
 mod values;
 mod world;
 
