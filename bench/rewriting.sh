@@ -19,7 +19,7 @@ edits 65000 1000000
 layouts 8000 500
 decodes 8000 500
 joins 256 5000
-below 256 10000
+below 256 20000
 WORDS
 
 for _ in $(seq 1 "$runs"); do
@@ -31,6 +31,7 @@ for _ in $(seq 1 "$runs"); do
         done
     done
     turn edits 65000 2000000
+    turn edits 65000 4000000
 done
 
 # beyond WORD COUNT TIMES: the time of these words beyond those of no times
@@ -42,17 +43,17 @@ doubles() {
     half=$(beyond "$1" $(($2 / 2)) "$3")
     whole=$(beyond "$1" "$2" "$3")
     echo "$1 of $(($2 / 2)) and of $2, $3 times: $half and $whole ms"
-    wanted "$(ratio "$whole" "$half") times the first (at most $4 is wanted)" "$whole <= $4 * $half"
+    wanted "$(ratio "$whole" "$half") times the first (at most $4 is wanted)" "$half > 0 && $whole <= $4 * $half"
 }
 
-for word in 'grow 65000 20' 'edits 65000 1000000' 'layouts 8000 500' 'joins 256 5000' 'below 256 10000'; do
+for word in 'grow 65000 20' 'edits 65000 1000000' 'layouts 8000 500' 'joins 256 5000' 'below 256 20000'; do
     read -r what count times <<<"$word"
     doubles "$what" "$count" "$times" 2.6
 done
 
-once=$(beyond edits 65000 1000000)
-twice=$(beyond edits 65000 2000000)
-echo "1,000,000 and 2,000,000 edits of a pool of 65,000 entries: $once and $twice ms"
+once=$(beyond edits 65000 2000000)
+twice=$(beyond edits 65000 4000000)
+echo "2,000,000 and 4,000,000 edits of a pool of 65,000 entries: $once and $twice ms"
 wanted "$(ratio "$twice" "$once") times the first (at most 2.6 is wanted)" "$twice <= 2.6 * $once"
 
 laid=$(beyond layouts 8000 500)

@@ -25,8 +25,9 @@ pub(crate) fn ask_below(alloc: Global, sites: u16, times: u32) -> Option<u64> {
     let above = joined(alloc, &one, &other).ok()??;
     let mut yes: u64 = 0;
     for _ in 0..times {
-        yes = yes.wrapping_add(below(&one, &same) as u64);
-        yes = yes.wrapping_add(below(&one, &above) as u64);
+        // which one is asked depends on the answers, so that none can be found before the loop
+        let asked = if yes % 2 == 0 { &same } else { &above };
+        yes = yes.wrapping_add(below(&one, asked) as u64);
     }
     Some(yes)
 }
