@@ -25,11 +25,18 @@ pub(crate) fn ask_below(alloc: Global, sites: u16, times: u32) -> Option<u64> {
     let above = joined(alloc, &one, &other).ok()??;
     let mut yes: u64 = 0;
     for _ in 0..times {
-        // which one is asked depends on the answers, so that none can be found before the loop
-        let asked = if yes % 2 == 0 { &same } else { &above };
-        yes = yes.wrapping_add(below(&one, asked) as u64);
+        yes = yes.wrapping_add(is_below(&one, &same, &above, yes) as u64);
     }
     Some(yes)
+}
+
+// Whether a state is below one of two, by the answers so far, so that no answer can be found before the loop.
+fn is_below(one: &VState, same: &VState, above: &VState, yes: u64) -> bool {
+    if yes % 2 == 0 {
+        below(one, same)
+    } else {
+        below(one, above)
+    }
 }
 
 /// Joins two equal states of so many sites and sixteen times as many fields so many times, keeps the joins, and counts them.
