@@ -25,7 +25,7 @@ use Rattle.member_link.specs.References.{Reference}
 use Rattle.member_link.specs.declared.found.Found.{Found}
 use Rattle.member_link.specs.declared.selection.CallForm.TheVariants.{Special}
 use Rattle.machine_step.specs.Inner.Resolved.{LinksMethod, home_number, is_nothing}
-use Rattle.machine_step.specs.Inner.RunOps.{IsFoundMethod, RunsSpecial, called}
+use Rattle.machine_step.specs.RunOps.{IsFoundMethod, RunsSpecial, called}
 use Rattle.machine_step.specs.Programs.{IsProgram}
 use Rattle.machine_step.specs.declared.run_op.CallTarget.{CallTarget}
 use Rattle.machine_step.specs.declared.run_op.Callee.{Callee}

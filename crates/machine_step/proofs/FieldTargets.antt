@@ -18,7 +18,7 @@ use Rattle.member_link.specs.References.{Reference}
 use Rattle.member_link.specs.declared.found.Found.{Found}
 use Rattle.machine_step.specs.Inner.QuestionWords.{is_class_of}
 use Rattle.machine_step.specs.Inner.Resolved.{IsTargetOf, home_of}
-use Rattle.machine_step.specs.Inner.RunOps.{IsFieldFound as IsResolvedField, IsFieldTarget, IsNumberAt, IsSeenSlot, IsStoredAs, home_class}
+use Rattle.machine_step.specs.RunOps.{IsFieldFound as IsResolvedField, IsFieldTarget, IsNumberAt, IsSeenSlot, IsStoredAs, home_class}
 use Rattle.machine_step.specs.Programs.{IsProgram}
 use Rattle.machine_step.specs.declared.run_op.FieldHome.{FieldHome}
 use Rattle.machine_step.specs.declared.run_op.FieldOp.{FieldOp}

@@ -1,4 +1,3 @@
-pub mod Completing
 pub mod Counting
 pub mod Jumps
 pub mod Kinds
@@ -7,11 +6,9 @@ pub mod Moves
 pub mod Narrowings
 pub mod Numbering
 pub mod ParameterWords
-pub mod Preparing
 pub mod QuestionWords
 pub mod Resolved
 pub mod Results
-pub mod RunOps
 pub mod SlotWords
 pub mod Statics
 pub mod Units

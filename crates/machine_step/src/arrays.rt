@@ -7,7 +7,7 @@ ghost use Rattle.machine_values.specs.declared.value.Value.{Value as Operand};
 ghost use Rattle.member_link.specs.Machine.ArraySteps.{element_of, index_in, load_element_work, new_array_work, takes_array};
 ghost use Rattle.member_link.specs.Machine.Shapes.{component_named};
 ghost use Rattle.member_link.specs.Machine.Worlds.{Memory as State};
-ghost use Rattle.machine_step.specs.Inner.Completing.{Completes};
+ghost use Rattle.machine_step.specs.Completing.{Completes};
 ghost use Rattle.machine_step.specs.Room.{HasRoom};
 
 use crate::completed::Completed;

@@ -6,8 +6,8 @@ ghost use Rattle.machine_values.specs.declared.value.Value.{Value as Operand};
 ghost use Rattle.member_link.specs.Machine.CallSteps.{call_dynamic_work, call_static_work};
 ghost use Rattle.member_link.specs.Machine.Programs.{Program};
 ghost use Rattle.member_link.specs.Machine.Worlds.{Memory as State};
-ghost use Rattle.machine_step.specs.Inner.Completing.{Completes};
-ghost use Rattle.machine_step.specs.Inner.RunOps.{HasParameters, IsFoundStatic, IsStaticTarget, called};
+ghost use Rattle.machine_step.specs.Completing.{Completes};
+ghost use Rattle.machine_step.specs.RunOps.{HasParameters, IsFoundStatic, IsStaticTarget, called};
 
 use crate::completed::{Asked, Completed};
 use crate::memory::Memory;

@@ -15,6 +15,7 @@ mod memory;
 mod monitors;
 mod numbering;
 mod objects;
+mod prepared;
 mod prepared_method;
 mod questions;
 mod reference;
@@ -26,6 +27,7 @@ mod stack;
 mod statics;
 mod translating;
 mod values;
+mod working;
 mod world;
 
 pub use arithmetic::{Divided, divide, pure, pure_operands};
@@ -39,7 +41,13 @@ pub use known::KnownRefs;
 pub use locals::{increment, local_value, store};
 pub use memory::Memory;
 pub use monitors::MonitorHeap;
-pub use prepared_method::{Locks, PreparedHandler, PreparedMethod};
+pub use prepared::Prepared;
+pub use prepared_method::{Locks, MethodTraits, PreparedHandler, PreparedMethod};
+pub use questions::classes::{class_name, folder_number, header_named, is_interface_named};
+pub use questions::conforming::{reference_conforms, value_conforms};
+pub use questions::methods::{has_code, place_of_method};
+pub use questions::shapes::is_instance;
+pub use questions::traits::method_traits;
 pub use reference::Reference;
 pub use run_op::{
     CallOp, CallTarget, Callee, CastOp, DynamicOp, FieldHome, FieldOp, FieldTarget, LookupOp,
@@ -50,4 +58,5 @@ pub use shuffles::shuffle;
 pub use stack::{drop_top, entry, operands, push_top};
 pub use statics::{StaticField, StaticValueList};
 pub use values::{Narrowing, blank, has_kind, have_kinds, is_wide, locals_of, narrow};
-pub use world::{Acted, Outcome, World};
+pub use working::{arity, work};
+pub use world::{Acted, Outcome, World, WorldState};

@@ -10,9 +10,9 @@ ghost use Rattle.member_link.specs.Machine.FieldSteps.{begun_first};
 ghost use Rattle.member_link.specs.Machine.ObjectSteps.{check_cast_work, enter_monitor_work, if_there, instance_of_work, leave_monitor_work, new_object_work, throw_work, with_entered};
 ghost use Rattle.member_link.specs.Machine.Programs.{Program, folder_number};
 ghost use Rattle.member_link.specs.Machine.Shapes.{is_instance};
-ghost use Rattle.machine_step.specs.Inner.Completing.{Completes};
+ghost use Rattle.machine_step.specs.Completing.{Completes};
 ghost use Rattle.machine_step.specs.Inner.Works.{or_begins};
-ghost use Rattle.machine_step.specs.Inner.RunOps.{IsCastOp, IsNewOp};
+ghost use Rattle.machine_step.specs.RunOps.{IsCastOp, IsNewOp};
 ghost use Rattle.machine_step.specs.Programs.{IsProgram};
 ghost use Rattle.machine_step.specs.Room.{HasRoom};
 

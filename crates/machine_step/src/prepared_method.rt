@@ -20,15 +20,21 @@ pub enum Locks {
     Class,
 }
 
+/// What the flags and the name of a method say.
+#[derive(Clone, Copy, Debug, PartialEq, Eq)]
+pub struct MethodTraits {
+    pub locks: Locks,
+    /// It is a class initialiser.
+    pub is_initialiser: bool,
+    pub is_static: bool,
+}
+
 /// The code of a method: the operations at its points, the offset of each in bytes, the handlers in the order of the exception
-/// table, and how many local units it has; and what its flags and name say.
+/// table, and how many local units it has.
 #[derive(Debug, Drop)]
 pub struct PreparedMethod {
     pub ops: Vec<RunOp>,
     pub offsets: Vec<u32>,
     pub handlers: Vec<PreparedHandler>,
     pub locals: u16,
-    pub locks: Locks,
-    /// It is a class initialiser.
-    pub is_initialiser: bool,
 }

@@ -1,7 +1,9 @@
 //! What the machine asks of the classes of a tree: the definitions' words, answered without a search over all classes.
 pub(crate) mod classes;
+pub(crate) mod conforming;
 pub(crate) mod fields;
 pub(crate) mod members;
 pub(crate) mod methods;
 pub(crate) mod shapes;
 pub(crate) mod slots;
+pub(crate) mod traits;

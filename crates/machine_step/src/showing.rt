@@ -2,14 +2,14 @@
 ghost use Rattle.std.specs.Prelude.{◌≡◌, [], ◌∷◌, ◌++◌, IfOk, OnOk};
 ghost use Rattle.member_link.specs.Machine.Programs.{Program};
 ghost use Rattle.member_link.specs.Machine.Showing.{asked_kind, event_of, shows_asked, shows_got, shows_length, shows_made, shows_result, shows_threw};
-ghost use Rattle.machine_step.specs.Inner.Completing.{asked_of};
+ghost use Rattle.machine_step.specs.Completing.{asked_of};
 ghost use Rattle.machine_step.specs.Programs.{IsProgram};
 
 use crate::completed::Asked;
 use crate::known::KnownRefs;
 use crate::memory::Memory;
 use crate::numbering::{number_option, number_reference, number_value, number_values};
-use crate::world::World;
+use crate::world::WorldState;
 use class_model::NoMemory;
 use class_tree::Tree;
 use machine_heap::Heap;
@@ -99,17 +99,14 @@ fn asked_kind(
 pub fn show_asked(
     alloc: Global,
     tree: &Tree,
-    world: &mut World,
+    world: &mut WorldState,
     asked: Asked,
     operands: &[Value],
 ) -> Result<(), NoMemory>
     ensures { OnOk result
         ((P : Program)
         → IsProgram tree.now P
-        → world.new
-        ≡ record world.old {
-          world = shows_asked P world.old.world (asked_of operands.now asked);
-        }) }
+        → world.new ≡ shows_asked P world.old (asked_of operands.now asked)) }
 {
     let kind = asked_kind(
         alloc,
@@ -130,13 +127,13 @@ pub fn show_asked(
 pub fn show_result(
     alloc: Global,
     tree: &Tree,
-    world: &mut World,
+    world: &mut WorldState,
     value: Option<Value>,
 ) -> Result<(), NoMemory>
     ensures { OnOk result
         ((P : Program)
         → IsProgram tree.now P
-        → world.new ≡ record world.old { world = shows_result P world.old.world value }) }
+        → world.new ≡ shows_result P world.old value) }
 {
     let seen = number_option(alloc, tree, world.memory.heap(), &mut world.known, value)?;
     let kind = EventKind::Result(seen);
@@ -148,11 +145,11 @@ pub fn show_result(
 /// # Errors
 ///
 /// `NoMemory` where memory runs out.
-pub fn show_threw(alloc: Global, tree: &Tree, world: &mut World, at: Ref) -> Result<(), NoMemory>
+pub fn show_threw(alloc: Global, tree: &Tree, world: &mut WorldState, at: Ref) -> Result<(), NoMemory>
     ensures { OnOk result
         ((P : Program)
         → IsProgram tree.now P
-        → world.new ≡ record world.old { world = shows_threw P world.old.world at }) }
+        → world.new ≡ shows_threw P world.old at) }
 {
     let seen = number_reference(alloc, tree, world.memory.heap(), &mut world.known, at)?;
     let kind = EventKind::Threw(seen);
@@ -164,11 +161,11 @@ pub fn show_threw(alloc: Global, tree: &Tree, world: &mut World, at: Ref) -> Res
 /// # Errors
 ///
 /// `NoMemory` where memory runs out.
-pub fn show_got(alloc: Global, tree: &Tree, world: &mut World, value: Value) -> Result<(), NoMemory>
+pub fn show_got(alloc: Global, tree: &Tree, world: &mut WorldState, value: Value) -> Result<(), NoMemory>
     ensures { OnOk result
         ((P : Program)
         → IsProgram tree.now P
-        → world.new ≡ record world.old { world = shows_got P world.old.world value }) }
+        → world.new ≡ shows_got P world.old value) }
 {
     let seen = number_value(alloc, tree, world.memory.heap(), &mut world.known, value)?;
     let kind = EventKind::Got(seen);
@@ -180,11 +177,11 @@ pub fn show_got(alloc: Global, tree: &Tree, world: &mut World, value: Value) -> 
 /// # Errors
 ///
 /// `NoMemory` where memory runs out.
-pub fn show_made(alloc: Global, tree: &Tree, world: &mut World, at: Ref) -> Result<(), NoMemory>
+pub fn show_made(alloc: Global, tree: &Tree, world: &mut WorldState, at: Ref) -> Result<(), NoMemory>
     ensures { OnOk result
         ((P : Program)
         → IsProgram tree.now P
-        → world.new ≡ record world.old { world = shows_made P world.old.world at }) }
+        → world.new ≡ shows_made P world.old at) }
 {
     let seen = number_reference(alloc, tree, world.memory.heap(), &mut world.known, at)?;
     let kind = EventKind::Made(seen);
@@ -196,9 +193,9 @@ pub fn show_made(alloc: Global, tree: &Tree, world: &mut World, at: Ref) -> Resu
 /// # Errors
 ///
 /// `NoMemory` where memory runs out.
-pub fn show_length(alloc: Global, world: &mut World, len: u32) -> Result<(), NoMemory>
+pub fn show_length(alloc: Global, world: &mut WorldState, len: u32) -> Result<(), NoMemory>
     ensures { OnOk result
-        (world.new ≡ record world.old { world = shows_length world.old.world len }) }
+        (world.new ≡ shows_length world.old len) }
 {
     let kind = EventKind::Length(len);
     push_event(alloc, &world.memory, &world.known, &mut world.events, kind)

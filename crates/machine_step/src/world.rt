@@ -11,40 +11,50 @@ use machine_values::{EventList, RunFrame, RunFrameList};
 use std::alloc::Global;
 use std::marker::Model;
 
-/// The frames, the memory, the references that the library knows, the events, how many steps were taken, and whether memory
-/// ran out in one of them: then the world is spent, and nothing else is said of it. Contracts see the world of the definitions,
-/// which goes on. A world that is spent has an empty memory (`Memory::clear`). The type keeps that the monitor counts and the
-/// count of entered monitors are at most the number of steps, and the count of allocations at most 2^28 times that number.
+/// The frames, the memory, the references that the library knows, the events, and how many steps were taken. Contracts see the
+/// world of the definitions, which goes on.
 #[derive(Drop)]
-pub struct World {
+pub struct WorldState {
     pub frames: RunFrameList,
     pub memory: Memory,
     pub known: KnownRefs,
     pub events: EventList,
     pub steps: u64,
+}
+
+impl Model for WorldState {
+    ghost use Rattle.member_link.specs.Machine.Worlds.{World, going};
+
+    ghost Value = { World };
+
+    ghost view = { λ state. record {
+      frames = state.frames;
+      memory = state.memory;
+      known = state.known;
+      events = state.events;
+      steps = state.steps;
+      halt = going;
+    } };
+}
+
+/// The world of a run, and whether memory ran out in one of its steps: then it is spent, and nothing else is said of it. A world
+/// that is spent has an empty memory (`Memory::clear`). The type keeps that the monitor counts and the count of entered monitors
+/// are at most the number of steps, and the count of allocations at most 2^28 times that number.
+#[derive(Drop)]
+pub struct World {
+    pub state: WorldState,
     pub spent: bool,
 }
 
 impl Model for World {
-    ghost use Rattle.member_link.specs.Machine.Bounds.{IsBounded};
-    ghost use Rattle.member_link.specs.Machine.Worlds.{going};
+    ghost use Rattle.member_link.specs.Machine.Bounds.{HasBoundedCounts};
     ghost use Rattle.machine_step.specs.SpentWorlds.{SpentWorld};
 
     ghost Value = { SpentWorld };
 
-    ghost view = { λ world. record {
-      world = record {
-        frames = world.frames;
-        memory = world.memory;
-        known = world.known;
-        events = world.events;
-        steps = world.steps;
-        halt = going;
-      };
-      spent = world.spent;
-    } };
+    ghost view = { λ world. record { world = world.state; spent = world.spent } };
 
-    ghost invariant = { λ world. IsBounded world.memory world.steps };
+    ghost invariant = { λ world. HasBoundedCounts world.state };
 }
 
 /// What a step comes to.
@@ -72,6 +82,8 @@ pub enum Acted {
     InitThrew,
     /// The library may not take it; nothing was done.
     Fault,
+    /// The exception that it throws finds neither a handler nor the library: the frames are those of no run.
+    Stuck,
 }
 
 impl World {
@@ -85,12 +97,15 @@ impl World {
     {
         let mut frames = Vec::new(alloc);
         frames.push(RunFrame::Library { made: None })?;
-        Ok(World {
+        let state = WorldState {
             frames: RunFrameList { frames },
             memory: Memory::new(alloc),
             known: KnownRefs::new(alloc),
             events: EventList::new(alloc),
             steps: 0,
+        };
+        Ok(World {
+            state,
             spent: false,
         })
     }

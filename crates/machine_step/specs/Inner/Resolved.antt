@@ -11,7 +11,7 @@ use Rattle.member_link.specs.Machine.Links.{reference_to}
 use Rattle.member_link.specs.References.{Reference}
 use Rattle.member_link.specs.declared.found.Found.{Found}
 use Rattle.machine_step.specs.Inner.QuestionWords.{is_class_of}
-use Rattle.machine_step.specs.Inner.RunOps.{IsStoredAs}
+use Rattle.machine_step.specs.RunOps.{IsStoredAs}
 use Rattle.machine_step.specs.declared.run_op.CallTarget.{CallTarget}
 use Rattle.machine_step.specs.declared.run_op.Callee.{Callee}
 use Rattle.machine_step.specs.declared.run_op.Callee.TheVariants.{Nothing}

@@ -15,7 +15,7 @@ use Rattle.member_link.specs.Machine.Programs.{Program, Links}
 use Rattle.member_link.specs.RowScope.{RowScope}
 use Rattle.member_link.specs.Scope.{Scope, is_init, is_clinit, own_descriptor, row_scope}
 use Rattle.member_link.specs.Signatures.{result_of}
-use Rattle.machine_step.specs.Inner.RunOps.{IsResolved, op_of}
+use Rattle.machine_step.specs.RunOps.{IsResolved, op_of}
 use Rattle.machine_step.specs.Programs.{IsProgram}
 use Rattle.machine_step.specs.declared.run_op.RunOp.{RunOp}
 

@@ -9,7 +9,7 @@ use class_model::{ACC_INTERFACE, Header, Text, has};
 use class_tree::{Place, Tree, a_tree_is_a_hierarchy};
 
 /// The number of the class of the folder of a name, counted from 0. It does not allocate.
-pub(crate) fn folder_number(tree: &Tree, name: &Text) -> Option<usize>
+pub fn folder_number(tree: &Tree, name: &Text) -> Option<usize>
     ensures { (P : Program) → IsProgram tree.now P → result ≡ folder_number P name.now }
 {
     match tree.place(name)? {
@@ -19,7 +19,7 @@ pub(crate) fn folder_number(tree: &Tree, name: &Text) -> Option<usize>
 }
 
 /// The name of the class of the folder of a number; none where it has no such class. It does not allocate.
-pub(crate) fn class_name(tree: &Tree, class: usize) -> Option<&Text>
+pub fn class_name(tree: &Tree, class: usize) -> Option<&Text>
     ensures some { IfSome result (λ name.
         (P : Program) → IsProgram tree.now P → name.now ≡ name_of_class P class) }
     ensures none { IfNone result
@@ -32,7 +32,7 @@ pub(crate) fn class_name(tree: &Tree, class: usize) -> Option<&Text>
 }
 
 /// The header of the class of a name, of the folder or the library. It does not allocate.
-pub(crate) fn header_named<'a>(tree: &'a Tree, name: &[u8]) -> Option<&'a Header>
+pub fn header_named<'a>(tree: &'a Tree, name: &[u8]) -> Option<&'a Header>
     ensures { option_copied result ≡ class_in (headers_of tree.now) name.now }
 {
     a_tree_is_a_hierarchy(tree);
@@ -40,7 +40,7 @@ pub(crate) fn header_named<'a>(tree: &'a Tree, name: &[u8]) -> Option<&'a Header
 }
 
 /// Whether the class of a name is an interface. It does not allocate.
-pub(crate) fn is_interface_named(tree: &Tree, name: &[u8]) -> bool
+pub fn is_interface_named(tree: &Tree, name: &[u8]) -> bool
     ensures { (P : Program) → IsProgram tree.now P → result ≡ is_interface_named P name.now }
 {
     match header_named(tree, name) {

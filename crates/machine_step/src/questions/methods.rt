@@ -29,7 +29,7 @@ pub(crate) fn has_method_flag(tree: &Tree, method: &Reference, mask: u16) -> boo
 }
 
 /// The place of a method of the folder. It does not allocate.
-pub(crate) fn place_of_method(tree: &Tree, method: &Reference) -> Option<MethodAt>
+pub fn place_of_method(tree: &Tree, method: &Reference) -> Option<MethodAt>
     ensures { (P : Program) → IsProgram tree.now P → result ≡ place_of_method P method.now }
 {
     match tree.place(&method.class)? {
@@ -45,7 +45,7 @@ pub(crate) fn place_of_method(tree: &Tree, method: &Reference) -> Option<MethodA
 }
 
 /// Whether a method of the folder is there, has code and is not native. It does not allocate.
-pub(crate) fn has_code(tree: &Tree, at: MethodAt) -> bool
+pub fn has_code(tree: &Tree, at: MethodAt) -> bool
     ensures { (P : Program) → IsProgram tree.now P → result ≡ is_some (code_at P at) }
 {
     match method_at(tree, at) {

@@ -17,7 +17,7 @@ use class_tree::{Tree, a_tree_is_a_hierarchy, innermost, is_above_arrays, is_arr
 use machine_values::Shape;
 
 /// Whether an object of a shape is an instance of a class or array type. It does not allocate.
-pub(crate) fn is_instance(tree: &Tree, shape: &Shape, name: &[u8]) -> bool
+pub fn is_instance(tree: &Tree, shape: &Shape, name: &[u8]) -> bool
     ensures { (P : Program) → IsProgram tree.now P
         → result ≡ is_instance P shape.now name.now }
 {

@@ -13,7 +13,7 @@ ghost use Rattle.member_link.specs.Machine.Programs.{Program, has_flag, method_o
 ghost use Rattle.member_link.specs.Machine.Worlds.{Memory};
 ghost use Rattle.member_link.specs.Selection.{Choice};
 ghost use Rattle.machine_step.specs.Inner.Resolved.{is_nothing};
-ghost use Rattle.machine_step.specs.Inner.RunOps.{called};
+ghost use Rattle.machine_step.specs.RunOps.{called};
 ghost use Rattle.machine_step.specs.Programs.{IsProgram};
 
 use crate::questions::classes::class_name;

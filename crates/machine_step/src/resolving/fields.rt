@@ -9,7 +9,7 @@ ghost use Rattle.member_link.specs.Machine.Links.{reference_to};
 ghost use Rattle.member_link.specs.Machine.Programs.{Program};
 ghost use Rattle.machine_step.specs.Inner.QuestionWords.{is_class_of};
 ghost use Rattle.machine_step.specs.Inner.Resolved.{IsTargetOf, home_of};
-ghost use Rattle.machine_step.specs.Inner.RunOps.{IsFieldOp, IsStoredAs};
+ghost use Rattle.machine_step.specs.RunOps.{IsFieldOp, IsStoredAs};
 ghost use Rattle.machine_step.specs.Programs.{IsProgram};
 
 use crate::questions::fields::is_inside;

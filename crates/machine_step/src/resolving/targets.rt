@@ -10,7 +10,7 @@ ghost use Rattle.member_link.specs.Machine.Links.{reference_to};
 ghost use Rattle.member_link.specs.Machine.Programs.{Program, has_flag, method_of};
 ghost use Rattle.member_link.specs.declared.selection.CallForm.{CallForm};
 ghost use Rattle.machine_step.specs.Inner.Resolved.{IsKeptMethod, LinksMethod, home_number, is_invoke};
-ghost use Rattle.machine_step.specs.Inner.RunOps.{HasParameters, IsFoundByReceiver, IsFoundMethod, IsFoundSpecial, IsFoundStatic, RunsSpecial, RunsStatic};
+ghost use Rattle.machine_step.specs.RunOps.{HasParameters, IsFoundByReceiver, IsFoundMethod, IsFoundSpecial, IsFoundStatic, RunsSpecial, RunsStatic};
 ghost use Rattle.machine_step.specs.Programs.{IsProgram};
 ghost use Rattle.machine_step.specs.declared.run_op.CallTarget.{CallTarget};
 

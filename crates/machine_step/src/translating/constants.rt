@@ -6,7 +6,7 @@ ghost use Rattle.member_link.specs.Machine.Codes.{constant_op, handle_of, return
 ghost use Rattle.member_link.specs.Scope.{own_descriptor};
 ghost use Rattle.member_link.specs.Signatures.{result_of};
 ghost use Rattle.member_link.specs.Machine.Programs.{Program};
-ghost use Rattle.machine_step.specs.Inner.RunOps.{IsResolved, op_of};
+ghost use Rattle.machine_step.specs.RunOps.{IsResolved, op_of};
 ghost use Rattle.machine_step.specs.Inner.Translating.{IsOp, OpIsResolved, scope_in};
 
 use crate::run_op::RunOp;

@@ -5,7 +5,7 @@ use Rattle.machine_values.specs.declared.event.EventKind.{EventKind}
 use Rattle.machine_values.specs.Heaps.{Heap}
 use Rattle.member_link.specs.Machine.Showing.{Numbered, asked_kind, event_of, showing, shows_asked}
 use Rattle.member_link.specs.Machine.Worlds.{World, going}
-use Rattle.machine_step.specs.Inner.Completing.{asked_of}
+use Rattle.machine_step.specs.Completing.{asked_of}
 use Rattle.machine_step.specs.SpentWorlds.{SpentWorld}
 use Rattle.machine_step.proofs.showing.show_asked.Goals as goal
 

@@ -5,7 +5,7 @@ use Rattle.member_link.specs.Found.{IsField}
 use Rattle.member_link.specs.References.{Reference}
 use Rattle.member_link.specs.declared.found.Found.{Found}
 use Rattle.machine_step.specs.Inner.Resolved.{IsTargetOf}
-use Rattle.machine_step.specs.Inner.RunOps.{IsFieldFound}
+use Rattle.machine_step.specs.RunOps.{IsFieldFound}
 use Rattle.machine_step.specs.declared.run_op.FieldOp.{FieldOp}
 use Rattle.machine_step.specs.declared.run_op.FieldTarget.{FieldTarget}
 use Rattle.machine_step.proofs.FieldTargets.{no_link, resolved}

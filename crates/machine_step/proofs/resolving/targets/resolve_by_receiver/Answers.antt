@@ -2,7 +2,7 @@ use Rattle.std.proofs.Common.{Option, IfSome, Some, None, sym, ap, subst, ◌∙
 use Rattle.class_tree.specs.Headers.{headers_of}
 use Rattle.member_link.specs.declared.found.Found.{Found}
 use Rattle.machine_step.specs.Inner.Resolved.{LinksMethod}
-use Rattle.machine_step.specs.Inner.RunOps.{IsFoundByReceiver, IsSeenCallee}
+use Rattle.machine_step.specs.RunOps.{IsFoundByReceiver, IsSeenCallee}
 use Rattle.machine_step.specs.declared.run_op.CallOp.{CallOp}
 use Rattle.machine_step.specs.declared.run_op.CallTarget.{CallTarget}
 use Rattle.machine_step.specs.declared.run_op.SeenCallee.{SeenCallee}

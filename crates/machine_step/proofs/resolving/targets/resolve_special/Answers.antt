@@ -3,7 +3,7 @@ use Rattle.class_tree.specs.Headers.{headers_of}
 use Rattle.member_link.specs.Machine.CallSteps.{found_special}
 use Rattle.member_link.specs.declared.found.Found.{Found}
 use Rattle.machine_step.specs.Inner.Resolved.{LinksMethod}
-use Rattle.machine_step.specs.Inner.RunOps.{IsFoundSpecial}
+use Rattle.machine_step.specs.RunOps.{IsFoundSpecial}
 use Rattle.machine_step.specs.declared.run_op.CallOp.{CallOp}
 use Rattle.machine_step.specs.declared.run_op.CallTarget.{CallTarget}
 use Rattle.machine_step.proofs.resolving.targets.resolve_special.Goals as goal

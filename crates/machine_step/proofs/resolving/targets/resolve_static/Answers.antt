@@ -2,7 +2,7 @@ use Rattle.std.proofs.Common.{Option, Some, None, sym, ap, subst, ◌∙◌}
 use Rattle.class_tree.specs.Headers.{headers_of}
 use Rattle.member_link.specs.declared.found.Found.{Found}
 use Rattle.machine_step.specs.Inner.Resolved.{LinksMethod}
-use Rattle.machine_step.specs.Inner.RunOps.{IsFoundStatic}
+use Rattle.machine_step.specs.RunOps.{IsFoundStatic}
 use Rattle.machine_step.specs.declared.run_op.CallOp.{CallOp}
 use Rattle.machine_step.specs.declared.run_op.CallTarget.{CallTarget}
 use Rattle.machine_step.proofs.resolving.targets.resolve_static.Goals as goal

@@ -1,6 +1,6 @@
 use Rattle.std.proofs.Common.{false, ◌≡◌, Some, refl, sym, subst, ◌∙◌}
 use Rattle.machine_step.specs.Inner.Resolved.{IsKeptMethod}
-use Rattle.machine_step.specs.Inner.RunOps.{IsFoundMethod, RunsSpecial}
+use Rattle.machine_step.specs.RunOps.{IsFoundMethod, RunsSpecial}
 use Rattle.machine_step.specs.declared.run_op.CallTarget.{CallTarget}
 use Rattle.machine_step.proofs.resolving.targets.special_target.Goals as goal
 

@@ -2,7 +2,7 @@ use Rattle.std.proofs.Common.{sym, ap, subst, ◌∙◌}
 use Rattle.member_link.specs.Machine.CallSteps.{run_call}
 use Rattle.member_link.specs.References.{Reference}
 use Rattle.machine_step.specs.Inner.Resolved.{IsKeptMethod}
-use Rattle.machine_step.specs.Inner.RunOps.{IsFoundMethod, RunsStatic}
+use Rattle.machine_step.specs.RunOps.{IsFoundMethod, RunsStatic}
 use Rattle.machine_step.specs.declared.run_op.CallTarget.{CallTarget}
 use Rattle.machine_step.proofs.resolving.targets.static_target.Goals as goal
 

@@ -1,13 +1,16 @@
 -- What is true of the prepared code of a method.
-use Rattle.std.specs.Prelude.{◌≡◌, ◌&&◌, nat_le, nat_lt, ℕ, Bool, List, [], ◌∷◌, map, All, Some, if◌then◌else◌}
+use Rattle.std.specs.Global.{Box}
+use Rattle.std.specs.Prelude.{◌≡◌, ◌&&◌, nat_le, nat_lt, ℕ, Bool, List, [], ◌∷◌, map, All, Option, Some, None, if◌then◌else◌}
 use Rattle.std.specs.List.{flat_map}
+use Rattle.class_model.specs.Members.{has, STATIC}
 use Rattle.class_model.specs.declared.class_file.MethodAt.{MethodAt}
 use Rattle.member_link.specs.Machine.Ops as ops
 use Rattle.member_link.specs.Machine.Performing.{Locking, no_lock, receiver_lock, class_lock, locking_of, is_initialiser}
-use Rattle.member_link.specs.Machine.Programs.{Program, Catch, Code, Point, RunMethod, code_run, run_method}
-use Rattle.machine_step.specs.Inner.RunOps.{IsResolved, op_of}
+use Rattle.member_link.specs.Machine.Programs.{Program, Catch, Code, Point, RunMethod, code_at, code_run, run_method}
+use Rattle.machine_step.specs.RunOps.{IsResolved, op_of}
 use Rattle.machine_step.specs.declared.prepared_method.Locks.{Locks}
 use Rattle.machine_step.specs.declared.prepared_method.Locks.TheVariants as locks
+use Rattle.machine_step.specs.declared.prepared_method.MethodTraits.{MethodTraits}
 use Rattle.machine_step.specs.declared.prepared_method.PreparedHandler.{PreparedHandler}
 use Rattle.machine_step.specs.declared.prepared_method.PreparedMethod.{PreparedMethod}
 use Rattle.machine_step.specs.declared.run_op.RunOp.{RunOp}
@@ -50,5 +53,18 @@ pub record IsPrepared (P : Program) (at : MethodAt) (prepared : PreparedMethod) 
   pub catches :
       map (catches_around prepared.handlers.items) prepared.offsets.items
       ≡ map catches_at_point code.points
-  pub locks : locking_of (Some method) ≡ locking prepared.locks
-  pub initialiser : is_initialiser method ≡ prepared.is_initialiser
+
+-- the prepared code of a method, if it has code that runs
+abbrev pub IsPreparedIf : Program → MethodAt → Option (Box PreparedMethod) → Type 0
+IsPreparedIf P at None = code_at P at ≡ None
+IsPreparedIf P at (Some prepared) = IsPrepared P at prepared.value
+
+-- ---- what the flags and the name of a method say
+
+abbrev pub IsTraitsOf : Program → MethodAt → Option MethodTraits → Type 0
+IsTraitsOf P at None = run_method P at ≡ None
+IsTraitsOf P at (Some traits) =
+    (method : RunMethod) × (run_method P at ≡ Some method)
+    × (locking_of (Some method) ≡ locking traits.locks)
+    × (is_initialiser method ≡ traits.is_initialiser)
+    × (has method.member.flags STATIC ≡ traits.is_static)

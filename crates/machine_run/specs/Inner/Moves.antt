@@ -1,0 +1,26 @@
+-- What an operation of the frame alone comes to.
+use Rattle.std.specs.Prelude.{◌≡◌, List, [], ◌∷◌, Option, Some, None}
+use Rattle.machine_values.specs.Frames.{MethodState}
+use Rattle.machine_values.specs.declared.frame.RunFrame.{RunFrame}
+use Rattle.machine_values.specs.declared.value.Value.{Value}
+use Rattle.member_link.specs.Machine.Ops.{Op}
+use Rattle.member_link.specs.Machine.Performing.{returned}
+use Rattle.member_link.specs.Machine.Programs.{Program}
+use Rattle.member_link.specs.Machine.Stepping.{ends_stuck, with_top, work_step}
+use Rattle.member_link.specs.Machine.Worlds.{World}
+use Rattle.machine_step.specs.Completing.{values_of}
+use Rattle.machine_run.specs.declared.moves.Moved.{Moved}
+use Rattle.machine_run.specs.declared.moves.Moved.TheVariants.{Went, Stuck, Returns, Works}
+
+-- the world behind an operation, by the frame before it and the frame as it is now
+abbrev pub world_moved :
+    Program → World → List RunFrame → MethodState → MethodState → Op → Moved → World
+world_moved P w rest before now op Went = with_top w rest now
+world_moved P w rest before now op Stuck = ends_stuck w
+world_moved P w rest before now op (Returns value) = returned P w before rest (values_of value)
+world_moved P w rest before now op Works = work_step P w before rest op
+
+-- only a move changes the frame
+abbrev pub StaysUnlessWent : MethodState → MethodState → Moved → Type 0
+StaysUnlessWent before now Went = Unit {0}
+StaysUnlessWent before now moved = now ≡ before

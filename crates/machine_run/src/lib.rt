@@ -1,0 +1,12 @@
+//! Runs of the bounded machine (JVM Specification SE 8, 2.6, 2.10, 2.11 and 5.5; the library's part is this project's profile): one
+//! step, one action of the library, and a run of a list of actions, as member_link defines them.
+#![tactic(auto)]
+
+mod beginnings;
+mod calls;
+mod frames;
+mod moves;
+mod performing;
+mod raising;
+mod returning;
+mod unwinding;

@@ -1,0 +1,70 @@
+//! The methods of a folder with their code prepared, each before it first runs.
+ghost use Rattle.std.specs.Prelude.{◌≡◌, IfOk};
+ghost use Rattle.member_link.specs.Machine.Programs.{Program};
+ghost use Rattle.machine_step.specs.Prepared.{IsPrepared, IsPreparedIf};
+ghost use Rattle.machine_step.specs.Programs.{IsProgram};
+
+use crate::prepared_method::PreparedMethod;
+use class_model::{MethodAt, NoMemory};
+use class_tree::Tree;
+use std::alloc::Global;
+use std::marker::Model;
+
+/// The methods of a tree's folder with their code prepared, each as soon as it is asked for. Contracts see the classes.
+#[derive(Drop)]
+pub struct Prepared<'t> {
+    tree: &'t Tree,
+    // by the number of the class, and by the number of the method
+    classes: Vec<Vec<Option<Box<PreparedMethod>>>>,
+}
+
+impl<'t> Model for Prepared<'t> {
+    ghost use Rattle.class_tree.specs.Headers.{Classes};
+
+    ghost Value = { Classes };
+
+    ghost view = { λ prepared. prepared.tree.now };
+}
+
+impl<'t> Prepared<'t> {
+    /// No method is prepared yet. It does not allocate.
+    pub fn new(alloc: Global, tree: &'t Tree) -> Prepared<'t>
+        ensures { result ≡ tree.now }
+    {
+        Prepared {
+            tree,
+            classes: Vec::new(alloc),
+        }
+    }
+
+    /// The classes.
+    pub fn tree(&self) -> &'t Tree
+        ensures { result.now ≡ self.now }
+    {
+        self.tree
+    }
+
+    /// Takes the prepared code of a method out, to be put back behind its use; none where the method has no code that runs.
+    ///
+    /// # Errors
+    ///
+    /// `NoMemory` where memory runs out.
+    pub fn take(
+        &mut self,
+        _alloc: Global,
+        at: MethodAt,
+    ) -> Result<Option<Box<PreparedMethod>>, NoMemory>
+        ensures same { self.new ≡ self.old }
+        ensures prepared { IfOk result (λ method. (P : Program) → IsProgram self.old P
+            → IsPreparedIf P at method) }
+    {
+        Err(NoMemory)
+    }
+
+    /// Puts the prepared code of a method back. It does not allocate.
+    pub fn put(&mut self, at: MethodAt, method: Box<PreparedMethod>)
+        requires { (P : Program) → IsProgram self.old P → IsPrepared P at method.value }
+        ensures { self.new ≡ self.old }
+    {
+    }
+}
