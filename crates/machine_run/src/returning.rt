@@ -5,6 +5,7 @@ ghost use Rattle.machine_values.specs.declared.frame.RunFrame.{RunFrame as Frame
 ghost use Rattle.machine_values.specs.declared.frame.RunFrame.TheVariants.{Method};
 ghost use Rattle.member_link.specs.Machine.Performing.{returned};
 ghost use Rattle.member_link.specs.Machine.Programs.{Program};
+ghost use Rattle.machine_step.specs.Bounded.{CanGoOn};
 ghost use Rattle.machine_step.specs.Completing.{values_of};
 ghost use Rattle.machine_step.specs.Programs.{IsProgram};
 ghost use Rattle.machine_run.specs.Outcomes.{ended, halt_of};
@@ -26,6 +27,7 @@ pub(crate) fn return_value(
     w: &mut WorldState,
     value: Option<Value>,
 ) -> Result<Outcome, NoMemory>
+    requires { CanGoOn w.old.frames }
     ensures { IfOk result (λ outcome. (P : Program) (f : MethodState) (rest : List Frame)
         → IsProgram tree.now P
         → w.old.frames ≡ Method f ∷ rest

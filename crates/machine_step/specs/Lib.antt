@@ -1,3 +1,4 @@
+pub mod Bounded
 pub mod Completing
 pub mod Prepared
 pub mod Programs

@@ -1,6 +1,6 @@
 -- What is true of the prepared code of a method.
 use Rattle.std.specs.Global.{Box}
-use Rattle.std.specs.Prelude.{◌≡◌, ◌&&◌, nat_le, nat_lt, ℕ, Bool, List, [], ◌∷◌, map, All, Option, Some, None, if◌then◌else◌}
+use Rattle.std.specs.Prelude.{◌≡◌, ◌&&◌, ◌<◌, ◌-◌, ◌^◌, nat_le, nat_lt, length, ℕ, Bool, List, [], ◌∷◌, map, All, Option, Some, None, if◌then◌else◌}
 use Rattle.std.specs.List.{flat_map}
 use Rattle.class_model.specs.Members.{has, STATIC}
 use Rattle.class_model.specs.declared.class_file.MethodAt.{MethodAt}
@@ -48,6 +48,7 @@ pub record IsPrepared (P : Program) (at : MethodAt) (prepared : PreparedMethod) 
   pub there : run_method P at ≡ Some method
   pub has_code : code_run method ≡ Some code
   pub locals : prepared.locals ≡ code.locals
+  pub few : length code.points < 2 ^ 32 - 1
   pub ops : map op_of prepared.ops.items ≡ map op_at code.points
   pub resolved : All (IsResolved P) prepared.ops.items
   pub catches :

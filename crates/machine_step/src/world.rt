@@ -39,7 +39,8 @@ impl Model for WorldState {
 
 /// The world of a run, and whether memory ran out in one of its steps: then it is spent, and nothing else is said of it. A world
 /// that is spent has an empty memory (`Memory::clear`). The type keeps that the monitor counts and the count of entered monitors
-/// are at most the number of steps, and the count of allocations at most 2^28 times that number.
+/// are at most the number of steps, the count of allocations at most 2^28 times that number, and that there is a place behind
+/// the one of each frame below the top one.
 #[derive(Drop)]
 pub struct World {
     pub state: WorldState,
@@ -47,14 +48,14 @@ pub struct World {
 }
 
 impl Model for World {
-    ghost use Rattle.member_link.specs.Machine.Bounds.{HasBoundedCounts};
+    ghost use Rattle.machine_step.specs.Bounded.{IsBoundedWorld};
     ghost use Rattle.machine_step.specs.SpentWorlds.{SpentWorld};
 
     ghost Value = { SpentWorld };
 
     ghost view = { λ world. record { world = world.state; spent = world.spent } };
 
-    ghost invariant = { λ world. HasBoundedCounts world.state };
+    ghost invariant = { λ world. IsBoundedWorld world.state };
 }
 
 /// What a step comes to.
