@@ -5,8 +5,10 @@
 mod beginnings;
 mod calls;
 mod frames;
+mod laws;
 mod moves;
 mod performing;
 mod raising;
 mod returning;
+mod stepping;
 mod unwinding;
