@@ -84,10 +84,12 @@ pub(crate) fn resume(
         → frames.old ≡ Method f ∷ rest
         → frames.new ≡ Method (resumed (without_operands count f) (values_of value)) ∷ rest) }
 {
-    if let Some(RunFrame::Method(frame)) = frames.frames.last_mut() {
-        resume_frame(frame, count, value)?;
+    let top = frames.frames.len() - 1;
+    match &mut frames.frames[top] {
+        RunFrame::Method(frame) => resume_frame(frame, count, value),
+        RunFrame::Library { .. } => Ok(()),
+        RunFrame::Beginning(_) => Ok(()),
     }
-    Ok(())
 }
 
 // A frame takes so many operands off, pushes a value or none, and goes on behind its place.
@@ -169,7 +171,10 @@ fn take_operands(frames: &mut RunFrameList, count: usize)
     ensures { (f : MethodState) (rest : List Frame) → frames.old ≡ Method f ∷ rest
         → frames.new ≡ Method (without_operands count f) ∷ rest }
 {
-    if let Some(RunFrame::Method(frame)) = frames.frames.last_mut() {
-        drop_top(&mut frame.stack, count);
+    let top = frames.frames.len() - 1;
+    match &mut frames.frames[top] {
+        RunFrame::Method(frame) => drop_top(&mut frame.stack, count),
+        RunFrame::Library { .. } => {}
+        RunFrame::Beginning(_) => {}
     }
 }
