@@ -1,3 +1,4 @@
 pub mod NextPlaces
 pub mod ProgramLinks
+pub mod StackUnseen
 pub mod Tops

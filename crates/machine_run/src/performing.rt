@@ -15,6 +15,7 @@ ghost use Rattle.machine_run.specs.Outcomes.{ended, halt_of};
 use crate::beginnings::begin_class;
 use crate::calls::{arguments_of, call_method};
 use crate::frames::push_frame;
+use crate::laws::a_state_goes_on;
 use crate::raising::raise;
 use crate::unwinding::throw;
 use class_model::{MethodAt, NoMemory};
@@ -45,6 +46,7 @@ pub(crate) fn perform(
         → w.old.frames ≡ Method f ∷ rest
         → ended (halt_of outcome) w.new ≡ performed P w.old f rest count completed) }
 {
+    a_state_goes_on(w);
     match completed {
         Completed::Gives(value) => {
             resume(&mut w.frames, count, value)?;
