@@ -2,3 +2,4 @@ pub mod NextPlaces
 pub mod ProgramLinks
 pub mod StackUnseen
 pub mod Tops
+pub mod WorkSteps

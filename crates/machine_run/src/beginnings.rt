@@ -1,12 +1,12 @@
 //! Initialisation of classes (JVM Specification SE 8, 5.5).
-ghost use Rattle.std.specs.Prelude.{◌≡◌, ◌∷◌, List, false, IfOk, OnOk};
+ghost use Rattle.std.specs.Prelude.{◌≡◌, ◌∷◌, ℕ, List, false, IfOk, OnOk};
 ghost use Rattle.machine_values.specs.declared.frame.RunFrame.{RunFrame as Frame};
 ghost use Rattle.machine_values.specs.declared.frame.RunFrame.TheVariants.{Beginning};
 ghost use Rattle.member_link.specs.Machine.Beginnings.{beginning_step, begun_on};
 ghost use Rattle.member_link.specs.Machine.Programs.{Program};
 ghost use Rattle.member_link.specs.Machine.Worlds.{is_begun};
 ghost use Rattle.machine_step.specs.Programs.{IsProgram};
-ghost use Rattle.machine_run.specs.Outcomes.{ended, halt_of};
+ghost use Rattle.machine_run.specs.Outcomes.{Lands, ended, halt_of};
 
 use class_model::NoMemory;
 use machine_step::{Outcome, Prepared, WorldState};
@@ -42,7 +42,8 @@ pub(crate) fn step_beginning(
     w: &mut WorldState,
 ) -> Result<Outcome, NoMemory>
     ensures same { prepared.new ≡ prepared.old }
-    ensures begun { IfOk result (λ outcome. (P : Program) (class : usize) (rest : List Frame)
+    ensures lands { IfOk result Lands }
+    ensures begun { IfOk result (λ outcome. (P : Program) (class : ℕ) (rest : List Frame)
         → IsProgram prepared.old P
         → w.old.frames ≡ Beginning class ∷ rest
         → ended (halt_of outcome) w.new ≡ beginning_step P class w.old rest) }

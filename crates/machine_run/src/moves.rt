@@ -1,5 +1,5 @@
 //! Operations that move locals, the operand stack or control alone (JVM Specification SE 8, 6.5).
-ghost use Rattle.std.specs.Prelude.{◌<◌, ◌-◌, ◌^◌, List, IfOk};
+ghost use Rattle.std.specs.Prelude.{◌≡◌, ◌<◌, ◌-◌, ◌^◌, List, IfOk};
 ghost use Rattle.machine_values.specs.declared.frame.RunFrame.{RunFrame};
 ghost use Rattle.member_link.specs.Machine.Programs.{Program};
 ghost use Rattle.member_link.specs.Machine.Stepping.{op_step};
