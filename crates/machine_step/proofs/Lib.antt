@@ -21,3 +21,4 @@ pub mod Subtypes
 pub mod WidthMoves
 pub mod EmptyNames
 pub mod WorkFirst
+pub mod ReceiverCalls

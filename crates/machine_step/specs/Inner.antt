@@ -14,3 +14,4 @@ pub mod Statics
 pub mod Units
 pub mod Works
 pub mod Translating
+pub mod Receivers

@@ -18,6 +18,7 @@ mod objects;
 mod prepared;
 mod prepared_method;
 mod questions;
+mod receivers;
 mod reference;
 mod resolving;
 mod run_op;
