@@ -5,6 +5,7 @@
 mod beginnings;
 mod calls;
 mod frames;
+mod jumping;
 mod laws;
 mod moves;
 mod performing;
