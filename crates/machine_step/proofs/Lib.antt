@@ -3,6 +3,7 @@ pub mod Conforming
 pub mod CountedLists
 pub mod Entries
 pub mod FieldTargets
+pub mod FieldWork
 pub mod FirstTests
 pub mod Firsts
 pub mod FloatOperands

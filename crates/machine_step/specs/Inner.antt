@@ -1,4 +1,5 @@
 pub mod Counting
+pub mod FieldWords
 pub mod Jumps
 pub mod Kinds
 pub mod Monitors

@@ -7,6 +7,7 @@ mod begun;
 mod calls;
 mod completed;
 mod counting;
+mod fields;
 mod floats;
 mod jumps;
 mod known;
