@@ -23,10 +23,10 @@ module _ (instrs : List Placed) (numbers : List ℕ) (are : AreNumbers instrs nu
   pub number_fits : (number : ℕ) → Some number ≡ number_in numbers at → number < 2 ^ 32
   number_fits number is =
       let below = first_inside (offsets_of instrs) at number (sym (are.index at) ∙ sym is) in
-      omega (arith, below, length-map (λ (placed : Placed). placed.at) instrs, are.few)
+      omega (arith, below, length-map instrs (λ (placed : Placed). placed.at), are.few)
 
   pub number_found : (number : ℕ) → Some number ≡ number_in numbers at → number ≡ number_of (offsets_of instrs) at
   number_found number is = ap (or_count (length (offsets_of instrs))) (is ∙ are.index at)
 
   pub none_found : None ≡ number_in numbers at → length instrs ≡ number_of (offsets_of instrs) at
-  none_found none = sym (length-map (λ (placed : Placed). placed.at) instrs) ∙ ap (or_count (length (offsets_of instrs))) (none ∙ are.index at)
+  none_found none = sym (length-map instrs (λ (placed : Placed). placed.at)) ∙ ap (or_count (length (offsets_of instrs))) (none ∙ are.index at)

@@ -1,6 +1,6 @@
 //! Classes of which operations make objects (JVM Specification SE 8, 6.5.new).
-ghost use Rattle.std.specs.Prelude.{◌≡◌, IfOk};
-ghost use Rattle.member_link.specs.Machine.Programs.{Program};
+ghost use Rattle.std.specs.Prelude.{◌≡◌, None, IfOk};
+ghost use Rattle.member_link.specs.Machine.Programs.{Program, folder_number};
 ghost use Rattle.machine_step.specs.Programs.{IsProgram};
 ghost use Rattle.machine_step.specs.RunOps.{IsNewOp};
 
@@ -25,10 +25,20 @@ pub(crate) fn resolve_new(alloc: Global, tree: &Tree, class: &Text) -> Result<Ne
             home: Some(number),
             blanks: blank_fields(alloc, tree, number)?.into_vec(),
         }),
-        Some(Place::Library(_)) | None => Ok(NewOp {
-            class: class.copy()?,
-            home: None,
-            blanks: Vec::new(alloc),
-        }),
+        Some(Place::Library(_)) => new_external(alloc, class),
+        None => new_external(alloc, class),
     }
+}
+
+// A `new` of a class that is none of the folder.
+fn new_external(alloc: Global, class: &Text) -> Result<NewOp, NoMemory>
+    ensures class { IfOk result (λ op. op.class ≡ class.now) }
+    ensures resolved { IfOk result
+        (λ op. (P : Program) → folder_number P class.now ≡ None → IsNewOp P op) }
+{
+    Ok(NewOp {
+        class: class.copy()?,
+        home: None,
+        blanks: Vec::new(alloc),
+    })
 }

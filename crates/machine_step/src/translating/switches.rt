@@ -82,11 +82,11 @@ fn numbered_pairs(
 ) -> Result<PairList, NoMemory>
     ensures { IfOk result (λ list. list ≡ map (numbered (number_of numbers.now)) pairs.now) }
 {
-    let list = pairs
-        .iter()
-        .map(|pair| numbered(numbers, *pair))
-        .collect(alloc)?;
-    Ok(PairList::from_vec(list))
+    let mut list = PairList::new(alloc);
+    for pair in pairs {
+        list.push(numbered(numbers, *pair))?;
+    }
+    Ok(list)
 }
 
 // A pair with the number of its target.
