@@ -21,3 +21,7 @@ pub mod Subtypes
 pub mod WidthMoves
 pub mod EmptyNames
 pub mod WorkFirst
+pub mod ArrayTexts
+pub mod NewObjects
+pub mod OffsetNumbers
+pub mod SpecialStarts
