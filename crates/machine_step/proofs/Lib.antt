@@ -10,8 +10,11 @@ pub mod KindLists
 pub mod MonitorCounts
 pub mod OwnMethods
 pub mod Parameters
+pub mod PreparedCodes
 pub mod ProgramHeaders
 pub mod ProgramMembers
+pub mod ResultTexts
+pub mod RunCodes
 pub mod UnitLists
 pub mod Stacks
 pub mod Switches

@@ -7,6 +7,8 @@ pub mod Narrowings
 pub mod Numbering
 pub mod ParameterWords
 pub mod QuestionWords
+pub mod PreparedTables
+pub mod Preparing
 pub mod Resolved
 pub mod Results
 pub mod SlotWords

@@ -17,6 +17,7 @@ mod numbering;
 mod objects;
 mod prepared;
 mod prepared_method;
+mod prepared_table;
 mod questions;
 mod reference;
 mod resolving;
