@@ -15,10 +15,13 @@ pub mod NewObjects
 pub mod OffsetNumbers
 pub mod OwnMethods
 pub mod Parameters
+pub mod PreparedCodes
 pub mod ProgramHeaders
 pub mod ProgramMembers
 pub mod ReceiverCalls
+pub mod ResultTexts
 pub mod Results
+pub mod RunCodes
 pub mod Slots
 pub mod Stacks
 pub mod Subtypes

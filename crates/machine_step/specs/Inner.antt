@@ -8,6 +8,8 @@ pub mod Narrowings
 pub mod Numbering
 pub mod ParameterWords
 pub mod QuestionWords
+pub mod PreparedTables
+pub mod Preparing
 pub mod Resolved
 pub mod Results
 pub mod SlotWords

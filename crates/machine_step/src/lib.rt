@@ -18,6 +18,7 @@ mod numbering;
 mod objects;
 mod prepared;
 mod prepared_method;
+mod prepared_table;
 mod questions;
 mod receivers;
 mod reference;
