@@ -4,9 +4,12 @@
 
 mod beginnings;
 mod calls;
+mod coming_first;
 mod frames;
 mod moves;
+mod names;
 mod performing;
 mod raising;
 mod returning;
+mod starts;
 mod unwinding;

@@ -1,0 +1,4 @@
+pub mod BegunStarts
+pub mod CalledMethods
+pub mod ComesFirst
+pub mod ProgramClasses
