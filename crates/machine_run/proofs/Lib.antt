@@ -1,4 +1,7 @@
 pub mod BegunStarts
 pub mod CalledMethods
 pub mod ComesFirst
+pub mod NextPlaces
 pub mod ProgramClasses
+pub mod ProgramLinks
+pub mod Tops

@@ -25,6 +25,5 @@ pub(crate) fn raise(
     ensures raised { IfOk result (λ outcome. (P : Program) → IsProgram prepared.old P
         → ended (halt_of outcome) w.new ≡ raised P w.old (throwable_name throwable) w.old.frames) }
 {
-    let _ = (prepared, w, throwable);
     Err(NoMemory)
 }

@@ -33,6 +33,5 @@ pub(crate) fn return_value(
         → w.old.frames ≡ Method f ∷ rest
         → ended (halt_of outcome) w.new ≡ returned P w.old f rest (values_of value)) }
 {
-    let _ = (tree, w, value);
     Err(NoMemory)
 }

@@ -25,6 +25,5 @@ pub(crate) fn throw(
     ensures thrown { IfOk result (λ outcome. (P : Program) → IsProgram prepared.old P
         → ended (halt_of outcome) w.new ≡ thrown P w.old at w.old.frames) }
 {
-    let _ = (prepared, w, at);
     Err(NoMemory)
 }
