@@ -90,7 +90,7 @@ one_start_more P class before after whole pool fields number field within is so_
     ∙ so_far)
   where
     split : drop number fields ≡ field ∷ drop (suc number) fields
-    split = drop-cons fields number field ∙ ap (λ (first : Field). first ∷ drop (suc number) fields) is
+    split = drop-cons fields number field within ∙ ap (λ (first : Field). first ∷ drop (suc number) fields) is
 
 -- where none is left
 pub no_start_more :

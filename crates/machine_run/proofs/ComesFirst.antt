@@ -1,5 +1,5 @@
 -- The classes that come before a class that begins: the first that is not begun, part by part.
-use Rattle.std.proofs.Common.{◌≡◌, ◌&&◌, ◌||◌, not, ℕ, zero, suc, Bool, true, false, List, [], ◌∷◌, ◌++◌, filter, map, length, slice_get, Option, Some, None, IsTrue, refl, sym, ap, ◌∙◌}
+use Rattle.std.proofs.Common.{◌≡◌, ◌-◌, ◌&&◌, ◌||◌, not, ℕ, zero, suc, Bool, true, false, List, [], ◌∷◌, ◌++◌, if◌then◌else◌, filter, map, length, slice_get, Option, Some, None, IsTrue, refl, sym, ap, ◌∙◌}
 use Rattle.std.specs.List.{AllByRecursion, list_any}
 use Rattle.std.specs.Option.{option_or}
 use Rattle.std.proofs.lemmas.Bool.{or_right}
@@ -49,6 +49,15 @@ module _ (P : Program) (memory : Memory) where
           ≡ option_or (first_unbegun P memory (name ∷ [])) (first_unbegun P memory names)
       by None at = rw at refl
       by (Some number) at = at_number number (is_begun memory number) at refl
+
+  -- a class of the folder alone
+  pub one_named :
+      (name : Name) (number : ℕ) (begun : Bool)
+      → folder_number P name ≡ Some number
+      → is_begun memory number ≡ begun
+      → first_unbegun P memory (name ∷ []) ≡ (if begun then None else Some number)
+  one_named name number true at is = rw (at, is) refl
+  one_named name number false at is = rw (at, is) refl
 
   or_grouped : (one two three : Option ℕ) → option_or one (option_or two three) ≡ option_or (option_or one two) three
   or_grouped None two three = refl
@@ -126,6 +135,39 @@ module _ (P : Program) (memory : Memory) where
       → unbegun_above P memory (suc left) (name ∷ []) ≡ None
   above_none left name none = rw none refl
 
+  -- ---- interfaces one after the other
+
+  -- the first of those that are left has one
+  pub found_here :
+      (left : ℕ) (names rest more : List Name) (name : Name) (class : ℕ)
+      → left ≡ suc (left - 1)
+      → unbegun_above P memory left names ≡ unbegun_above P memory left rest
+      → rest ≡ name ∷ more
+      → Some class ≡ unbegun_above P memory (suc (left - 1)) (name ∷ [])
+      → Some class ≡ unbegun_above P memory left names
+  found_here left names rest more name class some so_far split found =
+      sym (so_far
+      ∙ ap (unbegun_above P memory left) split
+      ∙ ap (λ (n : ℕ). unbegun_above P memory n (name ∷ more)) some
+      ∙ above_more (left - 1) name more
+      ∙ ap (λ (first : Option ℕ). option_or first (unbegun_above P memory (suc (left - 1)) more)) (sym found))
+
+  -- or has none
+  pub not_here :
+      (left : ℕ) (names rest more : List Name) (name : Name)
+      → left ≡ suc (left - 1)
+      → unbegun_above P memory left names ≡ unbegun_above P memory left rest
+      → rest ≡ name ∷ more
+      → None ≡ unbegun_above P memory (suc (left - 1)) (name ∷ [])
+      → unbegun_above P memory left names ≡ unbegun_above P memory left more
+  not_here left names rest more name some so_far split none =
+      so_far
+      ∙ ap (unbegun_above P memory left) split
+      ∙ ap (λ (n : ℕ). unbegun_above P memory n (name ∷ more)) some
+      ∙ above_more (left - 1) name more
+      ∙ ap (λ (first : Option ℕ). option_or first (unbegun_above P memory (suc (left - 1)) more)) (sym none)
+      ∙ ap (λ (n : ℕ). unbegun_above P memory n more) (sym some)
+
   -- ---- superclass and interfaces
 
   pub none_first :
@@ -190,6 +232,17 @@ module _ (classes : Classes) (P : Program) (is : IsProgram classes P)
       let stands = hierarchy.placed name place at in
       header_is name ∙ stands.1.found ∙ sym stands.1.at
 
+  pub from_place :
+      (left : ℕ) (name : Name) (place : Place) (header : Header) (above : Option ℕ)
+      → place_of H name ≡ Some place
+      → header_at H place ≡ Some header
+      → unbegun_above P memory left header.interfaces ≡ above
+      → unbegun_above P memory (suc left) (name ∷ [])
+      ≡ option_or above (unbegun_default P memory (name ∷ []))
+  from_place left name place header above at is same =
+      above_one P memory left name header (header_placed name place at ∙ is)
+      ∙ ap (λ (first : Option ℕ). option_or first (unbegun_default P memory (name ∷ []))) same
+
   -- ---- one interface by its place
 
   in_folder :
@@ -203,8 +256,8 @@ module _ (classes : Classes) (P : Program) (is : IsProgram classes P)
       by : (begun : Bool) → None ≡ number_if (not begun && false) (Folder number)
       by true = refl
       by false = refl
-  in_folder name number true true at begun some = rw (some, at, begun) refl
-  in_folder name number false true at begun some = rw (some, at, begun) refl
+  in_folder name number true true at begun some = rw some (one_named P memory name number true at begun)
+  in_folder name number false true at begun some = rw some (one_named P memory name number false at begun)
 
   in_library :
       (name : Name) (default : Bool)

@@ -1,5 +1,5 @@
 //! The classes that are initialised before a class (JVM Specification SE 8, 5.5).
-ghost use Rattle.std.specs.Prelude.{◌≡◌, ◌∷◌, [], false, suc, length, IfSome, IsSome, Some, None};
+ghost use Rattle.std.specs.Prelude.{◌≡◌, ◌∷◌, ℕ, [], false, suc, length, IfSome, IsSome, Some, None};
 ghost use Rattle.std.specs.List.{list_any};
 ghost use Rattle.std.specs.Option.{option_copied};
 ghost use Rattle.class_model.specs.declared.header.Header.{Header as HeaderValue};
@@ -105,18 +105,19 @@ fn first_from(tree: &Tree, memory: &Memory, name: &Text, left: u128) -> Option<u
     a_tree_is_a_hierarchy(tree);
     let place = tree.place(name)?;
     let header = tree.header(place)?;
-    if has_unbegun_above(tree, memory, place)
-        && let Some(class) = first_above(tree, memory, header.interfaces.as_slice(), left)
-    {
-        return Some(class);
+    if !has_unbegun_above(tree, memory, place) {
+        return unbegun_at(tree, memory, place);
     }
-    unbegun_at(tree, memory, place)
+    match first_above(tree, memory, header.interfaces.as_slice(), left) {
+        Some(class) => Some(class),
+        None => unbegun_at(tree, memory, place),
+    }
 }
 
 // Whether a superinterface of the class at a place is one of the folder that is not begun and has a default method.
 fn has_unbegun_above(tree: &Tree, memory: &Memory, place: Place) -> bool
     requires { IsSome (header_at (headers_of tree.now) place) }
-    ensures { (P : Program) (header : HeaderValue) (left : u128) → IsProgram tree.now P
+    ensures { (P : Program) (header : HeaderValue) (left : ℕ) → IsProgram tree.now P
         → header_at (headers_of tree.now) place ≡ Some header
         → result ≡ false
         → unbegun_above P memory.now left header.interfaces ≡ None }
@@ -141,6 +142,7 @@ fn unbegun_at(tree: &Tree, memory: &Memory, place: Place) -> Option<usize>
         → result ≡ unbegun_default P memory.now (name ∷ []) }
     ensures unbegun { IfSome result (λ class. is_begun memory.now class ≡ false) }
 {
+    a_tree_is_a_hierarchy(tree);
     match place {
         Place::Folder(class) => {
             if is_unbegun_at(tree, memory, place) {

@@ -1,5 +1,5 @@
 //! What the static fields of a class begin with (JVM Specification SE 8, 4.7.2).
-ghost use Rattle.std.specs.Prelude.{◌≡◌, Some, zero, IfOk, OnOk, slice_get};
+ghost use Rattle.std.specs.Prelude.{◌≡◌, ℕ, Some, zero, IfOk, OnOk};
 ghost use Rattle.std.specs.Option.{option_copied};
 ghost use Rattle.class_model.specs.Descriptors.{type_of};
 ghost use Rattle.class_model.specs.Instructions.{u2_in};
@@ -96,7 +96,7 @@ fn start_value(
     pool: &Pool,
     constant: &Const,
 ) -> Result<Option<Value>, NoMemory>
-    ensures { IfOk result (λ value. (P : Program) (class number : usize)
+    ensures { IfOk result (λ value. (P : Program) (class number : ℕ)
         → with_start_if P class memory.old number (start_of pool.now (Some constant.now))
         ≡ put_if P class memory.new number value) }
 {
