@@ -1,21 +1,13 @@
 //! Initialisation of classes (JVM Specification SE 8, 5.5).
-<<<<<<< HEAD
-ghost use Rattle.std.specs.Prelude.{◌≡◌, ◌∷◌, ℕ, List, false, IfOk, OnOk};
-=======
-ghost use Rattle.std.specs.Prelude.{◌≡◌, ◌∷◌, [], List, None, false, option_and_then, IfOk, OnOk};
->>>>>>> c62e834c880fe6d35226573bf92ab14dd4186461
+ghost use Rattle.std.specs.Prelude.{◌≡◌, ◌∷◌, [], ℕ, List, None, false, option_and_then, IfOk, OnOk};
 ghost use Rattle.machine_values.specs.declared.frame.RunFrame.{RunFrame as Frame};
 ghost use Rattle.machine_values.specs.declared.frame.RunFrame.TheVariants.{Beginning};
 ghost use Rattle.member_link.specs.Machine.Beginnings.{beginning_step, begun_on, frame_with, initialiser_of, past_beginning};
 ghost use Rattle.member_link.specs.Machine.Programs.{Program};
 ghost use Rattle.member_link.specs.Machine.Worlds.{is_begun};
 ghost use Rattle.machine_step.specs.Programs.{IsProgram};
-<<<<<<< HEAD
-ghost use Rattle.machine_run.specs.Outcomes.{Lands, ended, halt_of};
-=======
 ghost use Rattle.machine_run.specs.Inner.CallWords.{beginning_on_top, if_code};
-ghost use Rattle.machine_run.specs.Outcomes.{ended, halt_of};
->>>>>>> c62e834c880fe6d35226573bf92ab14dd4186461
+ghost use Rattle.machine_run.specs.Outcomes.{Lands, ended, halt_of};
 
 use crate::calls::arguments_of;
 use crate::coming_first::first_unbegun;
