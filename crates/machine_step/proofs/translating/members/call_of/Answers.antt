@@ -1,4 +1,4 @@
-use Rattle.std.proofs.Common.{◌≡◌, sym, subst}
+use Rattle.std.proofs.Common.{sym, subst}
 use Rattle.class_tree.specs.Headers.{Classes}
 use Rattle.member_link.specs.declared.selection.CallForm.TheVariants.{Interface, Virtual}
 use Rattle.machine_step.specs.Programs.{IsProgram}
