@@ -27,4 +27,3 @@ pub mod WorkFirst
 pub mod ArrayTexts
 pub mod NewObjects
 pub mod OffsetNumbers
-pub mod SpecialStarts
