@@ -1,4 +1,6 @@
+pub mod ArrayCounts
 pub mod CallTargets
+pub mod ComponentTexts
 pub mod Conforming
 pub mod CountedLists
 pub mod Entries
@@ -21,3 +23,4 @@ pub mod Subtypes
 pub mod WidthMoves
 pub mod EmptyNames
 pub mod WorkFirst
+pub mod Writes
