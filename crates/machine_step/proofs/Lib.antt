@@ -1,5 +1,7 @@
+pub mod ArrayCounts
 pub mod ArrayTexts
 pub mod CallTargets
+pub mod ComponentTexts
 pub mod Conforming
 pub mod CountedLists
 pub mod EmptyNames
@@ -29,3 +31,4 @@ pub mod Switches
 pub mod UnitLists
 pub mod WidthMoves
 pub mod WorkFirst
+pub mod Writes
