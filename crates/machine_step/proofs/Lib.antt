@@ -8,6 +8,7 @@ pub mod Firsts
 pub mod FloatOperands
 pub mod KindLists
 pub mod MonitorCounts
+pub mod Oks
 pub mod OwnMethods
 pub mod Parameters
 pub mod ProgramHeaders

@@ -6,6 +6,7 @@ mod arrays;
 mod begun;
 mod calls;
 mod completed;
+mod computing;
 mod counting;
 mod floats;
 mod jumps;
