@@ -10,7 +10,7 @@ ghost use Rattle.machine_step.specs.Completing.{asked_of, values_of};
 ghost use Rattle.machine_step.specs.Programs.{IsProgram};
 ghost use Rattle.machine_step.specs.Room.{HasRoom};
 ghost use Rattle.machine_run.specs.Inner.Performed.{CanPerform, HasOperands, operands_in, performed, without_operands};
-ghost use Rattle.machine_run.specs.Outcomes.{ended, halt_of};
+ghost use Rattle.machine_run.specs.Outcomes.{Steps, ended, halt_of};
 
 use crate::beginnings::begin_class;
 use crate::calls::{arguments_of, call_method};
@@ -41,6 +41,7 @@ pub(crate) fn perform(
     requires can { CanPerform w.old.memory completed }
     requires operands { HasOperands count w.old.frames }
     ensures same { prepared.new ≡ prepared.old }
+    ensures runs { IfOk result Steps }
     ensures performed { IfOk result (λ outcome. (P : Program) (f : MethodState) (rest : List Frame)
         → IsProgram prepared.old P
         → w.old.frames ≡ Method f ∷ rest
