@@ -1,5 +1,7 @@
 pub mod ArrayTexts
+pub mod ArrayCounts
 pub mod CallTargets
+pub mod ComponentTexts
 pub mod Conforming
 pub mod CountedLists
 pub mod EmptyNames
@@ -30,3 +32,4 @@ pub mod Switches
 pub mod UnitLists
 pub mod WidthMoves
 pub mod WorkFirst
+pub mod Writes

@@ -5,5 +5,6 @@ pub mod Prepared
 pub mod Programs
 pub mod Room
 pub mod RunOps
+pub mod ShortArrays
 pub mod SpentWorlds
 pub mod Inner
