@@ -15,6 +15,7 @@ pub mod KindLists
 pub mod MonitorCounts
 pub mod NewObjects
 pub mod OffsetNumbers
+pub mod Oks
 pub mod OwnMethods
 pub mod Parameters
 pub mod PreparedCodes

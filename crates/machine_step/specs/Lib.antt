@@ -1,5 +1,6 @@
 pub mod Bounded
 pub mod Completing
+pub mod FewOperands
 pub mod Prepared
 pub mod Programs
 pub mod Room

@@ -7,6 +7,7 @@ mod arrays;
 mod begun;
 mod calls;
 mod completed;
+mod computing;
 mod counting;
 mod fields;
 mod elements;
