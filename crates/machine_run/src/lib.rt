@@ -4,9 +4,11 @@
 
 mod beginnings;
 mod calls;
+mod ending;
 mod frames;
 mod moves;
 mod performing;
 mod raising;
 mod returning;
+mod throw_targets;
 mod unwinding;

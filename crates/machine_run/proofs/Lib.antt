@@ -1,0 +1,5 @@
+pub mod Handlers
+pub mod Landings
+pub mod Returns
+pub mod Tables
+pub mod Throws

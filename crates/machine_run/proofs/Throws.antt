@@ -1,0 +1,143 @@
+-- The world in which a thrown object has landed.
+use Rattle.std.proofs.Common.{◌≡◌, ◌<◌, ℕ, List, [], ◌∷◌, length, drop, Option, Some, None, IfSome, IfNone, absurd, refl, ap, sym, subst, ◌∙◌, arith}
+use Rattle.class_tree.specs.Headers.{Name}
+use Rattle.machine_values.specs.Frames.{MethodState}
+use Rattle.machine_values.specs.Heaps.{external}
+use Rattle.machine_values.specs.declared.frame.RunFrame.{RunFrame}
+use Rattle.machine_values.specs.declared.frame.RunFrame.TheVariants.{Library, Method}
+use Rattle.machine_values.specs.declared.value.Value.{Value}
+use Rattle.machine_values.specs.declared.value.Value.TheVariants.{Ref}
+use Rattle.member_link.specs.Machine.Performing.{Landing, handler_at, landed, past_handler, raised, thrown, thrown_in, unlocked, unwind}
+use Rattle.member_link.specs.Machine.Programs.{Program, RunMethod, point_at, run_method}
+use Rattle.member_link.specs.Machine.Showing.{shows_threw}
+use Rattle.member_link.specs.Machine.Worlds.{World, Memory, init_threw, stuck, with_heap}
+use Rattle.machine_run.proofs.Handlers.{shape_unlocked}
+use Rattle.machine_run.proofs.Landings.{EndsInHandler, EndsInInitialiser, EndsInLibrary, Passed, nowhere_is, passed}
+use Rattle.machine_run.specs.Inner.ThrowTargets.{shape_at, target_in}
+use Rattle.machine_run.specs.Inner.Unwinding.{AreEnding, LandsAlike}
+use Rattle.machine_run.specs.declared.throw_targets.ThrowTarget.{ThrowTarget}
+
+-- ---- methods that end
+
+pub none_ended : (left : ℕ) (w : World) → AreEnding left w w
+none_ended left w = record {
+  rest = refl;
+  lands = λ P reference target same lands. record { target = lands; unwound = refl };
+}
+
+pub one_ended :
+    (left : ℕ) (before now next : World)
+    → AreEnding left before now
+    → left < length now.frames
+    → ((f : MethodState) (rest : List RunFrame) → now.frames ≡ Method f ∷ rest
+    → next ≡ record now { memory = unlocked now.memory f.held; frames = rest })
+    → next ≡ record now { memory = next.memory; frames = next.frames }
+    → AreEnding left before next
+one_ended left before now next ending more ends same = record {
+  rest = same ∙ ap (λ (w : World). record w { memory = next.memory; frames = next.frames }) ending.rest;
+  lands = λ P reference target is lands. by P reference target (ending.lands P reference target is lands)
+      (passed P (shape_at now.memory.heap reference) reference target now.frames now.memory refl (ending.lands P reference target is lands).target
+      (omega (arith, is)));
+}
+  where
+    by : (P : Program) (reference : ℕ) (target : ThrowTarget)
+        → LandsAlike P reference target before now
+        → Passed P (shape_at now.memory.heap reference) reference target now.frames now.memory
+        → LandsAlike P reference target before next
+    by P reference target alike past =
+        let step = ends past.top past.rest past.same in
+        subst (LandsAlike P reference target before) (sym step)
+        (record {
+          target = ap (λ (shape : Option _). target_in P shape past.rest) (shape_unlocked now.memory past.top.held reference) ∙ past.lands;
+          unwound = alike.unwound ∙ past.unwound;
+        })
+
+-- ---- where it lands
+
+module _ (P : Program) (before w now : World) (reference : ℕ)
+    (since : w ≡ record before { memory = w.memory })
+    (rest : now ≡ record w { memory = now.memory; frames = now.frames })
+    (unwound : unwind P reference w.frames w.memory ≡ unwind P reference now.frames now.memory)
+  where
+  with_frames : (frames : List RunFrame) → record now { frames = frames } ≡ record before { memory = now.memory; frames = frames }
+  with_frames frames =
+      ap (λ (v : World). record v { frames = frames }) rest
+      ∙ ap (λ (v : World). record v { memory = now.memory; frames = frames }) since
+
+  pub landed_in_handler :
+      (to : ℕ) (frames : List RunFrame)
+      → EndsInHandler reference now.frames now.memory (unwind P reference now.frames now.memory) to
+      → ((f : MethodState) (others : List RunFrame) → now.frames ≡ Method f ∷ others
+      → frames ≡ Method (record f { place = to; stack = Ref reference ∷ [] }) ∷ others)
+      → record now { frames = frames } ≡ thrown_in P before reference w.frames w.memory
+  landed_in_handler to frames ends handles =
+      with_frames frames
+      ∙ ap (λ (others : List RunFrame). record before { memory = now.memory; frames = others }) (handles ends.top ends.rest ends.same)
+      ∙ sym (ap (landed P before reference) (unwound ∙ ends.lands))
+
+  pub landed_in_library :
+      (frames : List RunFrame)
+      → EndsInLibrary now.frames now.memory (unwind P reference now.frames now.memory)
+      → ((made : Option ℕ) (others : List RunFrame) → now.frames ≡ Library made ∷ others
+      → frames ≡ Library None ∷ others)
+      → shows_threw P (record now { frames = frames }) reference ≡ thrown_in P before reference w.frames w.memory
+  landed_in_library frames ends clears =
+      ap (λ (v : World). shows_threw P v reference)
+      (with_frames frames
+      ∙ ap (λ (others : List RunFrame). record before { memory = now.memory; frames = others }) (clears ends.made ends.rest ends.same))
+      ∙ sym (ap (landed P before reference) (unwound ∙ ends.lands))
+
+  pub landed_in_initialiser :
+      (frames : List RunFrame)
+      → EndsInInitialiser now.frames now.memory (unwind P reference now.frames now.memory)
+      → ((top : RunFrame) (others : List RunFrame) → now.frames ≡ top ∷ others → frames ≡ others)
+      → record now { frames = frames; halt = init_threw } ≡ thrown_in P before reference w.frames w.memory
+  landed_in_initialiser frames ends pops =
+      ap (λ (v : World). record v { halt = init_threw })
+      (with_frames frames
+      ∙ ap (λ (others : List RunFrame). record before { memory = now.memory; frames = others }) (pops ends.top ends.rest ends.same))
+      ∙ sym (ap (landed P before reference) (unwound ∙ ends.lands))
+
+pub landed_nowhere :
+    (P : Program) (w : World) (reference : ℕ) (memory : Memory)
+    → target_in P (shape_at memory.heap reference) w.frames ≡ None
+    → record w { halt = stuck } ≡ thrown_in P w reference w.frames memory
+landed_nowhere P w reference memory none =
+    sym (ap (landed P w reference) (nowhere_is P (shape_at memory.heap reference) reference w.frames memory refl none))
+
+pub popped :
+    (top : Option RunFrame) (old new : List RunFrame)
+    → IfSome top (λ frame. old ≡ frame ∷ new) → IfNone top (old ≡ [])
+    → (first : RunFrame) (others : List RunFrame) → old ≡ first ∷ others → new ≡ others
+popped None old new some none first others is = absurd cc
+popped (Some frame) old new some none first others is = cc
+
+-- ---- the stack
+
+same_past :
+    (reference : ℕ) (f : MethodState) (stack : List Value) (rest : List RunFrame) (method : Option RunMethod)
+    (next : Memory → Landing) (memory : Memory) (handler : Option ℕ)
+    → past_handler reference (record f { stack = stack }) rest method next memory handler
+    ≡ past_handler reference f rest method next memory handler
+same_past reference f stack rest method next memory None = refl
+same_past reference f stack rest method next memory (Some to) = refl
+
+thrown_alike :
+    (P : Program) (w : World) (at : ℕ) (memory : Memory) (f : MethodState) (stack : List Value) (rest : List RunFrame)
+    → thrown_in P w at (Method (record f { stack = stack }) ∷ rest) memory ≡ thrown_in P w at (Method f ∷ rest) memory
+thrown_alike P w at memory f stack rest =
+    ap (landed P w at)
+    (same_past at f stack rest (run_method P f.at) (unwind P at rest) memory
+    (handler_at P memory.heap (point_at P f.at f.place) at))
+
+pub same_thrown :
+    (P : Program) (w : World) (at : ℕ) (f : MethodState) (stack : List Value) (rest : List RunFrame)
+    → thrown P w at (Method (record f { stack = stack }) ∷ rest) ≡ thrown P w at (Method f ∷ rest)
+same_thrown P w at f stack rest = thrown_alike P w at w.memory f stack rest
+
+pub same_raised :
+    (P : Program) (w : World) (class : Name) (f : MethodState) (stack : List Value) (rest : List RunFrame)
+    → raised P w class (Method (record f { stack = stack }) ∷ rest) ≡ raised P w class (Method f ∷ rest)
+same_raised P w class f stack rest =
+    let made = external w.memory.heap class in
+    thrown_alike P w made.reference (with_heap w.memory made.heap) f stack rest
