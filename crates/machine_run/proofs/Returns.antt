@@ -24,14 +24,14 @@ module _ (P : Program) (w : World) (f : MethodState) (rest : List RunFrame) (val
       → returned P w f rest values ≡ record w { memory = unlocked w.memory f.held; frames = rest }
   returned_initialiser traits is initialises =
       ap (returned_by P w f.held rest values) is.1
-      ∙ ap by_name (is.3 ∙ initialises)
+      ∙ ap by_name (is.2.initialiser ∙ initialises)
 
   pub returned_other :
       (traits : MethodTraits) → IsTraitsOf P f.at (Some traits) → traits.is_initialiser ≡ false
       → returned P w f rest values ≡ returned_to P w f.held values rest
   returned_other traits is other =
       ap (returned_by P w f.held rest values) is.1
-      ∙ ap by_name (is.3 ∙ other)
+      ∙ ap by_name (is.2.initialiser ∙ other)
 
   pub returned_none : IsTraitsOf P f.at None → returned P w f rest values ≡ record w { halt = stuck }
   returned_none none = ap (returned_by P w f.held rest values) none

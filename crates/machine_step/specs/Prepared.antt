@@ -62,10 +62,12 @@ IsPreparedIf P at (Some prepared) = IsPrepared P at prepared.value
 
 -- ---- what the flags and the name of a method say
 
+pub record HasTraits (method : RunMethod) (traits : MethodTraits) : Type 0 where
+  pub locks : locking_of (Some method) ≡ locking traits.locks
+  pub initialiser : is_initialiser method ≡ traits.is_initialiser
+  pub static : has method.member.flags STATIC ≡ traits.is_static
+
 abbrev pub IsTraitsOf : Program → MethodAt → Option MethodTraits → Type 0
 IsTraitsOf P at None = run_method P at ≡ None
 IsTraitsOf P at (Some traits) =
-    (method : RunMethod) × (run_method P at ≡ Some method)
-    × (locking_of (Some method) ≡ locking traits.locks)
-    × (is_initialiser method ≡ traits.is_initialiser)
-    × (has method.member.flags STATIC ≡ traits.is_static)
+    (method : RunMethod) × (run_method P at ≡ Some method) × HasTraits method traits

@@ -65,6 +65,5 @@ impl<'t> Prepared<'t> {
     pub fn put(&mut self, at: MethodAt, method: Box<PreparedMethod>)
         requires { (P : Program) → IsProgram self.old P → IsPrepared P at method.value }
         ensures { self.new ≡ self.old }
-    {
-    }
+    {}
 }

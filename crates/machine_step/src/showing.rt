@@ -145,7 +145,12 @@ pub fn show_result(
 /// # Errors
 ///
 /// `NoMemory` where memory runs out.
-pub fn show_threw(alloc: Global, tree: &Tree, world: &mut WorldState, at: Ref) -> Result<(), NoMemory>
+pub fn show_threw(
+    alloc: Global,
+    tree: &Tree,
+    world: &mut WorldState,
+    at: Ref,
+) -> Result<(), NoMemory>
     ensures { OnOk result
         ((P : Program)
         → IsProgram tree.now P
@@ -161,7 +166,12 @@ pub fn show_threw(alloc: Global, tree: &Tree, world: &mut WorldState, at: Ref) -
 /// # Errors
 ///
 /// `NoMemory` where memory runs out.
-pub fn show_got(alloc: Global, tree: &Tree, world: &mut WorldState, value: Value) -> Result<(), NoMemory>
+pub fn show_got(
+    alloc: Global,
+    tree: &Tree,
+    world: &mut WorldState,
+    value: Value,
+) -> Result<(), NoMemory>
     ensures { OnOk result
         ((P : Program)
         → IsProgram tree.now P
@@ -177,7 +187,12 @@ pub fn show_got(alloc: Global, tree: &Tree, world: &mut WorldState, value: Value
 /// # Errors
 ///
 /// `NoMemory` where memory runs out.
-pub fn show_made(alloc: Global, tree: &Tree, world: &mut WorldState, at: Ref) -> Result<(), NoMemory>
+pub fn show_made(
+    alloc: Global,
+    tree: &Tree,
+    world: &mut WorldState,
+    at: Ref,
+) -> Result<(), NoMemory>
     ensures { OnOk result
         ((P : Program)
         → IsProgram tree.now P

@@ -7,7 +7,11 @@ use Rattle.class_model.specs.declared.class_file.Attr.{Attr}
 use Rattle.class_model.specs.declared.class_file.Attr.TheVariants.{Raw, Code}
 use Rattle.class_model.specs.declared.class_file.Method.{Method}
 use Rattle.class_model.specs.declared.class_file.MethodAt.{MethodAt}
+use Rattle.class_model.specs.declared.header.Member.{Member}
 use Rattle.class_tree.specs.Headers.{Classes, Name}
+use Rattle.member_link.specs.Machine.Programs.{RunMethod}
+use Rattle.machine_step.specs.declared.prepared_method.Locks.{Locks}
+use Rattle.machine_step.specs.declared.prepared_method.Locks.TheVariants as locks
 
 -- the initialiser, if it is any, is that of the class
 abbrev pub is_class_of : Option Name → Name → Bool
@@ -31,3 +35,13 @@ runs_code method = not (has method.flags NATIVE) && list_any is_code method.attr
 abbrev pub behind_bracket : List ℕ → Option (List ℕ)
 behind_bracket [] = None
 behind_bracket (first ∷ rest) = if first == left_bracket then Some rest else None
+
+-- the member that a method of a program is
+abbrev pub member_run : RunMethod → Member
+member_run method = method.member
+
+-- the monitor that a method enters, by whether it is synchronized and whether it is static
+abbrev pub locks_by : Bool → Bool → Locks
+locks_by false static = locks.None
+locks_by true true = locks.Class
+locks_by true false = locks.Receiver

@@ -1,0 +1,81 @@
+-- What performing a completion needs, and what an operation of the top frame comes to.
+use Rattle.std.specs.Prelude.{◌≡◌, ◌<◌, ◌≤◌, ◌-◌, ◌^◌, ℕ, false, List, ◌∷◌, length, reverse, take, drop, IfSome}
+use Rattle.class_model.specs.declared.class_file.MethodAt.{MethodAt}
+use Rattle.machine_values.specs.Frames.{MethodState}
+use Rattle.machine_values.specs.declared.frame.RunFrame.{RunFrame}
+use Rattle.machine_values.specs.declared.frame.RunFrame.TheVariants.{Method}
+use Rattle.machine_values.specs.declared.value.Value.{Value}
+use Rattle.member_link.specs.Machine.Bounds.{HasFewDimensions}
+use Rattle.member_link.specs.Machine.Performing.{perform, returned}
+use Rattle.member_link.specs.Machine.Programs.{Program, point_at}
+use Rattle.member_link.specs.Machine.Stepping.{ends_stuck}
+use Rattle.member_link.specs.Machine.Worlds.{Memory, World, is_begun}
+use Rattle.machine_step.specs.Bounded.{CanGoOn}
+use Rattle.machine_step.specs.Completing.{completion_of, values_of}
+use Rattle.machine_step.specs.Room.{HasRoom}
+use Rattle.machine_step.specs.declared.completed.Completed.{Completed}
+use Rattle.machine_step.specs.declared.completed.Completed.TheVariants as completed
+use Rattle.machine_run.specs.declared.stepping.Operated.{Operated}
+use Rattle.machine_run.specs.declared.stepping.Operated.TheVariants.{Went, Stuck, Returns, Works}
+
+-- a class that begins is not begun, and a called method can enter a monitor
+abbrev pub CanPerform : Memory → Completed → Type 0
+CanPerform memory (completed.Begins class) = is_begun memory class ≡ false
+CanPerform memory (completed.Calls at) = HasRoom memory
+CanPerform memory completed = Unit {0}
+
+-- a method's frame is on top, has so many operands and can go on
+pub record HasOperands (count : ℕ) (frames : List RunFrame) : Type 0 where
+  pub top : MethodState
+  pub rest : List RunFrame
+  pub same : frames ≡ Method top ∷ rest
+  pub enough : count ≤ length top.stack
+  pub next : top.place < 2 ^ 32 - 1
+
+-- the frame less so many operands
+abbrev pub without_operands : ℕ → MethodState → MethodState
+without_operands count f = record f { stack = drop count f.stack }
+
+abbrev pub operands_in : ℕ → MethodState → List Value
+operands_in count f = reverse (take count f.stack)
+
+abbrev pub performed : Program → World → MethodState → List RunFrame → ℕ → Completed → World
+performed P w f rest count completed =
+    perform P w f (without_operands count f) rest
+    (completion_of w.memory (operands_in count f) completed)
+
+-- the world behind an operation that stood on the top frame, by the state as it is now
+abbrev pub world_operated : Program → World → MethodState → List RunFrame → Operated → World
+world_operated P w f rest Went = w
+world_operated P w f rest Stuck = ends_stuck w
+world_operated P w f rest (Returns value) = returned P w f rest (values_of value)
+world_operated P w f rest (Works completed count) = performed P w f rest count completed
+
+-- what is left to do can be done
+abbrev pub CanFinish : World → Operated → Type 0
+CanFinish w (Returns value) = CanGoOn w.frames
+CanFinish w (Works completed count) =
+    CanPerform w.memory completed × HasOperands count w.frames
+CanFinish w operated = Unit {0}
+
+-- a frame is still on top where something is left to do
+abbrev pub Stands : List RunFrame → MethodState → List RunFrame → Operated → Type 0
+Stands frames f rest (Returns value) = frames ≡ Method f ∷ rest
+Stands frames f rest (Works completed count) = frames ≡ Method f ∷ rest
+Stands frames f rest operated = Unit {0}
+
+-- the operation at a place makes few arrays, and there is a place behind it
+abbrev pub HasBoundedNext : Program → MethodState → Type 0
+HasBoundedNext P f =
+    IfSome (point_at P f.at f.place)
+    (λ point. HasFewDimensions point.op × (f.place < 2 ^ 32 - 1))
+
+-- the frame of a method is on top
+abbrev pub IsFrameOf : MethodAt → List RunFrame → Type 0
+IsFrameOf at frames = (f : MethodState) × (rest : List RunFrame) × (frames ≡ Method f ∷ rest) × (f.at ≡ at)
+
+-- there is a place behind the one of the operation that a step does
+abbrev pub TopHasNext : Program → List RunFrame → Type 0
+TopHasNext P (Method f ∷ rest) =
+    IfSome (point_at P f.at f.place) (λ point. f.place < 2 ^ 32 - 1)
+TopHasNext P frames = Unit {0}

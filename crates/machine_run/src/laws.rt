@@ -1,0 +1,44 @@
+//! Laws of the definitions that calls of this crate lean on.
+ghost use Rattle.std.specs.Prelude.{◌≡◌, ℕ, List, true, false};
+ghost use Rattle.machine_values.specs.declared.action.Action.{Action};
+ghost use Rattle.machine_values.specs.declared.value.Value.{Value};
+ghost use Rattle.member_link.specs.Machine.Acting.{act};
+ghost use Rattle.member_link.specs.Machine.Completions.{begins};
+ghost use Rattle.member_link.specs.Machine.Ops.{Op};
+ghost use Rattle.member_link.specs.Machine.Programs.{Program};
+ghost use Rattle.member_link.specs.Machine.Stepping.{is_library_turn, step};
+ghost use Rattle.member_link.specs.Machine.Work.{work};
+ghost use Rattle.member_link.specs.Machine.Worlds.{Memory, World, is_begun};
+ghost use Rattle.machine_step.specs.Bounded.{CanGoOn};
+ghost use Rattle.machine_step.specs.Programs.{IsProgram};
+ghost use Rattle.machine_run.specs.Inner.Performed.{TopHasNext};
+
+use class_tree::{Tree, a_tree_is_a_hierarchy};
+use member_link::a_hierarchy_has_links;
+
+/// The classes of a tree have a program.
+pub(crate) fn a_tree_has_a_program(tree: &Tree)
+    ensures { (P : Program) × IsProgram tree.now P }
+{
+    a_tree_is_a_hierarchy(tree);
+    a_hierarchy_has_links();
+}
+
+/// A class that an operation begins is not begun.
+pub(crate) fn begun_classes_are_not_begun()
+    ensures { (P : Program) (memory : Memory) (op : Op) (operands : List Value) (class : ℕ)
+        → work P memory op operands ≡ begins class → is_begun memory class ≡ false }
+{}
+
+/// Behind a step there is a place behind the one of each frame below the top one, if there is one behind the place of the operation.
+pub(crate) fn a_step_keeps_next_places()
+    ensures { (P : Program) (w : World) → TopHasNext P w.frames → CanGoOn w.frames
+        → CanGoOn (step P w).frames }
+{}
+
+/// So it is behind an action of the library.
+pub(crate) fn an_action_keeps_next_places()
+    ensures { (P : Program) (action : Action) (w : World)
+        → is_library_turn w.frames ≡ true → CanGoOn w.frames
+        → CanGoOn (act P action w).frames }
+{}
