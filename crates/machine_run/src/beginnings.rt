@@ -28,7 +28,6 @@ pub(crate) fn begin_class(
     ensures { OnOk result ((P : Program) → IsProgram prepared.now P
         → w.new ≡ begun_on P class w.old w.old.frames) }
 {
-    let _ = (prepared, w, class);
     Err(NoMemory)
 }
 
@@ -48,6 +47,5 @@ pub(crate) fn step_beginning(
         → w.old.frames ≡ Beginning class ∷ rest
         → ended (halt_of outcome) w.new ≡ beginning_step P class w.old rest) }
 {
-    let _ = (prepared, w);
     Err(NoMemory)
 }

@@ -36,7 +36,6 @@ pub(crate) fn arguments_of(
     ensures arguments { IfOk result (λ arguments. (P : Program) → IsProgram prepared.old P
         → AreArguments P at values.now arguments) }
 {
-    let _ = (prepared, at, values);
     Err(NoMemory)
 }
 
@@ -57,6 +56,5 @@ pub(crate) fn call_method(
         → AreArguments P at values arguments
         → w.new ≡ called P w.old at values w.old.frames) }
 {
-    let _ = (tree, w, at, arguments);
     Err(NoMemory)
 }

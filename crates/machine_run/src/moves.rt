@@ -36,6 +36,5 @@ pub(crate) fn move_frame(frame: &mut MethodFrame, op: &RunOp) -> Result<Moved, N
         ≡ world_moved P w rest frame.old frame.new (op_of op.now) moved) }
     ensures stays { IfOk result (StaysUnlessWent frame.old frame.new) }
 {
-    let _ = (frame, op);
     Err(NoMemory)
 }

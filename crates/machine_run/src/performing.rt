@@ -22,7 +22,7 @@ use class_tree::Tree;
 use machine_step::{
     Asked, Completed, Outcome, Prepared, WorldState, drop_top, operands, push_top, show_asked,
 };
-use machine_values::{RunFrame, RunFrameList, Value};
+use machine_values::{MethodFrame, RunFrame, RunFrameList, Value};
 use std::alloc::Global;
 
 /// Performs what an operation of the top frame comes to, whose operands, so many, still stand on its stack.
@@ -85,13 +85,27 @@ pub(crate) fn resume(
         → frames.new ≡ Method (resumed (without_operands count f) (values_of value)) ∷ rest) }
 {
     if let Some(RunFrame::Method(frame)) = frames.frames.last_mut() {
-        drop_top(&mut frame.stack, count);
-        frame.place += 1;
-        if let Some(value) = value {
-            push_top(&mut frame.stack, &value)?;
-        }
+        resume_frame(frame, count, value)?;
     }
     Ok(())
+}
+
+// A frame takes so many operands off, pushes a value or none, and goes on behind its place.
+fn resume_frame(
+    frame: &mut MethodFrame,
+    count: usize,
+    value: Option<Value>,
+) -> Result<(), NoMemory>
+    requires { frame.old.place < 2 ^ 32 - 1 }
+    ensures { OnOk result
+        (frame.new ≡ resumed (without_operands count frame.old) (values_of value)) }
+{
+    drop_top(&mut frame.stack, count);
+    frame.place += 1;
+    match value {
+        Some(value) => push_top(&mut frame.stack, &value),
+        None => Ok(()),
+    }
 }
 
 // Calls a method with the operands of the top frame, which are taken off.

@@ -1,10 +1,10 @@
 //! A run of a folder with a list of actions, and what it shows (this project's profile).
-ghost use Rattle.std.specs.Prelude.{◌≡◌, ◌≤◌, ◌<◌, ◌-◌, ◌^◌, ℕ, List, true, false, drop, length, IfOk, OnOk};
-ghost use Rattle.machine_values.specs.declared.action.Action.{Action as Taken};
+ghost use Rattle.std.specs.Prelude.{◌≡◌, ◌≤◌, ◌<◌, ◌+◌, ◌-◌, ◌^◌, true, length, IfOk, OnOk};
 ghost use Rattle.member_link.specs.Machine.Programs.{Program};
-ghost use Rattle.member_link.specs.Machine.Runs.{shown_after, turn};
+ghost use Rattle.member_link.specs.Machine.Runs.{end_of_going, shown_after, turn};
+ghost use Rattle.member_link.specs.Machine.Stepping.{is_library_turn};
 ghost use Rattle.machine_step.specs.Programs.{IsProgram};
-ghost use Rattle.machine_run.specs.Inner.RunWords.{GoesOn, IsTurned, run_at};
+ghost use Rattle.machine_run.specs.Inner.RunWords.{IsTurned, end_behind, run_at};
 
 use crate::acting::act_with;
 use crate::stepping::{is_library_turn, step_with};
@@ -54,7 +54,9 @@ fn shown(world: World, end: End) -> Shown
 }
 
 // How a run ends that goes on and whose steps are used up: it waits where it is the library's turn and no action is left.
-fn end_of_going(world: &World, actions: &[Action], used: usize) -> End {
+fn end_of_going(world: &World, actions: &[Action], used: usize) -> End
+    ensures { result ≡ end_of_going (run_at world.now.world actions.now used) }
+{
     if is_library_turn(&world.state.frames) && used >= actions.len() {
         End::Waits
     } else {
@@ -69,7 +71,16 @@ fn take_turn(
     world: &mut World,
     actions: &[Action],
     used: &mut usize,
-) -> Result<Option<End>, NoMemory> {
+) -> Result<Option<End>, NoMemory>
+    requires few { world.old.world.steps < 2 ^ 64 - 1 }
+    requires used { used.old ≤ length actions.now }
+    ensures same { prepared.new ≡ prepared.old }
+    ensures turned { IfOk result (λ end. (P : Program) → IsProgram prepared.old P
+        → IsTurned P (turn P (run_at world.old.world actions.now used.old)) world.new.world
+        actions.now used.new end) }
+    ensures steps { OnOk result (world.new.world.steps ≤ world.old.world.steps + 1) }
+    ensures used { OnOk result (used.new ≤ length actions.now) }
+{
     if is_library_turn(&world.state.frames) {
         return take_next(alloc, prepared, world, actions, used);
     }
@@ -88,7 +99,17 @@ fn take_next(
     world: &mut World,
     actions: &[Action],
     used: &mut usize,
-) -> Result<Option<End>, NoMemory> {
+) -> Result<Option<End>, NoMemory>
+    requires few { world.old.world.steps < 2 ^ 64 - 1 }
+    requires turn { is_library_turn world.old.world.frames ≡ true }
+    requires used { used.old ≤ length actions.now }
+    ensures same { prepared.new ≡ prepared.old }
+    ensures turned { IfOk result (λ end. (P : Program) → IsProgram prepared.old P
+        → IsTurned P (turn P (run_at world.old.world actions.now used.old)) world.new.world
+        actions.now used.new end) }
+    ensures steps { OnOk result (world.new.world.steps ≤ world.old.world.steps + 1) }
+    ensures used { OnOk result (used.new ≤ length actions.now) }
+{
     let number = *used;
     let Some(action) = actions.get(number) else {
         return Ok(Some(End::Waits));
@@ -101,7 +122,9 @@ fn take_next(
 }
 
 // How a run ends behind an action of this number, if it does.
-fn end_behind(acted: Acted, number: usize) -> Option<End> {
+fn end_behind(acted: Acted, number: usize) -> Option<End>
+    ensures { result ≡ end_behind acted number }
+{
     match acted {
         Acted::Done => None,
         Acted::Stopped => Some(End::Stopped),

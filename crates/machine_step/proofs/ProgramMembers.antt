@@ -25,10 +25,10 @@ use Rattle.member_link.specs.DeclaredMembers.{declared}
 use Rattle.member_link.specs.Machine.Classes.{run_class_of, run_method_of}
 use Rattle.member_link.specs.Machine.Codes.{method_code}
 use Rattle.member_link.specs.Machine.FieldSteps.{static_number}
-use Rattle.member_link.specs.Machine.Programs.{Program, RunClass, RunMethod, code_at, code_run, field_of, first_member, folder_number, method_of, member_of, place_of_method}
+use Rattle.member_link.specs.Machine.Programs.{Program, RunClass, RunMethod, code_at, code_run, field_of, first_member, folder_number, method_of, member_of, place_of_method, run_method}
 use Rattle.member_link.specs.Scope.{scope_of}
 use Rattle.member_link.specs.References.{Reference}
-use Rattle.machine_step.specs.Inner.QuestionWords.{file_method, is_code, runs_code}
+use Rattle.machine_step.specs.Inner.QuestionWords.{file_method, is_code, member_run, runs_code}
 use Rattle.machine_step.specs.Programs.{IsProgram}
 use Rattle.machine_step.proofs.FirstTests.{number_is_place, number_of_mapped}
 use Rattle.machine_step.proofs.ProgramHeaders.{class_at_number, headers_are, number_at, number_by_place}
@@ -253,3 +253,32 @@ module _ (classes : Classes) (P : Program) (is : IsProgram classes P) where
   code_is at found same =
       ap (λ (method : Option Method). option_map_or runs_code method false) same
       ∙ in_code at (slice_get classes.folder at.class) (run_class_at at.class)
+
+  -- ---- the members that methods are
+
+  mapped_member :
+      (file : ClassFile) (found : Option Method)
+      → option_map (method_member file.pool) found
+      ≡ option_map member_run (option_map (run_method_of is.links (headers_of classes) file) found)
+  mapped_member file None = refl
+  mapped_member file (Some method) = refl
+
+  in_member :
+      (at : MethodAt) (found : Option ClassFile)
+      → slice_get P.classes at.class ≡ option_map (run_class_of is.links (headers_of classes)) found
+      → option_and_then (λ (header : Header). slice_get header.methods at.method) (option_map header_of found)
+      ≡ option_map member_run (run_method P at)
+  in_member at None class = rw class refl
+  in_member at (Some file) class =
+      rw class
+      (slice_get-map (method_member file.pool) file.methods at.method
+      ∙ mapped_member file (slice_get file.methods at.method)
+      ∙ ap (option_map member_run) (sym (slice_get-map (run_method_of is.links (headers_of classes) file) file.methods at.method)))
+
+  pub member_is :
+      (at : MethodAt)
+      → option_and_then (λ (header : Header). slice_get header.methods at.method) (slice_get (headers_of classes).folder at.class)
+      ≡ option_map member_run (run_method P at)
+  member_is at =
+      ap (option_and_then (λ (header : Header). slice_get header.methods at.method)) (slice_get-map header_of classes.folder at.class)
+      ∙ in_member at (slice_get classes.folder at.class) (run_class_at at.class)

@@ -76,6 +76,5 @@ pub fn work(
         → Completes memory.old memory.new operands.now completed
         (work P memory.old (op_of op.old) operands.now)) }
 {
-    let _ = (tree, memory, op, operands);
     Err(NoMemory)
 }
