@@ -1,5 +1,5 @@
 -- Handlers look at no more of an object than its shape, which no monitor changes.
-use Rattle.std.proofs.Common.{◌≡◌, ◌-◌, ℕ, zero, suc, List, [], ◌∷◌, slice_get, slice_set, Option, Some, None, if◌then◌else◌, refl, ap, sym, ◌∙◌, arith}
+use Rattle.std.proofs.Common.{◌≡◌, ◌-◌, ◌↔◌, ℕ, zero, suc, Bool, true, false, List, [], ◌∷◌, slice_get, slice_set, Option, Some, None, if◌then◌else◌, refl, ap, sym, ◌∙◌, arith}
 use Rattle.class_tree.specs.Headers.{Name}
 use Rattle.machine_heap.specs.Laws.Heaps.{shapes_where_counted}
 use Rattle.machine_values.specs.Heaps.{Heap, left, monitor_count, object_at, with_object}
@@ -67,3 +67,13 @@ unheld heap at (Some object) is none =
 
 pub unlocked_unheld : (memory : Memory) (at : ℕ) → monitor_count memory.heap at ≡ 0 → unlocked memory (Some at) ≡ memory
 unlocked_unheld memory at none = ap (with_heap memory) (unheld memory.heap at (object_at memory.heap at) refl none)
+
+-- a monitor that was left, or that was not entered
+pub left_or_not :
+    (answer : Bool) (old new : Memory) (at : ℕ)
+    → (answer ≡ false) ↔ (monitor_count old.heap at ≡ 0)
+    → (answer ≡ true → new ≡ with_heap old (left old.heap at))
+    → (answer ≡ false → new ≡ old)
+    → new ≡ unlocked old (Some at)
+left_or_not true old new at none leaves stays = leaves refl
+left_or_not false old new at none leaves stays = stays refl ∙ sym (unlocked_unheld old at (none.0 refl))

@@ -22,7 +22,7 @@ use Rattle.machine_run.specs.declared.throw_targets.ThrowTarget.{ThrowTarget}
 pub none_ended : (left : ℕ) (w : World) → AreEnding left w w
 none_ended left w = record {
   rest = refl;
-  lands = λ P reference target same lands. record { target = lands; unwound = refl };
+  lands = λ P reference target same lands. record { lands = lands; unwound = refl };
 }
 
 pub one_ended :
@@ -36,7 +36,7 @@ pub one_ended :
 one_ended left before now next ending more ends same = record {
   rest = same ∙ ap (λ (w : World). record w { memory = next.memory; frames = next.frames }) ending.rest;
   lands = λ P reference target is lands. by P reference target (ending.lands P reference target is lands)
-      (passed P (shape_at now.memory.heap reference) reference target now.frames now.memory refl (ending.lands P reference target is lands).target
+      (passed P (shape_at now.memory.heap reference) reference target now.frames now.memory refl (ending.lands P reference target is lands).lands
       (omega (arith, is)));
 }
   where
@@ -48,7 +48,7 @@ one_ended left before now next ending more ends same = record {
         let step = ends past.top past.rest past.same in
         subst (LandsAlike P reference target before) (sym step)
         (record {
-          target = ap (λ (shape : Option _). target_in P shape past.rest) (shape_unlocked now.memory past.top.held reference) ∙ past.lands;
+          lands = ap (λ (shape : Option _). target_in P shape past.rest) (shape_unlocked now.memory past.top.held reference) ∙ past.lands;
           unwound = alike.unwound ∙ past.unwound;
         })
 

@@ -69,7 +69,10 @@ pub(crate) fn clear_made(frames: &mut RunFrameList)
         → frames.old ≡ Library made ∷ rest
         → frames.new ≡ Library None ∷ rest }
 {
-    if let Some(RunFrame::Library { made }) = frames.frames.last_mut() {
-        *made = None;
+    match frames.frames.last_mut() {
+        Some(RunFrame::Library { made }) => *made = None,
+        Some(RunFrame::Beginning(_)) => {}
+        Some(RunFrame::Method(_)) => {}
+        None => {}
     }
 }

@@ -58,7 +58,9 @@ fn top_traits(tree: &Tree, frames: &RunFrameList) -> Option<MethodTraits>
 {
     match frames.frames.last() {
         Some(RunFrame::Method(frame)) => method_traits(tree, frame.at),
-        _ => None,
+        Some(RunFrame::Library { .. }) => None,
+        Some(RunFrame::Beginning(_)) => None,
+        None => None,
     }
 }
 
@@ -125,6 +127,8 @@ fn resume_top(frames: &mut RunFrameList, value: Option<Value>) -> Result<(), NoM
 {
     match frames.frames.last_mut() {
         Some(RunFrame::Method(frame)) => resume_frame(frame, value),
-        _ => Ok(()),
+        Some(RunFrame::Library { .. }) => Ok(()),
+        Some(RunFrame::Beginning(_)) => Ok(()),
+        None => Ok(()),
     }
 }

@@ -98,7 +98,9 @@ fn handle_in_top(frames: &mut RunFrameList, to: u32, at: Ref) -> Result<(), NoMe
 {
     match frames.frames.last_mut() {
         Some(RunFrame::Method(frame)) => handle_in_frame(frame, to, at),
-        _ => Ok(()),
+        Some(RunFrame::Library { .. }) => Ok(()),
+        Some(RunFrame::Beginning(_)) => Ok(()),
+        None => Ok(()),
     }
 }
 

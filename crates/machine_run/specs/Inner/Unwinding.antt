@@ -9,7 +9,7 @@ use Rattle.machine_run.specs.declared.throw_targets.ThrowTarget.{ThrowTarget}
 -- an object lands as before
 pub record LandsAlike (P : Program) (reference : ℕ) (target : ThrowTarget) (before now : World)
     : Type 0 where
-  pub target : target_in P (shape_at now.memory.heap reference) now.frames ≡ Some target
+  pub lands : target_in P (shape_at now.memory.heap reference) now.frames ≡ Some target
   pub unwound :
       unwind P reference before.frames before.memory ≡ unwind P reference now.frames now.memory
 
