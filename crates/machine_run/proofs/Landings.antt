@@ -1,5 +1,5 @@
 -- Where a thrown object lands, by the target that was found before.
-use Rattle.std.proofs.Common.{◌≡◌, ◌≤◌, ◌<◌, ◌×◌, ℕ, Bool, true, false, List, [], ◌∷◌, length, Option, Some, None, if◌then◌else◌, absurd, refl, ap, sym, subst, ◌∙◌, arith}
+use Rattle.std.proofs.Common.{◌≡◌, ◌≤◌, ◌<◌, ℕ, Bool, true, false, List, [], ◌∷◌, length, Option, Some, None, if◌then◌else◌, refl, ap, sym, subst, ◌∙◌, arith}
 use Rattle.machine_values.specs.Frames.{MethodState}
 use Rattle.machine_values.specs.declared.frame.RunFrame.{RunFrame}
 use Rattle.machine_values.specs.declared.frame.RunFrame.TheVariants.{Library, Beginning, Method}
@@ -65,11 +65,11 @@ nowhere_is P shape reference (Method f ∷ rest) memory is none =
 
 -- ---- how many frames are left
 
-left_of : Option ThrowTarget → ℕ
+abbrev left_of : Option ThrowTarget → ℕ
 left_of None = 0
 left_of (Some target) = target.left
 
-kind_of : Option ThrowTarget → TargetKind
+abbrev kind_of : Option ThrowTarget → TargetKind
 kind_of None = kinds.Library
 kind_of (Some target) = target.kind
 

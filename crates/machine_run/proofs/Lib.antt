@@ -5,4 +5,5 @@ pub mod Places
 pub mod ProgramLinks
 pub mod Returns
 pub mod Throws
+pub mod TopFrames
 pub mod Tops

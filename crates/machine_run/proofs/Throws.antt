@@ -1,5 +1,5 @@
 -- The world in which a thrown object has landed.
-use Rattle.std.proofs.Common.{◌≡◌, ◌<◌, ℕ, List, [], ◌∷◌, length, drop, Option, Some, None, IfSome, IfNone, absurd, refl, ap, sym, subst, ◌∙◌, arith}
+use Rattle.std.proofs.Common.{◌≡◌, ◌<◌, ℕ, List, [], ◌∷◌, length, drop, Option, Some, None, IfSome, IfNone, refl, ap, sym, subst, ◌∙◌, arith}
 use Rattle.class_tree.specs.Headers.{Name}
 use Rattle.machine_values.specs.Frames.{MethodState}
 use Rattle.machine_values.specs.Heaps.{external}
@@ -111,33 +111,3 @@ pub popped :
     → (first : RunFrame) (others : List RunFrame) → old ≡ first ∷ others → new ≡ others
 popped None old new some none first others is = absurd cc
 popped (Some frame) old new some none first others is = cc
-
--- ---- the stack
-
-same_past :
-    (reference : ℕ) (f : MethodState) (stack : List Value) (rest : List RunFrame) (method : Option RunMethod)
-    (next : Memory → Landing) (memory : Memory) (handler : Option ℕ)
-    → past_handler reference (record f { stack = stack }) rest method next memory handler
-    ≡ past_handler reference f rest method next memory handler
-same_past reference f stack rest method next memory None = refl
-same_past reference f stack rest method next memory (Some to) = refl
-
-thrown_alike :
-    (P : Program) (w : World) (at : ℕ) (memory : Memory) (f : MethodState) (stack : List Value) (rest : List RunFrame)
-    → thrown_in P w at (Method (record f { stack = stack }) ∷ rest) memory ≡ thrown_in P w at (Method f ∷ rest) memory
-thrown_alike P w at memory f stack rest =
-    ap (landed P w at)
-    (same_past at f stack rest (run_method P f.at) (unwind P at rest) memory
-    (handler_at P memory.heap (point_at P f.at f.place) at))
-
-pub same_thrown :
-    (P : Program) (w : World) (at : ℕ) (f : MethodState) (stack : List Value) (rest : List RunFrame)
-    → thrown P w at (Method (record f { stack = stack }) ∷ rest) ≡ thrown P w at (Method f ∷ rest)
-same_thrown P w at f stack rest = thrown_alike P w at w.memory f stack rest
-
-pub same_raised :
-    (P : Program) (w : World) (class : Name) (f : MethodState) (stack : List Value) (rest : List RunFrame)
-    → raised P w class (Method (record f { stack = stack }) ∷ rest) ≡ raised P w class (Method f ∷ rest)
-same_raised P w class f stack rest =
-    let made = external w.memory.heap class in
-    thrown_alike P w made.reference (with_heap w.memory made.heap) f stack rest

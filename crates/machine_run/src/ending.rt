@@ -69,10 +69,13 @@ pub(crate) fn clear_made(frames: &mut RunFrameList)
         → frames.old ≡ Library made ∷ rest
         → frames.new ≡ Library None ∷ rest }
 {
-    match frames.frames.last_mut() {
-        Some(RunFrame::Library { made }) => *made = None,
-        Some(RunFrame::Beginning(_)) => {}
-        Some(RunFrame::Method(_)) => {}
-        None => {}
+    let len = frames.frames.len();
+    if len == 0 {
+        return;
+    }
+    match &mut frames.frames[len - 1] {
+        RunFrame::Library { made } => *made = None,
+        RunFrame::Beginning(_) => {}
+        RunFrame::Method(_) => {}
     }
 }

@@ -125,10 +125,13 @@ fn resume_top(frames: &mut RunFrameList, value: Option<Value>) -> Result<(), NoM
         → frames.old ≡ Method f ∷ rest
         → frames.new ≡ Method (resumed f (values_of value)) ∷ rest) }
 {
-    match frames.frames.last_mut() {
-        Some(RunFrame::Method(frame)) => resume_frame(frame, value),
-        Some(RunFrame::Library { .. }) => Ok(()),
-        Some(RunFrame::Beginning(_)) => Ok(()),
-        None => Ok(()),
+    let len = frames.frames.len();
+    if len == 0 {
+        return Ok(());
+    }
+    match &mut frames.frames[len - 1] {
+        RunFrame::Method(frame) => resume_frame(frame, value),
+        RunFrame::Library { .. } => Ok(()),
+        RunFrame::Beginning(_) => Ok(()),
     }
 }

@@ -15,7 +15,7 @@ ghost use Rattle.machine_run.specs.Inner.Unwinding.{AreEnded};
 ghost use Rattle.machine_run.specs.Outcomes.{ended, halt_of};
 
 use crate::ending::{clear_made, end_method, handle_in_frame};
-use crate::frames::pop_frame;
+use crate::frames::{frame_count, pop_frame};
 use crate::throw_targets::{TargetKind, ThrowTarget, find_target, shape_of};
 use class_model::NoMemory;
 use class_tree::Tree;
@@ -85,7 +85,7 @@ pub(crate) fn land(
 fn end_methods(w: &mut WorldState, left: usize)
     ensures { AreEnded left w.old w.new }
 {
-    while w.frames.frames.len() > left {
+    while frame_count(&w.frames) > left {
         end_method(w);
     }
 }
@@ -96,11 +96,14 @@ fn handle_in_top(frames: &mut RunFrameList, to: u32, at: Ref) -> Result<(), NoMe
         → frames.old ≡ Method f ∷ rest
         → frames.new ≡ Method (record f { place = to; stack = values.Ref at ∷ [] }) ∷ rest) }
 {
-    match frames.frames.last_mut() {
-        Some(RunFrame::Method(frame)) => handle_in_frame(frame, to, at),
-        Some(RunFrame::Library { .. }) => Ok(()),
-        Some(RunFrame::Beginning(_)) => Ok(()),
-        None => Ok(()),
+    let len = frames.frames.len();
+    if len == 0 {
+        return Ok(());
+    }
+    match &mut frames.frames[len - 1] {
+        RunFrame::Method(frame) => handle_in_frame(frame, to, at),
+        RunFrame::Library { .. } => Ok(()),
+        RunFrame::Beginning(_) => Ok(()),
     }
 }
 
