@@ -2,7 +2,7 @@
 use Rattle.std.proofs.Common.{◌≡◌, ◌-◌, ◌↔◌, ℕ, zero, suc, Bool, true, false, List, [], ◌∷◌, slice_get, slice_set, Option, Some, None, if◌then◌else◌, refl, ap, sym, ◌∙◌, arith}
 use Rattle.class_tree.specs.Headers.{Name}
 use Rattle.machine_heap.specs.Laws.Heaps.{shapes_where_counted}
-use Rattle.machine_values.specs.Heaps.{Heap, left, monitor_count, object_at, with_object}
+use Rattle.machine_values.specs.Heaps.{Heap, left, monitor_count, object_at}
 use Rattle.machine_values.specs.declared.object.Object.{Object}
 use Rattle.machine_values.specs.declared.object.Shape.{Shape}
 use Rattle.member_link.specs.Machine.Performing.{handler_at, handler_for, unlocked}

@@ -1,5 +1,5 @@
 -- The handlers around a place of prepared code.
-use Rattle.std.proofs.Common.{◌≡◌, ℕ, List, slice_get, Option, Some, None, option_map, option_and_then, map, refl, ap, sym, ◌∙◌}
+use Rattle.std.proofs.Common.{◌≡◌, ℕ, List, slice_get, Option, Some, None, option_map, option_and_then, refl, ap, sym, ◌∙◌}
 use Rattle.std.proofs.lemmas.Option.{slice_get-map}
 use Rattle.class_model.specs.declared.class_file.MethodAt.{MethodAt}
 use Rattle.machine_values.specs.declared.object.Shape.{Shape}

@@ -1,14 +1,11 @@
 -- The world in which a method has ended.
-use Rattle.std.proofs.Common.{◌≡◌, ◌<◌, ◌-◌, ◌^◌, ℕ, Bool, true, false, List, [], ◌∷◌, slice_get, drop, Option, Some, None, if◌then◌else◌, refl, ap, sym, subst, ◌∙◌}
+use Rattle.std.proofs.Common.{◌≡◌, Bool, true, false, List, Some, None, if◌then◌else◌, ap, ◌∙◌}
 use Rattle.machine_values.specs.Frames.{MethodState}
 use Rattle.machine_values.specs.declared.frame.RunFrame.{RunFrame}
-use Rattle.machine_values.specs.declared.frame.RunFrame.TheVariants.{Beginning, Library, Method}
 use Rattle.machine_values.specs.declared.value.Value.{Value}
-use Rattle.member_link.specs.Machine.Performing.{is_initialiser, result_seen, resumed, returned, returned_by, returned_to, unlocked}
-use Rattle.member_link.specs.Machine.Programs.{Program, RunMethod, run_method}
-use Rattle.member_link.specs.Machine.Showing.{shows_result}
+use Rattle.member_link.specs.Machine.Performing.{returned, returned_by, returned_to, unlocked}
+use Rattle.member_link.specs.Machine.Programs.{Program}
 use Rattle.member_link.specs.Machine.Worlds.{World, stuck}
-use Rattle.machine_step.specs.Bounded.{CanGoOn}
 use Rattle.machine_step.specs.Prepared.{IsTraitsOf}
 use Rattle.machine_step.specs.declared.prepared_method.MethodTraits.{MethodTraits}
 

@@ -1,16 +1,13 @@
 -- The world in which a thrown object has landed.
-use Rattle.std.proofs.Common.{◌≡◌, ◌<◌, ℕ, List, [], ◌∷◌, length, drop, Option, Some, None, IfSome, IfNone, refl, ap, sym, subst, ◌∙◌, arith}
-use Rattle.class_tree.specs.Headers.{Name}
+use Rattle.std.proofs.Common.{◌≡◌, ◌<◌, ℕ, List, [], ◌∷◌, length, Option, Some, None, IfSome, IfNone, refl, ap, sym, subst, ◌∙◌, arith}
 use Rattle.machine_values.specs.Frames.{MethodState}
-use Rattle.machine_values.specs.Heaps.{external}
 use Rattle.machine_values.specs.declared.frame.RunFrame.{RunFrame}
 use Rattle.machine_values.specs.declared.frame.RunFrame.TheVariants.{Library, Method}
-use Rattle.machine_values.specs.declared.value.Value.{Value}
 use Rattle.machine_values.specs.declared.value.Value.TheVariants.{Ref}
-use Rattle.member_link.specs.Machine.Performing.{Landing, handler_at, landed, past_handler, raised, thrown, thrown_in, unlocked, unwind}
-use Rattle.member_link.specs.Machine.Programs.{Program, RunMethod, point_at, run_method}
+use Rattle.member_link.specs.Machine.Performing.{landed, thrown_in, unlocked, unwind}
+use Rattle.member_link.specs.Machine.Programs.{Program}
 use Rattle.member_link.specs.Machine.Showing.{shows_threw}
-use Rattle.member_link.specs.Machine.Worlds.{World, Memory, init_threw, stuck, with_heap}
+use Rattle.member_link.specs.Machine.Worlds.{World, Memory, init_threw, stuck}
 use Rattle.machine_run.proofs.Handlers.{shape_unlocked}
 use Rattle.machine_run.proofs.Landings.{EndsInHandler, EndsInInitialiser, EndsInLibrary, Passed, nowhere_is, passed}
 use Rattle.machine_run.specs.Inner.ThrowTargets.{shape_at, target_in}
@@ -59,44 +56,44 @@ module _ (P : Program) (before w now : World) (reference : ℕ)
     (rest : now ≡ record w { memory = now.memory; frames = now.frames })
     (unwound : unwind P reference w.frames w.memory ≡ unwind P reference now.frames now.memory)
   where
-  with_frames : (frames : List RunFrame) → record now { frames = frames } ≡ record before { memory = now.memory; frames = frames }
-  with_frames frames =
-      ap (λ (v : World). record v { frames = frames }) rest
-      ∙ ap (λ (v : World). record v { memory = now.memory; frames = frames }) since
+    with_frames : (frames : List RunFrame) → record now { frames = frames } ≡ record before { memory = now.memory; frames = frames }
+    with_frames frames =
+        ap (λ (v : World). record v { frames = frames }) rest
+        ∙ ap (λ (v : World). record v { memory = now.memory; frames = frames }) since
 
-  pub landed_in_handler :
-      (to : ℕ) (frames : List RunFrame)
-      → EndsInHandler reference now.frames now.memory (unwind P reference now.frames now.memory) to
-      → ((f : MethodState) (others : List RunFrame) → now.frames ≡ Method f ∷ others
-      → frames ≡ Method (record f { place = to; stack = Ref reference ∷ [] }) ∷ others)
-      → record now { frames = frames } ≡ thrown_in P before reference w.frames w.memory
-  landed_in_handler to frames ends handles =
-      with_frames frames
-      ∙ ap (λ (others : List RunFrame). record before { memory = now.memory; frames = others }) (handles ends.top ends.rest ends.same)
-      ∙ sym (ap (landed P before reference) (unwound ∙ ends.lands))
+    pub landed_in_handler :
+        (to : ℕ) (frames : List RunFrame)
+        → EndsInHandler reference now.frames now.memory (unwind P reference now.frames now.memory) to
+        → ((f : MethodState) (others : List RunFrame) → now.frames ≡ Method f ∷ others
+        → frames ≡ Method (record f { place = to; stack = Ref reference ∷ [] }) ∷ others)
+        → record now { frames = frames } ≡ thrown_in P before reference w.frames w.memory
+    landed_in_handler to frames ends handles =
+        with_frames frames
+        ∙ ap (λ (others : List RunFrame). record before { memory = now.memory; frames = others }) (handles ends.top ends.rest ends.same)
+        ∙ sym (ap (landed P before reference) (unwound ∙ ends.lands))
 
-  pub landed_in_library :
-      (frames : List RunFrame)
-      → EndsInLibrary now.frames now.memory (unwind P reference now.frames now.memory)
-      → ((made : Option ℕ) (others : List RunFrame) → now.frames ≡ Library made ∷ others
-      → frames ≡ Library None ∷ others)
-      → shows_threw P (record now { frames = frames }) reference ≡ thrown_in P before reference w.frames w.memory
-  landed_in_library frames ends clears =
-      ap (λ (v : World). shows_threw P v reference)
-      (with_frames frames
-      ∙ ap (λ (others : List RunFrame). record before { memory = now.memory; frames = others }) (clears ends.made ends.rest ends.same))
-      ∙ sym (ap (landed P before reference) (unwound ∙ ends.lands))
+    pub landed_in_library :
+        (frames : List RunFrame)
+        → EndsInLibrary now.frames now.memory (unwind P reference now.frames now.memory)
+        → ((made : Option ℕ) (others : List RunFrame) → now.frames ≡ Library made ∷ others
+        → frames ≡ Library None ∷ others)
+        → shows_threw P (record now { frames = frames }) reference ≡ thrown_in P before reference w.frames w.memory
+    landed_in_library frames ends clears =
+        ap (λ (v : World). shows_threw P v reference)
+        (with_frames frames
+        ∙ ap (λ (others : List RunFrame). record before { memory = now.memory; frames = others }) (clears ends.made ends.rest ends.same))
+        ∙ sym (ap (landed P before reference) (unwound ∙ ends.lands))
 
-  pub landed_in_initialiser :
-      (frames : List RunFrame)
-      → EndsInInitialiser now.frames now.memory (unwind P reference now.frames now.memory)
-      → ((top : RunFrame) (others : List RunFrame) → now.frames ≡ top ∷ others → frames ≡ others)
-      → record now { frames = frames; halt = init_threw } ≡ thrown_in P before reference w.frames w.memory
-  landed_in_initialiser frames ends pops =
-      ap (λ (v : World). record v { halt = init_threw })
-      (with_frames frames
-      ∙ ap (λ (others : List RunFrame). record before { memory = now.memory; frames = others }) (pops ends.top ends.rest ends.same))
-      ∙ sym (ap (landed P before reference) (unwound ∙ ends.lands))
+    pub landed_in_initialiser :
+        (frames : List RunFrame)
+        → EndsInInitialiser now.frames now.memory (unwind P reference now.frames now.memory)
+        → ((top : RunFrame) (others : List RunFrame) → now.frames ≡ top ∷ others → frames ≡ others)
+        → record now { frames = frames; halt = init_threw } ≡ thrown_in P before reference w.frames w.memory
+    landed_in_initialiser frames ends pops =
+        ap (λ (v : World). record v { halt = init_threw })
+        (with_frames frames
+        ∙ ap (λ (others : List RunFrame). record before { memory = now.memory; frames = others }) (pops ends.top ends.rest ends.same))
+        ∙ sym (ap (landed P before reference) (unwound ∙ ends.lands))
 
 pub landed_nowhere :
     (P : Program) (w : World) (reference : ℕ) (memory : Memory)

@@ -10,7 +10,6 @@ use Rattle.member_link.specs.Machine.Programs.{Catch, Point, Program, RunMethod,
 use Rattle.member_link.specs.Machine.Shapes.{is_instance}
 use Rattle.machine_run.specs.declared.throw_targets.Passing.{Passing}
 use Rattle.machine_run.specs.declared.throw_targets.Passing.TheVariants.{Lands, Passes, Nowhere}
-use Rattle.machine_run.specs.declared.throw_targets.TargetKind.{TargetKind}
 use Rattle.machine_run.specs.declared.throw_targets.TargetKind.TheVariants as kinds
 use Rattle.machine_run.specs.declared.throw_targets.ThrowTarget.{ThrowTarget}
 

@@ -1,6 +1,5 @@
-use Rattle.std.proofs.Common.{◌≡◌, ◌∷◌, ℕ, List, None, length, reverse, sym, ap, ◌∙◌}
+use Rattle.std.proofs.Common.{◌≡◌, ◌∷◌, None, length, reverse, sym, ap, ◌∙◌}
 use Rattle.machine_values.specs.contracts.frame.RunFrameList.{the_view}
-use Rattle.machine_values.specs.declared.frame.RunFrame.{RunFrame as Frame}
 use Rattle.machine_values.specs.declared.frame.RunFrame.TheVariants.{Library}
 use Rattle.machine_run.proofs.Tops.{top_read, top_set}
 use Rattle.machine_run.proofs.ending.clear_made.Goals as goal

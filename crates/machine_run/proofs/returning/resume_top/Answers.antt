@@ -1,6 +1,5 @@
-use Rattle.std.proofs.Common.{◌≡◌, ◌∷◌, ℕ, List, OnOk, length, sym, ap, subst, ◌∙◌}
+use Rattle.std.proofs.Common.{◌≡◌, ◌∷◌, List, length, sym, ap, ◌∙◌}
 use Rattle.machine_values.specs.Frames.{MethodState}
-use Rattle.machine_values.specs.contracts.frame.RunFrameList.{the_view}
 use Rattle.machine_values.specs.declared.frame.RunFrame.{RunFrame as Frame}
 use Rattle.machine_values.specs.declared.frame.RunFrame.TheVariants.{Method}
 use Rattle.member_link.specs.Machine.Performing.{resumed}
@@ -20,11 +19,11 @@ returns c =
     let goes : MethodState → MethodState = λ f. resumed f (values_of c.args.value) in
     elim c.match-index_mut.branch [
       | in-Method w ↦
-        (let frame : (f : MethodState) (rest : List Frame) → c.args.frames.now ≡ Method f ∷ rest → w.in-Method.frame ≡ f =
-        λ f rest is. let both = sym w.in-Method.is ∙ top f rest is in cc in
-        rw (w.result-is, w.frames-inside-is)
-        (method_went w.resume_frame.result goes items c.args.frames.now c.len-len.result w.in-Method.frame w.resume_frame.new.frame
-        frame c.frames.view_is many w.resume_frame.ensures))
+          (let frame : (f : MethodState) (rest : List Frame) → c.args.frames.now ≡ Method f ∷ rest → w.in-Method.frame ≡ f =
+          λ f rest is. let both = sym w.in-Method.is ∙ top f rest is in cc in
+          rw (w.result-is, w.frames-inside-is)
+          (method_went w.resume_frame.result goes items c.args.frames.now c.len-len.result w.in-Method.frame w.resume_frame.new.frame
+          frame c.frames.view_is many w.resume_frame.ensures))
       | in-Library w ↦ on_ok_always c.match-index_mut.result (λ f rest is. let both = sym w.in-Library.is ∙ top f rest is in absurd cc)
       | in-Beginning w ↦ on_ok_always c.match-index_mut.result (λ f rest is. let both = sym w.in-Beginning.is ∙ top f rest is in absurd cc)
     ]

@@ -1,4 +1,4 @@
-use Rattle.std.proofs.Common.{◌≡◌, sym, ap, ◌∙◌}
+use Rattle.std.proofs.Common.{sym, ap, ◌∙◌}
 use Rattle.std.proofs.lemmas.Result.{IfOk-weaker}
 use Rattle.member_link.specs.Machine.Performing.{unlocked}
 use Rattle.member_link.specs.Machine.Worlds.{Halt, World, going}

@@ -1,6 +1,5 @@
-use Rattle.std.proofs.Common.{◌≡◌, [], ◌∷◌, ℕ, List, OnOk, length, sym, ap, subst, ◌∙◌}
+use Rattle.std.proofs.Common.{◌≡◌, [], ◌∷◌, List, length, sym, ◌∙◌}
 use Rattle.machine_values.specs.Frames.{MethodState}
-use Rattle.machine_values.specs.contracts.frame.RunFrameList.{the_view}
 use Rattle.machine_values.specs.declared.frame.RunFrame.{RunFrame as Frame}
 use Rattle.machine_values.specs.declared.frame.RunFrame.TheVariants.{Method}
 use Rattle.machine_values.specs.declared.value.Value.TheVariants.{Ref}
@@ -19,11 +18,11 @@ returns c =
     let goes : MethodState → MethodState = λ f. record f { place = c.args.to; stack = Ref c.args.at ∷ [] } in
     elim c.match-index_mut.branch [
       | in-Method w ↦
-        (let frame : (f : MethodState) (rest : List Frame) → c.args.frames.now ≡ Method f ∷ rest → w.in-Method.frame ≡ f =
-        λ f rest is. let both = sym w.in-Method.is ∙ top f rest is in cc in
-        rw (w.result-is, w.frames-inside-is)
-        (method_went w.handle_in_frame.result goes items c.args.frames.now c.len-len.result w.in-Method.frame w.handle_in_frame.new.frame
-        frame c.frames.view_is many w.handle_in_frame.ensures))
+          (let frame : (f : MethodState) (rest : List Frame) → c.args.frames.now ≡ Method f ∷ rest → w.in-Method.frame ≡ f =
+          λ f rest is. let both = sym w.in-Method.is ∙ top f rest is in cc in
+          rw (w.result-is, w.frames-inside-is)
+          (method_went w.handle_in_frame.result goes items c.args.frames.now c.len-len.result w.in-Method.frame w.handle_in_frame.new.frame
+          frame c.frames.view_is many w.handle_in_frame.ensures))
       | in-Library w ↦ on_ok_always c.match-index_mut.result (λ f rest is. let both = sym w.in-Library.is ∙ top f rest is in absurd cc)
       | in-Beginning w ↦ on_ok_always c.match-index_mut.result (λ f rest is. let both = sym w.in-Beginning.is ∙ top f rest is in absurd cc)
     ]

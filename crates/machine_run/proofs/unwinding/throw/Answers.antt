@@ -1,7 +1,6 @@
-use Rattle.std.proofs.Common.{◌≡◌, Option, List, None, sym, ap, ◌∙◌}
+use Rattle.std.proofs.Common.{◌≡◌, Option, None, sym, ap, ◌∙◌}
 use Rattle.std.specs.Option.{option_copied}
 use Rattle.machine_values.specs.Heaps.{Heap}
-use Rattle.machine_values.specs.declared.frame.RunFrame.{RunFrame}
 use Rattle.machine_values.specs.declared.object.Shape.{Shape}
 use Rattle.member_link.specs.Machine.Worlds.{World}
 use Rattle.machine_run.specs.Inner.ThrowTargets.{shape_at, target_in}
