@@ -2,7 +2,7 @@
 use Rattle.std.specs.Prelude.{◌≡◌, ◌<◌, ◌-◌, ◌^◌, ◌+◌, ◌&&◌, not, nat_le, All, IfSome, refl, ℕ, ℤ, pos, negsuc, Bool, true, false, List, [], ◌∷◌, length, take, drop, reverse, slice_get, Option, Some, None, is_some, option_map, option_and_then, if◌then◌else◌}
 use Rattle.std.specs.List.{list_any}
 use Rattle.std.proofs.Common.{arith}
-use Rattle.std.proofs.lemmas.List.Elements.{All-from_recursion, recursion_from_All, All-cons}
+use Rattle.std.proofs.lemmas.List.Elements.{All-from_recursion, recursion_from_All}
 use Rattle.class_model.specs.Descriptors.{kind_of, type_of, parameters_of}
 use Rattle.class_model.specs.Members.{has, STATIC}
 use Rattle.class_model.specs.declared.class_file.MethodAt.{MethodAt}
@@ -13,7 +13,7 @@ use Rattle.class_model.specs.declared.descriptor.Kind.TheVariants as kinds
 use Rattle.class_tree.specs.Headers.{Name}
 use Rattle.machine_values.specs.Frames.{MethodState}
 use Rattle.machine_values.specs.Heaps.{allocated, with_value}
-use Rattle.machine_values.specs.Values.{has_kind, narrowed, component_text}
+use Rattle.machine_values.specs.Values.{has_kind, narrowed, component_text, units_of_values}
 use Rattle.machine_values.specs.declared.action.Action.{Action}
 use Rattle.machine_values.specs.declared.action.Action.TheVariants as actions
 use Rattle.machine_values.specs.declared.action.Given.{Given}
@@ -26,13 +26,13 @@ use Rattle.machine_values.specs.declared.value.Value.{Value}
 use Rattle.machine_values.specs.declared.value.Value.TheVariants as values
 use Rattle.member_link.specs.Machine.Acting.{fault, given_value, given_values, all_conform, beginning_of_number, beginning_if, begins_with_angle, call_of_static, call_of_instance, call_on, call_by_sort, call_of_method, call_at, act_call, is_handled, is_concrete, with_made, constructed, construct_at, pending_of, Pending, Waiting, waiting_in, answered, answer_with, answer_without, act_return, is_throwable, act_throw, known_object, got_of_value, got_of_shape, act_array_get, set_at, set_of_shape, act_array_set, length_of_shape, act_array_length, is_array_descriptor, shows_new, act_new_array, act_new_external, acted, is_fault, act}
 use Rattle.member_link.specs.Machine.ArraySteps.{most_elements, blank_array, index_in}
-use Rattle.member_link.specs.Machine.Beginnings.{begun_on, beginning_step, past_beginning, begun_next, beginning_of, initialiser_of, first_unbegun, come_first}
+use Rattle.member_link.specs.Machine.Beginnings.{begun_on, frame_with, beginning_step, past_beginning, begun_next, beginning_of, initialiser_of, first_unbegun, come_first}
 use Rattle.member_link.specs.Machine.Completions.{Completion, gives, raises, throws, begins, calls, asks, ends}
 use Rattle.member_link.specs.Machine.Locals.{Jump, stored, incremented, local_value, shuffled, jump_of_int, jump_of_ints, jump_of_references, jump_of_null, table_target, lookup_target}
 use Rattle.member_link.specs.Machine.ObjectSteps.{blank_object}
 use Rattle.member_link.specs.Machine.Ops as ops
 use Rattle.member_link.specs.Machine.Ops.{Op}
-use Rattle.member_link.specs.Machine.Performing.{called, unlocked, is_initialiser, returned_to, returned_by, returned, returned_value, past_method, past_handler, handler_at, Landing, lands_in, lands_in_library, leaves_initialiser, lands_nowhere, unwind, landed, thrown, thrown_in, raised, perform}
+use Rattle.member_link.specs.Machine.Performing.{called, locked, unlocked, is_initialiser, returned_to, returned_by, returned, returned_value, past_method, past_handler, handler_at, Landing, lands_in, lands_in_library, leaves_initialiser, lands_nowhere, unwind, landed, thrown, thrown_in, raised, perform}
 use Rattle.member_link.specs.Machine.Programs.{Program, Point, RunClass, RunMethod, run_method, code_at, point_at, folder_number, header_named, is_interface_named, place_of_method}
 use Rattle.member_link.specs.Machine.Shapes.{value_conforms}
 use Rattle.member_link.specs.Machine.Stepping.{ends_stuck, load_step, store_units, store_step, increment_step, test_step, shuffle_step, jump_step, switch_step, return_step, work_step, op_step, point_step, frames_step, is_library_turn, step}
@@ -52,6 +52,9 @@ Below fs = All HasNextPlace fs
 
 behind_first : (f : RunFrame) (fs : List RunFrame) → Below (f ∷ fs) → Below fs
 behind_first f fs h = All-from_recursion HasNextPlace fs (recursion_from_All HasNextPlace (f ∷ fs) h).1
+
+more_below : (f : RunFrame) (fs : List RunFrame) → HasNextPlace f → Below fs → Below (f ∷ fs)
+more_below f fs next h = All-from_recursion HasNextPlace (f ∷ fs) (next, recursion_from_All HasNextPlace fs h)
 
 all_below : (fs : List RunFrame) → Below fs → CanGoOn fs
 all_below [] h = tt
@@ -150,7 +153,7 @@ beginning_fits P c w rest h g = by (slice_get P.classes c) where
   by_initialiser (Some at) = record { is = h }
 
   by_first : (f : Option ℕ) → Fits (begun_next P c w rest f)
-  by_first (Some first) = begun_on_fits P first w (frames.Beginning c ∷ rest) (All-cons (frames.Beginning c) rest tt h)
+  by_first (Some first) = begun_on_fits P first w (frames.Beginning c ∷ rest) (more_below (frames.Beginning c) rest tt h)
   by_first None = by_initialiser (initialiser_of P c)
 
   by : (k : Option RunClass) → Fits (beginning_of P c w rest k)
@@ -166,9 +169,9 @@ perform_fits :
 perform_fits P w f taken rest (gives m vs) n k h g = record { is = h }
 perform_fits P w f taken rest (raises class) n k h g = raised_fits P w class (frames.Method taken ∷ rest) h g
 perform_fits P w f taken rest (throws r) n k h g = thrown_fits P w r (frames.Method taken ∷ rest) h g
-perform_fits P w f taken rest (begins class) n k h g = begun_on_fits P class w (frames.Method f ∷ rest) (All-cons (frames.Method f) rest n h)
-perform_fits P w f taken rest (calls at vs) n k h g = record { is = All-cons (frames.Method taken) rest k h }
-perform_fits P w f taken rest (asks asked) n k h g = record { is = All-cons (frames.Method taken) rest k h }
+perform_fits P w f taken rest (begins class) n k h g = begun_on_fits P class w (frames.Method f ∷ rest) (more_below (frames.Method f) rest n h)
+perform_fits P w f taken rest (calls at vs) n k h g = record { is = more_below (frames.Method taken) rest k h }
+perform_fits P w f taken rest (asks asked) n k h g = record { is = more_below (frames.Method taken) rest k h }
 perform_fits P w f taken rest (ends halt) n k h g = record { is = g.is }
 
 -- ---- operations
@@ -274,13 +277,15 @@ step_fits P w n g =
 
 turn_below : (fs : List RunFrame) → is_library_turn fs ≡ true → CanGoOn fs → Below fs
 turn_below [] turn h = absurd cc
-turn_below (frames.Library made ∷ fs) turn h = All-cons (frames.Library made) fs tt h
+turn_below (frames.Library made ∷ fs) turn h = more_below (frames.Library made) fs tt h
 turn_below (frames.Beginning c ∷ fs) turn h = absurd cc
 turn_below (frames.Method f ∷ fs) turn h = absurd cc
 
 -- a called method's frame begins at the first place
 called_below : (P : Program) (w : World) (at : MethodAt) (vs : List Value) (fs : List RunFrame) → Below fs → Below (called P w at vs fs).frames
-called_below P w at vs fs h = All-cons _ fs (omega arith) h
+called_below P w at vs fs h =
+    let first : 0 < 2 ^ 32 - 1 = omega arith in
+    more_below (frames.Method (frame_with P at (units_of_values vs) (locked P w.memory at vs).held)) fs first h
 
 beginning_of_number_fits : (P : Program) (w : World) (n : Option ℕ) → Below w.frames → Fits (beginning_of_number P w n)
 beginning_of_number_fits P w None h = record { is = all_below w.frames h }
@@ -289,7 +294,7 @@ beginning_of_number_fits P w (Some n) h =
 
 made_below : (r : ℕ) (fs : List RunFrame) → Below fs → Below (with_made r fs)
 made_below r [] h = h
-made_below r (frames.Library made ∷ fs) h = All-cons _ fs tt (behind_first (frames.Library made) fs h)
+made_below r (frames.Library made ∷ fs) h = more_below (frames.Library (Some r)) fs tt (behind_first (frames.Library made) fs h)
 made_below r (frames.Beginning c ∷ fs) h = h
 made_below r (frames.Method f ∷ fs) h = h
 
@@ -352,8 +357,11 @@ module _ (P : Program) (w : World) (h : Below w.frames) (g : Fits w) where
 
   constructed_fits : (c : Name) (at : MethodAt) (vs : List Value) (n : ℕ) → Fits (constructed P w c at vs (blank_object P w.memory.heap n))
   constructed_fits c at vs n =
-      beginning_of_number_fits P _ (folder_number P c)
-      (called_below P _ at _ (with_made (blank_object P w.memory.heap n).reference w.frames) (made_below (blank_object P w.memory.heap n).reference w.frames h))
+      let made = blank_object P w.memory.heap n in
+      let filled : World = record w { memory = with_heap w.memory made.heap } in
+      let arguments : List Value = values.Ref made.reference ∷ vs in
+      beginning_of_number_fits P (called P filled at arguments (with_made made.reference w.frames)) (folder_number P c)
+      (called_below P filled at arguments (with_made made.reference w.frames) (made_below made.reference w.frames h))
 
   construct_fits : (c : Name) (d : List ℕ) (n : Option ℕ) (at : Option MethodAt) (vs : Option (List Value)) → Fits (construct_at P w c d n at vs)
   construct_fits c d (Some n) (Some at) (Some vs) =

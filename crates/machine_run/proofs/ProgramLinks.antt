@@ -33,7 +33,7 @@ module _
     (methods : (r : Reference) → FindsMethod headers r.class r.name r.desc (method r))
     (select : Name → Declared → CallForm → Choice)
     (selects : (receiver : Name) (resolved : Declared) (form : CallForm) → Selects headers receiver resolved form (select receiver resolved form)) where
-  selected : Name → CallForm → Option Declared → Chosen
+  abbrev selected : Name → CallForm → Option Declared → Chosen
   selected receiver form None = abstract_method
   selected receiver form (Some resolved) = chosen_by (select receiver resolved form)
 
@@ -44,14 +44,14 @@ module _
   is_selected receiver form (Some resolved) =
       record { choice = select receiver resolved form; selects = selects receiver resolved form; same = refl }
 
-  method_link : Reference → Option Reference
+  abbrev method_link : Reference → Option Reference
   method_link r = cond (bytes_eq r.name init) None (option_map reference_to (method r))
 
-  select_link : Name → Reference → CallForm → Chosen
+  abbrev select_link : Name → Reference → CallForm → Chosen
   select_link receiver r form =
       cond (bytes_eq r.name init) abstract_method (selected receiver form (own_method headers r.class r.name r.desc))
 
-  pub links : Links
+  abbrev pub links : Links
   links = record {
     below = sub;
     field = λ r. option_map reference_to (field r);

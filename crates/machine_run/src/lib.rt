@@ -4,13 +4,17 @@
 
 mod beginnings;
 mod calls;
+mod coming_first;
 mod ending;
 mod frames;
+mod jumping;
 mod laws;
 mod moves;
+mod names;
 mod performing;
 mod raising;
 mod returning;
+mod starts;
 mod stepping;
 mod throw_targets;
 mod unwinding;

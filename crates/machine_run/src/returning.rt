@@ -10,7 +10,7 @@ ghost use Rattle.machine_step.specs.Bounded.{CanGoOn};
 ghost use Rattle.machine_step.specs.Completing.{values_of};
 ghost use Rattle.machine_step.specs.Prepared.{IsTraitsOf};
 ghost use Rattle.machine_step.specs.Programs.{IsProgram};
-ghost use Rattle.machine_run.specs.Outcomes.{ended, halt_of};
+ghost use Rattle.machine_run.specs.Outcomes.{Lands, ended, halt_of};
 
 use crate::ending::{clear_made, end_method, resume_frame};
 use class_model::NoMemory;
@@ -31,7 +31,8 @@ pub(crate) fn return_value(
     value: Option<Value>,
 ) -> Result<Outcome, NoMemory>
     requires { CanGoOn w.old.frames }
-    ensures { IfOk result (λ outcome. (P : Program) (f : MethodState) (rest : List Frame)
+    ensures lands { IfOk result Lands }
+    ensures returned { IfOk result (λ outcome. (P : Program) (f : MethodState) (rest : List Frame)
         → IsProgram tree.now P
         → w.old.frames ≡ Method f ∷ rest
         → ended (halt_of outcome) w.new ≡ returned P w.old f rest (values_of value)) }
@@ -84,7 +85,8 @@ fn return_below(
     value: Option<Value>,
 ) -> Result<Outcome, NoMemory>
     requires { CanGoOn w.old.frames }
-    ensures { IfOk result (λ outcome. (P : Program) (f : MethodState) (rest : List Frame)
+    ensures lands { IfOk result Lands }
+    ensures returned { IfOk result (λ outcome. (P : Program) (f : MethodState) (rest : List Frame)
         → IsProgram tree.now P
         → w.old.frames ≡ Method f ∷ rest
         → ended (halt_of outcome) w.new ≡ returned_to P w.old f.held (values_of value) rest) }

@@ -1,18 +1,16 @@
 //! Throwing to the nearest handler (JVM Specification SE 8, 2.10).
-ghost use Rattle.std.specs.Prelude.{◌≡◌, ◌∷◌, ℕ, List, [], Some, IfOk, OnOk};
-ghost use Rattle.class_tree.specs.Headers.{Name};
+ghost use Rattle.std.specs.Prelude.{◌≡◌, ◌∷◌, List, [], Some, IfOk, OnOk};
 ghost use Rattle.machine_values.specs.Frames.{MethodState};
 ghost use Rattle.machine_values.specs.declared.frame.RunFrame.{RunFrame as Frame};
 ghost use Rattle.machine_values.specs.declared.frame.RunFrame.TheVariants.{Method};
-ghost use Rattle.machine_values.specs.declared.value.Value.{Value as Operand};
 ghost use Rattle.machine_values.specs.declared.value.Value.TheVariants as values;
-ghost use Rattle.member_link.specs.Machine.Performing.{raised, thrown, thrown_in};
+ghost use Rattle.member_link.specs.Machine.Performing.{thrown, thrown_in};
 ghost use Rattle.member_link.specs.Machine.Programs.{Program};
 ghost use Rattle.member_link.specs.Machine.Worlds.{World};
 ghost use Rattle.machine_step.specs.Programs.{IsProgram};
 ghost use Rattle.machine_run.specs.Inner.ThrowTargets.{shape_at, target_in};
 ghost use Rattle.machine_run.specs.Inner.Unwinding.{AreEnded};
-ghost use Rattle.machine_run.specs.Outcomes.{ended, halt_of};
+ghost use Rattle.machine_run.specs.Outcomes.{Lands, ended, halt_of};
 
 use crate::ending::{clear_made, end_method, handle_in_frame};
 use crate::frames::{frame_count, pop_frame};
@@ -35,6 +33,7 @@ pub(crate) fn throw(
     at: Ref,
 ) -> Result<Outcome, NoMemory>
     ensures same { prepared.new ≡ prepared.old }
+    ensures lands { IfOk result Lands }
     ensures thrown { IfOk result (λ outcome. (P : Program) → IsProgram prepared.old P
         → ended (halt_of outcome) w.new ≡ thrown P w.old at w.old.frames) }
 {
@@ -57,7 +56,8 @@ pub(crate) fn land(
     at: Ref,
     target: ThrowTarget,
 ) -> Result<Outcome, NoMemory>
-    ensures { IfOk result (λ outcome. (P : Program) (before : World)
+    ensures lands { IfOk result Lands }
+    ensures thrown { IfOk result (λ outcome. (P : Program) (before : World)
         → IsProgram tree.now P
         → w.old ≡ record before { memory = w.old.memory }
         → target_in P (shape_at w.old.memory.heap at) w.old.frames ≡ Some target
@@ -106,15 +106,3 @@ fn handle_in_top(frames: &mut RunFrameList, to: u32, at: Ref) -> Result<(), NoMe
         RunFrame::Beginning(_) => Ok(()),
     }
 }
-
-/// What is thrown lands in one place whatever the top frame has on its stack.
-pub(crate) fn throwing_does_not_see_the_stack()
-    ensures thrown { (P : Program) (w : World) (at : ℕ) (f : MethodState) (stack : List Operand)
-        (rest : List Frame)
-        → thrown P w at (Method (record f { stack = stack }) ∷ rest)
-        ≡ thrown P w at (Method f ∷ rest) }
-    ensures raised { (P : Program) (w : World) (class : Name) (f : MethodState)
-        (stack : List Operand) (rest : List Frame)
-        → raised P w class (Method (record f { stack = stack }) ∷ rest)
-        ≡ raised P w class (Method f ∷ rest) }
-{}

@@ -14,9 +14,11 @@ returns c =
     let field = law.fields headers is in
     let method = law.methods headers is in
     let select = law.selections headers is in
-    let found : Links = links headers sub.0 sub.1 field.0 field.1 method.0 method.1 select.0 select.1 in
-    (program_of c.args.tree.now found, record {
-      links = found;
-      are_links = are_links headers sub.0 sub.1 field.0 field.1 method.0 method.1 select.0 select.1;
-      same = refl;
-    })
+    let found : Links = links headers sub.0 sub.1 field.0 field.1 method.0 method.1 select.0 select.1 in (
+      program_of c.args.tree.now found,
+      record {
+        links = found;
+        are_links = are_links headers sub.0 sub.1 field.0 field.1 method.0 method.1 select.0 select.1;
+        same = refl;
+      },
+    )

@@ -8,8 +8,8 @@ use Rattle.machine_run.proofs.Landings.{EndsIn, ends_in}
 use Rattle.machine_run.proofs.Throws.{landed_in_handler, landed_in_initialiser, landed_in_library, popped}
 use Rattle.machine_run.proofs.unwinding.land.Goals as goal
 
-pub returns-in_ok-handle_in_top-in-Handler : goal.returns-in_ok-handle_in_top-in-Handler
-returns-in_ok-handle_in_top-in-Handler c = λ P before program since lands.
+pub returns-in_ok-handle_in_top-in-Handler-clause-thrown : goal.returns-in_ok-handle_in_top-in-Handler-clause-thrown
+returns-in_ok-handle_in_top-in-Handler-clause-thrown c = λ P before program since lands.
     let now = c.end_methods.new.w in
     let at = c.args.at in
     let is = c.end_methods.ensures in
@@ -21,8 +21,8 @@ returns-in_ok-handle_in_top-in-Handler c = λ P before program since lands.
     ∙ landed_in_handler P before c.args.w.now now at since is.ending.rest alike.unwound c.in-Handler.to frames handler
     (λ f rest same. c.in_ok-handle_in_top-in-Handler.ensures f rest (ap (λ (v : World). v.frames) c.w.view_is ∙ same))
 
-pub returns-in_ok-show_threw-in-Library : goal.returns-in_ok-show_threw-in-Library
-returns-in_ok-show_threw-in-Library c = λ P before program since lands.
+pub returns-in_ok-show_threw-in-Library-clause-thrown : goal.returns-in_ok-show_threw-in-Library-clause-thrown
+returns-in_ok-show_threw-in-Library-clause-thrown c = λ P before program since lands.
     let now = c.end_methods.new.w in
     let at = c.args.at in
     let is = c.end_methods.ensures in
@@ -35,8 +35,8 @@ returns-in_ok-show_threw-in-Library c = λ P before program since lands.
     ∙ landed_in_library P before c.args.w.now now at since is.ending.rest alike.unwound frames library
     (λ made rest same. c.clear_made.ensures made rest (ap (λ (v : World). v.frames) c.w-in-Library.view_is ∙ same))
 
-pub returns-in-Initialiser : goal.returns-in-Initialiser
-returns-in-Initialiser c = λ P before program since lands.
+pub returns-in-Initialiser-clause-thrown : goal.returns-in-Initialiser-clause-thrown
+returns-in-Initialiser-clause-thrown c = λ P before program since lands.
     let now = c.end_methods.new.w in
     let at = c.args.at in
     let is = c.end_methods.ensures in
