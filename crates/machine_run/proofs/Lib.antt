@@ -2,10 +2,16 @@ pub mod BegunClasses
 pub mod BegunStarts
 pub mod CalledMethods
 pub mod ComesFirst
+pub mod Handlers
+pub mod Landings
 pub mod NextPlaces
+pub mod Places
 pub mod ProgramClasses
 pub mod ProgramLinks
+pub mod Returns
 pub mod StackUnseen
+pub mod Throws
+pub mod TopFrames
 pub mod Tops
 pub mod WorkOps
 pub mod WorkSteps
