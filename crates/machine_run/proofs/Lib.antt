@@ -1,4 +1,5 @@
 pub mod BegunStarts
+pub mod BegunSteps
 pub mod CalledMethods
 pub mod ComesFirst
 pub mod NextPlaces

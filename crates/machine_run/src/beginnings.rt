@@ -1,5 +1,5 @@
 //! Initialisation of classes (JVM Specification SE 8, 5.5).
-ghost use Rattle.std.specs.Prelude.{◌≡◌, ◌∷◌, [], List, None, false, option_and_then, IfOk, OnOk};
+ghost use Rattle.std.specs.Prelude.{◌≡◌, ◌∷◌, ℕ, [], List, None, false, option_and_then, IfOk, OnOk};
 ghost use Rattle.machine_values.specs.declared.frame.RunFrame.{RunFrame as Frame};
 ghost use Rattle.machine_values.specs.declared.frame.RunFrame.TheVariants.{Beginning};
 ghost use Rattle.member_link.specs.Machine.Beginnings.{beginning_step, begun_on, frame_with, initialiser_of, past_beginning};
@@ -52,7 +52,7 @@ pub(crate) fn step_beginning(
     w: &mut WorldState,
 ) -> Result<Outcome, NoMemory>
     ensures same { prepared.new ≡ prepared.old }
-    ensures begun { IfOk result (λ outcome. (P : Program) (class : usize) (rest : List Frame)
+    ensures begun { IfOk result (λ outcome. (P : Program) (class : ℕ) (rest : List Frame)
         → IsProgram prepared.old P
         → w.old.frames ≡ Beginning class ∷ rest
         → ended (halt_of outcome) w.new ≡ beginning_step P class w.old rest) }
