@@ -1,3 +1,4 @@
+pub mod BegunClasses
 pub mod BegunStarts
 pub mod BegunSteps
 pub mod CalledMethods
@@ -5,4 +6,7 @@ pub mod ComesFirst
 pub mod NextPlaces
 pub mod ProgramClasses
 pub mod ProgramLinks
+pub mod StackUnseen
 pub mod Tops
+pub mod WorkOps
+pub mod WorkSteps

@@ -1,6 +1,7 @@
 -- The top of frames whose list has the top last.
-use Rattle.std.proofs.Common.{◌≡◌, ℕ, ◌-◌, ◌+◌, List, [], ◌∷◌, ◌++◌, length, reverse, slice_get, slice_set, Some, refl, sym, ap, ◌∙◌, arith}
+use Rattle.std.proofs.Common.{◌≡◌, ℕ, ◌-◌, ◌+◌, List, [], ◌∷◌, ◌++◌, length, get_or, reverse, slice_get, slice_set, Some, refl, sym, ap, ◌∙◌, arith}
 use Rattle.std.proofs.lemmas.List.{reverse-append, reverse-reverse, length-reverse}
+use Rattle.std.proofs.lemmas.Option.{get_or_from_slice_get}
 
 module _ {X : Type 0} where
   got_last : (front : List X) (x : X) → slice_get (front ++ x ∷ []) (length front) ≡ Some x
@@ -17,7 +18,7 @@ module _ {X : Type 0} where
 
   pub last_number : (xs : List X) (x : X) (rest : List X) → reverse xs ≡ x ∷ rest → length xs - 1 ≡ length (reverse rest)
   last_number xs x rest is =
-      let many : length xs ≡ length rest + 1 = sym (length-reverse xs) ∙ ap length is in
+      let many : length xs ≡ length (x ∷ rest) = sym (length-reverse xs) ∙ ap length is in
       let front : length (reverse rest) ≡ length rest = length-reverse rest in
       omega (arith, many, front)
 
@@ -38,3 +39,22 @@ module _ {X : Type 0} where
       ∙ put_last (reverse rest) x y)
       ∙ reverse-append (reverse rest) (y ∷ [])
       ∙ ap (λ xs. y ∷ xs) (reverse-reverse rest)
+
+  -- what was read at the last index, and what the list is with another item there
+  pub top_read :
+      (xs : List X) (x : X) (rest : List X) (len : ℕ) (got : X)
+      → reverse xs ≡ x ∷ rest
+      → len ≡ length xs
+      → got ≡ get_or xs (len - 1) got
+      → got ≡ x
+  top_read xs x rest len got is many read =
+      read
+      ∙ ap (λ n. get_or xs (n - 1) got) many
+      ∙ get_or_from_slice_get xs (length xs - 1) x got (top_got xs x rest is)
+
+  pub top_set :
+      (xs : List X) (x y : X) (rest : List X) (len : ℕ)
+      → reverse xs ≡ x ∷ rest
+      → len ≡ length xs
+      → reverse (slice_set xs (len - 1) y) ≡ y ∷ rest
+  top_set xs x y rest len is many = ap (λ n. reverse (slice_set xs (n - 1) y)) many ∙ top_put xs x y rest is

@@ -1,5 +1,5 @@
 //! Initialisation of classes (JVM Specification SE 8, 5.5).
-ghost use Rattle.std.specs.Prelude.{◌≡◌, ◌∷◌, ℕ, [], List, None, false, option_and_then, IfOk, OnOk};
+ghost use Rattle.std.specs.Prelude.{◌≡◌, ◌∷◌, [], ℕ, List, None, false, option_and_then, IfOk, OnOk};
 ghost use Rattle.machine_values.specs.declared.frame.RunFrame.{RunFrame as Frame};
 ghost use Rattle.machine_values.specs.declared.frame.RunFrame.TheVariants.{Beginning};
 ghost use Rattle.member_link.specs.Machine.Beginnings.{beginning_step, begun_on, frame_with, initialiser_of, past_beginning};
@@ -7,7 +7,7 @@ ghost use Rattle.member_link.specs.Machine.Programs.{Program};
 ghost use Rattle.member_link.specs.Machine.Worlds.{is_begun};
 ghost use Rattle.machine_step.specs.Programs.{IsProgram};
 ghost use Rattle.machine_run.specs.Inner.CallWords.{beginning_on_top, if_code};
-ghost use Rattle.machine_run.specs.Outcomes.{ended, halt_of};
+ghost use Rattle.machine_run.specs.Outcomes.{Lands, ended, halt_of};
 
 use crate::calls::arguments_of;
 use crate::coming_first::first_unbegun;
@@ -52,6 +52,7 @@ pub(crate) fn step_beginning(
     w: &mut WorldState,
 ) -> Result<Outcome, NoMemory>
     ensures same { prepared.new ≡ prepared.old }
+    ensures lands { IfOk result Lands }
     ensures begun { IfOk result (λ outcome. (P : Program) (class : ℕ) (rest : List Frame)
         → IsProgram prepared.old P
         → w.old.frames ≡ Beginning class ∷ rest

@@ -6,6 +6,7 @@ mod beginnings;
 mod calls;
 mod coming_first;
 mod frames;
+mod jumping;
 mod laws;
 mod moves;
 mod names;

@@ -67,7 +67,7 @@ fn static_begun(memory: &Memory, target: &CallTarget) -> Result<Completed, NoMem
 }
 
 // What a call comes to that runs something.
-fn comes_to(callee: &Callee) -> Result<Completed, NoMemory>
+pub(crate) fn comes_to(callee: &Callee) -> Result<Completed, NoMemory>
     ensures { IfOk result (λ completed. (memory : State) (operands : List Operand)
         → Completes memory memory operands completed (called memory callee.now operands)) }
 {
