@@ -14,6 +14,7 @@ use Rattle.member_link.specs.Machine.Worlds.{Memory, field_desc}
 use Rattle.machine_run.specs.Inner.StartWords.{AreFieldsOf, start_if, with_start_if}
 
 -- ---- the descriptor of a field
+
 desc_in :
     (pool : Constants) (fields : List Field) (number : ℕ) (field : Field)
     → slice_get fields number ≡ Some field
