@@ -1,5 +1,6 @@
 pub mod BegunClasses
 pub mod BegunStarts
+pub mod BegunSteps
 pub mod CalledMethods
 pub mod ComesFirst
 pub mod Handlers
