@@ -7,6 +7,7 @@ pub mod Handlers
 pub mod Landings
 pub mod NextPlaces
 pub mod Places
+pub mod PreparedPoints
 pub mod ProgramClasses
 pub mod ProgramLinks
 pub mod Returns
