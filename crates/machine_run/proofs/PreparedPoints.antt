@@ -80,7 +80,7 @@ module _ (P : Program) (at : MethodAt) (prepared : PreparedMethod) (is : IsPrepa
 
   -- with what an operation has remembered
   pub with_op :
-      (place : ℕ) (old new : RunOp) (items : Vec RunOp)
+      (place : ℕ) (old new : RunOp) (items : Vec RunOp Global)
       → slice_get prepared.ops.items place ≡ Some old
       → op_of new ≡ op_of old
       → IsResolved P new
