@@ -5,6 +5,7 @@
 mod beginnings;
 mod calls;
 mod coming_first;
+mod ending;
 mod frames;
 mod jumping;
 mod laws;
@@ -15,4 +16,5 @@ mod raising;
 mod returning;
 mod starts;
 mod stepping;
+mod throw_targets;
 mod unwinding;

@@ -1,5 +1,5 @@
-pub mod ArrayTexts
 pub mod ArrayCounts
+pub mod ArrayTexts
 pub mod CallTargets
 pub mod ComponentTexts
 pub mod Conforming
@@ -13,9 +13,9 @@ pub mod Firsts
 pub mod FloatOperands
 pub mod KindLists
 pub mod MonitorCounts
-pub mod Oks
 pub mod NewObjects
 pub mod OffsetNumbers
+pub mod Oks
 pub mod OwnMethods
 pub mod Parameters
 pub mod PreparedCodes
