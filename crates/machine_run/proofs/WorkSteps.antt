@@ -1,6 +1,7 @@
 -- A step of an operation that works on its operands.
 use Rattle.std.proofs.Common.{◌≡◌, ◌≤◌, ℕ, Bool, true, false, cond, List, ◌∷◌, length, take, drop, reverse, nat_le, refl, sym, ap, ◌∙◌, T, subst, leb→le}
 use Rattle.std.proofs.lemmas.Bool.{le-leb}
+use Rattle.std.proofs.lemmas.List.{length-reverse, length-take-le}
 use Rattle.machine_values.specs.Frames.{MethodState}
 use Rattle.machine_values.specs.declared.frame.RunFrame.{RunFrame}
 use Rattle.machine_values.specs.declared.value.Value.{Value}
@@ -85,3 +86,10 @@ can_perform before after operands (completed.Throws r) completion completes room
 can_perform before after operands (completed.Asks asked) completion completes room unbegun = tt
 can_perform before after operands completed.Stuck completion completes room unbegun = tt
 can_perform before after operands completed.ArrayTooLong completion completes room unbegun = tt
+
+-- as many operands as are taken
+pub topmost_length :
+    {X : Type 0} (stack : List X) (count : ℕ) → count ≤ length stack
+    → length (reverse (take count stack)) ≡ count
+topmost_length stack count enough =
+    length-reverse (take count stack) ∙ length-take-le count stack enough

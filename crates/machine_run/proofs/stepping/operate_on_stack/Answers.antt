@@ -7,10 +7,21 @@ use Rattle.member_link.specs.Machine.Programs.{Program}
 use Rattle.member_link.specs.Machine.Work.{arity, work}
 use Rattle.member_link.specs.Machine.Worlds.{Memory}
 use Rattle.machine_step.specs.Completing.{Completes}
+use Rattle.machine_step.specs.FewOperands.{HasFewOperands}
 use Rattle.machine_step.specs.RunOps.{op_of}
 use Rattle.machine_run.specs.Inner.Performed.{operands_in}
-use Rattle.machine_run.proofs.WorkSteps.{can_perform, few_stuck, worked}
+use Rattle.machine_run.proofs.WorkSteps.{can_perform, few_stuck, topmost_length, worked}
 use Rattle.machine_run.proofs.stepping.operate_on_stack.Goals as goal
+
+pub work-requires-clause-few : goal.work-requires-clause-few
+work-requires-clause-few c =
+    subst (λ (n : ℕ). HasFewOperands c.args.op.now n)
+    (sym
+    (ap (λ (values : List Value). length values) c.in-Some.ensures.some
+    ∙ topmost_length (reverse c.frame.inside.stack) c.arity-count.result
+    (subst (λ (n : ℕ). c.arity-count.result ≤ n) (sym (length-reverse c.frame.inside.stack))
+    (c.in-Some.ensures.enough.0 refl))))
+    c.arity-count.ensures.few
 
 pub returns-in_ok-completed-in-Some-clause-operated : goal.returns-in_ok-completed-in-Some-clause-operated
 returns-in_ok-completed-in-Some-clause-operated c = λ P w rest program resolved memory.
@@ -27,7 +38,7 @@ returns-in_ok-completed-in-Some-clause-operated c = λ P w rest program resolved
     (subst (λ (vs : List Value). Completes c.args.memory.now c.work.new.memory vs c.in_ok-completed-in-Some.completed (work P c.args.memory.now op vs)) values
     (c.in_ok-completed-in-Some.ensures.completed P program resolved))
     in
-    worked P w f rest op count c.work.new.memory c.in_ok-completed-in-Some.completed (c.arity-count.ensures P resolved) enough completes
+    worked P w f rest op count c.work.new.memory c.in_ok-completed-in-Some.completed (c.arity-count.ensures.operands P resolved) enough completes
 
 pub returns-in_ok-completed-in-Some-clause-can : goal.returns-in_ok-completed-in-Some-clause-can
 returns-in_ok-completed-in-Some-clause-can c = λ P program resolved.
@@ -50,7 +61,7 @@ returns-in-None-clause-operated c = λ P w rest program resolved memory.
     let f = c.args.frame.now in
     let op = op_of c.args.op.now in
     let stack : reverse c.frame.inside.stack ≡ f.stack = ap (λ (g : MethodState). g.stack) c.frame.view_is in
-    let many = c.arity-count.ensures P resolved in
+    let many = c.arity-count.ensures.operands P resolved in
     let none : c.arity-count.result ≤ length c.frame.inside.stack → ⊥ = λ enough. (let no = c.in-None.ensures.enough.1 enough in absurd cc) in
     sym (few_stuck P w f rest op (λ enough. none
     (subst (λ (n : ℕ). c.arity-count.result ≤ n) (sym (ap length stack) ∙ length-reverse c.frame.inside.stack)
