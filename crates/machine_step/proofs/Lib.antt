@@ -1,3 +1,4 @@
+pub mod Arguments
 pub mod CallTargets
 pub mod Conforming
 pub mod CountedLists
