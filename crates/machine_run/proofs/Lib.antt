@@ -1,3 +1,11 @@
+pub mod BegunClasses
+pub mod BegunStarts
+pub mod CalledMethods
+pub mod ComesFirst
 pub mod NextPlaces
+pub mod ProgramClasses
 pub mod ProgramLinks
+pub mod StackUnseen
 pub mod Tops
+pub mod WorkOps
+pub mod WorkSteps

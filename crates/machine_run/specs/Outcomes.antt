@@ -24,3 +24,14 @@ halt_behind acted.Stuck = stuck
 -- a world that goes on so
 abbrev pub ended : Halt → World → World
 ended halt w = record w { halt = halt }
+
+-- what a step comes to that is not the library's
+abbrev pub Steps : Outcome → Type 0
+Steps outcomes.LibraryTurn = ⊥
+Steps outcome = Unit {0}
+
+-- what throwing, the end of a method and the beginning of a class come to
+abbrev pub Lands : Outcome → Type 0
+Lands outcomes.LibraryTurn = ⊥
+Lands outcomes.ArrayTooLong = ⊥
+Lands outcome = Unit {0}

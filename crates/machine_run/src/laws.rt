@@ -8,12 +8,13 @@ ghost use Rattle.member_link.specs.Machine.Ops.{Op};
 ghost use Rattle.member_link.specs.Machine.Programs.{Program};
 ghost use Rattle.member_link.specs.Machine.Stepping.{is_library_turn, step};
 ghost use Rattle.member_link.specs.Machine.Work.{work};
-ghost use Rattle.member_link.specs.Machine.Worlds.{Memory, World, is_begun};
+ghost use Rattle.member_link.specs.Machine.Worlds.{Memory, World, going, is_begun};
 ghost use Rattle.machine_step.specs.Bounded.{CanGoOn};
 ghost use Rattle.machine_step.specs.Programs.{IsProgram};
 ghost use Rattle.machine_run.specs.Inner.Performed.{TopHasNext};
 
 use class_tree::{Tree, a_tree_is_a_hierarchy};
+use machine_step::WorldState;
 use member_link::a_hierarchy_has_links;
 
 /// The classes of a tree have a program.
@@ -22,6 +23,14 @@ pub(crate) fn a_tree_has_a_program(tree: &Tree)
 {
     a_tree_is_a_hierarchy(tree);
     a_hierarchy_has_links();
+}
+
+/// The state of a run goes on: how a run ends is told beside it.
+pub(crate) fn a_state_goes_on(w: &WorldState)
+    ensures { w.now.halt ≡ going }
+{
+    // its model says so
+    let _ = &w.steps;
 }
 
 /// A class that an operation begins is not begun.

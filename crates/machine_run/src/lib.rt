@@ -4,11 +4,15 @@
 
 mod beginnings;
 mod calls;
+mod coming_first;
 mod frames;
+mod jumping;
 mod laws;
 mod moves;
+mod names;
 mod performing;
 mod raising;
 mod returning;
+mod starts;
 mod stepping;
 mod unwinding;

@@ -10,11 +10,12 @@ ghost use Rattle.machine_step.specs.Completing.{asked_of, values_of};
 ghost use Rattle.machine_step.specs.Programs.{IsProgram};
 ghost use Rattle.machine_step.specs.Room.{HasRoom};
 ghost use Rattle.machine_run.specs.Inner.Performed.{CanPerform, HasOperands, operands_in, performed, without_operands};
-ghost use Rattle.machine_run.specs.Outcomes.{ended, halt_of};
+ghost use Rattle.machine_run.specs.Outcomes.{Steps, ended, halt_of};
 
 use crate::beginnings::begin_class;
 use crate::calls::{arguments_of, call_method};
 use crate::frames::push_frame;
+use crate::laws::a_state_goes_on;
 use crate::raising::raise;
 use crate::unwinding::throw;
 use class_model::{MethodAt, NoMemory};
@@ -40,11 +41,13 @@ pub(crate) fn perform(
     requires can { CanPerform w.old.memory completed }
     requires operands { HasOperands count w.old.frames }
     ensures same { prepared.new ≡ prepared.old }
+    ensures runs { IfOk result Steps }
     ensures performed { IfOk result (λ outcome. (P : Program) (f : MethodState) (rest : List Frame)
         → IsProgram prepared.old P
         → w.old.frames ≡ Method f ∷ rest
         → ended (halt_of outcome) w.new ≡ performed P w.old f rest count completed) }
 {
+    a_state_goes_on(w);
     match completed {
         Completed::Gives(value) => {
             resume(&mut w.frames, count, value)?;

@@ -4,7 +4,7 @@ ghost use Rattle.member_link.specs.Machine.Performing.{raised};
 ghost use Rattle.member_link.specs.Machine.Programs.{Program};
 ghost use Rattle.machine_step.specs.Programs.{IsProgram};
 ghost use Rattle.machine_step.specs.RunOps.{throwable_name};
-ghost use Rattle.machine_run.specs.Outcomes.{ended, halt_of};
+ghost use Rattle.machine_run.specs.Outcomes.{Lands, ended, halt_of};
 
 use class_model::NoMemory;
 use machine_step::{Outcome, Prepared, Throwable, WorldState};
@@ -22,6 +22,7 @@ pub(crate) fn raise(
     throwable: Throwable,
 ) -> Result<Outcome, NoMemory>
     ensures same { prepared.new ≡ prepared.old }
+    ensures lands { IfOk result Lands }
     ensures raised { IfOk result (λ outcome. (P : Program) → IsProgram prepared.old P
         → ended (halt_of outcome) w.new ≡ raised P w.old (throwable_name throwable) w.old.frames) }
 {

@@ -8,7 +8,7 @@ ghost use Rattle.member_link.specs.Machine.Programs.{Program};
 ghost use Rattle.machine_step.specs.Bounded.{CanGoOn};
 ghost use Rattle.machine_step.specs.Completing.{values_of};
 ghost use Rattle.machine_step.specs.Programs.{IsProgram};
-ghost use Rattle.machine_run.specs.Outcomes.{ended, halt_of};
+ghost use Rattle.machine_run.specs.Outcomes.{Lands, ended, halt_of};
 
 use class_model::NoMemory;
 use class_tree::Tree;
@@ -28,7 +28,8 @@ pub(crate) fn return_value(
     value: Option<Value>,
 ) -> Result<Outcome, NoMemory>
     requires { CanGoOn w.old.frames }
-    ensures { IfOk result (λ outcome. (P : Program) (f : MethodState) (rest : List Frame)
+    ensures lands { IfOk result Lands }
+    ensures returned { IfOk result (λ outcome. (P : Program) (f : MethodState) (rest : List Frame)
         → IsProgram tree.now P
         → w.old.frames ≡ Method f ∷ rest
         → ended (halt_of outcome) w.new ≡ returned P w.old f rest (values_of value)) }

@@ -1,30 +1,32 @@
 //! One step of a run (JVM Specification SE 8, 2.6, 2.11 and 5.5).
-ghost use Rattle.std.specs.Prelude.{◌≡◌, ◌∷◌, ◌↔◌, ◌<◌, ◌-◌, ◌^◌, ◌≤◌, List, true, false, IfOk, IfSome, OnOk, OnErr};
+ghost use Rattle.std.specs.Prelude.{◌≡◌, ◌∷◌, ◌↔◌, ◌<◌, ◌-◌, ◌^◌, List, length, true, false, IfOk, OnOk, OnErr};
 ghost use Rattle.class_model.specs.declared.class_file.MethodAt.{MethodAt as Numbers};
 ghost use Rattle.machine_values.specs.Frames.{MethodState};
 ghost use Rattle.machine_values.specs.declared.frame.RunFrame.{RunFrame as Frame};
 ghost use Rattle.machine_values.specs.declared.frame.RunFrame.TheVariants.{Method};
 ghost use Rattle.member_link.specs.Machine.Programs.{Program, point_at};
-ghost use Rattle.member_link.specs.Machine.Stepping.{is_library_turn, point_step, step, work_step};
+ghost use Rattle.member_link.specs.Machine.Stepping.{is_library_turn, op_step, point_step, step, work_step};
+ghost use Rattle.member_link.specs.Machine.Worlds.{World as Before};
 ghost use Rattle.machine_step.specs.Bounded.{CanGoOn, IsBoundedWorld};
 ghost use Rattle.machine_step.specs.Prepared.{IsPrepared};
 ghost use Rattle.machine_step.specs.Programs.{IsProgram};
 ghost use Rattle.machine_step.specs.Room.{HasRoom};
 ghost use Rattle.machine_step.specs.RunOps.{IsResolved, op_of};
-ghost use Rattle.machine_run.specs.Inner.Performed.{CanFinish, HasBoundedNext, IsFrameOf, Stands, world_operated};
-ghost use Rattle.machine_run.specs.Outcomes.{ended, halt_of};
+ghost use Rattle.machine_run.specs.Inner.Performed.{CanFinish, CanFinishFrame, HasBoundedNext, IsFrameOf, IsKept, IsMethodOnTop, Stands, operated_world, world_operated};
+ghost use Rattle.machine_run.specs.Outcomes.{Steps, ended, halt_of};
 
 use crate::beginnings::step_beginning;
-use crate::laws::a_tree_has_a_program;
+use crate::laws::{a_state_goes_on, a_tree_has_a_program, begun_classes_are_not_begun};
 use crate::moves::{Moved, move_frame};
 use crate::performing::perform;
 use crate::returning::return_value;
 use class_model::{MethodAt, NoMemory};
 use class_tree::Tree;
 use machine_step::{
-    Completed, Outcome, Prepared, PreparedMethod, RunOp, World, WorldState, arity, operands, work,
+    Completed, Memory, Outcome, Prepared, PreparedMethod, RunOp, World, WorldState, arity,
+    operands, work,
 };
-use machine_values::{RunFrame, RunFrameList, Value};
+use machine_values::{MethodFrame, RunFrame, RunFrameList, Value};
 use std::alloc::Global;
 
 // What an operation of the top frame has done, or leaves to do.
@@ -88,21 +90,21 @@ pub(crate) fn step_with(
     match step_state(alloc, prepared, &mut world.state) {
         Ok(outcome) => Ok(outcome),
         Err(NoMemory) => {
-            spend(alloc, world);
+            spend(alloc, &mut world.state);
+            world.spent = true;
             Err(NoMemory)
         }
     }
 }
 
-/// Says that a world is spent, of which memory may have run out in the middle of a step.
-pub(crate) fn spend(alloc: Global, world: &mut World)
-    ensures { world.new.spent ≡ true }
+/// Clears the state of a world that is spent: memory may have run out in the middle of a step.
+pub(crate) fn spend(alloc: Global, w: &mut WorldState)
+    ensures { IsBoundedWorld w.new }
 {
-    world.state.frames = RunFrameList {
+    w.frames = RunFrameList {
         frames: Vec::new(alloc),
     };
-    world.state.memory.clear(alloc);
-    world.spent = true;
+    w.memory.clear(alloc);
 }
 
 /// Whether the library's frame is on top.
@@ -125,7 +127,7 @@ fn step_state(
     ensures stepped { IfOk result (λ outcome. (P : Program) → IsProgram prepared.old P
         → ended (halt_of outcome) w.new ≡ step P w.old) }
     ensures bounded { OnOk result (IsBoundedWorld w.new) }
-    ensures running { IfOk result (λ outcome. outcome ≡ Outcome.LibraryTurn → ⊥) }
+    ensures runs { IfOk result Steps }
 {
     w.steps += 1;
     match w.frames.frames.last() {
@@ -158,7 +160,7 @@ fn step_method(
         → IsProgram prepared.old P
         → w.old.frames ≡ Method f ∷ rest
         → HasBoundedNext P f) }
-    ensures running { IfOk result (λ outcome. outcome ≡ Outcome.LibraryTurn → ⊥) }
+    ensures runs { IfOk result Steps }
 {
     a_tree_has_a_program(prepared.tree());
     let Some(mut method) = prepared.take(alloc, at)? else {
@@ -182,8 +184,9 @@ fn finish(
         → IsProgram prepared.old P
         → Stands w.old.frames f rest operated
         → ended (halt_of outcome) w.new ≡ world_operated P w.old f rest operated) }
-    ensures running { IfOk result (λ outcome. outcome ≡ Outcome.LibraryTurn → ⊥) }
+    ensures runs { IfOk result Steps }
 {
+    a_state_goes_on(w);
     match operated {
         Operated::Went => Ok(Outcome::Running),
         Operated::Stuck => Ok(Outcome::Stuck),
@@ -201,6 +204,7 @@ fn operate(
 ) -> Result<Operated, NoMemory>
     requires room { HasRoom w.old.memory }
     requires places { CanGoOn w.old.frames }
+    requires top { IsMethodOnTop w.old.frames }
     requires few { length method.old.ops.items < 2 ^ 32 - 1 }
     ensures prepared { (P : Program) (at : Numbers) → IsProgram tree.now P
         → IsPrepared P at method.old → IsPrepared P at method.new }
@@ -220,19 +224,77 @@ fn operate(
         → w.old.frames ≡ Method f ∷ rest
         → CanFinish w.new operated) }
 {
-    let Some(RunFrame::Method(frame)) = w.frames.frames.last_mut() else {
-        return Ok(Operated::Stuck);
-    };
+    let top = w.frames.frames.len() - 1;
+    match &mut w.frames.frames[top] {
+        RunFrame::Method(frame) => operate_frame(alloc, tree, frame, &mut w.memory, method),
+        RunFrame::Library { .. } => Ok(Operated::Stuck),
+        RunFrame::Beginning(_) => Ok(Operated::Stuck),
+    }
+}
+
+// Does the operation at the place of a frame.
+fn operate_frame(
+    alloc: Global,
+    tree: &Tree,
+    frame: &mut MethodFrame,
+    memory: &mut Memory,
+    method: &mut PreparedMethod,
+) -> Result<Operated, NoMemory>
+    requires room { HasRoom memory.old }
+    requires few { length method.old.ops.items < 2 ^ 32 - 1 }
+    ensures prepared { (P : Program) (at : Numbers) → IsProgram tree.now P
+        → IsPrepared P at method.old → IsPrepared P at method.new }
+    ensures operated { IfOk result (λ operated. (P : Program) (w : Before) (rest : List Frame)
+        → IsProgram tree.now P
+        → IsPrepared P frame.old.at method.old
+        → w.memory ≡ memory.old
+        → operated_world P w frame.old frame.new rest memory.new operated
+        ≡ point_step P w frame.old rest (point_at P frame.old.at frame.old.place)) }
+    ensures kept { IfOk result
+        (λ operated. IsKept frame.old frame.new memory.old memory.new operated) }
+    ensures can { IfOk result (λ operated. (P : Program)
+        → IsProgram tree.now P
+        → IsPrepared P frame.old.at method.old
+        → CanFinishFrame frame.old memory.new operated) }
+{
     let place = frame.place as usize;
     if place >= method.ops.len() {
         return Ok(Operated::Stuck);
     }
-    let op = &mut method.ops[place];
+    operate_op(alloc, tree, frame, memory, &mut method.ops[place])
+}
+
+// Does an operation that stands in a frame.
+fn operate_op(
+    alloc: Global,
+    tree: &Tree,
+    frame: &mut MethodFrame,
+    memory: &mut Memory,
+    op: &mut RunOp,
+) -> Result<Operated, NoMemory>
+    requires room { HasRoom memory.old }
+    requires next { frame.old.place < 2 ^ 32 - 1 }
+    ensures same { op_of op.new ≡ op_of op.old }
+    ensures resolved { (P : Program) → IsProgram tree.now P → IsResolved P op.old
+        → IsResolved P op.new }
+    ensures operated { IfOk result (λ operated. (P : Program) (w : Before) (rest : List Frame)
+        → IsProgram tree.now P
+        → IsResolved P op.old
+        → w.memory ≡ memory.old
+        → operated_world P w frame.old frame.new rest memory.new operated
+        ≡ op_step P w frame.old rest (op_of op.old)) }
+    ensures kept { IfOk result
+        (λ operated. IsKept frame.old frame.new memory.old memory.new operated) }
+    ensures can { IfOk result (λ operated. (P : Program)
+        → IsProgram tree.now P
+        → IsResolved P op.old
+        → CanFinishFrame frame.old memory.new operated) }
+{
     match move_frame(frame, op)? {
         Moved::Went => Ok(Operated::Went),
         Moved::Stuck => Ok(Operated::Stuck),
         Moved::Returns(value) => Ok(Operated::Returns(value)),
-        Moved::Works => operate_on_stack(alloc, tree, w, op),
+        Moved::Works => operate_on_stack(alloc, tree, frame, memory, op),
     }
 }
 
@@ -240,34 +302,33 @@ fn operate(
 fn operate_on_stack(
     alloc: Global,
     tree: &Tree,
-    w: &mut WorldState,
+    frame: &MethodFrame,
+    memory: &mut Memory,
     op: &mut RunOp,
 ) -> Result<Operated, NoMemory>
-    requires room { HasRoom w.old.memory }
+    requires room { HasRoom memory.old }
+    requires next { frame.now.place < 2 ^ 32 - 1 }
     ensures same { op_of op.new ≡ op_of op.old }
     ensures resolved { (P : Program) → IsProgram tree.now P → IsResolved P op.old
         → IsResolved P op.new }
-    ensures operated { IfOk result (λ operated. (P : Program) (f : MethodState)
-        (rest : List Frame)
+    ensures operated { IfOk result (λ operated. (P : Program) (w : Before) (rest : List Frame)
         → IsProgram tree.now P
         → IsResolved P op.old
-        → w.old.frames ≡ Method f ∷ rest
-        → world_operated P w.new f rest operated ≡ work_step P w.old f rest (op_of op.old)) }
-    ensures stands { OnOk result (w.new.frames ≡ w.old.frames) }
-    ensures can { IfOk result (λ operated. (P : Program) (f : MethodState) (rest : List Frame)
+        → w.memory ≡ memory.old
+        → operated_world P w frame.now frame.now rest memory.new operated
+        ≡ work_step P w frame.now rest (op_of op.old)) }
+    ensures kept { IfOk result
+        (λ operated. IsKept frame.now frame.now memory.old memory.new operated) }
+    ensures can { IfOk result (λ operated. (P : Program)
         → IsProgram tree.now P
         → IsResolved P op.old
-        → w.old.frames ≡ Method f ∷ rest
-        → f.place < 2 ^ 32 - 1
-        → CanFinish w.new operated) }
+        → CanFinishFrame frame.now memory.new operated) }
 {
+    begun_classes_are_not_begun();
     let count = arity(op);
-    let Some(RunFrame::Method(frame)) = w.frames.frames.last() else {
-        return Ok(Operated::Stuck);
-    };
     match operands(&frame.stack, count) {
         Some(values) => {
-            let completed = work(alloc, tree, &mut w.memory, op, values)?;
+            let completed = work(alloc, tree, memory, op, values)?;
             Ok(Operated::Works(completed, count))
         }
         None => Ok(Operated::Stuck),

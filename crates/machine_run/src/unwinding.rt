@@ -3,7 +3,7 @@ ghost use Rattle.std.specs.Prelude.{◌≡◌, IfOk};
 ghost use Rattle.member_link.specs.Machine.Performing.{thrown};
 ghost use Rattle.member_link.specs.Machine.Programs.{Program};
 ghost use Rattle.machine_step.specs.Programs.{IsProgram};
-ghost use Rattle.machine_run.specs.Outcomes.{ended, halt_of};
+ghost use Rattle.machine_run.specs.Outcomes.{Lands, ended, halt_of};
 
 use class_model::NoMemory;
 use machine_step::{Outcome, Prepared, WorldState};
@@ -22,6 +22,7 @@ pub(crate) fn throw(
     at: Ref,
 ) -> Result<Outcome, NoMemory>
     ensures same { prepared.new ≡ prepared.old }
+    ensures lands { IfOk result Lands }
     ensures thrown { IfOk result (λ outcome. (P : Program) → IsProgram prepared.old P
         → ended (halt_of outcome) w.new ≡ thrown P w.old at w.old.frames) }
 {

@@ -1,4 +1,5 @@
 pub mod Counting
+pub mod FieldWords
 pub mod Jumps
 pub mod Kinds
 pub mod Monitors
@@ -7,6 +8,8 @@ pub mod Narrowings
 pub mod Numbering
 pub mod ParameterWords
 pub mod QuestionWords
+pub mod PreparedTables
+pub mod Preparing
 pub mod Resolved
 pub mod Results
 pub mod SlotWords

@@ -5,6 +5,8 @@ ghost use Rattle.machine_step.specs.Prepared.{IsPrepared, IsPreparedIf};
 ghost use Rattle.machine_step.specs.Programs.{IsProgram};
 
 use crate::prepared_method::PreparedMethod;
+use crate::prepared_table::{Slots, make_room, put_in, take_out};
+use crate::translating::methods::prepare_method;
 use class_model::{MethodAt, NoMemory};
 use class_tree::Tree;
 use std::alloc::Global;
@@ -15,15 +17,18 @@ use std::marker::Model;
 pub struct Prepared<'t> {
     tree: &'t Tree,
     // by the number of the class, and by the number of the method
-    classes: Vec<Vec<Option<Box<PreparedMethod>>>>,
+    classes: Vec<Slots>,
 }
 
 impl<'t> Model for Prepared<'t> {
     ghost use Rattle.class_tree.specs.Headers.{Classes};
+    ghost use Rattle.machine_step.specs.Inner.PreparedTables.{ArePrepared};
 
     ghost Value = { Classes };
 
     ghost view = { λ prepared. prepared.tree.now };
+
+    ghost invariant = { λ prepared. ArePrepared prepared.tree.now prepared.classes.items };
 }
 
 impl<'t> Prepared<'t> {
@@ -51,19 +56,41 @@ impl<'t> Prepared<'t> {
     /// `NoMemory` where memory runs out.
     pub fn take(
         &mut self,
-        _alloc: Global,
+        alloc: Global,
         at: MethodAt,
     ) -> Result<Option<Box<PreparedMethod>>, NoMemory>
         ensures same { self.new ≡ self.old }
         ensures prepared { IfOk result (λ method. (P : Program) → IsProgram self.old P
             → IsPreparedIf P at method) }
     {
-        Err(NoMemory)
+        match take_out(&mut self.classes, at) {
+            Some(method) => Ok(Some(method)),
+            None => self.prepare(alloc, at),
+        }
+    }
+
+    // Prepares a method, and makes room for it.
+    fn prepare(
+        &mut self,
+        alloc: Global,
+        at: MethodAt,
+    ) -> Result<Option<Box<PreparedMethod>>, NoMemory>
+        ensures same { self.new ≡ self.old }
+        ensures prepared { IfOk result (λ method. (P : Program) → IsProgram self.old P
+            → IsPreparedIf P at method) }
+    {
+        let method = prepare_method(alloc, self.tree, at)?;
+        if method.is_some() {
+            make_room(alloc, &mut self.classes, at)?;
+        }
+        Ok(method)
     }
 
     /// Puts the prepared code of a method back. It does not allocate.
     pub fn put(&mut self, at: MethodAt, method: Box<PreparedMethod>)
         requires { (P : Program) → IsProgram self.old P → IsPrepared P at method.value }
         ensures { self.new ≡ self.old }
-    {}
+    {
+        put_in(&mut self.classes, at, method);
+    }
 }

@@ -44,6 +44,29 @@ performed P w f rest count completed =
     perform P w f (without_operands count f) rest
     (completion_of w.memory (operands_in count f) completed)
 
+-- the world behind an operation of the top frame, by the frame before it and as it is now, and the memory as it is now
+abbrev pub operated_world :
+    Program → World → MethodState → MethodState → List RunFrame → Memory → Operated → World
+operated_world P w before now rest memory Went = record w { frames = Method now ∷ rest }
+operated_world P w before now rest memory Stuck = ends_stuck w
+operated_world P w before now rest memory (Returns value) =
+    returned P w before rest (values_of value)
+operated_world P w before now rest memory (Works completed count) =
+    performed P (record w { memory = memory }) before rest count completed
+
+-- the frame changes by a move alone, and the memory by work alone
+abbrev pub IsKept : MethodState → MethodState → Memory → Memory → Operated → Type 0
+IsKept before now old new Went = new ≡ old
+IsKept before now old new Stuck = (now ≡ before) × (new ≡ old)
+IsKept before now old new (Returns value) = (now ≡ before) × (new ≡ old)
+IsKept before now old new (Works completed count) = now ≡ before
+
+-- what is left to do in a frame can be done
+abbrev pub CanFinishFrame : MethodState → Memory → Operated → Type 0
+CanFinishFrame f memory (Works completed count) =
+    CanPerform memory completed × (count ≤ length f.stack) × (f.place < 2 ^ 32 - 1)
+CanFinishFrame f memory operated = Unit {0}
+
 -- the world behind an operation that stood on the top frame, by the state as it is now
 abbrev pub world_operated : Program → World → MethodState → List RunFrame → Operated → World
 world_operated P w f rest Went = w
@@ -79,3 +102,6 @@ abbrev pub TopHasNext : Program → List RunFrame → Type 0
 TopHasNext P (Method f ∷ rest) =
     IfSome (point_at P f.at f.place) (λ point. f.place < 2 ^ 32 - 1)
 TopHasNext P frames = Unit {0}
+
+abbrev pub IsMethodOnTop : List RunFrame → Type 0
+IsMethodOnTop frames = (f : MethodState) × (rest : List RunFrame) × (frames ≡ Method f ∷ rest)

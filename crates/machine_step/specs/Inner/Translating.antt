@@ -1,7 +1,8 @@
 -- Words of the translation of a method's code.
-use Rattle.std.specs.Prelude.{◌≡◌, ◌<◌, ◌^◌, ℕ, Bool, List, length, map, Option, Some, None}
+use Rattle.std.specs.Global.{Box}
+use Rattle.std.specs.Prelude.{◌≡◌, ◌<◌, ◌^◌, ◌&&◌, not, bytes_eq, ℕ, Bool, List, length, map, Option, Some, None}
 use Rattle.class_model.specs.Header.{header_of}
-use Rattle.class_model.specs.OffsetIndexes.{first_at, number_in}
+use Rattle.class_model.specs.OffsetIndexes.{IsIndexOf, first_at, number_in}
 use Rattle.class_model.specs.declared.class_file.ClassFile.{ClassFile}
 use Rattle.class_model.specs.declared.class_file.CodePart.{CodePart}
 use Rattle.class_model.specs.declared.class_file.Method.{Method}
@@ -9,14 +10,17 @@ use Rattle.class_model.specs.declared.descriptor.FieldType.{FieldType}
 use Rattle.class_model.specs.declared.header.Header.{Header}
 use Rattle.class_model.specs.declared.instr.Pair.{Pair}
 use Rattle.class_model.specs.declared.instr.Placed.{Placed}
-use Rattle.class_tree.specs.Headers.{Classes, headers_of}
+use Rattle.class_tree.specs.Headers.{Classes, Name, headers_of}
+use Rattle.class_tree.specs.Names.{is_interface}
 use Rattle.member_link.specs.Machine.Ops as ops
 use Rattle.member_link.specs.Machine.Programs.{Program, Links}
+use Rattle.member_link.specs.References.{Reference}
 use Rattle.member_link.specs.RowScope.{RowScope}
 use Rattle.member_link.specs.Scope.{Scope, is_init, is_clinit, own_descriptor, row_scope}
 use Rattle.member_link.specs.Signatures.{result_of}
-use Rattle.machine_step.specs.RunOps.{IsResolved, op_of}
+use Rattle.machine_step.specs.RunOps.{IsFieldOp, IsResolved, op_of}
 use Rattle.machine_step.specs.Programs.{IsProgram}
+use Rattle.machine_step.specs.declared.run_op.FieldOp.{FieldOp}
 use Rattle.machine_step.specs.declared.run_op.RunOp.{RunOp}
 
 -- ---- a method with code
@@ -54,6 +58,26 @@ IsOp classes meant op = (P : Program) → IsProgram classes P → op_of op ≡ m
 abbrev pub OpIsResolved : Classes → RunOp → Type 0
 OpIsResolved classes op = (P : Program) → IsProgram classes P → IsResolved P op
 
+-- the field that a constant names is resolved, of code that is the initialiser of a class or of none
+pub record IsFieldNamed (classes : Classes) (named : Option Reference) (own : Option Name)
+    (op : FieldOp) : Type 0 where
+  pub names : named ≡ Some op.named
+  pub inside : op.initialises ≡ own
+  pub resolved : (P : Program) → IsProgram classes P → IsFieldOp P op
+
+abbrev pub IsFieldIn : Classes → Option Reference → Option Name → Option (Box FieldOp) → Type 0
+IsFieldIn classes named own None = named ≡ None
+IsFieldIn classes named own (Some op) = IsFieldNamed classes named own op.value
+
+-- a class, by its header, is no interface and strictly above the class of the code
+abbrev pub is_class_above : Links → Name → Header → Name → Bool
+is_class_above links own header named =
+    not (is_interface header) && (links.below own named && not (bytes_eq own named))
+
+abbrev pub name_or : Name → Option Name → Name
+name_or other None = other
+name_or other (Some name) = name
+
 -- ---- numbers of instructions
 
 -- what a table says of an offset; where no instruction starts, how many there are
@@ -72,6 +96,15 @@ offsets_of instrs = map (λ placed. placed.at) instrs
 
 abbrev pub number_among : List Placed → ℕ → ℕ
 number_among instrs at = or_count (length instrs) (first_at (offsets_of instrs) at)
+
+-- the number of the first instruction at an offset; where none is, how many there are
+abbrev pub number_of : List ℕ → ℕ → ℕ
+number_of offsets at = or_count (length offsets) (first_at offsets at)
+
+-- a table finds the instructions by their offsets
+pub record AreNumbers (instrs : List Placed) (numbers : List ℕ) : Type 0 where
+  pub few : length instrs < 2 ^ 32
+  pub index : IsIndexOf (offsets_of instrs) numbers
 
 -- the pair with the number of its target
 abbrev pub numbered : (ℕ → ℕ) → Pair → Pair

@@ -163,8 +163,8 @@ fn component_text(bytes: &[u8]) -> &[u8]
 
 // ---- subtypes
 
-// Whether a class or array is below another or is the same.
-fn is_type_below(tree: &Tree, low: &[u8], high: &[u8]) -> bool
+/// Whether a class or array is below another or is the same. It does not allocate.
+pub(crate) fn is_type_below(tree: &Tree, low: &[u8], high: &[u8]) -> bool
     ensures { (P : Program) → IsProgram tree.now P
         → result ≡ P.links.below low.now high.now }
 {

@@ -31,17 +31,17 @@ returns c =
     in
     elim c.match-index_mut.branch [
       | in-Method w ↦
-        (let shown : w.resume_frame.new.frame ≡ resumed (without_operands c.args.count w.in-Method.frame) (values_of c.args.value) → Resumes c.args.frames.now c.args.count c.args.value (the_view c.match-index_mut.frames-inside) =
-        λ resumes f rest is.
-        let frame : w.in-Method.frame ≡ f = (let both : Method w.in-Method.frame ≡ Method f = sym w.in-Method.is ∙ top f rest is in cc) in
-        ap the_view w.frames-inside-is
-        ∙ top_set items (Method f) (Method w.resume_frame.new.frame) rest c.len-top.result (c.frames.view_is ∙ is) many
-        ∙ ap (λ (g : MethodState). Method g ∷ rest)
-        (resumes ∙ ap (λ (g : MethodState). resumed (without_operands c.args.count g) (values_of c.args.value)) frame)
-        in
-        subst (λ (r : Result (Unit {0}) NoMemory). OnOk r (Resumes c.args.frames.now c.args.count c.args.value (the_view c.match-index_mut.frames-inside)))
-        (sym w.result-is)
-        (on_ok_weaker w.resume_frame.result shown w.resume_frame.ensures))
+          (let shown : w.resume_frame.new.frame ≡ resumed (without_operands c.args.count w.in-Method.frame) (values_of c.args.value) → Resumes c.args.frames.now c.args.count c.args.value (the_view c.match-index_mut.frames-inside) =
+          λ resumes f rest is.
+          let frame : w.in-Method.frame ≡ f = (let both : Method w.in-Method.frame ≡ Method f = sym w.in-Method.is ∙ top f rest is in cc) in
+          ap the_view w.frames-inside-is
+          ∙ top_set items (Method f) (Method w.resume_frame.new.frame) rest c.len-top.result (c.frames.view_is ∙ is) many
+          ∙ ap (λ (g : MethodState). Method g ∷ rest)
+          (resumes ∙ ap (λ (g : MethodState). resumed (without_operands c.args.count g) (values_of c.args.value)) frame)
+          in
+          subst (λ (r : Result (Unit {0}) NoMemory). OnOk r (Resumes c.args.frames.now c.args.count c.args.value (the_view c.match-index_mut.frames-inside)))
+          (sym w.result-is)
+          (on_ok_weaker w.resume_frame.result shown w.resume_frame.ensures))
       | in-Library w ↦ absurd (none (Library w.in-Library.made) (λ f e. cc) w.in-Library.is)
       | in-Beginning w ↦ absurd (none _ (λ f e. cc) w.in-Beginning.is)
     ]

@@ -19,14 +19,14 @@ returns c = λ f rest is.
     in
     elim c.match-index_mut.branch [
       | in-Method w ↦
-        (let frame : w.in-Method.frame ≡ f = (let both : Method w.in-Method.frame ≡ Method f = sym w.in-Method.is ∙ top in cc) in
-        let with_stack : List Value → MethodState = λ stack. record w.in-Method.frame { stack = stack } in
-        let inside = w.frame.inside in
-        let as_given : List Value → Frame = λ stack. Method (record { at = inside.at; place = inside.place; locals = inside.locals; stack = stack; held = inside.held }) in
-        ap the_view w.frames-inside-is
-        ∙ top_set items (Method f) (as_given (reverse w.drop_top.new.stack)) rest c.len-top.result before many
-        ∙ ap (λ (stack : List Value). as_given stack ∷ rest) w.drop_top.ensures
-        ∙ ap (λ (g : MethodState). Method (without_operands c.args.count g) ∷ rest) (w.frame.view_is ∙ frame))
+          (let frame : w.in-Method.frame ≡ f = (let both : Method w.in-Method.frame ≡ Method f = sym w.in-Method.is ∙ top in cc) in
+          let with_stack : List Value → MethodState = λ stack. record w.in-Method.frame { stack = stack } in
+          let inside = w.frame.inside in
+          let as_given : List Value → Frame = λ stack. Method (record { at = inside.at; place = inside.place; locals = inside.locals; stack = stack; held = inside.held }) in
+          ap the_view w.frames-inside-is
+          ∙ top_set items (Method f) (as_given (reverse w.drop_top.new.stack)) rest c.len-top.result before many
+          ∙ ap (λ (stack : List Value). as_given stack ∷ rest) w.drop_top.ensures
+          ∙ ap (λ (g : MethodState). Method (without_operands c.args.count g) ∷ rest) (w.frame.view_is ∙ frame))
       | in-Library w ↦ (let both : Library w.in-Library.made ≡ Method f = sym w.in-Library.is ∙ top in absurd cc)
       | in-Beginning w ↦ (let both = sym w.in-Beginning.is ∙ top in absurd cc)
     ]

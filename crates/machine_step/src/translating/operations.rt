@@ -1,0 +1,82 @@
+//! What each instruction does, as an operation (JVM Specification SE 8, 6.5).
+ghost use Rattle.std.specs.Prelude.{IfOk};
+ghost use Rattle.class_model.specs.Code.{OperandFits};
+ghost use Rattle.member_link.specs.Machine.Codes.{instr_op};
+ghost use Rattle.machine_step.specs.Inner.Translating.{IsOp, OpIsResolved, number_of, rows_in};
+
+use crate::run_op::RunOp;
+use crate::translating::constants::{constant_op, return_op, value_of_imm};
+use crate::translating::forms::{
+    if_int, if_ints, if_null, if_references, load_element, store_element,
+};
+use crate::translating::members::{
+    call_op, dynamic_op, get_field, get_static, put_field, put_static,
+};
+use crate::translating::method_code::MethodCode;
+use crate::translating::numbers::Numbers;
+use crate::translating::objects::{
+    check_cast, instance_of, new_array, new_multi, new_op, new_ref_array,
+};
+use crate::translating::switches::{lookup_op, table_op};
+use class_model::{Instr, NoMemory};
+use std::alloc::Global;
+
+/// The operation that an instruction of a method is, with what it names resolved.
+///
+/// # Errors
+/// `NoMemory`, where memory runs out.
+pub(crate) fn instr_op(
+    alloc: Global,
+    code: &MethodCode<'_>,
+    numbers: &Numbers<'_>,
+    instr: &Instr,
+) -> Result<RunOp, NoMemory>
+    requires { OperandFits code.now.class.pool code.now.class.major code.now.part.max_locals
+        instr.now }
+    ensures is { IfOk result (IsOp code.now.classes (λ links.
+        instr_op links (number_of numbers.now) (rows_in code.now) instr.now)) }
+    ensures resolved { IfOk result (OpIsResolved code.now.classes) }
+{
+    match instr {
+        Instr::Nop => Ok(RunOp::Nop),
+        Instr::Const(imm) => Ok(RunOp::Push(value_of_imm(*imm))),
+        Instr::Ldc(index) | Instr::Ldc2(index) => constant_op(code, *index),
+        Instr::Load(kind, local) => Ok(RunOp::Load(*kind, *local)),
+        Instr::Store(kind, local) => Ok(RunOp::Store(*kind, *local)),
+        Instr::Iinc(local, by) => Ok(RunOp::Increment(*local, i32::from(*by))),
+        Instr::ArrayLoad(opcode) => Ok(load_element(*opcode)),
+        Instr::ArrayStore(opcode) => Ok(store_element(*opcode)),
+        Instr::Shuffle(opcode) => Ok(RunOp::Shuffle(*opcode)),
+        Instr::Pure(opcode) => Ok(RunOp::Pure(*opcode)),
+        Instr::Divide(opcode) => Ok(RunOp::Divide(*opcode)),
+        Instr::FloatAsk(opcode) => Ok(RunOp::Float(*opcode)),
+        Instr::If(opcode, to) => Ok(if_int(*opcode, numbers.of(*to))),
+        Instr::If2(opcode, to) => Ok(if_ints(*opcode, numbers.of(*to))),
+        Instr::IfSame(opcode, to) => Ok(if_references(*opcode, numbers.of(*to))),
+        Instr::IfNull(opcode, to) => Ok(if_null(*opcode, numbers.of(*to))),
+        Instr::Goto(to) => Ok(RunOp::Jump(numbers.of(*to))),
+        Instr::Table {
+            low,
+            other,
+            targets,
+        } => table_op(alloc, numbers, *low, *other, targets),
+        Instr::Lookup { other, pairs } => lookup_op(alloc, numbers, *other, pairs),
+        Instr::Return(kind) => return_op(code, *kind),
+        Instr::GetStatic(index) => get_static(alloc, code, *index),
+        Instr::PutStatic(index) => put_static(alloc, code, *index),
+        Instr::GetField(index) => get_field(alloc, code, *index),
+        Instr::PutField(index) => put_field(alloc, code, *index),
+        Instr::Invoke(opcode, index, _) => call_op(alloc, code, *opcode, *index),
+        Instr::Dynamic(index) => dynamic_op(alloc, code, *index),
+        Instr::New(index) => new_op(alloc, code, *index),
+        Instr::NewArray(of) => new_array(alloc, *of),
+        Instr::NewRefArray(index) => new_ref_array(alloc, code, *index),
+        Instr::NewMulti(index, dimensions) => new_multi(code, *index, *dimensions),
+        Instr::Length => Ok(RunOp::Length),
+        Instr::Throw => Ok(RunOp::Throw),
+        Instr::Cast(index) => check_cast(alloc, code, *index),
+        Instr::InstanceOf(index) => instance_of(alloc, code, *index),
+        Instr::Enter => Ok(RunOp::Enter),
+        Instr::Leave => Ok(RunOp::Leave),
+    }
+}
