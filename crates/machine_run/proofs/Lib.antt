@@ -1,11 +1,17 @@
 pub mod BegunClasses
+pub mod BegunIf
 pub mod BegunStarts
 pub mod CalledMethods
+pub mod CallsOn
 pub mod ComesFirst
+pub mod GivenValues
+pub mod Makers
+pub mod NewObjects
 pub mod NextPlaces
 pub mod ProgramClasses
 pub mod ProgramLinks
 pub mod StackUnseen
+pub mod ThrownHalts
 pub mod Tops
 pub mod WorkOps
 pub mod WorkSteps

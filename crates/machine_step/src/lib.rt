@@ -54,6 +54,7 @@ pub use questions::methods::{has_code, place_of_method};
 pub use questions::shapes::is_instance;
 pub use questions::traits::method_traits;
 pub use reference::Reference;
+pub use resolving::objects::resolve_new;
 pub use run_op::{
     CallOp, CallTarget, Callee, CastOp, DynamicOp, FieldHome, FieldOp, FieldTarget, LookupOp,
     NewOp, RunOp, SeenAnswer, SeenCallee, SeenSlot, TableOp, Throwable,
