@@ -6,7 +6,7 @@ pub mod CallsOn
 pub mod ComesFirst
 pub mod GivenValues
 pub mod Makers
-pub mod NewObjects
+pub mod NamedHeaders
 pub mod NextPlaces
 pub mod ProgramClasses
 pub mod ProgramLinks

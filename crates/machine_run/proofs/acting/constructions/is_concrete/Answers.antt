@@ -1,7 +1,7 @@
 use Rattle.std.proofs.Common.{ap, ◌∙◌}
 use Rattle.class_tree.specs.Headers.{class_named, headers_of}
 use Rattle.member_link.specs.Machine.Acting.{is_concrete}
-use Rattle.machine_run.proofs.NewObjects.{header_is}
+use Rattle.machine_run.proofs.NamedHeaders.{header_is}
 use Rattle.machine_run.proofs.acting.constructions.is_concrete.Goals as goal
 
 pub returns-in-Some : goal.returns-in-Some
