@@ -1,45 +1,20 @@
 -- The static fields of a class that begins, field by field.
-use Rattle.std.proofs.Common.{◌≡◌, ◌<◌, ◌+◌, ◌++◌, ◌≤◌, ℕ, zero, suc, List, [], ◌∷◌, map, drop, length, get_or, slice_get, Option, Some, None, option_map, if◌then◌else◌, refl, sym, ap, ◌∙◌, arith, drop-cons, add-one}
+use Rattle.std.proofs.Common.{◌≡◌, ◌<◌, ◌+◌, ℕ, suc, List, ◌∷◌, map, drop, length, get_or, slice_get, Option, Some, None, option_map, refl, sym, ap, ◌∙◌, drop-cons, add-one}
 use Rattle.std.proofs.lemmas.Option.{slice_get-map}
-use Rattle.class_model.specs.Header.{field_member, header_of}
-use Rattle.class_model.specs.Members.{has, STATIC}
+use Rattle.class_model.specs.Header.{field_member}
 use Rattle.class_model.specs.Pool.{Constants}
 use Rattle.class_model.specs.PoolChecks.{text_or_empty, utf8_at}
 use Rattle.class_model.specs.declared.class_file.ClassFile.{ClassFile}
 use Rattle.class_model.specs.declared.class_file.Field.{Field}
 use Rattle.class_model.specs.declared.header.Member.{Member}
-use Rattle.class_tree.specs.Headers.{Classes, headers_of}
-use Rattle.member_link.specs.Machine.Beginnings.{starts_of, with_starts}
-use Rattle.member_link.specs.Machine.Classes.{constant_of, run_class_of, start_of, starts_from}
+use Rattle.member_link.specs.Machine.Beginnings.{with_starts}
+use Rattle.member_link.specs.Machine.Classes.{starts_from}
 use Rattle.member_link.specs.Machine.Programs.{Program, StartValue}
 use Rattle.member_link.specs.Machine.Worlds.{Memory, field_desc}
-use Rattle.machine_step.specs.Programs.{IsProgram}
 use Rattle.machine_run.specs.Inner.StartWords.{AreFieldsOf, start_if, with_start_if}
-use Rattle.machine_run.proofs.ProgramClasses.{class_at}
 
--- ---- the fields of a class
+-- ---- the descriptor of a field
 
-pub no_starts :
-    (classes : Classes) (P : Program)
-    → IsProgram classes P
-    → (class : ℕ)
-    → slice_get classes.folder class ≡ None
-    → starts_of P class ≡ []
-no_starts classes P is class none =
-    rw (class_at classes P is class ∙ ap (option_map (run_class_of is.links (headers_of classes))) none) refl
-
-module _ (classes : Classes) (P : Program) (is : IsProgram classes P) (class : ℕ) (file : ClassFile)
-    (at : slice_get classes.folder class ≡ Some file) where
-  found : slice_get P.classes class ≡ Some (run_class_of is.links (headers_of classes) file)
-  found = class_at classes P is class ∙ ap (option_map (run_class_of is.links (headers_of classes))) at
-
-  pub starts_are : starts_of P class ≡ starts_from file.pool zero file.fields
-  starts_are = rw found refl
-
-  pub fields_are : AreFieldsOf P class file
-  fields_are = record { found = run_class_of is.links (headers_of classes) file; at = found; fields = refl }
-
--- the descriptor of one of them
 desc_in :
     (pool : Constants) (fields : List Field) (number : ℕ) (field : Field)
     → slice_get fields number ≡ Some field
@@ -91,12 +66,3 @@ one_start_more P class before after whole pool fields number field within is so_
   where
     split : drop number fields ≡ field ∷ drop (suc number) fields
     split = drop-cons fields number field within ∙ ap (λ (first : Field). first ∷ drop (suc number) fields) is
-
--- where none is left
-pub no_start_more :
-    (P : Program) (class : ℕ) (memory whole : Memory) (pool : Constants) (fields : List Field) (number : ℕ)
-    → drop number fields ≡ []
-    → with_starts P class memory (starts_from pool number (drop number fields)) ≡ whole
-    → memory ≡ whole
-no_start_more P class memory whole pool fields number none so_far =
-    ap (λ (rest : List Field). with_starts P class memory (starts_from pool number rest)) (sym none) ∙ so_far

@@ -170,10 +170,6 @@ module _ (P : Program) (memory : Memory) where
 
   -- ---- superclass and interfaces
 
-  pub none_first :
-      (header : Header) → is_interface header ≡ true → first_unbegun P memory (come_first P header) ≡ None
-  none_first header is = rw is refl
-
   pub super_then_interfaces :
       (header : Header)
       → is_interface header ≡ false

@@ -1,4 +1,4 @@
--- The program of a tree's classes has their class files and their headers, by number and by name.
+-- The program of a tree's classes has their headers, by number and by name.
 use Rattle.std.proofs.Common.{◌≡◌, ◌+◌, ℕ, suc, Bool, cond, List, [], ◌∷◌, map, bytes_eq, slice_get, Option, Some, None, option_map, refl, sym, ap, ◌∙◌, arith}
 use Rattle.std.proofs.lemmas.Option.{slice_get-map}
 use Rattle.class_model.specs.Header.{header_of}
@@ -49,28 +49,12 @@ found_with :
 found_with None header is = absurd cc
 found_with (Some class) header is = (class, refl, cc)
 
-none_with :
-    (class : Option RunClass)
-    → option_map (λ (class : RunClass). class.header) class ≡ None
-    → class ≡ None
-none_with None none = refl
-none_with (Some class) none = absurd cc
-
 module _ (classes : Classes) (P : Program) (is : IsProgram classes P) where
   pub headers_are : headers_in P ≡ headers_of classes
   headers_are =
       ap headers_in is.same
       ∙ ap (λ (folder : List Header). let headers : Headers = record { folder = folder; library = classes.library } in headers)
       (folder_headers is.links (headers_of classes) classes.folder)
-
-  -- the class of a number, by its class file
-  pub class_at :
-      (number : ℕ)
-      → slice_get P.classes number
-      ≡ option_map (run_class_of is.links (headers_of classes)) (slice_get classes.folder number)
-  class_at number =
-      ap (λ (p : Program). slice_get p.classes number) is.same
-      ∙ slice_get-map (run_class_of is.links (headers_of classes)) classes.folder number
 
   header_at :
       (number : ℕ)
@@ -80,19 +64,13 @@ module _ (classes : Classes) (P : Program) (is : IsProgram classes P) where
       sym (slice_get-map (λ (class : RunClass). class.header) P.classes number)
       ∙ ap (λ (headers : Headers). slice_get headers.folder number) headers_are
 
-  -- by its header
+  -- the class of a number, by its header
   pub class_with :
       (number : ℕ) (header : Header)
       → slice_get (headers_of classes).folder number ≡ Some header
       → (found : RunClass) × (slice_get P.classes number ≡ Some found) × (found.header ≡ header)
   class_with number header at =
       found_with (slice_get P.classes number) header (header_at number ∙ at)
-
-  pub no_class :
-      (number : ℕ)
-      → slice_get (headers_of classes).folder number ≡ None
-      → slice_get P.classes number ≡ None
-  no_class number none = none_with (slice_get P.classes number) (header_at number ∙ none)
 
   -- the number of a name
   number_is :

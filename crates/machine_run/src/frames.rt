@@ -1,5 +1,5 @@
 //! The frames of a run, the top one last in memory and first for contracts.
-ghost use Rattle.std.specs.Prelude.{◌≡◌, ◌∷◌, [], IfSome, IfNone, OnOk, OnErr};
+ghost use Rattle.std.specs.Prelude.{◌≡◌, ◌∷◌, [], length, IfSome, IfNone, OnOk, OnErr};
 
 use class_model::NoMemory;
 use machine_values::{RunFrame, RunFrameList};
@@ -24,4 +24,11 @@ pub(crate) fn pop_frame(frames: &mut RunFrameList) -> Option<RunFrame>
     ensures same { IfNone result (frames.new ≡ []) }
 {
     frames.frames.pop()
+}
+
+/// How many frames there are.
+pub(crate) fn frame_count(frames: &RunFrameList) -> usize
+    ensures { result ≡ length frames.now }
+{
+    frames.frames.len()
 }

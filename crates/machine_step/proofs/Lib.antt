@@ -1,6 +1,8 @@
 pub mod Arguments
+pub mod ArrayCounts
 pub mod ArrayTexts
 pub mod CallTargets
+pub mod ComponentTexts
 pub mod Conforming
 pub mod CountedLists
 pub mod EmptyNames
@@ -14,6 +16,7 @@ pub mod KindLists
 pub mod MonitorCounts
 pub mod NewObjects
 pub mod OffsetNumbers
+pub mod Oks
 pub mod OwnMethods
 pub mod Parameters
 pub mod PreparedCodes
@@ -30,3 +33,4 @@ pub mod Switches
 pub mod UnitLists
 pub mod WidthMoves
 pub mod WorkFirst
+pub mod Writes

@@ -1,10 +1,10 @@
 -- The number of the first instruction at an offset.
-use Rattle.std.proofs.Common.{◌≡◌, ◌+◌, ◌<◌, ◌^◌, ℕ, zero, suc, Bool, true, false, cond, List, [], ◌∷◌, length, map, Option, Some, None, option_map, refl, sym, ap, subst, ◌∙◌, arith}
+use Rattle.std.proofs.Common.{◌≡◌, ◌<◌, ◌^◌, ℕ, suc, Bool, true, false, List, [], ◌∷◌, length, Option, Some, None, option_map, refl, sym, ◌∙◌, arith}
 use Rattle.std.specs.Prelude.{◌==◌, if◌then◌else◌}
 use Rattle.std.proofs.lemmas.List.{length-map}
-use Rattle.class_model.specs.OffsetIndexes.{IsIndexOf, first_at, number_in}
+use Rattle.class_model.specs.OffsetIndexes.{first_at, number_in}
 use Rattle.class_model.specs.declared.instr.Placed.{Placed}
-use Rattle.machine_step.specs.Inner.Translating.{AreNumbers, number_of, offsets_of, or_count}
+use Rattle.machine_step.specs.Inner.Translating.{AreNumbers, offsets_of}
 
 -- it is one of the numbers
 inside_more : (here : Bool) (others : Option ℕ) (count number : ℕ) → ((n : ℕ) → others ≡ Some n → n < count) → (if here then Some 0 else option_map suc others) ≡ Some number → number < suc count
@@ -24,9 +24,3 @@ module _ (instrs : List Placed) (numbers : List ℕ) (are : AreNumbers instrs nu
   number_fits number is =
       let below = first_inside (offsets_of instrs) at number (sym (are.index at) ∙ sym is) in
       omega (arith, below, length-map instrs (λ (placed : Placed). placed.at), are.few)
-
-  pub number_found : (number : ℕ) → Some number ≡ number_in numbers at → number ≡ number_of (offsets_of instrs) at
-  number_found number is = ap (or_count (length (offsets_of instrs))) (is ∙ are.index at)
-
-  pub none_found : None ≡ number_in numbers at → length instrs ≡ number_of (offsets_of instrs) at
-  none_found none = sym (length-map instrs (λ (placed : Placed). placed.at)) ∙ ap (or_count (length (offsets_of instrs))) (none ∙ are.index at)

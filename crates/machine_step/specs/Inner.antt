@@ -5,6 +5,7 @@ pub mod Kinds
 pub mod Monitors
 pub mod Moves
 pub mod Narrowings
+pub mod NestedArrays
 pub mod Numbering
 pub mod ParameterWords
 pub mod QuestionWords
@@ -14,6 +15,7 @@ pub mod Resolved
 pub mod Results
 pub mod SlotWords
 pub mod Statics
+pub mod Stores
 pub mod Units
 pub mod Works
 pub mod Translating

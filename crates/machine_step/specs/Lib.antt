@@ -1,8 +1,10 @@
 pub mod Bounded
 pub mod Completing
+pub mod FewOperands
 pub mod Prepared
 pub mod Programs
 pub mod Room
 pub mod RunOps
+pub mod ShortArrays
 pub mod SpentWorlds
 pub mod Inner

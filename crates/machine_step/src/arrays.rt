@@ -73,8 +73,12 @@ fn array_of(
     Ok(Completed::Gives(Some(Value::Ref(at))))
 }
 
-// What the elements of a new array hold, by its descriptor and length.
-fn blank_elements(alloc: Global, desc: &Text, count: u32) -> Result<ValueList, NoMemory>
+/// What the elements of a new array hold, by its descriptor and length.
+///
+/// # Errors
+///
+/// `NoMemory` where memory runs out.
+pub(crate) fn blank_elements(alloc: Global, desc: &Text, count: u32) -> Result<ValueList, NoMemory>
     ensures { IfOk result
         (λ values. values ≡ replicate count (blank_value (component_text desc.now))) }
 {

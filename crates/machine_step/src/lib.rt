@@ -2,18 +2,22 @@
 #![tactic(auto)]
 
 mod arithmetic;
+mod array_heap;
 mod arrays;
 mod begun;
 mod calls;
 mod completed;
+mod computing;
 mod counting;
 mod fields;
+mod elements;
 mod floats;
 mod jumps;
 mod known;
 mod locals;
 mod memory;
 mod monitors;
+mod nested_arrays;
 mod numbering;
 mod objects;
 mod prepared;
@@ -34,6 +38,7 @@ mod working;
 mod world;
 
 pub use arithmetic::{Divided, divide, pure, pure_operands};
+pub use array_heap::ArrayHeap;
 pub use begun::ClassNumberList;
 pub use completed::{Asked, Completed};
 pub use floats::{float_fits, float_operands};

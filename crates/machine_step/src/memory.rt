@@ -5,6 +5,7 @@ ghost use Rattle.machine_values.specs.Heaps.{allocated, constant_made, left, mon
 ghost use Rattle.member_link.specs.Machine.ObjectSteps.{with_entered};
 ghost use Rattle.member_link.specs.Machine.Worlds.{with_heap, with_static};
 ghost use Rattle.machine_step.specs.Room.{HasRoom};
+ghost use Rattle.machine_step.specs.ShortArrays.{IsShort};
 
 use crate::begun::ClassNumberList;
 use crate::monitors::MonitorHeap;
@@ -119,12 +120,14 @@ impl Memory {
         self.heap.put(at, index, value)
     }
 
-    /// A new object with these values, whose monitor is not entered, and its reference. It is not counted.
+    /// A new object with these values, whose monitor is not entered, and its reference. It is not counted. An array's
+    /// length is that of an int.
     ///
     /// # Errors
     ///
     /// `NoMemory` where memory runs out; all stays as it was.
     pub fn allocate(&mut self, shape: Shape, values: ValueList) -> Result<Ref, NoMemory>
+        requires { IsShort shape }
         ensures memory { OnOk result
             (self.new ≡ with_heap self.old (allocated self.old.heap shape values).heap) }
         ensures reference { IfOk result
@@ -134,14 +137,15 @@ impl Memory {
         self.heap.alloc_with(shape, values)
     }
 
-    /// A new object with these values, whose monitor is not entered, and its reference. It is counted. A run that `HasRoom` counts
-    /// far less than 2^128 objects.
+    /// A new object with these values, whose monitor is not entered, and its reference. It is counted. An array's length
+    /// is that of an int. A run that `HasRoom` counts far less than 2^128 objects.
     ///
     /// # Errors
     ///
     /// `NoMemory` where memory runs out; all stays as it was.
     pub fn allocate_counted(&mut self, shape: Shape, values: ValueList) -> Result<Ref, NoMemory>
-        requires { self.old.allocations < 2 ^ 128 - 1 }
+        requires short { IsShort shape }
+        requires few { self.old.allocations < 2 ^ 128 - 1 }
         ensures memory { OnOk result
             (self.new
             ≡ record self.old {

@@ -3,7 +3,9 @@ ghost use Rattle.std.specs.Prelude.{◌≡◌, ◌<◌, ◌↔◌, ◌^◌, ◌-
 ghost use Rattle.std.specs.Option.{option_copied};
 ghost use Rattle.machine_heap.specs.Objects.{value_at};
 ghost use Rattle.machine_values.specs.Heaps.{allocated, constant_in, constant_made, entered, left, monitor_count, object_at, with_value};
+ghost use Rattle.machine_step.specs.ShortArrays.{IsShort};
 
+use crate::array_heap::ArrayHeap;
 use crate::counting::known_counts;
 use crate::known::KnownRefs;
 use class_model::NoMemory;
@@ -17,7 +19,7 @@ use std::marker::Model;
 /// see the heap.
 #[derive(Drop)]
 pub struct MonitorHeap {
-    heap: Heap,
+    heap: ArrayHeap,
     // the references whose monitors are entered
     held: IndexSet<u64>,
 }
@@ -39,13 +41,20 @@ impl MonitorHeap {
         ensures { result ≡ record { objects = []; constants = [] } }
     {
         MonitorHeap {
-            heap: Heap::new(alloc),
+            heap: ArrayHeap::new(alloc),
             held: IndexSet::new(alloc),
         }
     }
 
     /// The heap.
     pub fn heap(&self) -> &Heap
+        ensures { result.now ≡ self.now }
+    {
+        self.heap.heap()
+    }
+
+    /// The heap, whose arrays have lengths that are ints.
+    pub fn array_heap(&self) -> &ArrayHeap
         ensures { result.now ≡ self.now }
     {
         &self.heap
@@ -59,7 +68,7 @@ impl MonitorHeap {
     pub fn monitor_counts(&self, alloc: Global, known: &KnownRefs) -> Result<CountList, NoMemory>
         ensures { IfOk result (λ counts. counts ≡ map (monitor_count self.now) known.now) }
     {
-        known_counts(alloc, &self.heap, known, self.held.as_slice())
+        known_counts(alloc, self.heap.heap(), known, self.held.as_slice())
     }
 
     /// Writes the value of an object's field or element, by its number among the object's values. It does not allocate.
@@ -95,18 +104,19 @@ impl MonitorHeap {
         ensures same { result ≡ false → self.new ≡ self.old }
     {
         let leaves = self.heap.leave(at);
-        if self.heap.monitor_count(at) == 0 {
+        if self.heap.heap().monitor_count(at) == 0 {
             self.held.swap_remove(&at.number);
         }
         leaves
     }
 
-    /// A new object with these values, whose monitor is not entered, and its reference.
+    /// A new object with these values, whose monitor is not entered, and its reference. An array's length is that of an int.
     ///
     /// # Errors
     ///
     /// `NoMemory` where memory runs out; the heap stays as it was.
     pub fn alloc_with(&mut self, shape: Shape, values: ValueList) -> Result<Ref, NoMemory>
+        requires { IsShort shape }
         ensures heap { OnOk result (self.new ≡ (allocated self.old shape values).heap) }
         ensures reference { IfOk result (λ at. at ≡ (allocated self.old shape values).reference) }
         ensures err { OnErr result (self.new ≡ self.old) }

@@ -1,5 +1,5 @@
 -- What a static field begins with, field by field.
-use Rattle.std.specs.Prelude.{◌≡◌, ℕ, Option, Some, None, map, slice_get, if◌then◌else◌}
+use Rattle.std.specs.Prelude.{◌≡◌, ℕ, Option, Some, None, slice_get, if◌then◌else◌}
 use Rattle.class_model.specs.Descriptors.{type_of}
 use Rattle.class_model.specs.Header.{header_of}
 use Rattle.class_model.specs.Members.{has, STATIC}

@@ -117,8 +117,8 @@ fn both_conform(tree: &Tree, low: Option<&[u8]>, high: Option<&[u8]>) -> bool
     }
 }
 
-// The component of an array of references.
-fn component_named(bytes: &[u8]) -> Option<&[u8]>
+/// The component of an array of references, by what its elements are. It does not allocate.
+pub(crate) fn component_named(bytes: &[u8]) -> Option<&[u8]>
     ensures { option_copied result ≡ component_named bytes.now }
 {
     let Some((first, rest)) = bytes.split_first() else {
@@ -151,8 +151,8 @@ fn behind_bracket(bytes: &[u8]) -> Option<&[u8]>
     if *first == b'[' { Some(rest) } else { None }
 }
 
-// What the elements of an array type are.
-fn component_text(bytes: &[u8]) -> &[u8]
+/// What the elements of an array type are. It does not allocate.
+pub(crate) fn component_text(bytes: &[u8]) -> &[u8]
     ensures { result.now ≡ component_text bytes.now }
 {
     let Some((first, rest)) = bytes.split_first() else {

@@ -1,4 +1,4 @@
-//! Instructions with an opcode of a form (JVM Specification SE 8, 6.5: the loads and stores of elements, and if). No other opcode has a
+//! Instructions with an opcode of a form (JVM Specification SE 8, 6.5: the loads and stores of elements, and if). Other opcodes have no
 //! meaning there.
 ghost use Rattle.std.specs.Prelude.{◌≡◌, ◌&&◌, nat_le};
 ghost use Rattle.class_model.specs.declared.opcodes.TheConstants as opcodes;

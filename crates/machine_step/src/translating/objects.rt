@@ -3,7 +3,6 @@ ghost use Rattle.std.specs.Prelude.{◌≡◌, ◌∷◌, IfOk, IfSome};
 ghost use Rattle.class_model.specs.Characters.{left_bracket};
 ghost use Rattle.class_model.specs.Code.{FitsArray};
 ghost use Rattle.class_model.specs.Descriptors.{named_text};
-ghost use Rattle.class_model.specs.ModifiedUtf8.{IsText};
 ghost use Rattle.class_model.specs.PoolChecks.{class_at};
 ghost use Rattle.class_tree.specs.Headers.{Classes};
 ghost use Rattle.member_link.specs.Machine.Codes.{naming};

@@ -22,7 +22,8 @@ pub(crate) fn table_op(
     targets: &TargetList,
 ) -> Result<RunOp, NoMemory>
     ensures is { IfOk result (λ op. op_of op
-        ≡ table_switch low (number_of numbers.now other) (map (number_of numbers.now) targets.now)) }
+        ≡ table_switch low (number_of numbers.now other)
+        (map (number_of numbers.now) targets.now)) }
     ensures resolved { IfOk result (λ op. (classes : Classes) → OpIsResolved classes op) }
 {
     let targets = numbered_targets(alloc, numbers, targets.as_slice())?;

@@ -1,4 +1,4 @@
-use Rattle.std.proofs.Common.{sym, ap, subst, ◌∙◌}
+use Rattle.std.proofs.Common.{ap, subst, ◌∙◌}
 use Rattle.machine_step.specs.Prepared.{IsPreparedIf}
 use Rattle.machine_step.specs.Programs.{IsProgram}
 use Rattle.machine_run.proofs.CalledMethods.{no_units, units_prepared}

@@ -1,4 +1,4 @@
-use Rattle.std.proofs.Common.{◌≡◌, ◌+◌, ◌*◌, ◌-◌, length}
+use Rattle.std.proofs.Common.{◌≡◌, ◌+◌, ◌*◌, length}
 use Rattle.member_link.specs.Machine.Programs.{Program}
 use Rattle.machine_step.specs.Programs.{IsProgram}
 use Rattle.machine_run.specs.Inner.ComeFirst.{unbegun_above}

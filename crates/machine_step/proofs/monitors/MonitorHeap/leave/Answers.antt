@@ -19,5 +19,5 @@ invariant_of-self c =
     let leaves = c.leave-leaves in
     let heap = leaves.new.self in
     let held = after leaves.result c.self.inside.heap heap c.args.at c.self.inside.held.keys leaves.ensures.left leaves.ensures.same c.self.invariant in
-    let none : monitor_count heap c.at.inside.number ≡ 0 = ap (λ (r : ℕ). monitor_count heap r) c.at.view_is ∙ sym c.monitor_count.ensures ∙ c.if-monitor_count-eq0.true in
+    let none : monitor_count heap c.at.inside.number ≡ 0 = ap (λ (r : ℕ). monitor_count heap r) c.at.view_is ∙ ap (λ (now : Heap). monitor_count now c.args.at) (sym c.heap.ensures) ∙ sym c.monitor_count.ensures ∙ c.if-monitor_count-eq0.true in
     taken-held heap c.at.inside.number c.self.inside.held.keys c.swap_remove.new.self.keys held none c.swap_remove.ensures.updates.0

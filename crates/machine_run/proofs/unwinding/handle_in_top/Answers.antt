@@ -1,0 +1,28 @@
+use Rattle.std.proofs.Common.{◌≡◌, [], ◌∷◌, List, length, sym, ◌∙◌}
+use Rattle.machine_values.specs.Frames.{MethodState}
+use Rattle.machine_values.specs.declared.frame.RunFrame.{RunFrame as Frame}
+use Rattle.machine_values.specs.declared.frame.RunFrame.TheVariants.{Method}
+use Rattle.machine_values.specs.declared.value.Value.TheVariants.{Ref}
+use Rattle.machine_run.proofs.TopFrames.{method_went, on_ok_always}
+use Rattle.machine_run.proofs.Tops.{top_read}
+use Rattle.machine_run.proofs.unwinding.handle_in_top.Goals as goal
+use Rattle.machine_run.proofs.unwinding.handle_in_top.Goals.{in-Method, in-Library, in-Beginning}
+
+pub returns : goal.returns
+returns c =
+    let items = c.frames.inside.frames.items in
+    let many : c.len-len.result ≡ length items = c.len-len.ensures ∙ c.frames.inside.frames.ok.0 in
+    let top : (f : MethodState) (rest : List Frame) → c.args.frames.now ≡ Method f ∷ rest → c.index_mut.result.now ≡ Method f =
+    λ f rest is. top_read items (Method f) rest c.len-len.result c.index_mut.result.now (c.frames.view_is ∙ is) many c.index_mut.ensures.value
+    in
+    let goes : MethodState → MethodState = λ f. record f { place = c.args.to; stack = Ref c.args.at ∷ [] } in
+    elim c.match-index_mut.branch [
+      | in-Method w ↦
+          (let frame : (f : MethodState) (rest : List Frame) → c.args.frames.now ≡ Method f ∷ rest → w.in-Method.frame ≡ f =
+          λ f rest is. let both = sym w.in-Method.is ∙ top f rest is in cc in
+          rw (w.result-is, w.frames-inside-is)
+          (method_went w.handle_in_frame.result goes items c.args.frames.now c.len-len.result w.in-Method.frame w.handle_in_frame.new.frame
+          frame c.frames.view_is many w.handle_in_frame.ensures))
+      | in-Library w ↦ on_ok_always c.match-index_mut.result (λ f rest is. let both = sym w.in-Library.is ∙ top f rest is in absurd cc)
+      | in-Beginning w ↦ on_ok_always c.match-index_mut.result (λ f rest is. let both = sym w.in-Beginning.is ∙ top f rest is in absurd cc)
+    ]
