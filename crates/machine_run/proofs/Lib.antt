@@ -17,7 +17,6 @@ pub mod ProgramClasses
 pub mod ProgramLinks
 pub mod Returns
 pub mod StackUnseen
-pub mod ThrownHalts
 pub mod Throws
 pub mod TopFrames
 pub mod Tops

@@ -4,11 +4,11 @@ ghost use Rattle.machine_values.specs.declared.value.Value.{Value as Argument};
 ghost use Rattle.member_link.specs.Machine.Acting.{act_call, beginning_if, begins_with_angle, call_of_instance, call_of_method, call_of_static, call_on};
 ghost use Rattle.member_link.specs.Machine.Performing.{called};
 ghost use Rattle.member_link.specs.Machine.Programs.{Program, place_of_method, run_method};
-ghost use Rattle.member_link.specs.Machine.Worlds.{array_too_long, is_begun};
+ghost use Rattle.member_link.specs.Machine.Worlds.{is_begun};
 ghost use Rattle.machine_step.specs.Programs.{IsProgram};
 ghost use Rattle.machine_step.specs.Room.{HasRoom};
 ghost use Rattle.machine_run.specs.Inner.ActWords.{is_null};
-ghost use Rattle.machine_run.specs.Outcomes.{ended, halt_behind, halt_of};
+ghost use Rattle.machine_run.specs.Outcomes.{Lands, ended, halt_behind, halt_of};
 
 use crate::acting::given::given_values;
 use crate::beginnings::begin_class;
@@ -209,15 +209,17 @@ fn is_null(value: Value) -> bool
     matches!(value, Value::Null)
 }
 
-/// What an action comes to that throws, by what throwing comes to: no array has to do with it.
+/// What an action comes to that throws, by what throwing comes to.
 pub(crate) fn acted_of(outcome: Outcome) -> Acted
-    ensures halt { (halt_of outcome ≡ array_too_long → ⊥) → halt_behind result ≡ halt_of outcome }
+    requires { Lands outcome }
+    ensures halt { halt_behind result ≡ halt_of outcome }
     ensures done { result ≡ Acted.Fault → ⊥ }
 {
     match outcome {
-        Outcome::Running | Outcome::LibraryTurn => Acted::Done,
+        Outcome::Running => Acted::Done,
         Outcome::InitThrew => Acted::InitThrew,
-        Outcome::Stuck | Outcome::ArrayTooLong => Acted::Stuck,
+        Outcome::Stuck => Acted::Stuck,
+        Outcome::LibraryTurn | Outcome::ArrayTooLong => unreachable!(),
     }
 }
 
