@@ -1,8 +1,13 @@
 pub mod BegunClasses
+pub mod BegunIf
 pub mod BegunStarts
 pub mod BegunSteps
 pub mod CalledMethods
+pub mod CallsOn
 pub mod ComesFirst
+pub mod GivenValues
+pub mod Makers
+pub mod NamedHeaders
 pub mod Handlers
 pub mod Landings
 pub mod NextPlaces

@@ -14,7 +14,7 @@ use std::alloc::Global;
 ///
 /// # Errors
 /// `NoMemory`, where memory runs out.
-pub(crate) fn resolve_new(alloc: Global, tree: &Tree, class: &Text) -> Result<NewOp, NoMemory>
+pub fn resolve_new(alloc: Global, tree: &Tree, class: &Text) -> Result<NewOp, NoMemory>
     ensures class { IfOk result (λ op. op.class ≡ class.now) }
     ensures resolved { IfOk result (λ op. (P : Program) → IsProgram tree.now P → IsNewOp P op) }
 {
