@@ -48,13 +48,15 @@ returns-in_ok-completed-in-Some-clause-can c = λ P program resolved.
     let stack : reverse c.frame.inside.stack ≡ f.stack = ap (λ (g : MethodState). g.stack) c.frame.view_is in
     let enough : count ≤ length f.stack =
     subst (λ (n : ℕ). count ≤ n) (sym (length-reverse c.frame.inside.stack) ∙ ap length stack) (c.in-Some.ensures.enough.0 refl)
-    in
-    (can_perform c.args.memory.now c.work.new.memory c.in-Some.values.now c.in_ok-completed-in-Some.completed
-    (work P c.args.memory.now op c.in-Some.values.now)
-    (c.in_ok-completed-in-Some.ensures.completed P program resolved)
-    c.requires.room
-    (λ class is. c.begun_classes_are_not_begun.ensures P c.args.memory.now op c.in-Some.values.now class is),
-    enough, c.requires.next)
+    in (
+      can_perform c.args.memory.now c.work.new.memory c.in-Some.values.now c.in_ok-completed-in-Some.completed
+          (work P c.args.memory.now op c.in-Some.values.now)
+          (c.in_ok-completed-in-Some.ensures.completed P program resolved)
+          c.requires.room
+          (λ class is. c.begun_classes_are_not_begun.ensures P c.args.memory.now op c.in-Some.values.now class is),
+      enough,
+      c.requires.next,
+    )
 
 pub returns-in-None-clause-operated : goal.returns-in-None-clause-operated
 returns-in-None-clause-operated c = λ P w rest program resolved memory.
