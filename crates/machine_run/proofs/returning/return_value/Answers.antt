@@ -22,4 +22,4 @@ returns-else-traits-clause-returned c =
     let traits = c.in-Some.ensures P f rest program (ap (λ (v : World). v.frames) c.w.view_is ∙ is) in
     below P f rest program is
     ∙ sym (returned_other P c.args.w.now f rest (values_of c.args.value) c.in-Some.traits traits c.if-traits.false))
-    c.return_below.ensures
+    c.return_below.ensures.returned
