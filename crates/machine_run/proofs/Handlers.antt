@@ -65,7 +65,7 @@ unheld heap at (Some object) is none =
     is ∙ ap (λ (n : ℕ). Some (record object { monitor = n })) (let e : object.monitor ≡ object.monitor - 1 = omega arith in e) in
     rw is (ap (λ (objects : List Object). record heap { objects = objects }) (set_same heap.objects at (record object { monitor = object.monitor - 1 }) same))
 
-pub unlocked_unheld : (memory : Memory) (at : ℕ) → monitor_count memory.heap at ≡ 0 → unlocked memory (Some at) ≡ memory
+unlocked_unheld : (memory : Memory) (at : ℕ) → monitor_count memory.heap at ≡ 0 → unlocked memory (Some at) ≡ memory
 unlocked_unheld memory at none = ap (with_heap memory) (unheld memory.heap at (object_at memory.heap at) refl none)
 
 -- a monitor that was left, or that was not entered

@@ -1,11 +1,11 @@
 -- The world in which a method has ended.
-use Rattle.std.proofs.Common.{◌≡◌, Bool, true, false, List, Some, None, if◌then◌else◌, ap, ◌∙◌}
+use Rattle.std.proofs.Common.{◌≡◌, Bool, true, false, List, Some, if◌then◌else◌, ap, ◌∙◌}
 use Rattle.machine_values.specs.Frames.{MethodState}
 use Rattle.machine_values.specs.declared.frame.RunFrame.{RunFrame}
 use Rattle.machine_values.specs.declared.value.Value.{Value}
 use Rattle.member_link.specs.Machine.Performing.{returned, returned_by, returned_to, unlocked}
 use Rattle.member_link.specs.Machine.Programs.{Program}
-use Rattle.member_link.specs.Machine.Worlds.{World, stuck}
+use Rattle.member_link.specs.Machine.Worlds.{World}
 use Rattle.machine_step.specs.Prepared.{IsTraitsOf}
 use Rattle.machine_step.specs.declared.prepared_method.MethodTraits.{MethodTraits}
 
@@ -29,6 +29,3 @@ module _ (P : Program) (w : World) (f : MethodState) (rest : List RunFrame) (val
   returned_other traits is other =
       ap (returned_by P w f.held rest values) is.1
       ∙ ap by_name (is.2.initialiser ∙ other)
-
-  pub returned_none : IsTraitsOf P f.at None → returned P w f rest values ≡ record w { halt = stuck }
-  returned_none none = ap (returned_by P w f.held rest values) none
