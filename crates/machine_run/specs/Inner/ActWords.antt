@@ -27,6 +27,7 @@ use Rattle.member_link.specs.Signatures.{reference_of}
 abbrev pub items_of : Vec Value Global → List Value
 items_of values = values.items
 
+-- a value is null
 abbrev pub is_null : Value → Bool
 is_null Null = true
 is_null value = false
@@ -47,7 +48,8 @@ is_initialiser class desc (Some found) =
 -- an entry of a pool is a handle that makes an object by it
 abbrev pub makes_object : Constants → Name → List ℕ → Option Const → Bool
 makes_object pool class desc (Some (MethodHandle kind reference)) =
-    NEW_INVOKE_SPECIAL == kind && is_initialiser class desc (reference_of pool (constant_at pool reference))
+    NEW_INVOKE_SPECIAL == kind
+    && is_initialiser class desc (reference_of pool (constant_at pool reference))
 makes_object pool class desc entry = false
 
 -- a class file has such a handle
@@ -56,9 +58,11 @@ has_maker class desc file = list_any (makes_object file.pool class desc) file.po
 
 -- ---- constructions
 
+-- a class is neither abstract nor an interface
 abbrev pub is_concrete_header : Header → Bool
 is_concrete_header header = not (has header.flags ABSTRACT || is_interface header)
 
+-- the library may call the instance initialiser at a place with these values
 abbrev pub may_construct : Program → World → Name → List ℕ → MethodAt → List Value → Bool
 may_construct P w class desc at values =
     is_some (code_at P at)

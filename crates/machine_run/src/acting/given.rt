@@ -35,7 +35,8 @@ pub(crate) fn given_values(
     known: &KnownRefs,
     given: &[Given],
 ) -> Result<Option<Vec<Value>>, NoMemory>
-    ensures { IfOk result (λ values. option_map items_of values ≡ given_values known.now given.now) }
+    ensures { IfOk result
+        (λ values. option_map items_of values ≡ given_values known.now given.now) }
 {
     let mut values = Vec::with_capacity(alloc, given.len())?;
     let mut rest = given;
