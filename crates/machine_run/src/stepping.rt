@@ -166,7 +166,13 @@ fn step_method(
     let Some(mut method) = prepared.take(alloc, at)? else {
         return Ok(Outcome::Stuck);
     };
-    let operated = operate(alloc, prepared.tree(), w, &mut method)?;
+    let operated = operate(
+        alloc,
+        prepared.tree(),
+        &mut w.frames,
+        &mut w.memory,
+        &mut method,
+    )?;
     prepared.put(at, method);
     finish(alloc, prepared, w, operated)
 }
@@ -178,7 +184,7 @@ fn finish(
     w: &mut WorldState,
     operated: Operated,
 ) -> Result<Outcome, NoMemory>
-    requires { CanFinish w.old operated }
+    requires { CanFinish w.old.memory w.old.frames operated }
     ensures same { prepared.new ≡ prepared.old }
     ensures finished { IfOk result (λ outcome. (P : Program) (f : MethodState) (rest : List Frame)
         → IsProgram prepared.old P
@@ -199,34 +205,37 @@ fn finish(
 fn operate(
     alloc: Global,
     tree: &Tree,
-    w: &mut WorldState,
+    frames: &mut RunFrameList,
+    memory: &mut Memory,
     method: &mut PreparedMethod,
 ) -> Result<Operated, NoMemory>
-    requires room { HasRoom w.old.memory }
-    requires places { CanGoOn w.old.frames }
-    requires top { IsMethodOnTop w.old.frames }
+    requires room { HasRoom memory.old }
+    requires places { CanGoOn frames.old }
+    requires top { IsMethodOnTop frames.old }
     requires few { length method.old.ops.items < 2 ^ 32 - 1 }
     ensures prepared { (P : Program) (at : Numbers) → IsProgram tree.now P
         → IsPrepared P at method.old → IsPrepared P at method.new }
-    ensures operated { IfOk result (λ operated. (P : Program) (f : MethodState)
+    ensures operated { IfOk result (λ operated. (P : Program) (w : Before) (f : MethodState)
         (rest : List Frame)
         → IsProgram tree.now P
         → IsPrepared P f.at method.old
-        → w.old.frames ≡ Method f ∷ rest
-        → world_operated P w.new f rest operated
-        ≡ point_step P w.old f rest (point_at P f.at f.place)) }
+        → w.memory ≡ memory.old
+        → w.frames ≡ Method f ∷ rest
+        → frames.old ≡ Method f ∷ rest
+        → world_operated P (record w { frames = frames.new; memory = memory.new }) f rest operated
+        ≡ point_step P w f rest (point_at P f.at f.place)) }
     ensures stands { IfOk result (λ operated. (f : MethodState) (rest : List Frame)
-        → w.old.frames ≡ Method f ∷ rest
-        → Stands w.new.frames f rest operated) }
+        → frames.old ≡ Method f ∷ rest
+        → Stands frames.new f rest operated) }
     ensures can { IfOk result (λ operated. (P : Program) (f : MethodState) (rest : List Frame)
         → IsProgram tree.now P
         → IsPrepared P f.at method.old
-        → w.old.frames ≡ Method f ∷ rest
-        → CanFinish w.new operated) }
+        → frames.old ≡ Method f ∷ rest
+        → CanFinish memory.new frames.new operated) }
 {
-    let top = w.frames.frames.len() - 1;
-    match &mut w.frames.frames[top] {
-        RunFrame::Method(frame) => operate_frame(alloc, tree, frame, &mut w.memory, method),
+    let top = frames.frames.len() - 1;
+    match &mut frames.frames[top] {
+        RunFrame::Method(frame) => operate_frame(alloc, tree, frame, memory, method),
         RunFrame::Library { .. } => Ok(Operated::Stuck),
         RunFrame::Beginning(_) => Ok(Operated::Stuck),
     }

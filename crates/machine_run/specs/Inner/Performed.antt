@@ -75,11 +75,11 @@ world_operated P w f rest (Returns value) = returned P w f rest (values_of value
 world_operated P w f rest (Works completed count) = performed P w f rest count completed
 
 -- what is left to do can be done
-abbrev pub CanFinish : World → Operated → Type 0
-CanFinish w (Returns value) = CanGoOn w.frames
-CanFinish w (Works completed count) =
-    CanPerform w.memory completed × HasOperands count w.frames
-CanFinish w operated = Unit {0}
+abbrev pub CanFinish : Memory → List RunFrame → Operated → Type 0
+CanFinish memory frames (Returns value) = CanGoOn frames
+CanFinish memory frames (Works completed count) =
+    CanPerform memory completed × HasOperands count frames
+CanFinish memory frames operated = Unit {0}
 
 -- a frame is still on top where something is left to do
 abbrev pub Stands : List RunFrame → MethodState → List RunFrame → Operated → Type 0
