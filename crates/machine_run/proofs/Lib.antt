@@ -6,11 +6,12 @@ pub mod CalledMethods
 pub mod CallsOn
 pub mod ComesFirst
 pub mod GivenValues
-pub mod Makers
-pub mod NamedHeaders
 pub mod Handlers
 pub mod Landings
+pub mod Makers
+pub mod NamedHeaders
 pub mod NextPlaces
+pub mod OperatedWorlds
 pub mod Places
 pub mod PreparedPoints
 pub mod ProgramClasses
