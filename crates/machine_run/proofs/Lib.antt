@@ -18,6 +18,7 @@ pub mod ProgramClasses
 pub mod ProgramLinks
 pub mod Returns
 pub mod StackUnseen
+pub mod StepParts
 pub mod Throws
 pub mod TopFrames
 pub mod Tops

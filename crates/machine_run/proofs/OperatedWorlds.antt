@@ -60,11 +60,13 @@ pub can_finish_is :
 can_finish_is before now rest old new fs Went kept can places after = tt
 can_finish_is before now rest old new fs Stuck kept can places after = tt
 can_finish_is before now rest old new fs (Returns value) kept can places after = subst CanGoOn (sym after) places
-can_finish_is before now rest old new fs (Works completed count) kept can places after =
-    (can.0, record {
-      top = before;
-      rest = rest;
-      same = after ∙ ap (λ (g : MethodState). Method g ∷ rest) kept;
-      enough = can.1;
-      next = can.2;
-    })
+can_finish_is before now rest old new fs (Works completed count) kept can places after = (
+  can.0,
+  record {
+    top = before;
+    rest = rest;
+    same = after ∙ ap (λ (g : MethodState). Method g ∷ rest) kept;
+    enough = can.1;
+    next = can.2;
+  },
+)

@@ -1,14 +1,18 @@
 -- The points of a method whose code is prepared.
-use Rattle.std.proofs.Common.{◌≡◌, ◌≤◌, ◌<◌, ℕ, zero, suc, List, [], ◌∷◌, length, map, set, slice_get, All, Option, Some, None, Vec, Global, option_map, option_and_then, refl, sym, ap, subst, ◌∙◌}
+use Rattle.std.proofs.Common.{◌≡◌, ◌-◌, ◌^◌, IfSome, arith, ◌≤◌, ◌<◌, ℕ, zero, suc, List, [], ◌∷◌, length, map, set, slice_get, All, Option, Some, None, Vec, Global, option_map, option_and_then, refl, sym, ap, subst, ◌∙◌}
+use Rattle.std.proofs.lemmas.List.{length-map}
 use Rattle.std.proofs.lemmas.List.Elements.{All-get_or, All-set}
 use Rattle.std.proofs.lemmas.Option.{slice_get-map, slice_get_past, get_or_from_slice_get}
 use Rattle.class_model.specs.declared.class_file.MethodAt.{MethodAt}
+use Rattle.machine_values.specs.Frames.{MethodState}
+use Rattle.member_link.specs.Machine.Bounds.{HasFewDimensions}
 use Rattle.member_link.specs.Machine.Ops as ops
 use Rattle.member_link.specs.Machine.Programs.{Program, Code, Point, RunMethod, code_at, code_run, point_at, run_method}
 use Rattle.machine_step.specs.Prepared.{IsPrepared, op_at}
 use Rattle.machine_step.specs.RunOps.{IsResolved, op_of}
 use Rattle.machine_step.specs.declared.prepared_method.PreparedMethod.{PreparedMethod}
 use Rattle.machine_step.specs.declared.run_op.RunOp.{RunOp}
+use Rattle.machine_run.specs.Inner.Performed.{HasBoundedNext}
 
 map_set_same :
     {X Y : Type 0} (f : X → Y) (xs : List X) (i : ℕ) (x y : X)
@@ -97,3 +101,26 @@ module _ (P : Program) (at : MethodAt) (prepared : PreparedMethod) (is : IsPrepa
     resolved = subst (All (IsResolved P)) (sym changed) (All-set (IsResolved P) prepared.ops.items place new resolved is.resolved);
     catches = is.catches;
   }
+
+  -- no method has so many operations that a place has none behind it
+  pub few_ops : length prepared.ops.items < 2 ^ 32 - 1
+  few_ops =
+      subst (λ (n : ℕ). n < 2 ^ 32 - 1)
+      (sym (length-map is.code.points op_at) ∙ sym (ap length is.ops) ∙ length-map prepared.ops.items op_of)
+      is.few
+
+  pub bounded_with :
+      (f : MethodState) (op : RunOp)
+      → f.at ≡ at
+      → slice_get prepared.ops.items f.place ≡ Some op
+      → HasFewDimensions (op_of op)
+      → f.place < length prepared.ops.items
+      → HasBoundedNext P f
+  bounded_with f op where_is same few within =
+      let found = point_with f.place op same in
+      let there : point_at P f.at f.place ≡ Some found.0 = ap (λ (a : MethodAt). point_at P a f.place) where_is ∙ found.1 in
+      subst (λ (p : Option Point). IfSome p (λ point. HasFewDimensions point.op × (f.place < 2 ^ 32 - 1))) (sym there)
+      (subst HasFewDimensions (sym found.2) few, lt-trans within)
+    where
+      lt-trans : f.place < length prepared.ops.items → f.place < 2 ^ 32 - 1
+      lt-trans within = omega (arith, within, few_ops)

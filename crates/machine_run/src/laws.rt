@@ -3,6 +3,7 @@ ghost use Rattle.std.specs.Prelude.{◌≡◌, ℕ, List, true, false};
 ghost use Rattle.machine_values.specs.declared.action.Action.{Action};
 ghost use Rattle.machine_values.specs.declared.value.Value.{Value};
 ghost use Rattle.member_link.specs.Machine.Acting.{act};
+ghost use Rattle.member_link.specs.Machine.Bounds.{HasFewDimensions};
 ghost use Rattle.member_link.specs.Machine.Completions.{begins};
 ghost use Rattle.member_link.specs.Machine.Ops.{Op};
 ghost use Rattle.member_link.specs.Machine.Programs.{Program};
@@ -11,10 +12,11 @@ ghost use Rattle.member_link.specs.Machine.Work.{work};
 ghost use Rattle.member_link.specs.Machine.Worlds.{Memory, World, going, is_begun};
 ghost use Rattle.machine_step.specs.Bounded.{CanGoOn};
 ghost use Rattle.machine_step.specs.Programs.{IsProgram};
+ghost use Rattle.machine_step.specs.RunOps.{IsResolved, op_of};
 ghost use Rattle.machine_run.specs.Inner.Performed.{TopHasNext};
 
 use class_tree::{Tree, a_tree_is_a_hierarchy};
-use machine_step::WorldState;
+use machine_step::{RunOp, WorldState, arity};
 use member_link::a_hierarchy_has_links;
 
 /// The classes of a tree have a program.
@@ -38,6 +40,14 @@ pub(crate) fn begun_classes_are_not_begun()
     ensures { (P : Program) (memory : Memory) (op : Op) (operands : List Value) (class : ℕ)
         → work P memory op operands ≡ begins class → is_begun memory class ≡ false }
 {}
+
+/// An operation makes arrays of at most 255 dimensions.
+pub(crate) fn an_operation_has_few_dimensions(op: &RunOp)
+    ensures { (P : Program) → IsResolved P op.now → HasFewDimensions (op_of op.now) }
+{
+    // it takes as many operands
+    let _ = arity(op);
+}
 
 /// Behind a step there is a place behind the one of each frame below the top one, if there is one behind the place of the operation.
 pub(crate) fn a_step_keeps_next_places()

@@ -5,23 +5,27 @@ ghost use Rattle.machine_values.specs.Frames.{MethodState};
 ghost use Rattle.machine_values.specs.declared.frame.RunFrame.{RunFrame as Frame};
 ghost use Rattle.machine_values.specs.declared.frame.RunFrame.TheVariants.{Method};
 ghost use Rattle.member_link.specs.Machine.Programs.{Program, point_at};
-ghost use Rattle.member_link.specs.Machine.Stepping.{is_library_turn, op_step, point_step, step, work_step};
+ghost use Rattle.member_link.specs.Machine.Stepping.{frames_step, is_library_turn, op_step, point_step, step, work_step};
 ghost use Rattle.member_link.specs.Machine.Worlds.{World as Before};
 ghost use Rattle.machine_step.specs.Bounded.{CanGoOn, IsBoundedWorld};
 ghost use Rattle.machine_step.specs.Prepared.{IsPrepared};
 ghost use Rattle.machine_step.specs.Programs.{IsProgram};
 ghost use Rattle.machine_step.specs.Room.{HasRoom};
 ghost use Rattle.machine_step.specs.RunOps.{IsResolved, op_of};
-ghost use Rattle.machine_run.specs.Inner.Performed.{CanFinish, CanFinishFrame, HasBoundedNext, IsFrameOf, IsKept, IsMethodOnTop, Stands, operated_world, world_operated};
+ghost use Rattle.machine_run.specs.Inner.Performed.{CanFinish, CanFinishFrame, HasBoundedNext, IsFrameOf, IsNextBounded, IsKept, IsMethodOnTop, Stands, operated_world, top_of, world_operated};
 ghost use Rattle.machine_run.specs.Outcomes.{Steps, ended, halt_of};
 
 use crate::beginnings::step_beginning;
-use crate::laws::{a_state_goes_on, a_tree_has_a_program, begun_classes_are_not_begun};
+use crate::laws::{
+    a_state_goes_on, a_step_keeps_next_places, a_tree_has_a_program,
+    an_operation_has_few_dimensions, begun_classes_are_not_begun,
+};
 use crate::moves::{Moved, move_frame};
 use crate::performing::perform;
 use crate::returning::return_value;
 use class_model::{MethodAt, NoMemory};
 use class_tree::Tree;
+use machine_laws::a_step_keeps_counts_within_bounds;
 use machine_step::{
     Completed, Memory, Outcome, Prepared, PreparedMethod, RunOp, World, WorldState, arity,
     operands, work,
@@ -129,14 +133,55 @@ fn step_state(
     ensures bounded { OnOk result (IsBoundedWorld w.new) }
     ensures runs { IfOk result Steps }
 {
+    a_tree_has_a_program(prepared.tree());
+    a_step_keeps_counts_within_bounds();
+    a_step_keeps_next_places();
     w.steps += 1;
-    match w.frames.frames.last() {
-        Some(RunFrame::Beginning(_)) => step_beginning(alloc, prepared, w),
-        Some(RunFrame::Method(frame)) => {
-            let at = frame.at;
-            step_method(alloc, prepared, w, at)
-        }
-        _ => Ok(Outcome::Stuck),
+    step_top(alloc, prepared, w)
+}
+
+// What is on top of the frames.
+#[derive(Clone, Copy, Debug, PartialEq, Eq)]
+pub(crate) enum Top {
+    Nothing,
+    Library,
+    Beginning,
+    Method(MethodAt),
+}
+
+// What is on top of the frames.
+fn top_of(frames: &RunFrameList) -> Top
+    ensures { result ≡ top_of frames.now }
+{
+    match frames.frames.last() {
+        Some(RunFrame::Library { .. }) => Top::Library,
+        Some(RunFrame::Beginning(_)) => Top::Beginning,
+        Some(RunFrame::Method(frame)) => Top::Method(frame.at),
+        None => Top::Nothing,
+    }
+}
+
+// One step of the top frame, which is counted already.
+fn step_top(
+    alloc: Global,
+    prepared: &mut Prepared<'_>,
+    w: &mut WorldState,
+) -> Result<Outcome, NoMemory>
+    requires room { HasRoom w.old.memory }
+    requires places { CanGoOn w.old.frames }
+    ensures same { prepared.new ≡ prepared.old }
+    ensures stepped { IfOk result (λ outcome. (P : Program) → IsProgram prepared.old P
+        → is_library_turn w.old.frames ≡ false
+        → ended (halt_of outcome) w.new ≡ frames_step P w.old w.old.frames) }
+    ensures next { OnOk result ((P : Program) → IsProgram prepared.old P
+        → IsNextBounded P w.old.frames) }
+    ensures runs { IfOk result Steps }
+{
+    match top_of(&w.frames) {
+        Top::Beginning => step_beginning(alloc, prepared, w),
+        Top::Method(at) => step_method(alloc, prepared, w, at),
+        Top::Nothing => Ok(Outcome::Stuck),
+        Top::Library => Ok(Outcome::Stuck),
     }
 }
 
@@ -162,10 +207,38 @@ fn step_method(
         → HasBoundedNext P f) }
     ensures runs { IfOk result Steps }
 {
+    match prepared.take(alloc, at)? {
+        Some(method) => step_prepared(alloc, prepared, w, at, method),
+        None => Ok(Outcome::Stuck),
+    }
+}
+
+// One step of a method whose code is prepared, and whose frame is on top.
+fn step_prepared(
+    alloc: Global,
+    prepared: &mut Prepared<'_>,
+    w: &mut WorldState,
+    at: MethodAt,
+    method: Box<PreparedMethod>,
+) -> Result<Outcome, NoMemory>
+    requires room { HasRoom w.old.memory }
+    requires places { CanGoOn w.old.frames }
+    requires top { IsFrameOf at w.old.frames }
+    requires prepared { (P : Program) → IsProgram prepared.old P → IsPrepared P at method.value }
+    ensures same { prepared.new ≡ prepared.old }
+    ensures stepped { IfOk result (λ outcome. (P : Program) (f : MethodState) (rest : List Frame)
+        → IsProgram prepared.old P
+        → w.old.frames ≡ Method f ∷ rest
+        → ended (halt_of outcome) w.new
+        ≡ point_step P w.old f rest (point_at P f.at f.place)) }
+    ensures next { OnOk result ((P : Program) (f : MethodState) (rest : List Frame)
+        → IsProgram prepared.old P
+        → w.old.frames ≡ Method f ∷ rest
+        → HasBoundedNext P f) }
+    ensures runs { IfOk result Steps }
+{
     a_tree_has_a_program(prepared.tree());
-    let Some(mut method) = prepared.take(alloc, at)? else {
-        return Ok(Outcome::Stuck);
-    };
+    let mut method = method;
     let operated = operate(
         alloc,
         prepared.tree(),
@@ -232,6 +305,10 @@ fn operate(
         → IsPrepared P f.at method.old
         → frames.old ≡ Method f ∷ rest
         → CanFinish memory.new frames.new operated) }
+    ensures next { (P : Program) (f : MethodState) (rest : List Frame)
+        → IsPrepared P f.at method.old
+        → frames.old ≡ Method f ∷ rest
+        → HasBoundedNext P f }
 {
     let top = frames.frames.len() - 1;
     match &mut frames.frames[top] {
@@ -265,11 +342,14 @@ fn operate_frame(
         → IsProgram tree.now P
         → IsPrepared P frame.old.at method.old
         → CanFinishFrame frame.old memory.new operated) }
+    ensures next { (P : Program) → IsPrepared P frame.old.at method.old
+        → HasBoundedNext P frame.old }
 {
     let place = frame.place as usize;
     if place >= method.ops.len() {
         return Ok(Operated::Stuck);
     }
+    an_operation_has_few_dimensions(&method.ops[place]);
     operate_op(alloc, tree, frame, memory, &mut method.ops[place])
 }
 

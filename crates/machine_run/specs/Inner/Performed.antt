@@ -1,9 +1,9 @@
 -- What performing a completion needs, and what an operation of the top frame comes to.
-use Rattle.std.specs.Prelude.{◌≡◌, ◌<◌, ◌≤◌, ◌-◌, ◌^◌, ℕ, false, List, ◌∷◌, length, reverse, take, drop, IfSome}
+use Rattle.std.specs.Prelude.{◌≡◌, ◌<◌, ◌≤◌, ◌-◌, ◌^◌, ℕ, false, List, [], ◌∷◌, length, reverse, take, drop, IfSome}
 use Rattle.class_model.specs.declared.class_file.MethodAt.{MethodAt}
 use Rattle.machine_values.specs.Frames.{MethodState}
 use Rattle.machine_values.specs.declared.frame.RunFrame.{RunFrame}
-use Rattle.machine_values.specs.declared.frame.RunFrame.TheVariants.{Method}
+use Rattle.machine_values.specs.declared.frame.RunFrame.TheVariants.{Library, Beginning, Method}
 use Rattle.machine_values.specs.declared.value.Value.{Value}
 use Rattle.member_link.specs.Machine.Bounds.{HasFewDimensions}
 use Rattle.member_link.specs.Machine.Performing.{perform, returned}
@@ -17,6 +17,8 @@ use Rattle.machine_step.specs.declared.completed.Completed.{Completed}
 use Rattle.machine_step.specs.declared.completed.Completed.TheVariants as completed
 use Rattle.machine_run.specs.declared.stepping.Operated.{Operated}
 use Rattle.machine_run.specs.declared.stepping.Operated.TheVariants.{Went, Stuck, Returns, Works}
+use Rattle.machine_run.specs.declared.stepping.Top.{Top}
+use Rattle.machine_run.specs.declared.stepping.Top.TheVariants as tops
 
 -- a class that begins is not begun, and a called method can enter a monitor
 abbrev pub CanPerform : Memory → Completed → Type 0
@@ -105,3 +107,14 @@ TopHasNext P frames = Unit {0}
 
 abbrev pub IsMethodOnTop : List RunFrame → Type 0
 IsMethodOnTop frames = (f : MethodState) × (rest : List RunFrame) × (frames ≡ Method f ∷ rest)
+
+abbrev pub IsNextBounded : Program → List RunFrame → Type 0
+IsNextBounded P (Method f ∷ rest) = HasBoundedNext P f
+IsNextBounded P frames = Unit {0}
+
+-- what is on top of frames
+abbrev pub top_of : List RunFrame → Top
+top_of [] = tops.Nothing
+top_of (Library made ∷ rest) = tops.Library
+top_of (Beginning class ∷ rest) = tops.Beginning
+top_of (Method f ∷ rest) = tops.Method f.at

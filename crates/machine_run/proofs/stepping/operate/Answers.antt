@@ -57,26 +57,26 @@ returns-clause-operated c =
     in
     elim c.match-index_mut.branch [
       | in-Method w ↦
-        (let frame = w.in-Method.frame in
-        let now = w.operate_frame.new.frame in
-        let made = w.operate_frame.new.memory in
-        let shown : (operated : Operated)
-            → ((P : Program) (v : World) (rest : List Frame) → IsProgram classes P → IsPrepared P frame.at method → v.memory ≡ old
-            → operated_world P v frame now rest made operated ≡ point_step P v frame rest (point_at P frame.at frame.place))
-            → IsKept frame now old made operated
-            → Operates classes method old before after new operated =
-        λ operated steps kept P v f rest program is memory frames top.
-        let same : frame ≡ f = (let both : Method frame ≡ Method f = sym w.in-Method.is ∙ is_top f rest top in cc) in
-        let behind : after ≡ Method now ∷ rest =
-        ap the_view w.frames-inside-is ∙ top_set items (Method f) (Method now) rest c.len-top.result (c.frames.view_is ∙ top) many
-        in
-        subst (λ (g : MethodState). world_operated P (record v { frames = after; memory = new }) g rest operated ≡ point_step P v g rest (point_at P g.at g.place)) same
-        (ap (λ (m : Memory). world_operated P (record v { frames = after; memory = m }) frame rest operated) w.memory-is
-        ∙ operated_is P v frame now rest old made after operated kept memory (frames ∙ ap (λ (g : MethodState). Method g ∷ rest) (sym same)) behind
-        ∙ steps P v rest program (subst (λ (g : MethodState). IsPrepared P g.at method) (sym same) is) memory)
-        in
-        subst (λ (r : Result Operated NoMemory). IfOk r (Operates classes method old before after new)) (sym w.result-is)
-        (if_ok_both w.operate_frame.result _ _ (Operates classes method old before after new) shown w.operate_frame.ensures.operated w.operate_frame.ensures.kept))
+          (let frame = w.in-Method.frame in
+          let now = w.operate_frame.new.frame in
+          let made = w.operate_frame.new.memory in
+          let shown : (operated : Operated)
+          → ((P : Program) (v : World) (rest : List Frame) → IsProgram classes P → IsPrepared P frame.at method → v.memory ≡ old
+          → operated_world P v frame now rest made operated ≡ point_step P v frame rest (point_at P frame.at frame.place))
+          → IsKept frame now old made operated
+          → Operates classes method old before after new operated =
+          λ operated steps kept P v f rest program is memory frames top.
+          let same : frame ≡ f = (let both : Method frame ≡ Method f = sym w.in-Method.is ∙ is_top f rest top in cc) in
+          let behind : after ≡ Method now ∷ rest =
+          ap the_view w.frames-inside-is ∙ top_set items (Method f) (Method now) rest c.len-top.result (c.frames.view_is ∙ top) many
+          in
+          subst (λ (g : MethodState). world_operated P (record v { frames = after; memory = new }) g rest operated ≡ point_step P v g rest (point_at P g.at g.place)) same
+          (ap (λ (m : Memory). world_operated P (record v { frames = after; memory = m }) frame rest operated) w.memory-is
+          ∙ operated_is P v frame now rest old made after operated kept memory (frames ∙ ap (λ (g : MethodState). Method g ∷ rest) (sym same)) behind
+          ∙ steps P v rest program (subst (λ (g : MethodState). IsPrepared P g.at method) (sym same) is) memory)
+          in
+          subst (λ (r : Result Operated NoMemory). IfOk r (Operates classes method old before after new)) (sym w.result-is)
+          (if_ok_both w.operate_frame.result _ _ (Operates classes method old before after new) shown w.operate_frame.ensures.operated w.operate_frame.ensures.kept))
       | in-Library w ↦ absurd (none (Library w.in-Library.made) (λ f e. cc) w.in-Library.is)
       | in-Beginning w ↦ absurd (none c.index_mut.result.now (λ f e. (let other = sym w.in-Beginning.is ∙ e in absurd cc)) refl)
     ]
@@ -99,25 +99,25 @@ returns-clause-can c =
     in
     elim c.match-index_mut.branch [
       | in-Method w ↦
-        (let frame = w.in-Method.frame in
-        let now = w.operate_frame.new.frame in
-        let made = w.operate_frame.new.memory in
-        let shown : (operated : Operated)
-            → ((P : Program) → IsProgram classes P → IsPrepared P frame.at method → CanFinishFrame frame made operated)
-            → IsKept frame now old made operated
-            → Finishes classes method before after new operated =
-        λ operated can kept P f rest program is top.
-        let same : frame ≡ f = (let both : Method frame ≡ Method f = sym w.in-Method.is ∙ is_top f rest top in cc) in
-        let behind : after ≡ Method now ∷ rest =
-        ap the_view w.frames-inside-is ∙ top_set items (Method f) (Method now) rest c.len-top.result (c.frames.view_is ∙ top) many
-        in
-        subst (λ (m : Memory). CanFinish m after operated) (sym w.memory-is)
-        (can_finish_is frame now rest old made after operated kept
-        (can P program (subst (λ (g : MethodState). IsPrepared P g.at method) (sym same) is))
-        (subst CanGoOn (top ∙ ap (λ (g : MethodState). Method g ∷ rest) (sym same)) c.requires.places) behind)
-        in
-        subst (λ (r : Result Operated NoMemory). IfOk r (Finishes classes method before after new)) (sym w.result-is)
-        (if_ok_both w.operate_frame.result _ _ (Finishes classes method before after new) shown w.operate_frame.ensures.can w.operate_frame.ensures.kept))
+          (let frame = w.in-Method.frame in
+          let now = w.operate_frame.new.frame in
+          let made = w.operate_frame.new.memory in
+          let shown : (operated : Operated)
+          → ((P : Program) → IsProgram classes P → IsPrepared P frame.at method → CanFinishFrame frame made operated)
+          → IsKept frame now old made operated
+          → Finishes classes method before after new operated =
+          λ operated can kept P f rest program is top.
+          let same : frame ≡ f = (let both : Method frame ≡ Method f = sym w.in-Method.is ∙ is_top f rest top in cc) in
+          let behind : after ≡ Method now ∷ rest =
+          ap the_view w.frames-inside-is ∙ top_set items (Method f) (Method now) rest c.len-top.result (c.frames.view_is ∙ top) many
+          in
+          subst (λ (m : Memory). CanFinish m after operated) (sym w.memory-is)
+          (can_finish_is frame now rest old made after operated kept
+          (can P program (subst (λ (g : MethodState). IsPrepared P g.at method) (sym same) is))
+          (subst CanGoOn (top ∙ ap (λ (g : MethodState). Method g ∷ rest) (sym same)) c.requires.places) behind)
+          in
+          subst (λ (r : Result Operated NoMemory). IfOk r (Finishes classes method before after new)) (sym w.result-is)
+          (if_ok_both w.operate_frame.result _ _ (Finishes classes method before after new) shown w.operate_frame.ensures.can w.operate_frame.ensures.kept))
       | in-Library w ↦ absurd (none (Library w.in-Library.made) (λ f e. cc) w.in-Library.is)
       | in-Beginning w ↦ absurd (none c.index_mut.result.now (λ f e. (let other = sym w.in-Beginning.is ∙ e in absurd cc)) refl)
     ]

@@ -4,7 +4,7 @@ use Rattle.std.proofs.lemmas.Result.{IfOk-weaker}
 use Rattle.machine_values.specs.Frames.{MethodState}
 use Rattle.member_link.specs.Machine.Stepping.{op_step, point_step}
 use Rattle.machine_step.specs.declared.run_op.RunOp.{RunOp}
-use Rattle.machine_run.proofs.PreparedPoints.{op_resolved, point_with, with_op}
+use Rattle.machine_run.proofs.PreparedPoints.{bounded_with, op_resolved, point_with, with_op}
 use Rattle.machine_run.proofs.stepping.operate_frame.Goals as goal
 
 pub returns-clause-prepared : goal.returns-clause-prepared
@@ -58,3 +58,20 @@ returns-clause-can c =
     IfOk-weaker c.operate_op.result _ _
     (λ operated can P program is. can P program (op_resolved P frame.at method is frame.place old within same))
     c.operate_op.ensures.can
+
+pub returns-clause-next : goal.returns-clause-next
+returns-clause-next c = λ P is.
+    let method = c.args.method.now in
+    let frame = c.args.frame.now in
+    let old : RunOp = c.index.result.now in
+    let at_place : c.frame.inside.place ≡ frame.place = ap (λ (g : MethodState). g.place) c.frame.view_is in
+    let many : c.len.result ≡ length method.ops.items = c.len.ensures ∙ method.ops.ok.0 in
+    let before : c.frame.inside.place < c.len.result = omega (arith, c.if-place-len.false) in
+    let inside : frame.place < c.len.result = subst (λ (n : ℕ). n < c.len.result) at_place before in
+    let within : frame.place < length method.ops.items = subst (λ (n : ℕ). frame.place < n) many inside in
+    let same : slice_get method.ops.items frame.place ≡ Some old =
+    subst (λ (n : ℕ). slice_get method.ops.items n ≡ Some old) at_place
+    (slice_get_read method.ops.items c.len.result c.frame.inside.place old many before c.index.ensures)
+    in
+    bounded_with P frame.at method is frame old refl same
+    (c.an_operation_has_few_dimensions.ensures P (op_resolved P frame.at method is frame.place old within same)) within
