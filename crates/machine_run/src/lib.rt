@@ -19,3 +19,5 @@ mod starts;
 mod stepping;
 mod throw_targets;
 mod unwinding;
+
+pub use stepping::step;
