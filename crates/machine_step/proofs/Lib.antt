@@ -1,3 +1,4 @@
+pub mod Arguments
 pub mod ArrayCounts
 pub mod ArrayTexts
 pub mod CallTargets

@@ -54,7 +54,7 @@ type_takes first rest = by (first == 91) refl
 pub kind_by_first : (first : ℕ) (rest other : List ℕ) → kind_of (type_of (first ∷ rest)) ≡ kind_of (type_of (first ∷ other))
 kind_by_first first rest other = grind arith
 
-not_true : (b : Bool) → not b ≡ true → b ≡ false
+pub not_true : (b : Bool) → not b ≡ true → b ≡ false
 not_true true e = absurd cc
 not_true false e = refl
 
@@ -62,7 +62,7 @@ not_false : (b : Bool) → not b ≡ false → b ≡ true
 not_false true e = refl
 not_false false e = absurd cc
 
-one_before :
+pub one_before :
     (left first : ℕ) (rest : List ℕ)
     → (first == 41) ≡ false
     → types_before (suc left) (first ∷ rest)
@@ -71,7 +71,7 @@ unfolding types_before
 one_before left first rest more =
     ap (λ (b : Bool). cond b [] (type_of (take (type_len (first ∷ rest)) (first ∷ rest)) ∷ types_before left (drop (type_len (first ∷ rest)) (first ∷ rest)))) more
 
-none_before : (left : ℕ) (rest : List ℕ) → begins_type rest ≡ false → types_before left rest ≡ []
+pub none_before : (left : ℕ) (rest : List ℕ) → begins_type rest ≡ false → types_before left rest ≡ []
 unfolding types_before
 none_before zero rest ends = refl
 none_before (suc left) [] ends = refl

@@ -52,7 +52,9 @@ pub use monitors::MonitorHeap;
 pub use prepared::Prepared;
 pub use prepared_method::{Locks, MethodTraits, PreparedHandler, PreparedMethod};
 pub use questions::classes::{class_name, folder_number, header_named, is_interface_named};
-pub use questions::conforming::{reference_conforms, value_conforms};
+pub use questions::conforming::{
+    arguments_conform, named_conforms, narrowing_of_text, reference_conforms, text_conforms,
+};
 pub use questions::methods::{has_code, place_of_method};
 pub use questions::shapes::is_instance;
 pub use questions::traits::method_traits;

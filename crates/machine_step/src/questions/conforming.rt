@@ -1,12 +1,18 @@
 //! Which values conform to a type (JVM Specification SE 8, 4.10.1.2).
 ghost use Rattle.std.specs.Prelude.{◌≡◌};
+ghost use Rattle.class_model.specs.Descriptors.{kind_of, parameters_of, type_of};
+ghost use Rattle.class_model.specs.declared.descriptor.FieldType.TheVariants.{Named};
+ghost use Rattle.member_link.specs.Machine.Acting.{all_conform};
 ghost use Rattle.member_link.specs.Machine.Programs.{Program};
 ghost use Rattle.member_link.specs.Machine.Shapes.{reference_conforms, value_conforms};
+ghost use Rattle.member_link.specs.Machine.Worlds.{World};
+ghost use Rattle.machine_step.specs.Inner.Narrowings.{narrowing_of};
 ghost use Rattle.machine_step.specs.Programs.{IsProgram};
 
-use crate::questions::shapes::shape_conforms;
-use crate::values::has_kind;
-use class_model::FieldType;
+use crate::questions::shapes::{shape_conforms, without_last};
+use crate::resolving::parameters::{after_first, after_type, begins_type, first_type, kind_at};
+use crate::values::{Narrowing, has_kind};
+use class_model::{Kind, Text};
 use class_tree::Tree;
 use machine_heap::Heap;
 use machine_values::{Ref, Value};
@@ -22,17 +28,75 @@ pub fn reference_conforms(tree: &Tree, heap: &Heap, at: Ref, name: &[u8]) -> boo
     }
 }
 
-/// Whether a value is of the kind of a type and, if it is a reference, conforms to it. It does not allocate.
-pub fn value_conforms(tree: &Tree, heap: &Heap, type_: &FieldType, value: Value) -> bool
+/// Whether a value is null, or a reference that conforms to a class or array type. It does not allocate.
+pub fn named_conforms(tree: &Tree, heap: &Heap, name: &[u8], value: Value) -> bool
     ensures { (P : Program) → IsProgram tree.now P
-        → result ≡ value_conforms P heap.now type_.now value }
+        → result ≡ value_conforms P heap.now (Named name.now) value }
 {
-    match type_ {
-        FieldType::Named(name) => match value {
-            Value::Null => true,
-            Value::Ref(at) => reference_conforms(tree, heap, at, name.bytes()),
-            _ => false,
-        },
-        _ => has_kind(type_.kind(), value),
+    match value {
+        Value::Null => true,
+        Value::Ref(at) => reference_conforms(tree, heap, at, name),
+        Value::Int(_) | Value::Long(_) | Value::Float(_) | Value::Double(_) => false,
+    }
+}
+
+/// Whether a value is of the kind of the type that a text spells and, if it is a reference, conforms to it. Of a text that spells no type
+/// it is by the first byte. It does not allocate.
+pub fn text_conforms(tree: &Tree, heap: &Heap, desc: &[u8], value: Value) -> bool
+    ensures { (P : Program) → IsProgram tree.now P
+        → result ≡ value_conforms P heap.now (type_of desc.now) value }
+{
+    let kind = kind_at(desc);
+    if kind == Kind::Ref {
+        named_conforms(tree, heap, named_type(desc), value)
+    } else {
+        has_kind(kind, value)
+    }
+}
+
+// The class or array type that the text of a type of references spells.
+fn named_type(desc: &[u8]) -> &[u8]
+    ensures { kind_of (type_of desc.now) ≡ Kind.Ref → type_of desc.now ≡ Named result.now }
+{
+    let Some((first, rest)) = desc.split_first() else {
+        return desc;
+    };
+    if *first == b'L' {
+        without_last(rest)
+    } else {
+        desc
+    }
+}
+
+/// Whether values are as many as the parameters of a method descriptor, and each conforms to its parameter. It does not allocate.
+pub fn arguments_conform(tree: &Tree, heap: &Heap, desc: &Text, values: &[Value]) -> bool
+    ensures { (P : Program) (w : World) → IsProgram tree.now P → w.memory.heap ≡ heap.now
+        → result ≡ all_conform P w (parameters_of desc.now) values.now }
+{
+    let mut types = after_first(desc.bytes());
+    let mut values = values;
+    while begins_type(types) {
+        let Some((value, rest)) = values.split_first() else {
+            return false;
+        };
+        if !text_conforms(tree, heap, first_type(types), *value) {
+            return false;
+        }
+        types = after_type(types);
+        values = rest;
+    }
+    values.is_empty()
+}
+
+/// What the type that a text spells keeps of an int. Of a text that spells no type it is by the first byte. It does not allocate.
+pub fn narrowing_of_text(desc: &[u8]) -> Narrowing
+    ensures { result ≡ narrowing_of (type_of desc.now) }
+{
+    match desc {
+        [b'B', ..] => Narrowing::Byte,
+        [b'C', ..] => Narrowing::Char,
+        [b'S', ..] => Narrowing::Short,
+        [b'Z', ..] => Narrowing::Boolean,
+        _ => Narrowing::Whole,
     }
 }

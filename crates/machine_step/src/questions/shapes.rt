@@ -133,8 +133,8 @@ pub(crate) fn component_named(bytes: &[u8]) -> Option<&[u8]>
     }
 }
 
-// All bytes but the last.
-fn without_last(bytes: &[u8]) -> &[u8]
+/// All bytes but the last. It does not allocate.
+pub(crate) fn without_last(bytes: &[u8]) -> &[u8]
     ensures { result.now ≡ take (length bytes.now - 1) bytes.now }
 {
     let len = bytes.len().saturating_sub(1);

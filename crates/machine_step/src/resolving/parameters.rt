@@ -1,5 +1,5 @@
 //! The kinds of a call's arguments (JVM Specification SE 8, 4.3.3).
-ghost use Rattle.std.specs.Prelude.{◌≡◌, ◌+◌, ◌==◌, not, IfOk, drop, length, map, take_while};
+ghost use Rattle.std.specs.Prelude.{◌≡◌, ◌+◌, ◌==◌, not, IfOk, drop, length, map, take, take_while};
 ghost use Rattle.class_model.specs.Characters.{semicolon};
 ghost use Rattle.class_model.specs.Descriptors.{brackets, element_len, kind_of, parameters_of, type_len, type_of};
 ghost use Rattle.machine_step.specs.Inner.ParameterWords.{begins_type};
@@ -23,8 +23,8 @@ pub(crate) fn parameter_kinds(alloc: Global, desc: &Text) -> Result<Vec<Kind>, N
     Ok(kinds)
 }
 
-// Whether a parameter is at the front, before a closing parenthesis.
-fn begins_type(bytes: &[u8]) -> bool
+/// Whether a parameter is at the front, before a closing parenthesis.
+pub(crate) fn begins_type(bytes: &[u8]) -> bool
     ensures { result ≡ begins_type bytes.now }
 {
     match bytes {
@@ -33,8 +33,8 @@ fn begins_type(bytes: &[u8]) -> bool
     }
 }
 
-// The kind of the field type at the front.
-fn kind_at(bytes: &[u8]) -> Kind
+/// The kind of the field type at the front.
+pub(crate) fn kind_at(bytes: &[u8]) -> Kind
     ensures { result ≡ kind_of (type_of bytes.now) }
 {
     match bytes {
@@ -46,8 +46,16 @@ fn kind_at(bytes: &[u8]) -> Kind
     }
 }
 
-// The bytes after the field type at the front.
-fn after_type(bytes: &[u8]) -> &[u8]
+/// The field type at the front.
+pub(crate) fn first_type(bytes: &[u8]) -> &[u8]
+    ensures { result.now ≡ take (type_len bytes.now) bytes.now }
+{
+    let left = after_type(bytes).len();
+    &bytes[..bytes.len() - left]
+}
+
+/// The bytes after the field type at the front.
+pub(crate) fn after_type(bytes: &[u8]) -> &[u8]
     ensures { result.now ≡ drop (type_len bytes.now) bytes.now }
 {
     after_element(after_brackets(bytes))
@@ -84,8 +92,8 @@ fn after_name(bytes: &[u8]) -> &[u8]
     after_first(&bytes[len..])
 }
 
-// The bytes after the first.
-fn after_first(bytes: &[u8]) -> &[u8]
+/// The bytes after the first.
+pub(crate) fn after_first(bytes: &[u8]) -> &[u8]
     ensures { result.now ≡ drop 1 bytes.now }
 {
     match bytes {
