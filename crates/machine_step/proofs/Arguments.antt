@@ -36,8 +36,8 @@ module _ (classes : Classes) (heap : Heap) (desc : List ℕ) (values : List Valu
       → (left : ℕ)
       × (length (drop (type_len rest) rest) ≤ left)
       × ((P : Program) (w : World) → IsProgram classes P → w.memory.heap ≡ heap
-        → all_conform P w (parameters_of desc) values
-        ≡ all_conform P w (type_of (take (type_len rest) rest) ∷ types_before left (drop (type_len rest) rest)) others)
+      → all_conform P w (parameters_of desc) values
+      ≡ all_conform P w (type_of (take (type_len rest) rest) ∷ types_before left (drop (type_len rest) rest)) others)
   next [] others begins at = absurd cc
   next (first ∷ rest) others begins at = by at.left at.enough at.same
     where
@@ -45,12 +45,12 @@ module _ (classes : Classes) (heap : Heap) (desc : List ℕ) (values : List Valu
           (left : ℕ)
           → length (first ∷ rest) ≤ left
           → ((P : Program) (w : World) → IsProgram classes P → w.memory.heap ≡ heap
-            → all_conform P w (parameters_of desc) values ≡ all_conform P w (types_before left (first ∷ rest)) others)
+          → all_conform P w (parameters_of desc) values ≡ all_conform P w (types_before left (first ∷ rest)) others)
           → (more : ℕ)
           × (length (drop (type_len (first ∷ rest)) (first ∷ rest)) ≤ more)
           × ((P : Program) (w : World) → IsProgram classes P → w.memory.heap ≡ heap
-            → all_conform P w (parameters_of desc) values
-            ≡ all_conform P w (type_of (take (type_len (first ∷ rest)) (first ∷ rest)) ∷ types_before more (drop (type_len (first ∷ rest)) (first ∷ rest))) others)
+          → all_conform P w (parameters_of desc) values
+          ≡ all_conform P w (type_of (take (type_len (first ∷ rest)) (first ∷ rest)) ∷ types_before more (drop (type_len (first ∷ rest)) (first ∷ rest))) others)
       by zero enough same = absurd (omega arith)
       by (suc left) enough same = (
         left,
