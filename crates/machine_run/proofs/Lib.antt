@@ -3,8 +3,11 @@ pub mod BegunStarts
 pub mod BegunSteps
 pub mod CalledMethods
 pub mod ComesFirst
+pub mod Going
 pub mod Handlers
+pub mod Interfaces
 pub mod Landings
+pub mod NamedHeaders
 pub mod NextPlaces
 pub mod Places
 pub mod ProgramClasses
@@ -14,5 +17,7 @@ pub mod StackUnseen
 pub mod Throws
 pub mod TopFrames
 pub mod Tops
+pub mod Waiting
 pub mod WorkOps
 pub mod WorkSteps
+pub mod Written

@@ -2,6 +2,7 @@
 //! step, one action of the library, and a run of a list of actions, as member_link defines them.
 #![tactic(auto)]
 
+mod acting;
 mod beginnings;
 mod calls;
 mod coming_first;
