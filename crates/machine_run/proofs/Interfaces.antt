@@ -1,5 +1,5 @@
 -- Lists of names that are all those of interfaces.
-use Rattle.std.proofs.Common.{◌≡◌, ◌||◌, not, ℕ, Bool, true, false, List, ◌∷◌, ap, ◌∙◌}
+use Rattle.std.proofs.Common.{◌≡◌, ◌||◌, not, Bool, List, ◌∷◌, ap, ◌∙◌}
 use Rattle.std.specs.List.{list_any}
 use Rattle.class_tree.specs.Headers.{Name}
 use Rattle.member_link.specs.Machine.Programs.{Program, is_interface_named}

@@ -1,5 +1,5 @@
 -- What waits below the library's frame, and what its answers come to.
-use Rattle.std.proofs.Common.{◌≡◌, ◌<◌, ◌&&◌, ℕ, Bool, true, false, List, [], ◌∷◌, Option, Some, None, option_map, option_and_then, is_some, IfSome, slice_get, if◌then◌else◌, refl, sym, ap, ◌∙◌}
+use Rattle.std.proofs.Common.{◌≡◌, ◌&&◌, ℕ, Bool, true, false, List, [], ◌∷◌, Option, Some, None, option_map, option_and_then, is_some, IfSome, slice_get, if◌then◌else◌, refl, sym, ap, ◌∙◌}
 use Rattle.std.proofs.lemmas.List.Elements.{All-head}
 use Rattle.std.proofs.lemmas.Option.{slice_get-map}
 use Rattle.class_model.specs.declared.class_file.MethodAt.{MethodAt}
@@ -13,7 +13,7 @@ use Rattle.machine_values.specs.declared.value.Value.{Value}
 use Rattle.member_link.specs.Machine.Acting.{Pending, Waiting, act_return, act_throw, answer_with, answer_without, answered as answered_as, fault, given_value, is_throwable, pending_of, waiting_in}
 use Rattle.member_link.specs.Machine.Ops.{Op}
 use Rattle.member_link.specs.Machine.Performing.{thrown}
-use Rattle.member_link.specs.Machine.Programs.{Code, Point, Program, code_at, code_run, point_at}
+use Rattle.member_link.specs.Machine.Programs.{Code, Point, Program, code_at, code_run}
 use Rattle.member_link.specs.Machine.Shapes.{value_conforms}
 use Rattle.member_link.specs.Machine.Worlds.{World}
 use Rattle.machine_step.specs.Bounded.{CanGoOn, HasNextPlace}
@@ -22,7 +22,7 @@ use Rattle.machine_step.specs.RunOps.{op_of}
 use Rattle.machine_step.specs.declared.prepared_method.PreparedMethod.{PreparedMethod}
 use Rattle.machine_step.specs.declared.run_op.RunOp.{RunOp}
 use Rattle.machine_run.specs.declared.acting.answers.Answer.{Answer}
-use Rattle.machine_run.specs.Inner.ActingWords.{HasWaiting, awaited_type, method_of, waiting_frame, answer_for, answered, awaited_at, awaited_below, may_throw, nothing_for, thrown_below, value_for, with_answer}
+use Rattle.machine_run.specs.Inner.ActingWords.{HasWaiting, awaited_type, waiting_frame, answer_for, answered, awaited_at, awaited_below, may_throw, nothing_for, thrown_below, value_for, with_answer}
 
 -- ---- operations of prepared code
 

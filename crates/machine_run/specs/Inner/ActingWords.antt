@@ -1,5 +1,5 @@
 -- Words of the library's answers and of the objects that it makes.
-use Rattle.std.specs.Prelude.{◌≡◌, ◌&&◌, ◌<◌, ◌-◌, ◌^◌, not, ℕ, Bool, false, List, ◌∷◌, drop, Option, Some, None, is_some, option_map, option_and_then}
+use Rattle.std.specs.Prelude.{◌≡◌, ◌&&◌, ◌<◌, ◌-◌, ◌^◌, not, ℕ, Bool, false, List, ◌∷◌, drop, Option, Some, None, is_some, option_and_then}
 use Rattle.std.specs.List.{list_any}
 use Rattle.class_model.specs.declared.class_file.MethodAt.{MethodAt}
 use Rattle.class_model.specs.declared.descriptor.FieldType.{FieldType}

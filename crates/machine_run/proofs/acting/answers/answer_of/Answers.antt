@@ -1,4 +1,4 @@
-use Rattle.std.proofs.Common.{◌≡◌, true, Option, Some, is_some, sym, ap, ◌∙◌, rules}
+use Rattle.std.proofs.Common.{◌≡◌, true, Option, sym, ap, ◌∙◌, rules}
 use Rattle.class_model.specs.declared.descriptor.FieldType.{FieldType}
 use Rattle.member_link.specs.Machine.Acting.{given_value, pending_of}
 use Rattle.machine_step.specs.RunOps.{op_of}

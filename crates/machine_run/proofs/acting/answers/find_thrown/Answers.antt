@@ -1,7 +1,5 @@
-use Rattle.std.proofs.Common.{◌≡◌, ◌&&◌, ℕ, Bool, true, Option, Some, None, slice_get, if◌then◌else◌, sym, ap, subst, ◌∙◌, rules}
+use Rattle.std.proofs.Common.{◌≡◌, ◌&&◌, Bool, true, Some, None, slice_get, if◌then◌else◌, sym, ap, subst, ◌∙◌, rules}
 use Rattle.class_tree.specs.Headers.{Classes}
-use Rattle.machine_values.specs.Heaps.{Heap}
-use Rattle.machine_values.specs.declared.frame.RunFrame.{RunFrame}
 use Rattle.member_link.specs.Machine.Acting.{act_throw, is_throwable, waiting_in}
 use Rattle.member_link.specs.Machine.Worlds.{World}
 use Rattle.machine_step.specs.Programs.{IsProgram}

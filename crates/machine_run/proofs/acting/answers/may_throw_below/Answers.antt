@@ -1,11 +1,10 @@
-use Rattle.std.proofs.Common.{◌≡◌, ℕ, Option, Some, None, option_and_then, sym, ap, subst, ◌∙◌}
+use Rattle.std.proofs.Common.{◌≡◌, Option, None, option_and_then, sym, ap, subst, ◌∙◌}
 use Rattle.class_model.specs.declared.class_file.MethodAt.{MethodAt}
 use Rattle.class_tree.specs.Headers.{Classes}
 use Rattle.machine_values.specs.Frames.{MethodState}
 use Rattle.member_link.specs.Machine.Programs.{code_at}
 use Rattle.machine_step.specs.Prepared.{IsPrepared, IsPreparedIf}
 use Rattle.machine_step.specs.Programs.{IsProgram}
-use Rattle.machine_step.specs.declared.prepared_method.PreparedMethod.{PreparedMethod}
 use Rattle.machine_run.specs.Inner.ActingWords.{awaited_at, may_throw}
 use Rattle.machine_run.proofs.Waiting.{none_awaited}
 use Rattle.machine_run.proofs.acting.answers.may_throw_below.Goals as goal

@@ -1,4 +1,4 @@
-use Rattle.std.proofs.Common.{arith, ◌≡◌, ◌==◌, ◌&&◌, ◌||◌, ◌-◌, ◌∷◌, suc, ℕ, Bool, true, false, List, sym, ap, ◌∙◌, rules}
+use Rattle.std.proofs.Common.{arith, ◌≡◌, ◌==◌, ◌&&◌, ◌||◌, ◌-◌, ◌∷◌, suc, ℕ, Bool, true, false, sym, ap, ◌∙◌, rules}
 use Rattle.member_link.specs.Machine.Acting.{is_array_within, is_element}
 use Rattle.machine_run.proofs.acting.array_texts.is_array_within.Goals as goal
 

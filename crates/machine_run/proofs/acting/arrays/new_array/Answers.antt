@@ -1,4 +1,4 @@
-use Rattle.std.proofs.Common.{◌≡◌, ℕ, ℤ, w32, sym, ap, ◌∙◌}
+use Rattle.std.proofs.Common.{ℕ, w32, sym, ap, ◌∙◌}
 use Rattle.std.proofs.Math.Facts.{to_z-of_z}
 use Rattle.member_link.specs.Machine.Acting.{act_new_array, shows_new}
 use Rattle.member_link.specs.Machine.ArraySteps.{blank_array}

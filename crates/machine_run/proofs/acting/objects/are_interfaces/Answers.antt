@@ -1,4 +1,4 @@
-use Rattle.std.proofs.Common.{arith, ◌≡◌, ◌∷◌, not, true, false, List, [], ℕ, sym, ap, ◌∙◌, rules}
+use Rattle.std.proofs.Common.{arith, ◌≡◌, ◌∷◌, not, true, false, [], sym, ap, ◌∙◌, rules}
 use Rattle.std.proofs.lemmas.Grind.{common_steps}
 use Rattle.member_link.specs.Machine.Programs.{is_interface_named}
 use Rattle.machine_run.proofs.Interfaces.{by_first, has_other}

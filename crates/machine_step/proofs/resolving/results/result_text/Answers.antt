@@ -1,4 +1,4 @@
-use Rattle.std.proofs.Common.{◌≡◌, ◌∷◌, [], ℕ, Bool, true, false, List, drop, take, length, bytes_eq, codes, sym, ap, subst, ◌∙◌, rules}
+use Rattle.std.proofs.Common.{◌≡◌, ℕ, true, false, List, drop, take, length, bytes_eq, codes, sym, ap, subst, ◌∙◌, rules}
 use Rattle.class_model.specs.Descriptors.{field_type_text, type_len, type_of}
 use Rattle.machine_step.proofs.ResultLens.{Passed, all_passed, none_passed, one_passed, read}
 use Rattle.machine_step.proofs.resolving.results.result_text.Goals as goal
