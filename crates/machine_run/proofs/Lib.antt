@@ -6,7 +6,9 @@ pub mod CalledMethods
 pub mod CallsOn
 pub mod ComesFirst
 pub mod GivenValues
+pub mod Going
 pub mod Handlers
+pub mod Interfaces
 pub mod Landings
 pub mod Makers
 pub mod NamedHeaders
@@ -22,5 +24,7 @@ pub mod StepParts
 pub mod Throws
 pub mod TopFrames
 pub mod Tops
+pub mod Waiting
 pub mod WorkOps
 pub mod WorkSteps
+pub mod Written

@@ -65,8 +65,8 @@ fn top_traits(tree: &Tree, frames: &RunFrameList) -> Option<MethodTraits>
     }
 }
 
-// The frame below the top one.
-fn frame_below(frames: &RunFrameList) -> Option<&RunFrame>
+/// The frame below the top one. It does not allocate.
+pub(crate) fn frame_below(frames: &RunFrameList) -> Option<&RunFrame>
     ensures { option_copied result ≡ slice_get frames.now 1 }
 {
     let len = frames.frames.len();

@@ -23,6 +23,7 @@ pub mod PreparedCodes
 pub mod ProgramHeaders
 pub mod ProgramMembers
 pub mod ReceiverCalls
+pub mod ResultLens
 pub mod ResultTexts
 pub mod Results
 pub mod RunCodes

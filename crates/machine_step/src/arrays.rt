@@ -1,12 +1,12 @@
 //! Arrays (JVM Specification SE 8, 6.5: newarray, anewarray, the loads of elements).
-ghost use Rattle.std.specs.Prelude.{◌≡◌, ◌-◌, List, [], ◌∷◌, pos, Some, is_some, IfOk, replicate};
+ghost use Rattle.std.specs.Prelude.{◌≡◌, ◌-◌, ◌<◌, ◌^◌, List, [], ◌∷◌, pos, Some, is_some, IfOk, OnOk, replicate};
 ghost use Rattle.class_model.specs.declared.opcodes.TheConstants.{IALOAD as iaload};
 ghost use Rattle.machine_values.specs.Heaps.{object_at};
 ghost use Rattle.machine_values.specs.Values.{blank_value, component_text};
 ghost use Rattle.machine_values.specs.declared.value.Value.{Value as Operand};
-ghost use Rattle.member_link.specs.Machine.ArraySteps.{element_of, index_in, load_element_work, new_array_work, takes_array};
+ghost use Rattle.member_link.specs.Machine.ArraySteps.{blank_array, element_of, index_in, load_element_work, new_array_work, takes_array};
 ghost use Rattle.member_link.specs.Machine.Shapes.{component_named};
-ghost use Rattle.member_link.specs.Machine.Worlds.{Memory as State};
+ghost use Rattle.member_link.specs.Machine.Worlds.{Memory as State, with_heap};
 ghost use Rattle.machine_step.specs.Completing.{Completes};
 ghost use Rattle.machine_step.specs.Room.{HasRoom};
 
@@ -71,6 +71,32 @@ fn array_of(
     };
     let at = memory.allocate_counted(shape, values)?;
     Ok(Completed::Gives(Some(Value::Ref(at))))
+}
+
+/// Makes an array of a descriptor, of so many elements that are zero or null, and gives its reference. It is not counted, and its length
+/// is that of an int.
+///
+/// # Errors
+///
+/// `NoMemory` where memory runs out.
+pub fn blank_array(
+    alloc: Global,
+    memory: &mut Memory,
+    desc: &Text,
+    count: u32,
+) -> Result<Ref, NoMemory>
+    requires { count < 2 ^ 31 }
+    ensures memory { OnOk result
+        (memory.new ≡ with_heap memory.old (blank_array memory.old.heap desc.now count).heap) }
+    ensures reference { IfOk result
+        (λ at. at ≡ (blank_array memory.old.heap desc.now count).reference) }
+{
+    let values = blank_elements(alloc, desc, count)?;
+    let shape = Shape::Array {
+        desc: desc.copy()?,
+        len: count,
+    };
+    memory.allocate(shape, values)
 }
 
 /// What the elements of a new array hold, by its descriptor and length.
@@ -146,7 +172,7 @@ fn element(object: &Object, number: u8, index: i32) -> Completed
 }
 
 /// An index that an array of a length has. It does not allocate.
-pub(crate) fn index_in(index: i32, len: u32) -> Option<u32>
+pub fn index_in(index: i32, len: u32) -> Option<u32>
     ensures { result ≡ index_in index len }
 {
     match u32::try_from(index) {

@@ -39,6 +39,7 @@ mod world;
 
 pub use arithmetic::{Divided, divide, pure, pure_operands};
 pub use array_heap::ArrayHeap;
+pub use arrays::{MOST_ELEMENTS, blank_array, index_in};
 pub use begun::ClassNumberList;
 pub use completed::{Asked, Completed};
 pub use floats::{float_fits, float_operands};
@@ -49,6 +50,7 @@ pub use known::KnownRefs;
 pub use locals::{increment, local_value, store};
 pub use memory::Memory;
 pub use monitors::MonitorHeap;
+pub use numbering::copy_texts;
 pub use prepared::Prepared;
 pub use prepared_method::{Locks, MethodTraits, PreparedHandler, PreparedMethod};
 pub use questions::classes::{class_name, folder_number, header_named, is_interface_named};
@@ -56,10 +58,11 @@ pub use questions::conforming::{
     arguments_conform, named_conforms, narrowing_of_text, reference_conforms, text_conforms,
 };
 pub use questions::methods::{has_code, place_of_method};
-pub use questions::shapes::is_instance;
+pub use questions::shapes::{component_text, is_instance, without_last};
 pub use questions::traits::method_traits;
 pub use reference::Reference;
 pub use resolving::objects::resolve_new;
+pub use resolving::results::result_text;
 pub use run_op::{
     CallOp, CallTarget, Callee, CastOp, DynamicOp, FieldHome, FieldOp, FieldTarget, LookupOp,
     NewOp, RunOp, SeenAnswer, SeenCallee, SeenSlot, TableOp, Throwable,

@@ -29,8 +29,12 @@ fn class_of_shape(alloc: Global, tree: &Tree, shape: &Shape) -> Result<Text, NoM
     }
 }
 
-// Equal texts, which share their bytes.
-fn copy_texts(alloc: Global, texts: &[Text]) -> Result<TextList, NoMemory>
+/// Equal texts, which share their bytes.
+///
+/// # Errors
+///
+/// `NoMemory` where memory runs out.
+pub fn copy_texts(alloc: Global, texts: &[Text]) -> Result<TextList, NoMemory>
     ensures { IfOk result (λ copies. copies ≡ texts.now) }
 {
     let mut copies = TextList::new(alloc);

@@ -54,8 +54,8 @@ pub fn text_conforms(tree: &Tree, heap: &Heap, desc: &[u8], value: Value) -> boo
     }
 }
 
-// The class or array type that the text of a type of references spells.
-fn named_type(desc: &[u8]) -> &[u8]
+/// The class or array type that the text of a type of references spells. It does not allocate.
+pub(crate) fn named_type(desc: &[u8]) -> &[u8]
     ensures { kind_of (type_of desc.now) ≡ Kind.Ref → type_of desc.now ≡ Named result.now }
 {
     let Some((first, rest)) = desc.split_first() else {

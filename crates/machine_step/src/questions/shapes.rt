@@ -134,7 +134,7 @@ pub(crate) fn component_named(bytes: &[u8]) -> Option<&[u8]>
 }
 
 /// All bytes but the last. It does not allocate.
-pub(crate) fn without_last(bytes: &[u8]) -> &[u8]
+pub fn without_last(bytes: &[u8]) -> &[u8]
     ensures { result.now ≡ take (length bytes.now - 1) bytes.now }
 {
     let len = bytes.len().saturating_sub(1);
@@ -152,7 +152,7 @@ fn behind_bracket(bytes: &[u8]) -> Option<&[u8]>
 }
 
 /// What the elements of an array type are. It does not allocate.
-pub(crate) fn component_text(bytes: &[u8]) -> &[u8]
+pub fn component_text(bytes: &[u8]) -> &[u8]
     ensures { result.now ≡ component_text bytes.now }
 {
     let Some((first, rest)) = bytes.split_first() else {
