@@ -1,3 +1,4 @@
+pub mod ActedWorlds
 pub mod BegunClasses
 pub mod BegunIf
 pub mod BegunStarts

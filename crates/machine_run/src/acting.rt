@@ -1,7 +1,7 @@
 //! What the library does at its turn (this project's profile). An action that it may not take is a fault, which leaves all else as
 //! it was; each other one is a step.
 ghost use Rattle.std.specs.Prelude.{◌≡◌, ◌<◌, ◌-◌, ◌^◌, true, false, IfOk, OnOk, OnErr};
-ghost use Rattle.member_link.specs.Machine.Acting.{act, acted};
+ghost use Rattle.member_link.specs.Machine.Acting.{act, acted, is_fault};
 ghost use Rattle.member_link.specs.Machine.Programs.{Program};
 ghost use Rattle.member_link.specs.Machine.Stepping.{is_library_turn};
 ghost use Rattle.machine_step.specs.Bounded.{CanGoOn, IsBoundedWorld};
@@ -109,16 +109,20 @@ fn act_on(
     an_action_keeps_next_places();
     let steps = w.steps;
     w.steps = steps + 1;
-    match take_action(alloc, prepared, w, action)? {
-        Acted::Fault => {
-            w.steps = steps;
-            Ok(Acted::Fault)
-        }
-        Acted::Done => Ok(Acted::Done),
-        Acted::Stopped => Ok(Acted::Stopped),
-        Acted::InitThrew => Ok(Acted::InitThrew),
-        Acted::Stuck => Ok(Acted::Stuck),
+    let acted = take_action(alloc, prepared, w, action)?;
+    if is_fault(acted) {
+        w.steps = steps;
+        Ok(acted)
+    } else {
+        Ok(acted)
     }
+}
+
+// Whether the library may not take an action.
+fn is_fault(acted: Acted) -> bool
+    ensures { result ≡ is_fault (halt_behind acted) }
+{
+    matches!(acted, Acted::Fault)
 }
 
 // Takes an action by its kind.
