@@ -136,8 +136,8 @@ fn take_action(
     requires places { CanGoOn w.old.frames }
     requires turn { is_library_turn w.old.frames ≡ true }
     ensures same { prepared.new ≡ prepared.old }
-    ensures acted { IfOk result (λ acted. (P : Program) → IsProgram prepared.old P
-        → ended (halt_behind acted) w.new ≡ acted P action.now w.old) }
+    ensures acted { IfOk result (λ done. (P : Program) → IsProgram prepared.old P
+        → ended (halt_behind done) w.new ≡ acted P action.now w.old) }
     ensures fault { IfOk result (λ acted. acted ≡ Acted.Fault → w.new ≡ w.old) }
 {
     a_state_goes_on(w);

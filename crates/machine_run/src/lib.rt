@@ -20,4 +20,5 @@ mod stepping;
 mod throw_targets;
 mod unwinding;
 
+pub use acting::act;
 pub use stepping::step;
