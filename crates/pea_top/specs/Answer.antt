@@ -1,5 +1,5 @@
 -- What words and files answer.
-use Rattle.std.specs.Prelude.{◌≡◌, List, Some, IsTrue}
+use Rattle.std.specs.Prelude.{◌≡◌, ℕ, List, [], Some, None, IsTrue}
 use Rattle.class_model.specs.Checks.{Fault, fault}
 use Rattle.class_model.specs.ClassOf.{ClassOf, FirstFault, IsOtherVersion}
 use Rattle.class_model.specs.Cutting as cutting
@@ -9,14 +9,16 @@ use Rattle.class_model.specs.declared.header.Header.{Header}
 use Rattle.class_tree.specs.Problems.{Problem}
 use Rattle.host_tree.specs.Host.{Bytes, Folder, Files}
 use Rattle.host_tree.specs.declared.call.HostCall.TheVariants as calls
+use Rattle.machine_values.specs.declared.action.Action.{Action}
+use Rattle.script_text.specs.Scripts.{IsFirstOutside, IsScript, lines_of}
 use Rattle.verify_folder.specs.Verifying.{Failure}
-use Rattle.pea_top.specs.Words.{Word, Command, input_of, library_of, Spells, IsUsage}
+use Rattle.pea_top.specs.Words.{Word, Command, Run, input_of, library_of, Spells, IsUsage}
 use Rattle.pea_top.specs.Folders.{IsBytesBefore, names_class_file, HasClassFiles}
 use Rattle.pea_top.specs.Linking.{IsLinkProblem}
 use Rattle.pea_top.specs.Status.{Ending, completed, refused, failed, out_of_memory, ending}
 use Rattle.pea_top.specs.Verifying.{AreVerified, IsTypeFailure}
 use Rattle.pea_top.specs.declared.status.Status.{Status}
-use Rattle.pea_top.specs.declared.status.Status.TheVariants.{Done, Usage, Malformed, Version, Unlinked, Unverified, HostFault, NoMemory}
+use Rattle.pea_top.specs.declared.status.Status.TheVariants.{Done, Usage, Malformed, Version, Unlinked, Unverified, BadScript, Absent, HostFault, NoMemory}
 
 -- ---- refused files
 
@@ -74,16 +76,31 @@ pub record AreRead (input library : Folder) (classes : List ClassFile) (headers 
   pub classes_read : HasClassFiles ClassOf input classes
   pub headers_read : HasClassFiles HeaderOf library headers
 
+-- ---- scripts
+
+-- the file of this name, under the root without a name, is a script of these actions
+pub record IsScriptThere (files : Files) (name : Bytes) (actions : List Action) : Type 0 where
+  pub bytes : Bytes
+  pub there : files [] name ≡ Some bytes
+  pub is_script : IsScript bytes actions
+
+-- the script of a run is there; other commands have none
+abbrev pub HasScript : Command → Files → Type 0
+HasScript (Run input script library steps) files =
+    (actions : List Action) × IsScriptThere files script actions
+HasScript command files = Unit {0}
+
 -- ---- the answer
 
--- The words spell a command that can be done: no file of its input or library is refused, and the class files of the
--- input are linked with those of the library and verified.
+-- The words spell a command that can be done: no file of its input or library is refused, the script of a run is one, and the
+-- class files of the input are linked with those of the library and verified.
 pub record CanDo (words : List Word) (files : Files) : Type 0 where
   pub command : Command
   pub spelled : Spells command words
   pub classes : List ClassFile
   pub headers : List Header
   pub read : AreRead (files (input_of command)) (files (library_of command)) classes headers
+  pub script : HasScript command files
   pub verified : AreVerified classes headers
 
 -- the words spell a command whose first refused file has this name, and is refused for this
@@ -93,22 +110,49 @@ pub record MustRefuse (words : List Word) (files : Files) (name : Bytes) (why : 
   pub spelled : Spells command words
   pub first : IsFirstOf (files (input_of command)) (files (library_of command)) name why
 
--- the words spell a command whose files are read, and this is the first problem of linking them
+-- the words spell a run whose files are read, and whose script is not there
+pub record LacksScript (words : List Word) (files : Files) (name : Bytes) : Type 0 where
+  pub input : Word
+  pub library : Word
+  pub steps : ℕ
+  pub spelled : Spells (Run input name library steps) words
+  pub classes : List ClassFile
+  pub headers : List Header
+  pub read : AreRead (files input) (files library) classes headers
+  pub absent : files [] name ≡ None
+
+-- the words spell a run whose files are read, and this is the first line of its script outside the grammar
+pub record HasBadScript (words : List Word) (files : Files) (line : ℕ) : Type 0 where
+  pub input : Word
+  pub script : Word
+  pub library : Word
+  pub steps : ℕ
+  pub spelled : Spells (Run input script library steps) words
+  pub classes : List ClassFile
+  pub headers : List Header
+  pub read : AreRead (files input) (files library) classes headers
+  pub bytes : Bytes
+  pub there : files [] script ≡ Some bytes
+  pub outside : IsFirstOutside (lines_of bytes) line
+
+-- The words spell a command whose files are read, its script too, and this is the first problem of linking them.
 pub record CannotLink (words : List Word) (files : Files) (problem : Problem) : Type 0 where
   pub command : Command
   pub spelled : Spells command words
   pub classes : List ClassFile
   pub headers : List Header
   pub read : AreRead (files (input_of command)) (files (library_of command)) classes headers
+  pub script : HasScript command files
   pub first : IsLinkProblem classes headers problem
 
--- the words spell a command whose files are read and linked, and this is where the input fails first
+-- The words spell a command whose files are read, its script too, and linked, and this is where the input fails first.
 pub record CannotVerify (words : List Word) (files : Files) (failure : Failure) : Type 0 where
   pub command : Command
   pub spelled : Spells command words
   pub classes : List ClassFile
   pub headers : List Header
   pub read : AreRead (files (input_of command)) (files (library_of command)) classes headers
+  pub script : HasScript command files
   pub first : IsTypeFailure classes headers failure
 
 -- The answer that words and files determine. A fault of the host and want of memory are no such answer.
@@ -123,6 +167,8 @@ IsAnswer words files (Unlinked class member rule) =
 IsAnswer words files (Unverified class method offset rule) =
     CannotVerify words files
     (record { class = class; method = method; offset = offset; rule = rule })
+IsAnswer words files (BadScript line) = HasBadScript words files line
+IsAnswer words files (Absent name) = LacksScript words files name
 IsAnswer words files (HostFault call) = ⊥
 IsAnswer words files NoMemory = ⊥
 

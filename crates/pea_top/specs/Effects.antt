@@ -1,14 +1,23 @@
 -- What a call leaves of the files, and what it prints.
 use Rattle.std.specs.Prelude.{◌≡◌, ◌≢◌, ℕ, ◌⊎◌, List, ◌++◌, length, sum_by, Some, None, IsSome}
 use Rattle.class_model.specs.ClassOf.{ClassOf}
+use Rattle.class_model.specs.Header.{HeaderOf}
 use Rattle.class_model.specs.declared.class_file.ClassFile.{ClassFile}
+use Rattle.class_model.specs.declared.header.Header.{Header}
+use Rattle.class_tree.specs.Headers.{Classes}
+use Rattle.class_tree.specs.Trees.{IsArranged}
 use Rattle.host_tree.specs.Host.{Bytes, Files, SameFiles, IsPrefixPrinted}
 use Rattle.host_tree.specs.declared.call.HostCall.TheVariants as calls
-use Rattle.pea_top.specs.Words.{Word, Command, Optimise, Verify, input_of, Spells}
-use Rattle.pea_top.specs.Folders.{IsBytesBefore, AreNames, AreReadAs}
+use Rattle.machine_step.specs.Programs.{IsProgram}
+use Rattle.machine_values.specs.declared.action.Action.{Action}
+use Rattle.member_link.specs.Machine.Programs.{Program}
+use Rattle.member_link.specs.Machine.Runs.{shown_after}
+use Rattle.script_text.specs.Events.{events_text}
+use Rattle.pea_top.specs.Words.{Word, Command, Optimise, Verify, Run, input_of, Spells}
+use Rattle.pea_top.specs.Folders.{IsBytesBefore, AreNames, AreReadAs, HasClassFiles}
 use Rattle.pea_top.specs.Lines.{summary_line, verified_line}
 use Rattle.pea_top.specs.Status.{Ending, completed, refused, failed, out_of_memory, line_of, refusal_line}
-use Rattle.pea_top.specs.Answer.{CanDo, IsAnswer}
+use Rattle.pea_top.specs.Answer.{CanDo, IsAnswer, IsScriptThere}
 use Rattle.pea_top.specs.declared.status.Status.{Status}
 
 -- The output has its old files with the files of the input put in, and every other root is as before.
@@ -36,11 +45,13 @@ pub record IsPartlyCopied (input output : Bytes) (old new : Files) : Type 0 wher
 abbrev pub DoneFiles : Command → Files → Files → Type 0
 DoneFiles (Optimise input output library) old new = IsCopied input output old new
 DoneFiles (Verify input library) old new = SameFiles old new
+DoneFiles (Run input script library steps) old new = SameFiles old new
 
--- the files after a command of which a write failed; verifying writes nothing
+-- the files after a command of which a write failed; verifying and running write nothing
 abbrev pub PartFiles : Command → Files → Files → Type 0
 PartFiles (Optimise input output library) old new = IsPartlyCopied input output old new
 PartFiles (Verify input library) old new = ⊥
+PartFiles (Run input script library steps) old new = ⊥
 
 -- for the command that the words spell
 pub record LeavesDone (words : List Word) (old new : Files) : Type 0 where
@@ -57,12 +68,30 @@ pub record LeavesPart (words : List Word) (old new : Files) : Type 0 where
 abbrev pub method_count : List ClassFile → ℕ
 method_count classes = sum_by (λ class. length class.methods) classes
 
--- the line of a command that was done, over so many files, class files and methods of its input
-abbrev pub done_line : Command → ℕ → ℕ → ℕ → Bytes
-done_line (Optimise input output library) files classes methods = summary_line files classes methods
-done_line (Verify input library) files classes methods = verified_line classes methods
+-- the text of what these class files show, with the headers of the library and by the script, in at most so many steps
+pub record IsRunText (files : Files) (script library : Word) (steps : ℕ) (classes : List ClassFile)
+    (text : Bytes)
+    : Type 0 where
+  pub headers : List Header
+  pub headers_read : HasClassFiles HeaderOf (files library) headers
+  pub actions : List Action
+  pub is_script : IsScriptThere files script actions
+  pub tree : Classes
+  pub arranged : IsArranged classes headers tree
+  pub program : Program
+  pub is_program : IsProgram tree program
+  pub is : text ≡ events_text (shown_after program actions steps)
 
--- the summary of a command over these files
+-- what is printed of a command that was done, over so many files of its input, of which these are its class files
+abbrev pub IsDoneText : Command → Files → ℕ → List ClassFile → Bytes → Type 0
+IsDoneText (Optimise input output library) files count classes text =
+    text ≡ summary_line count (length classes) (method_count classes)
+IsDoneText (Verify input library) files count classes text =
+    text ≡ verified_line (length classes) (method_count classes)
+IsDoneText (Run input script library steps) files count classes text =
+    IsRunText files script library steps classes text
+
+-- what is printed of a command over these files that was done
 pub record IsSummary (words : List Word) (files : Files) (line : Bytes) : Type 0 where
   pub command : Command
   pub spelled : Spells command words
@@ -70,7 +99,7 @@ pub record IsSummary (words : List Word) (files : Files) (line : Bytes) : Type 0
   pub of_input : AreNames (files (input_of command)) names
   pub classes : List ClassFile
   pub are_read : AreReadAs ClassOf (files (input_of command)) names classes
-  pub is : line ≡ done_line command (length names) (length classes) (method_count classes)
+  pub is : IsDoneText command files (length names) classes line
 
 -- all of the summary was printed
 pub record PrintsSummary (words : List Word) (files : Files) (old new : Bytes) : Type 0 where
@@ -127,6 +156,7 @@ Leaves words old new PrintRose before after out_of_memory = Unfinished words old
 abbrev pub IsWriting : Command → Type 0
 IsWriting (Optimise input output library) = Unit {0}
 IsWriting (Verify input library) = ⊥
+IsWriting (Run input script library steps) = ⊥
 
 -- the words spell no command that writes
 abbrev pub SpellNoWrite : List Word → Type 0

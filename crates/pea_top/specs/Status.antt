@@ -7,7 +7,7 @@ use Rattle.host_tree.specs.declared.call.HostCall.{HostCall}
 use Rattle.type_rules.specs.RuleNames.{type_rule_name}
 use Rattle.pea_top.specs.Lines.{line, printed_text}
 use Rattle.pea_top.specs.declared.status.Status.{Status}
-use Rattle.pea_top.specs.declared.status.Status.TheVariants.{Done, Usage, Malformed, Version, Unlinked, Unverified, HostFault, NoMemory}
+use Rattle.pea_top.specs.declared.status.Status.TheVariants.{Done, Usage, Malformed, Version, Unlinked, Unverified, BadScript, Absent, HostFault, NoMemory}
 
 -- a refusal: its code, and what is printed of it, which is its code, its name and its fields
 pub record RefusalText : Type 0 where
@@ -44,6 +44,10 @@ ending (Unverified class method offset rule) = refused (record {
       ++ codes " " ++ printed_text method.desc ++ codes " " ++ decimal offset ++ codes " "
       ++ type_rule_name rule;
 })
+ending (BadScript line) =
+    refused (record { code = 7; text = codes "7 BadScript " ++ decimal line })
+ending (Absent name) =
+    refused (record { code = 12; text = codes "12 Absent " ++ printed_text name })
 ending (HostFault call) = failed call
 ending NoMemory = out_of_memory
 

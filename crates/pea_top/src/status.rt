@@ -43,6 +43,10 @@ pub enum Status {
         offset: u32,
         rule: TypeRule,
     },
+    /// This line of the script, counted from 1, is the first one outside the grammar of scripts.
+    BadScript { line: u64 },
+    /// The root without a name does not hold this script.
+    Absent { name: FileName },
     /// A call of the host failed.
     HostFault(HostCall),
     /// Memory ran out.
@@ -62,7 +66,9 @@ impl Status {
             Status::Unlinked { .. } => 4,
             Status::Unverified { .. } => 5,
             Status::HostFault(_) => 6,
+            Status::BadScript { .. } => 7,
             Status::NoMemory => 9,
+            Status::Absent { .. } => 12,
         }
     }
 

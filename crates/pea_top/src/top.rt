@@ -56,6 +56,11 @@ pub fn pea<H: Host>(alloc: Global, words: &[String], host: &mut H) -> Status
     ensures counts { (call : HostCall)
         → NeverFalls (H.faults host.old call) (H.faults host.new call) }
 
+    // Of a host that does not tell, a script is absent only where its count of reading rose.
+    ensures absent { (name : FileName)
+        → result ≡ Status.Absent name
+        → IsTrue H.tells ⊎ Rose (H.faults host.old HostCall.Read) (H.faults host.new HostCall.Read) }
+
     // Words outside the grammar list, read and write nothing; words that spell no command that writes write nothing.
     ensures outside_counts { IsUsage (map string_bytes words.now)
         → CountsOnly HostCall.Print (H.faults host.old) (H.faults host.new) }

@@ -5,8 +5,8 @@ ghost use Rattle.pea_top.specs.Words.{Command as grammar_command, Optimise as gr
 ghost use Rattle.pea_top.specs.CommandView.{command_view};
 ghost use Rattle.pea_top.specs.Seen.{folder_words, library_words, awaiting, Completes, EndsCommand, Leads, Fails, MayBeFolder};
 
-/// What the words ask for: to optimise the folder `input` into the folder `output`, or to verify the folder `input`, with
-/// the folder of the library.
+/// What the words ask for: to optimise the folder `input` into the folder `output`, to verify the folder `input`, or to run it by
+/// the script of this name in at most so many steps, with the folder of the library.
 #[derive(Clone, Copy, Debug)]
 pub(crate) enum Command<'a> {
     Optimise {
@@ -18,6 +18,12 @@ pub(crate) enum Command<'a> {
         input: &'a str,
         library: &'a str,
     },
+    Run {
+        input: &'a str,
+        script: &'a str,
+        library: &'a str,
+        steps: u64,
+    },
 }
 
 impl<'a> Command<'a> {
@@ -26,7 +32,9 @@ impl<'a> Command<'a> {
         ensures { result.now ≡ input_of (command_view self.entry) }
     {
         match self {
-            Command::Optimise { input, .. } | Command::Verify { input, .. } => input,
+            Command::Optimise { input, .. }
+            | Command::Verify { input, .. }
+            | Command::Run { input, .. } => input,
         }
     }
 
@@ -35,7 +43,9 @@ impl<'a> Command<'a> {
         ensures { result.now ≡ library_of (command_view self.entry) }
     {
         match self {
-            Command::Optimise { library, .. } | Command::Verify { library, .. } => library,
+            Command::Optimise { library, .. }
+            | Command::Verify { library, .. }
+            | Command::Run { library, .. } => library,
         }
     }
 }
