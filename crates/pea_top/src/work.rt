@@ -3,16 +3,12 @@ ghost use Rattle.std.specs.Prelude.{◌≡◌, ◌⊎◌, List, length, IsTrue, 
 ghost use Rattle.host_tree.specs.declared.call.HostCall.{HostCall};
 ghost use Rattle.host_tree.specs.Host.{Bytes, Files, SameFiles};
 ghost use Rattle.host_tree.specs.Counts.{NeverFalls, Rose, CountsOnly};
-ghost use Rattle.machine_step.specs.Programs.{IsProgram};
-ghost use Rattle.member_link.specs.Machine.Programs.{Program};
-ghost use Rattle.member_link.specs.Machine.Runs.{shown_after};
-ghost use Rattle.script_text.specs.Events.{events_text};
 ghost use Rattle.pea_top.specs.Words.{Word, Command as grammar_command, Spells};
 ghost use Rattle.pea_top.specs.CommandView.{command_view};
 ghost use Rattle.pea_top.specs.Status.{ending};
 ghost use Rattle.pea_top.specs.Effects.{method_count, IsWriting};
 ghost use Rattle.pea_top.specs.Inner.CommandEffects.{LeavesWritten, LeavesPrinted};
-ghost use Rattle.pea_top.specs.Inner.Deciding.{AreReady, IsWork, WritesFiles, IsStop};
+ghost use Rattle.pea_top.specs.Inner.Deciding.{AreReady, IsShown, IsWork, WritesFiles, IsStop};
 ghost use Rattle.pea_top.specs.Inner.Ended.{ended};
 ghost use Rattle.pea_top.specs.Inner.Scripts.{IsCommandStop};
 
@@ -26,7 +22,7 @@ use crate::writing::write_files;
 use class_model::{ByteList, ClassFile, NoMemory};
 use class_tree::Tree;
 use host_tree::{Host, HostCall, HostFail};
-use machine_run::run;
+use machine_run::{a_tree_has_a_program, run};
 use machine_values::ActionList;
 use script_text::print_events;
 use std::alloc::Global;
@@ -125,9 +121,9 @@ fn run_text(
     actions: &ActionList,
     steps: u64,
 ) -> Result<ByteList, NoMemory>
-    ensures { IfOk result (λ text. (P : Program) → IsProgram tree.now P
-        → text ≡ events_text (shown_after P actions.now steps)) }
+    ensures { IfOk result (IsShown tree.now actions.now steps) }
 {
+    a_tree_has_a_program(tree);
     let shown = run(alloc, tree, actions, steps)?;
     print_events(alloc, &shown)
 }

@@ -6,6 +6,11 @@ use Rattle.class_model.specs.declared.header.Header.{Header}
 use Rattle.class_tree.specs.Headers.{Classes}
 use Rattle.class_tree.specs.Trees.{IsArranged, IsTree}
 use Rattle.host_tree.specs.Host.{Bytes, Files, SameFiles}
+use Rattle.machine_step.specs.Programs.{IsProgram}
+use Rattle.machine_values.specs.declared.action.Action.{Action}
+use Rattle.member_link.specs.Machine.Programs.{Program}
+use Rattle.member_link.specs.Machine.Runs.{shown_after}
+use Rattle.script_text.specs.Events.{events_text}
 use Rattle.type_rules.specs.Verified.{IsVerified}
 use Rattle.pea_top.specs.Answer.{HasCause, IsScriptThere}
 use Rattle.pea_top.specs.Effects.{method_count, Leaves}
@@ -42,6 +47,12 @@ abbrev pub WritesFiles : Work → Type 0
 WritesFiles (works.Write folder line) = Unit {0}
 WritesFiles (works.Print line) = ⊥
 WritesFiles (works.Run actions most) = ⊥
+
+-- the text of what a program of these classes shows by these actions, in at most so many steps
+pub record IsShown (tree : Classes) (actions : List Action) (steps : ℕ) (text : Bytes) : Type 0 where
+  pub program : Program
+  pub is_program : IsProgram tree program
+  pub is : text ≡ events_text (shown_after program actions steps)
 
 -- what was read for a command, and what is left to do
 pub record IsPrepared (command : Command) (old : Files) (files : List NamedFile)
