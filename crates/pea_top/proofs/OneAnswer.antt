@@ -1,5 +1,5 @@
 -- Words and told files have one answer.
-use Rattle.std.proofs.Common.{◌≡◌, ℕ, List, [], None, Some, refl, sym, ap, ◌∙◌, subst}
+use Rattle.std.proofs.Common.{◌≡◌, ℕ, List, [], None, Some, refl, sym, ap, subst}
 use Rattle.class_model.specs.Checks.{Fault, fault}
 use Rattle.class_model.specs.Cutting.{Version}
 use Rattle.class_model.specs.declared.class_file.ClassFile.{ClassFile}

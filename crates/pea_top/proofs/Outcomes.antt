@@ -1,5 +1,5 @@
 -- What the parts of a call leave and print, as the words see it.
-use Rattle.std.proofs.Common.{◌≡◌, ◌⊎◌, ℕ, ◌<◌, Bool, true, false, List, [], ◌++◌, map, length, take, arith, refl, sym, ap, ◌∙◌, subst, inl, inr, Result, Ok, Err}
+use Rattle.std.proofs.Common.{◌≡◌, ◌⊎◌, ℕ, true, false, List, map, length, arith, refl, sym, ◌∙◌, subst, inl, inr}
 use Rattle.std.proofs.lemmas.Bool.{false≢true}
 use Rattle.std.proofs.lemmas.List.{length-map}
 use Rattle.class_model.specs.Header.{HeaderOf}
@@ -13,14 +13,13 @@ use Rattle.class_tree.specs.Headers.{Classes}
 use Rattle.machine_values.specs.declared.action.Action.{Action}
 use Rattle.member_link.specs.Machine.Runs.{shown_after}
 use Rattle.script_text.specs.Events.{events_text}
-use Rattle.pea_top.specs.Answer.{AreRead, IsFirstOf, IsScriptThere, HasScript, MustRefuse, CanDo, IsAnswer, CauseOf, HasCause}
-use Rattle.pea_top.specs.Inner.CommandEffects.{WrittenSome, some_files, all_files, LeavesWritten, LeavesPrinted}
+use Rattle.pea_top.specs.Answer.{AreRead, IsFirstOf, IsScriptThere, HasScript, CanDo, IsAnswer, CauseOf}
+use Rattle.pea_top.specs.Inner.CommandEffects.{some_files, all_files, LeavesWritten, LeavesPrinted}
 use Rattle.pea_top.specs.Inner.Deciding.{AreInput, IsWork, IsPrepared, AreReady, IsShown, IsOutcome, Stands, IsStop}
 use Rattle.pea_top.specs.Effects.{DoneFiles, LeavesDone, LeavesPart, IsRunText, IsDoneText, IsSummary, PrintsPart, PrintsLine, before_work, in_refusal, in_writes, in_print, Leaves}
 use Rattle.pea_top.specs.Folders.{HasClassFiles}
 use Rattle.pea_top.specs.Inner.Reading.{AreGoodFiles, StopsAt, status_of}
 use Rattle.pea_top.specs.Status.{Ending, completed, refused, failed, out_of_memory, ending, is_refused, line_of}
-use Rattle.pea_top.specs.Inner.Ended.{ended}
 use Rattle.pea_top.specs.Words.{Word, Command, Optimise, Verify, Run, input_of, library_of, Spells}
 use Rattle.pea_top.specs.Inner.Writing.{Puts, PutsSome}
 use Rattle.pea_top.specs.declared.folder.NamedFile.{NamedFile}
@@ -29,7 +28,7 @@ use Rattle.pea_top.specs.declared.reading.ReadStop.TheVariants as stops
 use Rattle.pea_top.specs.declared.status.Status.{Status}
 use Rattle.pea_top.specs.declared.work.Work.{Work}
 use Rattle.pea_top.specs.declared.work.Work.TheVariants as works
-use Rattle.pea_top.specs.declared.status.Status.TheVariants.{Done, Usage, Malformed, Version, Unlinked, Unverified, HostFault, NoMemory}
+use Rattle.pea_top.specs.declared.status.Status.TheVariants.{Usage, Malformed, Version, HostFault, NoMemory}
 use Rattle.pea_top.proofs.Copying.{IsCopied-puts, IsPartlyCopied-puts}
 
 -- files that are the same are one value

@@ -4,7 +4,6 @@ use Rattle.std.specs.Ordering.{nat_cmp}
 use Rattle.std.specs.Cmp.Lexicographic.{slice_cmp}
 use Rattle.std.specs.declared.cmp.Ordering.TheVariants.{Less}
 use Rattle.host_tree.specs.Host.{Bytes, Folder, HasEachOnce}
-use Rattle.pea_top.specs.declared.folder.NamedFile.{NamedFile}
 
 -- the one name stands before the other in byte order
 abbrev pub IsBytesBefore : Bytes → Bytes → Type 0

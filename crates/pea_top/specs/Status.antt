@@ -1,5 +1,5 @@
 -- How calls end: the ways, their exit statuses, and the lines of refusals.
-use Rattle.std.specs.Prelude.{ℕ, Bool, true, false, List, [], ◌++◌, codes, decimal}
+use Rattle.std.specs.Prelude.{ℕ, Bool, true, false, [], ◌++◌, codes, decimal}
 use Rattle.class_model.specs.RuleNames.{file_rule_name}
 use Rattle.class_tree.specs.RuleNames.{link_rule_name}
 use Rattle.host_tree.specs.Host.{Bytes}

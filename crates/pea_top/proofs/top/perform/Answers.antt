@@ -2,7 +2,7 @@ use Rattle.std.proofs.Common.{◌∙◌}
 use Rattle.host_tree.specs.Host.{Bytes, Files}
 use Rattle.pea_top.specs.CommandView.{command_view}
 use Rattle.pea_top.specs.Inner.Deciding.{AreInput}
-use Rattle.pea_top.proofs.Outcomes.{said_of_same, stop_behind, stop_reading}
+use Rattle.pea_top.proofs.Outcomes.{said_of_same, stop_behind}
 use Rattle.pea_top.proofs.top.perform.Goals as goal
 
 -- what was read stands there still

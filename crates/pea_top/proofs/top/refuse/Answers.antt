@@ -1,4 +1,4 @@
-use Rattle.std.proofs.Common.{◌++◌, ◌≡◌, Err, refl, sym, ap, ◌∙◌, subst, inl, inr}
+use Rattle.std.proofs.Common.{◌++◌, Err, refl, sym, ap, ◌∙◌, subst, inl, inr}
 use Rattle.std.proofs.lemmas.List.{append-nil}
 use Rattle.host_tree.specs.Host.{Bytes, IsPrefixPrinted}
 use Rattle.pea_top.proofs.Outcomes.{outcome_kept, outcome_printed, outcome_no_line}
