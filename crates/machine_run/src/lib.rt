@@ -15,10 +15,12 @@ mod names;
 mod performing;
 mod raising;
 mod returning;
+mod running;
 mod starts;
 mod stepping;
 mod throw_targets;
 mod unwinding;
 
 pub use acting::act;
+pub use running::run;
 pub use stepping::step;
