@@ -34,9 +34,7 @@ public class Turns {
             turn.next = first;
             first = turn;
         }
-        int sum = 0;
-        for (; first != null; first = first.next) sum += first.total;
-        return sum;
+        return first == null ? 0 : first.total;
     }
 
     static int deep(int calls) {
