@@ -1,5 +1,5 @@
 -- Turns of a run as the code takes them.
-use Rattle.std.proofs.Common.{◌≡◌, ◌+◌, ◌-◌, ◌<◌, ◌≤◌, ◌^◌, ⊥, Unit, ℕ, Bool, zero, suc, List, [], ◌∷◌, length, drop, slice_get, Option, Some, None, true, false, refl, sym, ap, subst, arith, ◌∙◌}
+use Rattle.std.proofs.Common.{◌≡◌, ◌+◌, ◌-◌, ◌<◌, ◌≤◌, ◌^◌, ℕ, Bool, zero, suc, List, [], ◌∷◌, length, drop, slice_get, Option, Some, None, true, false, refl, sym, ap, subst, arith, ◌∙◌}
 use Rattle.machine_values.specs.declared.action.Action.{Action}
 use Rattle.machine_values.specs.declared.event.End.{End}
 use Rattle.machine_values.specs.declared.event.End.TheVariants as ends
@@ -24,11 +24,11 @@ halted_stays P r stuck end is same = rw is refl
 
 pub halted_ends : (r : Run) (halt : Halt) (end : End) → r.world.halt ≡ halt → end_behind halt ≡ Some end → end_of r ≡ end
 halted_ends r going end is same = cc
-halted_ends r stopped end is same = (let e : Some ends.Stopped ≡ Some end = same in rw is (cc : ends.Stopped ≡ end))
+halted_ends r stopped end is same = (let e : ends.Stopped ≡ end = cc in rw is e)
 halted_ends r faulted end is same = cc
-halted_ends r init_threw end is same = (let e : Some ends.InitThrew ≡ Some end = same in rw is (cc : ends.InitThrew ≡ end))
-halted_ends r array_too_long end is same = (let e : Some ends.ArrayTooLong ≡ Some end = same in rw is (cc : ends.ArrayTooLong ≡ end))
-halted_ends r stuck end is same = (let e : Some ends.Stuck ≡ Some end = same in rw is (cc : ends.Stuck ≡ end))
+halted_ends r init_threw end is same = (let e : ends.InitThrew ≡ end = cc in rw is e)
+halted_ends r array_too_long end is same = (let e : ends.ArrayTooLong ≡ end = cc in rw is e)
+halted_ends r stuck end is same = (let e : ends.Stuck ≡ end = cc in rw is e)
 
 -- a world that goes on, but for how it halts
 pub goes_on : (w : World) → w.halt ≡ going → ended going w ≡ w
@@ -74,10 +74,9 @@ pub turned_by_step : (P : Program) (actions : List Action) (before after : World
     → ended halt after ≡ step P before
     → IsTurned P actions before used after used (end_behind halt)
 turned_by_step P actions before after used halt now on own fault is =
+    let stepped : going_turn P (run_at before actions used) ≡ run_at (step P before) actions used = rw own refl in
     turned_by P actions before used after used halt on fault
-    (turn_of_going P (run_at before actions used) now
-    ∙ (rw own refl : going_turn P (run_at before actions used) ≡ run_at (step P before) actions used)
-    ∙ ap (λ (w : World). run_at w actions used) (sym is))
+    (turn_of_going P (run_at before actions used) now ∙ stepped ∙ ap (λ (w : World). run_at w actions used) (sym is))
 
 -- the library's turn without an action
 pub waits : (P : Program) (actions : List Action) (w : World) (used : ℕ)
@@ -85,11 +84,11 @@ pub waits : (P : Program) (actions : List Action) (w : World) (used : ℕ)
     → is_library_turn w.frames ≡ true
     → drop used actions ≡ []
     → HasEnded P (turn P (run_at w actions used)) w ends.Waits
-waits P actions w used now turn none =
+waits P actions w used now own none =
     let r = run_at w actions used in
-    let stays : Rattle.member_link.specs.Machine.Runs.turn P r ≡ r = turn_of_going P r now ∙ rw (turn, none) refl in
+    let stays : turn P r ≡ r = turn_of_going P r now ∙ rw (own, none) refl in
     subst (λ (s : Run). HasEnded P s w ends.Waits) (sym stays)
-    (record { stays = stays; events = refl; ended = rw (now, turn, none) refl })
+    (record { stays = stays; events = refl; ended = rw (now, own, none) refl })
 
 -- an action of the library
 pub action_turn : (P : Program) (actions rest : List Action) (action : Action) (w : World) (used : ℕ)
@@ -97,9 +96,9 @@ pub action_turn : (P : Program) (actions rest : List Action) (action : Action) (
     → is_library_turn w.frames ≡ true
     → drop used actions ≡ action ∷ rest
     → turn P (run_at w actions used) ≡ behind_action (run_at w actions used) rest (act P action w)
-action_turn P actions rest action w used now turn next =
+action_turn P actions rest action w used now own next =
     turn_of_going P (run_at w actions used) now
-    ∙ rw turn (ap (at_library_turn P (run_at w actions used)) next)
+    ∙ rw own (ap (at_library_turn P (run_at w actions used)) next)
 
 -- an action that is a fault
 pub turned_by_fault : (P : Program) (actions rest : List Action) (action : Action) (before after : World) (used : ℕ)
@@ -108,11 +107,11 @@ pub turned_by_fault : (P : Program) (actions rest : List Action) (action : Actio
     → drop used actions ≡ action ∷ rest
     → ended faulted after ≡ act P action before
     → HasEnded P (turn P (run_at before actions used)) after (ends.LibraryFault used)
-turned_by_fault P actions rest action before after used now turn next is =
+turned_by_fault P actions rest action before after used now own next is =
     let r = run_at before actions used in
     let found : Run = record r { world = ended faulted after } in
-    let same : Rattle.member_link.specs.Machine.Runs.turn P r ≡ found =
-    action_turn P actions rest action before used now turn next ∙ ap (behind_action r rest) (sym is)
+    let same : turn P r ≡ found =
+    action_turn P actions rest action before used now own next ∙ ap (behind_action r rest) (sym is)
     in
     subst (λ (s : Run). HasEnded P s after (ends.LibraryFault used)) (sym same) (record { stays = refl; events = refl; ended = refl })
 
@@ -125,12 +124,12 @@ pub turned_by_action : (P : Program) (actions : List Action) (action : Action) (
     → is_fault halt ≡ false
     → ended halt after ≡ act P action before
     → IsTurned P actions before used after (used + 1) (end_behind halt)
-turned_by_action P actions action before after used halt now on turn next fault is =
+turned_by_action P actions action before after used halt now on own next fault is =
     let r = run_at before actions used in
+    let left = drop (used + 1) actions in
+    let done : behind_action r left (ended halt after) ≡ run_at (ended halt after) actions (used + 1) = rw fault refl in
     turned_by P actions before used after (used + 1) halt on fault
-    (action_turn P actions (drop (used + 1) actions) action before used now turn next
-    ∙ ap (behind_action r (drop (used + 1) actions)) (sym is)
-    ∙ (rw fault refl : behind_action r (drop (used + 1) actions) (ended halt after) ≡ run_at (ended halt after) actions (used + 1)))
+    (action_turn P actions left action before used now own next ∙ ap (behind_action r left) (sym is) ∙ done)
 
 -- the actions from one on
 pub next_action : (actions : List Action) (used : ℕ) (action : Action) → slice_get actions used ≡ Some action
@@ -185,3 +184,19 @@ pub left_run : (P : Program) (actions : List Action) (total : ℕ) (w : World) (
     → turns P total (begins_with actions) ≡ run_at w actions used
     → HasRun P actions total w (end_of_going (run_at w actions used))
 left_run P actions total w used on is = ap shown is ∙ rw on refl
+
+-- ---- actions that are left
+
+-- there is one behind those that are used, if these are not all
+pub one_left : (actions : List Action) (used : ℕ) → used < length actions
+    → (action : Action) × (rest : List Action) × (drop used actions ≡ action ∷ rest)
+one_left [] used few = absurd (omega (arith, few))
+one_left (first ∷ others) zero few = (first, others, refl)
+one_left (first ∷ others) (suc used) few = one_left others used (omega (arith, few))
+
+-- then a run at the library's turn does not wait
+pub runs_on : (w : World) (actions : List Action) (used : ℕ) → is_library_turn w.frames ≡ true → used < length actions
+    → end_of_going (run_at w actions used) ≡ ends.Running
+runs_on w actions used own few =
+    let left = one_left actions used few in
+    rw (own, left.2) refl

@@ -62,6 +62,7 @@ fn take_turns(
             None => done += 1,
         }
     }
+    a_world_goes_on(world);
     Ok(end_left(world, actions, used))
 }
 
@@ -80,11 +81,13 @@ fn take_turn(
         → IsTurned P actions.now world.old.world used.old world.new.world used.new end) }
     ensures used { OnOk result (used.new ≤ length actions.now) }
 {
-    a_world_goes_on(world);
-    match step_with(alloc, prepared, world)? {
-        Outcome::LibraryTurn => take_next(alloc, prepared, world, actions, used),
-        outcome => Ok(end_of_step(outcome)),
+    if is_library_turn(&world.state.frames) {
+        return take_next(alloc, prepared, world, actions, used);
     }
+    a_world_goes_on(world);
+    let outcome = step_with(alloc, prepared, world)?;
+    a_world_goes_on(world);
+    Ok(end_of_step(outcome))
 }
 
 // The library's turn: it takes the next action, if there is one.
@@ -109,6 +112,7 @@ fn take_next(
         return Ok(Some(End::Waits));
     }
     let acted = act_with(alloc, prepared, world, &items[*used])?;
+    a_world_goes_on(world);
     if is_fault(acted) {
         return Ok(Some(End::LibraryFault(*used as u64)));
     }
@@ -147,7 +151,10 @@ fn end_left(world: &World, actions: &ActionList, used: usize) -> End
     requires { used ≤ length actions.now }
     ensures { result ≡ end_of_going (run_at world.now.world actions.now used) }
 {
-    if is_library_turn(&world.state.frames) && used >= actions.len() {
+    if !is_library_turn(&world.state.frames) {
+        return End::Running;
+    }
+    if used >= actions.len() {
         End::Waits
     } else {
         End::Running
