@@ -58,7 +58,8 @@ module _ (P : Program) (T : Typings) (program : IsTypedProgram P T) where
   -- ---- classes are no arrays
 
   -- a class of the folder is there
-  pub folder_class_there : (class : ℕ) (found : RunClass) → slice_get P.classes class ≡ Some found → IsThere (headers_in P) (name_of_class P class)
+  pub folder_class_there : (class : ℕ) (found : RunClass) → slice_get P.classes class ≡ Some found
+      → IsThere (headers_in P) (name_of_class P class)
   folder_class_there class found is =
       let at : header_at (headers_in P) (places.Folder class) ≡ Some found.header =
       slice_get-map (λ (c : RunClass). c.header) P.classes class ∙ ap (λ o. option_map (λ (c : RunClass). c.header) o) is in
@@ -81,7 +82,8 @@ module _ (P : Program) (T : Typings) (program : IsTypedProgram P T) where
 
   -- ---- what is taken for an array is one
 
-  pub array_shape : (heap : Heap) (shape : Shape) (held : List Value) (name : Name) → HoldsShape P heap shape held → IsArray name → ShapeConforms P shape name → IsArrayShape P shape name
+  pub array_shape : (heap : Heap) (shape : Shape) (held : List Value) (name : Name) → HoldsShape P heap shape held → IsArray name
+      → ShapeConforms P shape name → IsArrayShape P shape name
   array_shape heap (shapes.Array desc len) held name holds is (by_class conforms) = record { desc = desc; len = len; is = refl; conforms = conforms }
   array_shape heap (shapes.Folder class) held name holds is (by_class conforms) =
       absurd (class_no_array (name_of_class P class) name (folder_class_there class holds.found holds.is_class) is conforms)
@@ -90,7 +92,8 @@ module _ (P : Program) (T : Typings) (program : IsTypedProgram P T) where
       absurd (class_no_array interface name (interface_there interface (at_index (λ n. IsTrue (is_interface_named P n)) also number interface holds.interfaces found)) is conforms)
 
   -- null, or a reference to an array
-  pub an_array_value : (m : Memory) → IsTypedMemory P m → (Named : Name → Type 0) → ((name : Name) → Named name → IsArray name) → {s : RowScope} {t : VType} {v : Value} → IsNullOr Named t → Conforms P s m.heap t v
+  pub an_array_value : (m : Memory) → IsTypedMemory P m → (Named : Name → Type 0) → ((name : Name) → Named name → IsArray name)
+      → {s : RowScope} {t : VType} {v : Value} → IsNullOr Named t → Conforms P s m.heap t v
       → (v ≡ values.Null) ⊎ IsArrayOf P m.heap Named t v
   an_array_value m typed Named arrays is only_null = inl refl
   an_array_value m typed Named arrays is null_object = inl refl
@@ -128,4 +131,3 @@ module _ (P : Program) (T : Typings) (program : IsTypedProgram P T) where
   same_array desc name is flat (to_interface kind) = let e = no_array_interface P T program name is in cc
   same_array desc name is flat to_object = absurd (no_object_array is)
   same_array desc name is flat (of_components has also conforms) = cc
-

@@ -25,7 +25,8 @@ pub record ComponentConforms (P : Program) (low component : Name) : Type 0 where
 module _ (P : Program) (T : Typings) (program : IsTypedProgram P T) where
   -- ---- what is taken for an array of references is one
 
-  pub subtype_component : {a low component : Name} → component_named (component_text low) ≡ Some component → IsSubtype (headers_in P) a low → ComponentConforms P a component
+  pub subtype_component : {a low component : Name} → component_named (component_text low) ≡ Some component → IsSubtype (headers_in P) a low
+      → ComponentConforms P a component
   subtype_component {component = c} has (itself a) = record { name = c; is_component = has; conforms = to_below ((program.links.below c c).1 (itself c)) }
   subtype_component {low = low} {component = c} has (below _ middle _ step rest) =
       absurd (there_is_no_array (headers_in P) (hierarchy_is_sound (headers_in P) program.hierarchy) program.hierarchy.no_array middle
@@ -35,7 +36,8 @@ module _ (P : Program) (T : Typings) (program : IsTypedProgram P T) where
       let same : other ≡ c = some_of (sym (component_is also) ∙ has) in
       record { name = one; is_component = component_is of_low; conforms = to_below ((program.links.below one c).1 (subst (λ n. IsSubtype (headers_in P) one n) same sub)) }
 
-  pub component_through : {a low component : Name} → component_named (component_text low) ≡ Some component → NameConforms P a low → ComponentConforms P a component
+  pub component_through : {a low component : Name} → component_named (component_text low) ≡ Some component → NameConforms P a low
+      → ComponentConforms P a component
   component_through {low = low} has (to_below {low = a} is) = subtype_component has ((program.links.below a low).0 is)
   component_through {low = low} {component = c} has (to_interface is) = let e = no_array_interface P T program low (array_of_text low c has) in cc
   component_through {component = c} has to_object = absurd (no_object_array (array_of_text object c has))

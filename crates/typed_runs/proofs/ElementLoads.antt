@@ -35,7 +35,7 @@ use Rattle.typed_runs.proofs.Basics.{some_of, same_number, within}
 use Rattle.typed_runs.proofs.ConformsThrough.{component_through, shape_through}
 use Rattle.typed_runs.proofs.ElementTypes.{TakesElements, field_kind, number_conforms, elements_taken, among_taken, counted_from, component_type_of, component_name}
 use Rattle.typed_runs.proofs.Here.{Here, operands_here, worked, gives_same}
-use Rattle.typed_runs.proofs.OperandsTaken.{of_two}
+use Rattle.typed_runs.proofs.OperandsTaken.{ComesTyped, of_two}
 use Rattle.typed_runs.proofs.Performing.{raises_goes}
 use Rattle.typed_runs.proofs.Raising.{raises_null, raises_index}
 use Rattle.typed_runs.proofs.Stacks.{lowest_is}
@@ -62,11 +62,12 @@ element_there (x ∷ xs) (suc at) below = element_there xs at (omega (arith, bel
 
 module _ {P : Program} {T : Typings} {w : World} {f : MethodState} {rest : List RunFrame} {s : RowScope} {frame : Frame} {place : ℕ} {numbered : ℕ → ℕ} {need : Need} {t : VType} {op : Op}
     (h : Here P T w f rest s frame place numbered (plain frame (need ∷ of_kind kinds.Int ∷ []) (t ∷ [])) op true []) where
-  pub load_goes : (n : ℕ) (v x : Value) (i : ℤ) → x ≡ values.Int i → (name : Name) (a : IsArrayIn P w.memory.heap name v) → takes_array n a.desc ≡ true
+  pub load_goes : (n : ℕ) (v x : Value) (i : ℤ) → x ≡ values.Int i → (name : Name) (a : IsArrayIn P w.memory.heap name v)
+      → takes_array n a.desc ≡ true
       → ((y : Value) → FitsDescriptor P w.memory.heap (component_text a.desc) y → Conforms P (T f.at).scope w.memory.heap t y)
-      → StaysTyped P T w (perform P w f (record f { stack = drop 2 f.stack }) rest (load_element_work w.memory n (v ∷ x ∷ [])))
+      → ComesTyped P T w f rest 2 (load_element_work w.memory n (v ∷ x ∷ []))
   load_goes n v x i is name a takes element = by (index_in i a.len) refl where
-    by : (at : Option ℕ) → index_in i a.len ≡ at → StaysTyped P T w (perform P w f (record f { stack = drop 2 f.stack }) rest (load_element_work w.memory n (v ∷ x ∷ [])))
+    by : (at : Option ℕ) → index_in i a.len ≡ at → ComesTyped P T w f rest 2 (load_element_work w.memory n (v ∷ x ∷ []))
     by None e = rw a.is (rw is (rw a.is_there (rw takes (rw e (raises_goes h index_outside (drop 2 f.stack) (raises_index P T h.typed.program))))))
     by (Some at) e =
         let long = a.holds.as_long in
@@ -86,7 +87,7 @@ module _ {P : Program} {T : Typings} {w : World} {f : MethodState} {rest : List 
     taken = elements_taken (opcode - IALOAD) e few is
 
     by_array : (v x : Value) (i : ℤ) → x ≡ values.Int i → {t : VType} → (v ≡ values.Null) ⊎ IsArrayOf P w.memory.heap (IsAmong e.arrays) t v
-        → StaysTyped P T w (perform P w f (record f { stack = drop 2 f.stack }) rest (load_element_work w.memory (opcode - IALOAD) (v ∷ x ∷ [])))
+        → ComesTyped P T w f rest 2 (load_element_work w.memory (opcode - IALOAD) (v ∷ x ∷ []))
     by_array v x i int (inl null) = rw null (rw int (raises_goes h null_pointer (drop 2 f.stack) (raises_null P T h.typed.program)))
     by_array v x i int (inr a) =
         let one = among_taken (opcode - IALOAD) taken.kind.kind e.arrays taken.arrays a.name a.named in
@@ -97,7 +98,7 @@ module _ {P : Program} {T : Typings} {w : World} {f : MethodState} {rest : List 
         subst (λ t. Conforms P (T f.at).scope w.memory.heap t y) taken.kind.loads (number_conforms taken.kind.kind y has (taken.kind.numbers y has)))
 
     by : (v x : Value) → Two P (T f.at).scope w.memory.heap s (array_among e.arrays) (of_kind kinds.Int) (topmost 2 frame.stack) v x
-        → StaysTyped P T w (perform P w f (record f { stack = drop 2 f.stack }) rest (load_element_work w.memory (opcode - IALOAD) (v ∷ x ∷ [])))
+        → ComesTyped P T w f rest 2 (load_element_work w.memory (opcode - IALOAD) (v ∷ x ∷ []))
     by v x two =
         let i = an_int_value two.second_fits two.second_conforms in
         by_array v x i.0 i.1
@@ -106,8 +107,9 @@ module _ {P : Program} {T : Typings} {w : World} {f : MethodState} {rest : List 
   pub reference_load : Here P T w f rest s frame place numbered (plain frame (array_of_references ∷ of_kind kinds.Int ∷ []) (component_type (lowest_of 2 frame.stack) ∷ [])) (load_element AALOAD) true []
       → StaysTyped P T w (op_step P w f rest (load_element AALOAD))
   reference_load h = worked h 2 refl (operands_here h).enough (of_two array_of_references (of_kind kinds.Int) h (load_element_work w.memory (AALOAD - IALOAD)) by) where
-    by_array : (v x : Value) (i : ℤ) → x ≡ values.Int i → {t : VType} → lowest_of 2 frame.stack ≡ t → (v ≡ values.Null) ⊎ IsArrayOf P w.memory.heap (λ name. (component : Name) × IsReferenceComponent name component) t v
-        → StaysTyped P T w (perform P w f (record f { stack = drop 2 f.stack }) rest (load_element_work w.memory (AALOAD - IALOAD) (v ∷ x ∷ [])))
+    by_array : (v x : Value) (i : ℤ) → x ≡ values.Int i → {t : VType} → lowest_of 2 frame.stack ≡ t
+        → (v ≡ values.Null) ⊎ IsArrayOf P w.memory.heap (λ name. (component : Name) × IsReferenceComponent name component) t v
+        → ComesTyped P T w f rest 2 (load_element_work w.memory (AALOAD - IALOAD) (v ∷ x ∷ []))
     by_array v x i int lowest (inl null) = rw null (rw int (raises_goes h null_pointer (drop 2 f.stack) (raises_null P T h.typed.program)))
     by_array v x i int lowest (inr a) =
         let c = component_through P T h.typed.program (component_is a.named.1) a.array.conforms in
@@ -115,12 +117,13 @@ module _ {P : Program} {T : Typings} {w : World} {f : MethodState} {rest : List 
         load_goes h (AALOAD - IALOAD) v x i int a.name a.array (rw c.is_component refl) (λ y fits.
         subst (λ t. Conforms P (T f.at).scope w.memory.heap t y) (sym type_is)
         (of_component a.named.0 c.name c.conforms y (subst (λ t. FieldConforms P w.memory.heap t y) (component_type_of (component_text a.array.desc) c.name c.is_component) fits))) where
-          of_component : (name component : Name) → NameConforms P component name → (y : Value) → RefersTo P w.memory.heap component y → Conforms P (T f.at).scope w.memory.heap (types.Object name) y
+          of_component : (name component : Name) → NameConforms P component name → (y : Value) → RefersTo P w.memory.heap component y
+              → Conforms P (T f.at).scope w.memory.heap (types.Object name) y
           of_component name component conforms y to_none = null_object
           of_component name component conforms y (to_one has is) = an_object has (shape_through P T h.typed.program conforms is)
 
     by : (v x : Value) → Two P (T f.at).scope w.memory.heap s array_of_references (of_kind kinds.Int) (topmost 2 frame.stack) v x
-        → StaysTyped P T w (perform P w f (record f { stack = drop 2 f.stack }) rest (load_element_work w.memory (AALOAD - IALOAD) (v ∷ x ∷ [])))
+        → ComesTyped P T w f rest 2 (load_element_work w.memory (AALOAD - IALOAD) (v ∷ x ∷ []))
     by v x two =
         let i = an_int_value two.second_fits two.second_conforms in
         by_array v x i.0 i.1 (lowest_is 2 frame.stack two.first_type (two.second_type ∷ []) two.are_types)
@@ -128,10 +131,12 @@ module _ {P : Program} {T : Typings} {w : World} {f : MethodState} {rest : List 
 
   -- ---- by opcode
 
-  pub load_stays : (opcode : ℕ) → Here P T w f rest s frame place numbered (access_aside (array_load_row frame opcode)) (if_between IALOAD SALOAD opcode (load_element opcode)) true []
+  pub load_stays : (opcode : ℕ)
+      → Here P T w f rest s frame place numbered (access_aside (array_load_row frame opcode)) (if_between IALOAD SALOAD opcode (load_element opcode)) true []
       → StaysTyped P T w (op_step P w f rest (if_between IALOAD SALOAD opcode (load_element opcode)))
   load_stays opcode h = by (nat_le IALOAD opcode && nat_le opcode SALOAD) refl h where
-    by_elements : (o : Option Elements) → elements_from IALOAD opcode ≡ o → opcode - IALOAD < 8 → Here P T w f rest s frame place numbered (access_aside (elements_load_row frame o)) (load_element opcode) true []
+    by_elements : (o : Option Elements) → elements_from IALOAD opcode ≡ o → opcode - IALOAD < 8
+        → Here P T w f rest s frame place numbered (access_aside (elements_load_row frame o)) (load_element opcode) true []
         → StaysTyped P T w (op_step P w f rest (load_element opcode))
     by_elements None e few k = absurd (takes_nothing s (topmost 1 frame.stack) k.holds.operands)
     by_elements (Some elements) e few k = number_load opcode elements few (counted_from IALOAD opcode elements e) k
@@ -145,7 +150,8 @@ module _ {P : Program} {T : Typings} {w : World} {f : MethodState} {rest : List 
         (sym same) reference_load k
     by_sort false e few k = by_elements (elements_from IALOAD opcode) refl few k
 
-    by : (b : Bool) → (nat_le IALOAD opcode && nat_le opcode SALOAD) ≡ b → Here P T w f rest s frame place numbered (access_aside (array_load_row frame opcode)) (if b then load_element opcode else meaningless) true []
+    by : (b : Bool) → (nat_le IALOAD opcode && nat_le opcode SALOAD) ≡ b
+        → Here P T w f rest s frame place numbered (access_aside (array_load_row frame opcode)) (if b then load_element opcode else meaningless) true []
         → StaysTyped P T w (op_step P w f rest (if b then load_element opcode else meaningless))
     by false e k = absurd k.linked
     by true e k = by_sort (opcode == AALOAD) refl (within IALOAD SALOAD opcode 8 e (omega arith)) k

@@ -41,7 +41,7 @@ use Rattle.typed_runs.proofs.ElementTypes.{TakesElements, elements_taken, among_
 use Rattle.typed_runs.proofs.Here.{Here, operands_here, worked, gives_values}
 use Rattle.typed_runs.proofs.Kept.{Keeps, field_kept}
 use Rattle.typed_runs.proofs.Memories.{object_keeps, object_typed}
-use Rattle.typed_runs.proofs.OperandsTaken.{Three, of_three}
+use Rattle.typed_runs.proofs.OperandsTaken.{ComesTyped, Three, of_three}
 use Rattle.typed_runs.proofs.Performing.{raises_goes}
 use Rattle.typed_runs.proofs.Raising.{raises_null, raises_index, raises_store}
 use Rattle.typed_runs.proofs.Starting.{number_narrowed}
@@ -59,7 +59,8 @@ set_length [] at y = refl
 set_length (x ∷ xs) zero y = refl
 set_length (x ∷ xs) (suc at) y = ap suc (set_length xs at y)
 
-pub set_each : (Q : Value → Type 0) (xs : List Value) (at : ℕ) (y : Value) → AllByRecursion Q xs → Q y → AllByRecursion Q (slice_set xs at y)
+pub set_each : (Q : Value → Type 0) (xs : List Value) (at : ℕ) (y : Value) → AllByRecursion Q xs → Q y
+    → AllByRecursion Q (slice_set xs at y)
 set_each Q [] at y all is = tt
 set_each Q (x ∷ xs) zero y all is = (is, all.1)
 set_each Q (x ∷ xs) (suc at) y all is = (all.0, set_each Q xs at y all.1 is)
@@ -72,7 +73,8 @@ pub record ElementSet (P : Program) (m : Memory) (h : Heap) : Type 0 where
 abbrev pub changed : {P : Program} {heap : Heap} {name : Name} {v : Value} → IsArrayIn P heap name v → ℕ → Value → Object
 changed a at y = record { shape = shapes.Array a.desc a.len; values = slice_set a.elements at y; monitor = a.monitor }
 
-pub element_set : (P : Program) (m : Memory) {name : Name} {v : Value} (a : IsArrayIn P m.heap name v) (at : ℕ) (y : Value) → IsTypedMemory P m → FitsDescriptor P m.heap (component_text a.desc) y
+pub element_set : (P : Program) (m : Memory) {name : Name} {v : Value} (a : IsArrayIn P m.heap name v) (at : ℕ) (y : Value)
+    → IsTypedMemory P m → FitsDescriptor P m.heap (component_text a.desc) y
     → ElementSet P m (with_object m.heap a.reference (changed a at y))
 element_set P m a at y typed fits =
     let old : Object = record { shape = shapes.Array a.desc a.len; values = a.elements; monitor = a.monitor } in
@@ -95,22 +97,23 @@ element_set P m a at y typed fits =
 module _ {P : Program} {T : Typings} {w : World} {f : MethodState} {rest : List RunFrame} {s : RowScope} {frame : Frame} {place : ℕ} {numbered : ℕ → ℕ} {first third : Need} {op : Op}
     (h : Here P T w f rest s frame place numbered (plain frame (first ∷ of_kind kinds.Int ∷ third ∷ []) []) op true []) where
   pub store_null : (n : ℕ) (v x y : Value) (i : ℤ) → v ≡ values.Null → x ≡ values.Int i → stores_value n y ≡ true
-      → StaysTyped P T w (perform P w f (record f { stack = drop 3 f.stack }) rest (store_element_work P w.memory n (v ∷ x ∷ y ∷ [])))
+      → ComesTyped P T w f rest 3 (store_element_work P w.memory n (v ∷ x ∷ y ∷ []))
   store_null n v x y i null is stored = rw is (rw stored (rw null (raises_goes h null_pointer (drop 3 f.stack) (raises_null P T h.typed.program))))
 
-  pub store_goes : (n : ℕ) (v x y : Value) (i : ℤ) → x ≡ values.Int i → stores_value n y ≡ true → (name : Name) (a : IsArrayIn P w.memory.heap name v) → takes_array n a.desc ≡ true
+  pub store_goes : (n : ℕ) (v x y : Value) (i : ℤ) → x ≡ values.Int i → stores_value n y ≡ true
+      → (name : Name) (a : IsArrayIn P w.memory.heap name v) → takes_array n a.desc ≡ true
       → (fits_component P w.memory a.desc y ≡ true → FitsDescriptor P w.memory.heap (component_text a.desc) (narrowed (type_of (component_text a.desc)) y))
-      → StaysTyped P T w (perform P w f (record f { stack = drop 3 f.stack }) rest (store_element_work P w.memory n (v ∷ x ∷ y ∷ [])))
+      → ComesTyped P T w f rest 3 (store_element_work P w.memory n (v ∷ x ∷ y ∷ []))
   store_goes n v x y i is stored name a takes element = by (index_in i a.len) refl where
     by_fit : (at : ℕ) → index_in i a.len ≡ Some at → (b : Bool) → fits_component P w.memory a.desc y ≡ b
-        → StaysTyped P T w (perform P w f (record f { stack = drop 3 f.stack }) rest (store_element_work P w.memory n (v ∷ x ∷ y ∷ [])))
+        → ComesTyped P T w f rest 3 (store_element_work P w.memory n (v ∷ x ∷ y ∷ []))
     by_fit at e false d = rw is (rw stored (rw a.is (rw a.is_there (rw takes (rw e (rw d (raises_goes h array_store (drop 3 f.stack) (raises_store P T h.typed.program))))))))
     by_fit at e true d =
         let set = element_set P w.memory a at (narrowed (type_of (component_text a.desc)) y) h.typed.memory (element d) in
         rw is (rw stored (rw a.is (rw a.is_there (rw takes (rw e (rw d (rw a.is_there
         (gives_values h (with_heap w.memory (with_object w.memory.heap a.reference (changed a at (narrowed (type_of (component_text a.desc)) y)))) set.keep set.typed [] no_values))))))))
 
-    by : (at : Option ℕ) → index_in i a.len ≡ at → StaysTyped P T w (perform P w f (record f { stack = drop 3 f.stack }) rest (store_element_work P w.memory n (v ∷ x ∷ y ∷ [])))
+    by : (at : Option ℕ) → index_in i a.len ≡ at → ComesTyped P T w f rest 3 (store_element_work P w.memory n (v ∷ x ∷ y ∷ []))
     by None e = rw is (rw stored (rw a.is (rw a.is_there (rw takes (rw e (raises_goes h index_outside (drop 3 f.stack) (raises_index P T h.typed.program)))))))
     by (Some at) e = by_fit at e (fits_component P w.memory a.desc y) refl
 
@@ -128,7 +131,8 @@ null_stored P m desc = record {
   fits = λ component e fits. subst (λ t. FieldConforms P m.heap t (narrowed t values.Null)) (sym (component_type_of (component_text desc) component e)) to_none;
 }
 
-pub stores_reference : (P : Program) (m : Memory) (desc : Name) {s : RowScope} {t : VType} {y : Value} → IsInitialised t → Conforms P s m.heap t y → StoresReference P m desc y
+pub stores_reference : (P : Program) (m : Memory) (desc : Name) {s : RowScope} {t : VType} {y : Value} → IsInitialised t
+    → Conforms P s m.heap t y → StoresReference P m desc y
 stores_reference P m desc is only_null = null_stored P m desc
 stores_reference P m desc is null_object = null_stored P m desc
 stores_reference P m desc is (an_object {reference = r} has conforms) = record {
@@ -158,8 +162,9 @@ module _ {P : Program} {T : Typings} {w : World} {f : MethodState} {rest : List 
         taken : TakesElements (opcode - IASTORE) e
         taken = elements_taken (opcode - IASTORE) e few is
 
-        by_array : (v x y : Value) (i : ℤ) → x ≡ values.Int i → has_kind taken.kind.kind y ≡ true → {t : VType} → (v ≡ values.Null) ⊎ IsArrayOf P w.memory.heap (IsAmong e.arrays) t v
-            → StaysTyped P T w (perform P w f (record f { stack = drop 3 f.stack }) rest (store_element_work P w.memory (opcode - IASTORE) (v ∷ x ∷ y ∷ [])))
+        by_array : (v x y : Value) (i : ℤ) → x ≡ values.Int i → has_kind taken.kind.kind y ≡ true → {t : VType}
+            → (v ≡ values.Null) ⊎ IsArrayOf P w.memory.heap (IsAmong e.arrays) t v
+            → ComesTyped P T w f rest 3 (store_element_work P w.memory (opcode - IASTORE) (v ∷ x ∷ y ∷ []))
         by_array v x y i int has (inl null) = store_null h (opcode - IASTORE) v x y i null int (taken.kind.stores y has)
         by_array v x y i int has (inr a) =
             let one = among_taken (opcode - IASTORE) taken.kind.kind e.arrays taken.arrays a.name a.named in
@@ -168,8 +173,9 @@ module _ {P : Program} {T : Typings} {w : World} {f : MethodState} {rest : List 
             store_goes h (opcode - IASTORE) v x y i int (taken.kind.stores y has) a.name a.array (subst (λ d. takes_array (opcode - IASTORE) d ≡ true) (sym same) one.takes)
             (λ fits. number_narrowed P w.memory.heap (type_of (component_text a.array.desc)) y kind (taken.kind.numbers y has))
 
-        by : (v x y : Value) → Three P (T f.at).scope w.memory.heap s (array_among e.arrays) (of_kind kinds.Int) (need_of_value e.type) (topmost 3 frame.stack) v x y
-            → StaysTyped P T w (perform P w f (record f { stack = drop 3 f.stack }) rest (store_element_work P w.memory (opcode - IASTORE) (v ∷ x ∷ y ∷ [])))
+        by : (v x y : Value)
+            → Three P (T f.at).scope w.memory.heap s (array_among e.arrays) (of_kind kinds.Int) (need_of_value e.type) (topmost 3 frame.stack) v x y
+            → ComesTyped P T w f rest 3 (store_element_work P w.memory (opcode - IASTORE) (v ∷ x ∷ y ∷ []))
         by v x y three =
             let i = an_int_value three.second_fits three.second_conforms in
             let fits : Fits s (of_kind taken.kind.kind) three.third_type = subst (λ need. Fits s need three.third_type) taken.kind.needs three.third_fits in
@@ -182,15 +188,17 @@ module _ {P : Program} {T : Typings} {w : World} {f : MethodState} {rest : List 
       → StaysTyped P T w (op_step P w f rest (store_element AASTORE))
   reference_store h =
       worked h 3 refl (operands_here h).enough (of_three array_of_references (of_kind kinds.Int) initialised h (store_element_work P w.memory (AASTORE - IASTORE)) by) where
-        by_array : (v x y : Value) (i : ℤ) → x ≡ values.Int i → ((desc : Name) → StoresReference P w.memory desc y) → {t : VType} → (v ≡ values.Null) ⊎ IsArrayOf P w.memory.heap (λ name. (component : Name) × IsReferenceComponent name component) t v
-            → StaysTyped P T w (perform P w f (record f { stack = drop 3 f.stack }) rest (store_element_work P w.memory (AASTORE - IASTORE) (v ∷ x ∷ y ∷ [])))
+        by_array : (v x y : Value) (i : ℤ) → x ≡ values.Int i → ((desc : Name) → StoresReference P w.memory desc y) → {t : VType}
+            → (v ≡ values.Null) ⊎ IsArrayOf P w.memory.heap (λ name. (component : Name) × IsReferenceComponent name component) t v
+            → ComesTyped P T w f rest 3 (store_element_work P w.memory (AASTORE - IASTORE) (v ∷ x ∷ y ∷ []))
         by_array v x y i int stores (inl null) = store_null h (AASTORE - IASTORE) v x y i null int (stores []).stored
         by_array v x y i int stores (inr a) =
             let c = component_through P T h.typed.program (component_is a.named.1) a.array.conforms in
             store_goes h (AASTORE - IASTORE) v x y i int (stores a.array.desc).stored a.name a.array (rw c.is_component refl) ((stores a.array.desc).fits c.name c.is_component)
 
-        by : (v x y : Value) → Three P (T f.at).scope w.memory.heap s array_of_references (of_kind kinds.Int) initialised (topmost 3 frame.stack) v x y
-            → StaysTyped P T w (perform P w f (record f { stack = drop 3 f.stack }) rest (store_element_work P w.memory (AASTORE - IASTORE) (v ∷ x ∷ y ∷ [])))
+        by : (v x y : Value)
+            → Three P (T f.at).scope w.memory.heap s array_of_references (of_kind kinds.Int) initialised (topmost 3 frame.stack) v x y
+            → ComesTyped P T w f rest 3 (store_element_work P w.memory (AASTORE - IASTORE) (v ∷ x ∷ y ∷ []))
         by v x y three =
             let i = an_int_value three.second_fits three.second_conforms in
             by_array v x y i.0 i.1 (λ desc. stores_reference P w.memory desc three.third_fits three.third_conforms)
@@ -198,10 +206,12 @@ module _ {P : Program} {T : Typings} {w : World} {f : MethodState} {rest : List 
 
   -- ---- by opcode
 
-  pub store_stays : (opcode : ℕ) → Here P T w f rest s frame place numbered (access_aside (array_store_row frame opcode)) (if_between IASTORE SASTORE opcode (store_element opcode)) true []
+  pub store_stays : (opcode : ℕ)
+      → Here P T w f rest s frame place numbered (access_aside (array_store_row frame opcode)) (if_between IASTORE SASTORE opcode (store_element opcode)) true []
       → StaysTyped P T w (op_step P w f rest (if_between IASTORE SASTORE opcode (store_element opcode)))
   store_stays opcode h = by (nat_le IASTORE opcode && nat_le opcode SASTORE) refl h where
-    by_elements : (o : Option Elements) → elements_from IASTORE opcode ≡ o → opcode - IASTORE < 8 → Here P T w f rest s frame place numbered (access_aside (elements_store_row frame o)) (store_element opcode) true []
+    by_elements : (o : Option Elements) → elements_from IASTORE opcode ≡ o → opcode - IASTORE < 8
+        → Here P T w f rest s frame place numbered (access_aside (elements_store_row frame o)) (store_element opcode) true []
         → StaysTyped P T w (op_step P w f rest (store_element opcode))
     by_elements None e few k = absurd (takes_nothing s (topmost 1 frame.stack) k.holds.operands)
     by_elements (Some elements) e few k = number_store opcode elements few (counted_from IASTORE opcode elements e) k
@@ -215,7 +225,8 @@ module _ {P : Program} {T : Typings} {w : World} {f : MethodState} {rest : List 
         (sym same) reference_store k
     by_sort false e few k = by_elements (elements_from IASTORE opcode) refl few k
 
-    by : (b : Bool) → (nat_le IASTORE opcode && nat_le opcode SASTORE) ≡ b → Here P T w f rest s frame place numbered (access_aside (array_store_row frame opcode)) (if b then store_element opcode else meaningless) true []
+    by : (b : Bool) → (nat_le IASTORE opcode && nat_le opcode SASTORE) ≡ b
+        → Here P T w f rest s frame place numbered (access_aside (array_store_row frame opcode)) (if b then store_element opcode else meaningless) true []
         → StaysTyped P T w (op_step P w f rest (if b then store_element opcode else meaningless))
     by false e k = absurd k.linked
     by true e k = by_sort (opcode == AASTORE) refl (within IASTORE SASTORE opcode 8 e (omega arith)) k

@@ -43,7 +43,8 @@ field_kind P h field_types.Long v is = is
 field_kind P h field_types.Float v is = is
 field_kind P h field_types.Double v is = is
 
-pub number_conforms : {P : Program} {s : RowScope} {h : Heap} (k : Kind) (v : Value) → has_kind k v ≡ true → has_kind kinds.Ref v ≡ false → Conforms P s h (type_of_kind k) v
+pub number_conforms : {P : Program} {s : RowScope} {h : Heap} (k : Kind) (v : Value) → has_kind k v ≡ true → has_kind kinds.Ref v ≡ false
+    → Conforms P s h (type_of_kind k) v
 number_conforms kinds.Int (values.Int n) is number = an_int
 number_conforms kinds.Long (values.Long n) is number = a_long
 number_conforms kinds.Float (values.Float n) is number = a_float
@@ -132,7 +133,8 @@ pub elements_taken : (n : ℕ) (e : Elements) → n < 8 → elements_of n ≡ So
 elements_taken n e below is = subst (AllTaken n) is (all_taken n below)
 
 -- one of these arrays
-pub among_taken : (n : ℕ) (kind : Kind) (names : List Name) → AllByRecursion (TakesArray n kind) names → (name : Name) → IsAmong names name → TakesArray n kind name
+pub among_taken : (n : ℕ) (kind : Kind) (names : List Name) → AllByRecursion (TakesArray n kind) names → (name : Name) → IsAmong names name
+    → TakesArray n kind name
 among_taken n kind [] all name is = absurd is
 among_taken n kind (first ∷ names) all name (inl same) = subst (TakesArray n kind) (sym same) all.0
 among_taken n kind (first ∷ names) all name (inr is) = among_taken n kind names all.1 name is
@@ -149,7 +151,8 @@ counted_from first opcode e is = by (nat_lt opcode first) refl where
 pub component_type_of : (desc component : Name) → component_named desc ≡ Some component → type_of desc ≡ field_types.Named component
 component_type_of [] component is = cc
 component_type_of (first ∷ rest) component is = by (first == left_bracket) refl (first == class_letter) refl where
-  by : (b : Bool) → (first == left_bracket) ≡ b → (c : Bool) → (first == class_letter) ≡ c → type_of (first ∷ rest) ≡ field_types.Named component
+  by : (b : Bool) → (first == left_bracket) ≡ b → (c : Bool) → (first == class_letter) ≡ c
+      → type_of (first ∷ rest) ≡ field_types.Named component
   by true e c d =
       let same : first ≡ left_bracket = same_number first left_bracket e in
       let one : left_bracket ∷ rest ≡ component = some_of (subst (λ x. component_named (x ∷ rest) ≡ Some component) same is) in

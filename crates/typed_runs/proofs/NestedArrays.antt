@@ -29,11 +29,12 @@ use Rattle.member_link.specs.Machine.Worlds.{World, Memory, with_heap, array_too
 use Rattle.member_link.specs.References.{IsNamedThere}
 use Rattle.member_link.specs.RowScope.{RowScope}
 use Rattle.member_link.specs.Rows.ArrayRows.{made_row}
-use Rattle.member_link.specs.Rows.Operands.{of_kind, AllFit, topmost}
+use Rattle.member_link.specs.Rows.Operands.{Need, of_kind, AllFit, topmost}
 use Rattle.member_link.specs.Rows.Row.{access_aside, plain}
 use Rattle.typed_runs.proofs.Here.{Here, operands_here, worked, gives_values}
 use Rattle.typed_runs.proofs.Kept.{Keeps, keeps_same, keeps_through, field_kept, shape_kept}
 use Rattle.typed_runs.proofs.NewArrays.{ArrayMade, array_made, blank_made, allocations_typed, array_itself}
+use Rattle.typed_runs.proofs.OperandsTaken.{ComesTyped}
 use Rattle.typed_runs.proofs.Performing.{raises_goes, ends_goes}
 use Rattle.typed_runs.proofs.Raising.{raises_size}
 use Rattle.typed_runs.proofs.Taken.{an_int_value}
@@ -54,7 +55,8 @@ one_bracket rest =
     let same : 1 + n ≡ suc n = omega arith in
     ap (λ k. length (take k (left_bracket ∷ rest))) same
 
-pub inner_there : (headers : Headers) (inner : Name) → IsNamedThere headers (left_bracket ∷ left_bracket ∷ inner) → IsNamedThere headers (left_bracket ∷ inner)
+pub inner_there : (headers : Headers) (inner : Name) → IsNamedThere headers (left_bracket ∷ left_bracket ∷ inner)
+    → IsNamedThere headers (left_bracket ∷ inner)
 inner_there headers inner is =
     let outside : (brackets (left_bracket ∷ left_bracket ∷ inner) == 0) ≡ false = search arith in
     let inside : (brackets (left_bracket ∷ inner) == 0) ≡ false = search arith in
@@ -82,7 +84,9 @@ pub record ArraysMade (P : Program) (m : Memory) (desc : Name) (count : ℕ) (ma
   pub elements : AllByRecursion (FitsDescriptor P made.heap desc) made.values
 
 module _ (P : Program) (T : Typings) (program : IsTypedProgram P T) where
-  pub times_made : (desc : Name) (make : Heap → Made) → ((m : Memory) → IsTypedMemory P m → ArrayMade P m (left_bracket ∷ desc) (make m.heap)) → (count : ℕ) (m : Memory) → IsTypedMemory P m
+  pub times_made : (desc : Name) (make : Heap → Made)
+      → ((m : Memory) → IsTypedMemory P m → ArrayMade P m (left_bracket ∷ desc) (make m.heap)) → (count : ℕ) (m : Memory)
+      → IsTypedMemory P m
       → ArraysMade P m (left_bracket ∷ desc) count (made_times make count m.heap)
   times_made desc make each zero m typed = record { keep = keeps_same m.heap; typed = typed; as_many = refl; elements = tt }
   times_made desc make each (suc count) m typed =
@@ -95,22 +99,27 @@ module _ (P : Program) (T : Typings) (program : IsTypedProgram P T) where
         elements = (to_one (shape_kept others.keep one.shape) (by_class (array_itself P T program (left_bracket ∷ desc))), others.elements);
       }
 
-  pub nested_made : (counts : List ℕ) (desc : Name) (count : ℕ) (m : Memory) → IsTypedMemory P m → IsDeep (suc (length counts)) desc → IsNamedThere (headers_in P) desc → ArrayMade P m desc (nested desc count counts m.heap)
+  pub nested_made : (counts : List ℕ) (desc : Name) (count : ℕ) (m : Memory) → IsTypedMemory P m → IsDeep (suc (length counts)) desc
+      → IsNamedThere (headers_in P) desc → ArrayMade P m desc (nested desc count counts m.heap)
   nested_made [] desc count m typed deep there = blank_made P m desc count typed (deep.0, deep.1) there
   nested_made (next ∷ counts) desc count m typed deep there =
       by deep.0 deep.2.0 deep.1 deep.2.1 deep.2.2 there (λ d n t below named. nested_made counts d next n t below named) where
-    by : (rest inner : Name) → desc ≡ left_bracket ∷ rest → rest ≡ left_bracket ∷ inner → IsDeep (length counts) inner → IsNamedThere (headers_in P) desc
-        → ((d : Name) (n : Memory) → IsTypedMemory P n → IsDeep (suc (length counts)) d → IsNamedThere (headers_in P) d → ArrayMade P n d (nested d next counts n.heap))
-        → ArrayMade P m desc (nested desc count (next ∷ counts) m.heap)
-    by rest inner outer is below named each =
-        let full : desc ≡ left_bracket ∷ left_bracket ∷ inner = outer ∙ ap (λ r. left_bracket ∷ r) is in
-        let there : IsNamedThere (headers_in P) (left_bracket ∷ left_bracket ∷ inner) = subst (λ d. IsNamedThere (headers_in P) d) full named in
-        let all = times_made inner (nested (left_bracket ∷ inner) next counts) (λ n t. each (left_bracket ∷ inner) n t (inner, refl, below) (inner_there (headers_in P) inner there)) count m typed in
-        let elements = made_times (nested (left_bracket ∷ inner) next counts) count m.heap in
-        let made = array_made P (with_heap m elements.heap) (left_bracket ∷ left_bracket ∷ inner) count elements.values all.typed (left_bracket ∷ inner, refl) there all.as_many all.elements in
-        subst (λ d. ArrayMade P m d (nested d count (next ∷ counts) m.heap)) (sym full) (record { keep = keeps_through all.keep made.keep; typed = made.typed; len = made.len; shape = made.shape })
+        by : (rest inner : Name) → desc ≡ left_bracket ∷ rest → rest ≡ left_bracket ∷ inner → IsDeep (length counts) inner
+            → IsNamedThere (headers_in P) desc
+            → ((d : Name) (n : Memory) → IsTypedMemory P n → IsDeep (suc (length counts)) d → IsNamedThere (headers_in P) d → ArrayMade P n d (nested d next counts n.heap))
+            → ArrayMade P m desc (nested desc count (next ∷ counts) m.heap)
+        by rest inner outer is below named each =
+            let full : desc ≡ left_bracket ∷ left_bracket ∷ inner = outer ∙ ap (λ r. left_bracket ∷ r) is in
+            let there : IsNamedThere (headers_in P) (left_bracket ∷ left_bracket ∷ inner) = subst (λ d. IsNamedThere (headers_in P) d) full named in
+            let all = times_made inner (nested (left_bracket ∷ inner) next counts) (λ n t. each (left_bracket ∷ inner) n t (inner, refl, below) (inner_there (headers_in P) inner there)) count m typed in
+            let elements = made_times (nested (left_bracket ∷ inner) next counts) count m.heap in
+            let made = array_made P (with_heap m elements.heap) (left_bracket ∷ left_bracket ∷ inner) count elements.values all.typed (left_bracket ∷ inner, refl) there all.as_many all.elements in
+            subst (λ d. ArrayMade P m d (nested d count (next ∷ counts) m.heap)) (sym full) (record { keep = keeps_through all.keep made.keep; typed = made.typed; len = made.len; shape = made.shape })
 
 -- ---- counts
+
+abbrev pub ints : ℕ → List Need
+ints n = replicate n (of_kind kinds.Int)
 
 -- there are so many counts, if none is negative
 abbrev pub AreCounts : ℕ → Counts → Type 0
@@ -118,14 +127,16 @@ AreCounts n (all_counts counts) = length counts ≡ n
 AreCounts n negative_count = Unit {0}
 AreCounts n no_counts = ⊥
 
-one_more : (n : ℕ) (i : ℤ) (others : List Value) (c : Counts) → counts_of others ≡ c → AreCounts n c → AreCounts (suc n) (counts_of (values.Int i ∷ others))
+one_more : (n : ℕ) (i : ℤ) (others : List Value) (c : Counts) → counts_of others ≡ c → AreCounts n c
+    → AreCounts (suc n) (counts_of (values.Int i ∷ others))
 one_more n (pos count) others (all_counts counts) is are = rw is (ap suc are)
 one_more n (pos count) others negative_count is are = rw is tt
 one_more n (negsuc count) others (all_counts counts) is are = rw is tt
 one_more n (negsuc count) others negative_count is are = rw is tt
 one_more n i others no_counts is are = absurd are
 
-pub are_counts : {P : Program} {s : RowScope} {h : Heap} (r : RowScope) (n : ℕ) (ts : List VType) (vs : List Value) → AllFit r (replicate n (of_kind kinds.Int)) ts → AllConform P s h ts vs → AreCounts n (counts_of vs)
+pub are_counts : {P : Program} {s : RowScope} {h : Heap} (r : RowScope) (n : ℕ) (ts : List VType) (vs : List Value) → AllFit r (ints n) ts
+    → AllConform P s h ts vs → AreCounts n (counts_of vs)
 are_counts r zero [] [] fit no_values = refl
 are_counts r (suc n) (t ∷ ts) (v ∷ vs) fit (and_value c others) =
     let i = an_int_value fit.0 c in
@@ -138,19 +149,19 @@ are_counts r (suc n) (t ∷ ts) [] fit all = elim all [ ]
 -- ---- multianewarray
 
 module _ {P : Program} {T : Typings} {w : World} {f : MethodState} {rest : List RunFrame} {s : RowScope} {frame : Frame} {place : ℕ} {numbered : ℕ → ℕ} where
-  pub new_arrays_stays : (desc : Name) (dimensions : ℕ) → Here P T w f rest s frame place numbered (plain frame (replicate dimensions (of_kind kinds.Int)) (types.Object desc ∷ [])) (new_arrays desc dimensions) true []
+  pub new_arrays_stays : (desc : Name) (dimensions : ℕ)
+      → Here P T w f rest s frame place numbered (plain frame (ints dimensions) (types.Object desc ∷ [])) (new_arrays desc dimensions) true []
       → StaysTyped P T w (op_step P w f rest (new_arrays desc dimensions))
   new_arrays_stays desc dimensions h =
-      worked h (length (replicate dimensions (of_kind kinds.Int))) (sym many) (operands_here h).enough
-      (by (counts_of (reverse (take (length (replicate dimensions (of_kind kinds.Int))) f.stack)))
-      (are_counts s dimensions (topmost (length (replicate dimensions (of_kind kinds.Int))) frame.stack) (reverse (take (length (replicate dimensions (of_kind kinds.Int))) f.stack)) h.holds.operands (operands_here h).values)) where
-        many : length (replicate dimensions (of_kind kinds.Int)) ≡ dimensions
+      worked h (length (ints dimensions)) (sym many) (operands_here h).enough
+      (by (counts_of (reverse (take (length (ints dimensions)) f.stack)))
+      (are_counts s dimensions (topmost (length (ints dimensions)) frame.stack) (reverse (take (length (ints dimensions)) f.stack)) h.holds.operands (operands_here h).values)) where
+        many : length (ints dimensions) ≡ dimensions
         many = length-replicate dimensions (of_kind kinds.Int)
 
         by_test : (count : ℕ) (counts : List ℕ) → suc (length counts) ≡ dimensions → (b : Bool)
-            → StaysTyped P T w (perform P w f (record f { stack = drop (length (replicate dimensions (of_kind kinds.Int))) f.stack }) rest
-            (if b then ends array_too_long else gives_arrays w.memory (arrays_made (count ∷ counts)) (nested desc count counts w.memory.heap)))
-        by_test count counts same true = ends_goes h array_too_long (record f { stack = drop (length (replicate dimensions (of_kind kinds.Int))) f.stack }) (λ e. cc)
+            → ComesTyped P T w f rest (length (ints dimensions)) (if b then ends array_too_long else gives_arrays w.memory (arrays_made (count ∷ counts)) (nested desc count counts w.memory.heap))
+        by_test count counts same true = ends_goes h array_too_long (record f { stack = drop (length (ints dimensions)) f.stack }) (λ e. cc)
         by_test count counts same false =
             let made = nested_made P T h.typed.program counts desc count w.memory h.typed.memory (subst (λ n. IsDeep n desc) (sym same) (is_deep dimensions desc h.linked.0)) h.linked.2 in
             let after : Heap = (nested desc count counts w.memory.heap).heap in
@@ -159,13 +170,14 @@ module _ {P : Program} {T : Typings} {w : World} {f : MethodState} {rest : List 
             (and_value (an_object made.shape (by_class (array_itself P T h.typed.program desc))) no_values)
 
         by : (c : Counts) → AreCounts dimensions c
-            → StaysTyped P T w (perform P w f (record f { stack = drop (length (replicate dimensions (of_kind kinds.Int))) f.stack }) rest (arrays_of_counts w.memory desc c))
+            → ComesTyped P T w f rest (length (ints dimensions)) (arrays_of_counts w.memory desc c)
         by (all_counts []) are = let some = h.linked.1 in absurd (omega (arith, are, some))
         by (all_counts (count ∷ counts)) are = by_test count counts are (is_too_long 1 (count ∷ counts))
-        by negative_count are = raises_goes h negative_size (drop (length (replicate dimensions (of_kind kinds.Int))) f.stack) (raises_size P T h.typed.program)
+        by negative_count are = raises_goes h negative_size (drop (length (ints dimensions)) f.stack) (raises_size P T h.typed.program)
         by no_counts are = absurd are
 
-  pub named_arrays_stays : (name : Option Name) (dimensions : ℕ) → Here P T w f rest s frame place numbered (access_aside (made_row frame dimensions name)) (naming name (λ n. new_arrays n dimensions)) true []
+  pub named_arrays_stays : (name : Option Name) (dimensions : ℕ)
+      → Here P T w f rest s frame place numbered (access_aside (made_row frame dimensions name)) (naming name (λ n. new_arrays n dimensions)) true []
       → StaysTyped P T w (op_step P w f rest (naming name (λ n. new_arrays n dimensions)))
   named_arrays_stays None dimensions h = absurd h.linked
   named_arrays_stays (Some desc) dimensions h = new_arrays_stays desc dimensions h

@@ -34,7 +34,7 @@ use Rattle.typed_runs.proofs.BlankValues.{blank_fits, each_same}
 use Rattle.typed_runs.proofs.Here.{Here, operands_here, worked, gives_values}
 use Rattle.typed_runs.proofs.Kept.{Keeps, field_kept}
 use Rattle.typed_runs.proofs.Memories.{made_keeps, made_shape, made_typed}
-use Rattle.typed_runs.proofs.OperandsTaken.{of_one}
+use Rattle.typed_runs.proofs.OperandsTaken.{ComesTyped, of_one}
 use Rattle.typed_runs.proofs.Performing.{raises_goes, ends_goes}
 use Rattle.typed_runs.proofs.Raising.{raises_size}
 use Rattle.typed_runs.proofs.Taken.{One, an_int_value}
@@ -51,8 +51,10 @@ pub record ArrayMade (P : Program) (m : Memory) (desc : Name) (made : Made) : Ty
   pub shape : HasShape made.heap made.reference (shapes.Array desc len)
 
 -- of elements that conform
-pub array_made : (P : Program) (m : Memory) (desc : Name) (count : ℕ) (elements : List Value) → IsTypedMemory P m → IsArray desc → IsNamedThere (headers_in P) desc
-    → length elements ≡ count → AllByRecursion (FitsDescriptor P m.heap (component_text desc)) elements → ArrayMade P m desc (allocated m.heap (shapes.Array desc count) elements)
+pub array_made : (P : Program) (m : Memory) (desc : Name) (count : ℕ) (elements : List Value) → IsTypedMemory P m → IsArray desc
+    → IsNamedThere (headers_in P) desc
+    → length elements ≡ count → AllByRecursion (FitsDescriptor P m.heap (component_text desc)) elements
+    → ArrayMade P m desc (allocated m.heap (shapes.Array desc count) elements)
 array_made P m desc count elements typed is there long all =
     let after : Heap = (allocated m.heap (shapes.Array desc count) elements).heap in
     let keep : Keeps m.heap after = made_keeps m.heap (shapes.Array desc count) elements in
@@ -70,7 +72,8 @@ array_made P m desc count elements typed is there long all =
     }
 
 -- of elements that are zero or null
-pub blank_made : (P : Program) (m : Memory) (desc : Name) (count : ℕ) → IsTypedMemory P m → IsArray desc → IsNamedThere (headers_in P) desc → ArrayMade P m desc (blank_array m.heap desc count)
+pub blank_made : (P : Program) (m : Memory) (desc : Name) (count : ℕ) → IsTypedMemory P m → IsArray desc → IsNamedThere (headers_in P) desc
+    → ArrayMade P m desc (blank_array m.heap desc count)
 blank_made P m desc count typed is there =
     array_made P m desc count (replicate count (blank_value (component_text desc))) typed is there (length-replicate count (blank_value (component_text desc)))
     (each_same (FitsDescriptor P m.heap (component_text desc)) count (blank_value (component_text desc)) (blank_fits P m.heap (component_text desc)))
@@ -85,10 +88,12 @@ array_itself P T program desc = to_below ((program.links.below desc desc).1 (its
 -- ---- newarray and anewarray
 
 module _ {P : Program} {T : Typings} {w : World} {f : MethodState} {rest : List RunFrame} {s : RowScope} {frame : Frame} {place : ℕ} {numbered : ℕ → ℕ} where
-  pub new_array_stays : (desc : Name) → Here P T w f rest s frame place numbered (plain frame (of_kind kinds.Int ∷ []) (types.Object desc ∷ [])) (new_array desc) true []
+  pub new_array_stays : (desc : Name)
+      → Here P T w f rest s frame place numbered (plain frame (of_kind kinds.Int ∷ []) (types.Object desc ∷ [])) (new_array desc) true []
       → StaysTyped P T w (op_step P w f rest (new_array desc))
   new_array_stays desc h = worked h 1 refl (operands_here h).enough (of_one (of_kind kinds.Int) h (new_array_work w.memory desc) by) where
-    by_test : (count : ℕ) (b : Bool) → StaysTyped P T w (perform P w f (record f { stack = drop 1 f.stack }) rest (if b then ends array_too_long else gives_array w.memory (blank_array w.memory.heap desc count)))
+    by_test : (count : ℕ) (b : Bool)
+        → ComesTyped P T w f rest 1 (if b then ends array_too_long else gives_array w.memory (blank_array w.memory.heap desc count))
     by_test count true = ends_goes h array_too_long (record f { stack = drop 1 f.stack }) (λ e. cc)
     by_test count false =
         let made = blank_made P w.memory desc count h.typed.memory h.linked.0 h.linked.1 in
@@ -96,14 +101,16 @@ module _ {P : Program} {T : Typings} {w : World} {f : MethodState} {rest : List 
         (allocations_typed P (with_heap w.memory (blank_array w.memory.heap desc count).heap) (w.memory.allocations + 1) made.typed) (values.Ref (blank_array w.memory.heap desc count).reference ∷ [])
         (and_value (an_object made.shape (by_class (array_itself P T h.typed.program desc))) no_values)
 
-    by_int : (v : Value) (i : ℤ) → v ≡ values.Int i → StaysTyped P T w (perform P w f (record f { stack = drop 1 f.stack }) rest (new_array_work w.memory desc (v ∷ [])))
+    by_int : (v : Value) (i : ℤ) → v ≡ values.Int i → ComesTyped P T w f rest 1 (new_array_work w.memory desc (v ∷ []))
     by_int v (negsuc n) is = rw is (raises_goes h negative_size (drop 1 f.stack) (raises_size P T h.typed.program))
     by_int v (pos count) is = rw is (by_test count (nat_lt most_elements count))
 
-    by : (v : Value) → One P (T f.at).scope w.memory.heap s (of_kind kinds.Int) (topmost 1 frame.stack) v → StaysTyped P T w (perform P w f (record f { stack = drop 1 f.stack }) rest (new_array_work w.memory desc (v ∷ [])))
+    by : (v : Value) → One P (T f.at).scope w.memory.heap s (of_kind kinds.Int) (topmost 1 frame.stack) v
+        → ComesTyped P T w f rest 1 (new_array_work w.memory desc (v ∷ []))
     by v one = let i = an_int_value one.fits one.conforms in by_int v i.0 i.1
 
-  pub named_array_stays : (name : Option Name) → Here P T w f rest s frame place numbered (access_aside (made_row frame 1 name)) (naming name new_array) true []
+  pub named_array_stays : (name : Option Name)
+      → Here P T w f rest s frame place numbered (access_aside (made_row frame 1 name)) (naming name new_array) true []
       → StaysTyped P T w (op_step P w f rest (naming name new_array))
   named_array_stays None h = absurd h.linked
   named_array_stays (Some desc) h = new_array_stays desc h

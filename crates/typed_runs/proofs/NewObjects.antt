@@ -46,17 +46,20 @@ use Rattle.typed_runs.specs.TypedWorlds.{StaysTyped}
 
 -- ---- the fields of a new object
 
-pub append_fits : (P : Program) (h : Heap) (slots more : List Reference) (vs others : List Value) → FitSlots P h slots vs → FitSlots P h more others → FitSlots P h (slots ++ more) (vs ++ others)
+pub append_fits : (P : Program) (h : Heap) (slots more : List Reference) (vs others : List Value) → FitSlots P h slots vs
+    → FitSlots P h more others → FitSlots P h (slots ++ more) (vs ++ others)
 append_fits P h [] more [] others fit also = also
 append_fits P h [] more (v ∷ vs) others fit also = absurd fit
 append_fits P h (slot ∷ slots) more [] others fit also = absurd fit
 append_fits P h (slot ∷ slots) more (v ∷ vs) others fit also = (fit.0, append_fits P h slots more vs others fit.1 also)
 
-pub own_blank : (P : Program) (h : Heap) (name : Name) (fields : List Member) → FitSlots P h (map (λ (field : Member). record { class = name; name = field.name; desc = field.desc }) fields) (blank_values fields)
+pub own_blank : (P : Program) (h : Heap) (name : Name) (fields : List Member)
+    → FitSlots P h (map (λ (field : Member). record { class = name; name = field.name; desc = field.desc }) fields) (blank_values fields)
 own_blank P h name [] = tt
 own_blank P h name (field ∷ fields) = (blank_fits P h field.desc, own_blank P h name fields)
 
-pub all_blank : (P : Program) (h : Heap) (names : List Name) → FitSlots P h (flat_map (own_slots P) names) (blank_values (flat_map (own_fields (headers_in P)) names))
+pub all_blank : (P : Program) (h : Heap) (names : List Name)
+    → FitSlots P h (flat_map (own_slots P) names) (blank_values (flat_map (own_fields (headers_in P)) names))
 all_blank P h [] = tt
 all_blank P h (name ∷ names) =
     let fields : List Member = own_fields (headers_in P) name in
@@ -64,7 +67,8 @@ all_blank P h (name ∷ names) =
     subst (λ vs. FitSlots P h (own_slots P name ++ flat_map (own_slots P) names) vs) (sym (map-append (λ (field : Member). blank_value field.desc) fields others))
     (append_fits P h (own_slots P name) (flat_map (own_slots P) names) (blank_values fields) (blank_values others) (own_blank P h name fields) (all_blank P h names))
 
-pub blank_slots : (P : Program) (h : Heap) (name : Name) → FitSlots P h (slots_of P name) (blank_values (instance_fields (headers_in P) name))
+pub blank_slots : (P : Program) (h : Heap) (name : Name)
+    → FitSlots P h (slots_of P name) (blank_values (instance_fields (headers_in P) name))
 blank_slots P h name = all_blank P h (reverse (superclasses (headers_in P) name))
 
 -- ---- a new object
@@ -77,7 +81,8 @@ pub record ObjectMade (P : Program) (m : Memory) (name : Name) (made : Made) : T
   pub of_class : class_of_shape P shape ≡ name
 
 -- of a class of the folder, or of the library
-pub object_made : (P : Program) (m : Memory) (name : Name) → IsTypedMemory P m → IsInstantiable (headers_in P) name → ObjectMade P m name (object_of P m.heap name)
+pub object_made : (P : Program) (m : Memory) (name : Name) → IsTypedMemory P m → IsInstantiable (headers_in P) name
+    → ObjectMade P m name (object_of P m.heap name)
 object_made P m name typed is = by (folder_number P name) refl where
   by : (n : Option ℕ) → folder_number P name ≡ n → ObjectMade P m name (object_of P m.heap name)
   by None outside = rw outside (record {
@@ -102,25 +107,29 @@ object_made P m name typed is = by (folder_number P name) refl where
 
 -- ---- older objects of the same new
 
-pub older_conforms : {P : Program} {s : RowScope} {h : Heap} (at : ℕ) (t : VType) {v : Value} → Conforms P s h t v → Conforms P s h (without_older at t) v
+pub older_conforms : {P : Program} {s : RowScope} {h : Heap} (at : ℕ) (t : VType) {v : Value} → Conforms P s h t v
+    → Conforms P s h (without_older at t) v
 older_conforms {P = P} {s = s} {h = h} at (types.Uninit other) {v = v} is = by (other == at) where
   by : (b : Bool) → Conforms P s h (if b then types.Top else types.Uninit other) v
   by true = to_top (conforms_in_heap is)
   by false = is
 older_conforms at t is = is
 
-pub older_unit : {P : Program} {s : RowScope} {h : Heap} (at : ℕ) {t : VType} {unit : Option Value} → UnitConforms P s h t unit → UnitConforms P s h (without_older at t) unit
+pub older_unit : {P : Program} {s : RowScope} {h : Heap} (at : ℕ) {t : VType} {unit : Option Value} → UnitConforms P s h t unit
+    → UnitConforms P s h (without_older at t) unit
 older_unit at no_value = no_value
 older_unit at (has_value {type = t} is) = has_value (older_conforms at t is)
 
-pub older_units : {P : Program} {s : RowScope} {h : Heap} (at : ℕ) {ts : List VType} {units : List (Option Value)} → UnitsConform P s h ts units → UnitsConform P s h (map (without_older at) ts) units
+pub older_units : {P : Program} {s : RowScope} {h : Heap} (at : ℕ) {ts : List VType} {units : List (Option Value)}
+    → UnitsConform P s h ts units → UnitsConform P s h (map (without_older at) ts) units
 older_units at no_units = no_units
 older_units at (and_unit one others) = and_unit (older_unit at one) (older_units at others)
 
 -- ---- new
 
 module _ {P : Program} {T : Typings} {w : World} {f : MethodState} {rest : List RunFrame} {s : RowScope} {frame : Frame} {place : ℕ} {numbered : ℕ → ℕ} where
-  pub new_object_stays : (name : Name) → Here P T w f rest s frame place numbered (access_aside (new_row frame place)) (new_object name) true [] → Does P T w.memory.heap f
+  pub new_object_stays : (name : Name)
+      → Here P T w f rest s frame place numbered (access_aside (new_row frame place)) (new_object name) true [] → Does P T w.memory.heap f
       → StaysTyped P T w (op_step P w f rest (new_object name))
   new_object_stays name h does =
       let o = operands_here h in
@@ -132,7 +141,9 @@ module _ {P : Program} {T : Typings} {w : World} {f : MethodState} {rest : List 
       (gives_goes h 0 after made.keep (allocations_typed P (with_heap w.memory heap) (w.memory.allocations + 1) made.typed) (values.Ref (object_of P w.memory.heap name).reference ∷ []) h.next
       (units_kept made.keep (older_units place h.locals)) (all_kept made.keep o.rest) (and_value (of_new h.linked.1 made.has_shape made.of_class) no_values)))
 
-  pub named_object_stays : (name : Option Name) → Here P T w f rest s frame place numbered (access_aside (new_row frame place)) (naming name new_object) true [] → Does P T w.memory.heap f
+  pub named_object_stays : (name : Option Name)
+      → Here P T w f rest s frame place numbered (access_aside (new_row frame place)) (naming name new_object) true []
+      → Does P T w.memory.heap f
       → StaysTyped P T w (op_step P w f rest (naming name new_object))
   named_object_stays None h does = absurd h.linked
   named_object_stays (Some name) h does = new_object_stays name h does

@@ -32,7 +32,8 @@ module _ (Family : Op → Type 0) (no_meaningless : Family meaningless → ⊥) 
   not_found None op other is = no_meaningless is
   not_found (Some a) op other is = other a is
 
-  pub not_constant : (pool : Constants) (c : Option Const) → ((v : Value) → Family (push_value v) → ⊥) → ((x : Constant) → Family (push_constant x) → ⊥) → Family (constant_op pool c) → ⊥
+  pub not_constant : (pool : Constants) (c : Option Const) → ((v : Value) → Family (push_value v) → ⊥)
+      → ((x : Constant) → Family (push_constant x) → ⊥) → Family (constant_op pool c) → ⊥
   not_constant pool (Some (consts.Integer n)) no_value no_object is = no_value _ is
   not_constant pool (Some (consts.Long n)) no_value no_object is = no_value _ is
   not_constant pool (Some (consts.Float n)) no_value no_object is = no_value _ is
@@ -43,23 +44,29 @@ module _ (Family : Op → Type 0) (no_meaningless : Family meaningless → ⊥) 
   not_constant pool (Some (consts.MethodHandle kind reference)) no_value no_object is = not_found (handle_of pool kind reference) push_constant no_object is
   not_constant pool c no_value no_object is = no_meaningless is
 
-  pub not_returned : (result : Option FieldType) (kind : Option Kind) → (Family return_nothing → ⊥) → ((t : FieldType) → Family (return_value t) → ⊥) → Family (return_op result kind) → ⊥
+  pub not_returned : (result : Option FieldType) (kind : Option Kind) → (Family return_nothing → ⊥)
+      → ((t : FieldType) → Family (return_value t) → ⊥) → Family (return_op result kind) → ⊥
   not_returned None None no_nothing no_value is = no_nothing is
   not_returned None (Some k) no_nothing no_value is = no_meaningless is
   not_returned (Some t) None no_nothing no_value is = no_meaningless is
   not_returned (Some t) (Some k) no_nothing no_value is = not_tested (same_kind (kind_of t) k) (return_value t) (no_value t) is
 
-  pub not_called : (links : Links) (s : RowScope) (opcode : ℕ) (r : Reference) → (Family (call_virtual r) → ⊥) → ((start : Name) → Family (call_special r start) → ⊥) → (Family (call_static r) → ⊥) → (Family (call_interface r) → ⊥)
+  pub not_called : (links : Links) (s : RowScope) (opcode : ℕ) (r : Reference) → (Family (call_virtual r) → ⊥)
+      → ((start : Name) → Family (call_special r start) → ⊥) → (Family (call_static r) → ⊥) → (Family (call_interface r) → ⊥)
       → Family (call_op links s opcode r) → ⊥
   not_called links s opcode r no_virtual no_special no_static no_interface is = by (opcode == INVOKEVIRTUAL) (opcode == INVOKESPECIAL) (opcode == INVOKESTATIC) (opcode == INVOKEINTERFACE) is where
-    by : (a b c d : Bool) → Family (if a then call_virtual r else (if b then call_special r (special_start links s r.class) else (if c then call_static r else (if d then call_interface r else meaningless)))) → ⊥
+    by : (a b c d : Bool)
+        → Family (if a then call_virtual r else (if b then call_special r (special_start links s r.class) else (if c then call_static r else (if d then call_interface r else meaningless))))
+        → ⊥
     by true b c d is = no_virtual is
     by false true c d is = no_special (special_start links s r.class) is
     by false false true d is = no_static is
     by false false false true is = no_interface is
     by false false false false is = no_meaningless is
 
-  pub not_dynamic : (s : RowScope) (c : Option Const) → ((class : Name) (bootstrap : ℕ) (name desc : Name) → Family (call_dynamic class bootstrap name desc) → ⊥) → Family (dynamic_op s c) → ⊥
+  pub not_dynamic : (s : RowScope) (c : Option Const)
+      → ((class : Name) (bootstrap : ℕ) (name desc : Name) → Family (call_dynamic class bootstrap name desc) → ⊥) → Family (dynamic_op s c)
+      → ⊥
   not_dynamic s None no_call is = no_meaningless is
   not_dynamic s (Some (consts.InvokeDynamic bootstrap member)) no_call is = by (name_at s.pool member) (descriptor_at s.pool member) is where
     by : (n d : Option Name) → Family (dynamic_of s bootstrap n d) → ⊥
