@@ -28,7 +28,8 @@ use Rattle.typed_runs.specs.Conforming.{an_int, no_values, and_value}
 use Rattle.typed_runs.specs.TypedPrograms.{Typings}
 use Rattle.typed_runs.specs.TypedWorlds.{StaysTyped}
 
-module _ {P : Program} {T : Typings} {w : World} {f : MethodState} {rest : List RunFrame} {s : RowScope} {frame : Frame} {place : ℕ} {numbered : ℕ → ℕ} where
+module _ {P : Program} {T : Typings} {w : World} {f : MethodState} {rest : List RunFrame} {s : RowScope} {frame : Frame} {place : ℕ}
+    {numbered : ℕ → ℕ} where
   pub length_stays : Here P T w f rest s frame place numbered (length_row frame) array_length true []
       → StaysTyped P T w (op_step P w f rest array_length)
   length_stays h = worked h 1 refl (operands_here h).enough (of_one some_array h (array_length_work w.memory) by) where

@@ -10,7 +10,7 @@ use Rattle.class_tree.specs.Laws.Above.{hierarchy_is_sound, directly_there, ther
 use Rattle.class_tree.specs.Laws.Arrays.{not_above_arrays}
 use Rattle.class_tree.specs.Names.{object, is_interface}
 use Rattle.class_tree.specs.Order.{header_at}
-use Rattle.class_tree.specs.Subtype.{IsArray, IsSubtype, itself, below, of_arrays, components}
+use Rattle.class_tree.specs.Subtype.{IsArray, IsReferenceComponent, IsSubtype, itself, below, of_arrays, components}
 use Rattle.class_tree.specs.declared.place.Place.TheVariants as places
 use Rattle.machine_values.specs.Heaps.{Heap, object_at}
 use Rattle.machine_values.specs.Values.{component_text}
@@ -54,6 +54,9 @@ pub record IsArrayOf (P : Program) (heap : Heap) (Named : Name → Type 0) (t : 
   pub named : Named name
   pub array : IsArrayIn P heap name v
 
+abbrev pub IsOfReferences : Name → Type 0
+IsOfReferences name = (component : Name) × IsReferenceComponent name component
+
 module _ (P : Program) (T : Typings) (program : IsTypedProgram P T) where
   -- ---- classes are no arrays
 
@@ -74,22 +77,27 @@ module _ (P : Program) (T : Typings) (program : IsTypedProgram P T) where
 
   pub class_no_array : (low name : Name) → IsThere (headers_in P) low → IsArray name → NameConforms P low name → ⊥
   class_no_array low name there is (to_below up) =
-      there_is_no_array (headers_in P) (hierarchy_is_sound (headers_in P) program.hierarchy) program.hierarchy.no_array low there (array_below P T program ((program.links.below low name).0 up) is)
+      there_is_no_array (headers_in P) (hierarchy_is_sound (headers_in P) program.hierarchy) program.hierarchy.no_array low there
+      (array_below P T program ((program.links.below low name).0 up) is)
   class_no_array low name there is (to_interface kind) = let e = no_array_interface P T program name is in cc
   class_no_array low name there is to_object = no_object_array is
   class_no_array low name there is (of_components {low_component = component} has also conforms) =
-      there_is_no_array (headers_in P) (hierarchy_is_sound (headers_in P) program.hierarchy) program.hierarchy.no_array low there (array_of_text low component has)
+      there_is_no_array (headers_in P) (hierarchy_is_sound (headers_in P) program.hierarchy) program.hierarchy.no_array low there
+      (array_of_text low component has)
 
   -- ---- what is taken for an array is one
 
   pub array_shape : (heap : Heap) (shape : Shape) (held : List Value) (name : Name) → HoldsShape P heap shape held → IsArray name
       → ShapeConforms P shape name → IsArrayShape P shape name
-  array_shape heap (shapes.Array desc len) held name holds is (by_class conforms) = record { desc = desc; len = len; is = refl; conforms = conforms }
+  array_shape heap (shapes.Array desc len) held name holds is (by_class conforms) =
+      record { desc = desc; len = len; is = refl; conforms = conforms }
   array_shape heap (shapes.Folder class) held name holds is (by_class conforms) =
       absurd (class_no_array (name_of_class P class) name (folder_class_there class holds.found holds.is_class) is conforms)
-  array_shape heap (shapes.External class also) held name holds is (by_class conforms) = absurd (class_no_array class name holds.is_there is conforms)
+  array_shape heap (shapes.External class also) held name holds is (by_class conforms) =
+      absurd (class_no_array class name holds.is_there is conforms)
   array_shape heap (shapes.External class also) held name holds is (by_interface {interface = interface} number found conforms) =
-      absurd (class_no_array interface name (interface_there interface (at_index (λ n. IsTrue (is_interface_named P n)) also number interface holds.interfaces found)) is conforms)
+      absurd (class_no_array interface name (interface_there interface
+      (at_index (λ n. IsTrue (is_interface_named P n)) also number interface holds.interfaces found)) is conforms)
 
   -- null, or a reference to an array
   pub an_array_value : (m : Memory) → IsTypedMemory P m → (Named : Name → Type 0) → ((name : Name) → Named name → IsArray name)
@@ -99,7 +107,8 @@ module _ (P : Program) (T : Typings) (program : IsTypedProgram P T) where
   an_array_value m typed Named arrays is null_object = inl refl
   an_array_value m typed Named arrays is (an_object {name = name} {reference = r} has conforms) =
       let holds = typed.objects r has.object has.is_there in
-      let a = array_shape m.heap has.object.shape has.object.values name holds (arrays name is) (subst (λ x. ShapeConforms P x name) (sym has.same) conforms) in
+      let a = array_shape m.heap has.object.shape has.object.values name holds (arrays name is)
+      (subst (λ x. ShapeConforms P x name) (sym has.same) conforms) in
       inr (record {
         name = name;
         is_type = refl;

@@ -19,11 +19,13 @@ use Rattle.typed_runs.specs.TypedPrograms.{Typings}
 use Rattle.typed_runs.specs.TypedWorlds.{StaysTyped}
 
 -- An operation whose class is begun first: then its frame stays as it is, below the beginning of the class.
-module _ {P : Program} {T : Typings} {w : World} {f : MethodState} {rest : List RunFrame} {s : RowScope} {frame : Frame} {place : ℕ} {numbered : ℕ → ℕ} {row : Row} {op : Op} {falls : Bool} {places : List ℕ}
+module _ {P : Program} {T : Typings} {w : World} {f : MethodState} {rest : List RunFrame} {s : RowScope} {frame : Frame} {place : ℕ}
+    {numbered : ℕ → ℕ} {row : Row} {op : Op} {falls : Bool} {places : List ℕ}
     (h : Here P T w f rest s frame place numbered row op falls places) (does : Does P T w.memory.heap f) where
   pub begins_goes : (taken : MethodState) (name : Name) (class : ℕ) → folder_number P name ≡ Some class
       → StaysTyped P T w (perform P w f taken rest (begins class))
-  begins_goes taken name class is = let c = class_there P name class is in begun_on_stays P T w class c.0 (frames.Method f ∷ rest) h.typed c.1 (upon does h.below)
+  begins_goes taken name class is =
+      let c = class_there P name class is in begun_on_stays P T w class c.0 (frames.Method f ∷ rest) h.typed c.1 (upon does h.below)
 
   pub begun_first_goes : (taken : MethodState) (name : Name) (otherwise : Completion)
       → StaysTyped P T w (perform P w f taken rest otherwise)

@@ -27,19 +27,28 @@ module _ (P : Program) (T : Typings) (program : IsTypedProgram P T) where
 
   pub subtype_component : {a low component : Name} → component_named (component_text low) ≡ Some component → IsSubtype (headers_in P) a low
       → ComponentConforms P a component
-  subtype_component {component = c} has (itself a) = record { name = c; is_component = has; conforms = to_below ((program.links.below c c).1 (itself c)) }
+  subtype_component {component = c} has (itself a) =
+      record { name = c; is_component = has; conforms = to_below ((program.links.below c c).1 (itself c)) }
   subtype_component {low = low} {component = c} has (below _ middle _ step rest) =
       absurd (there_is_no_array (headers_in P) (hierarchy_is_sound (headers_in P) program.hierarchy) program.hierarchy.no_array middle
-      (directly_there (headers_in P) (hierarchy_is_sound (headers_in P) program.hierarchy) step) (array_below P T program rest (array_of_text low c has)))
-  subtype_component {low = low} {component = c} has (of_arrays _ _ is_array above) = absurd (not_above_arrays (array_of_text low c has) above)
+      (directly_there (headers_in P) (hierarchy_is_sound (headers_in P) program.hierarchy) step)
+      (array_below P T program rest (array_of_text low c has)))
+  subtype_component {low = low} {component = c} has (of_arrays _ _ is_array above) =
+      absurd (not_above_arrays (array_of_text low c has) above)
   subtype_component {component = c} has (components _ _ one other of_low also sub) =
       let same : other ≡ c = some_of (sym (component_is also) ∙ has) in
-      record { name = one; is_component = component_is of_low; conforms = to_below ((program.links.below one c).1 (subst (λ n. IsSubtype (headers_in P) one n) same sub)) }
+      record {
+        name = one;
+        is_component = component_is of_low;
+        conforms = to_below
+            ((program.links.below one c).1 (subst (λ n. IsSubtype (headers_in P) one n) same sub));
+      }
 
   pub component_through : {a low component : Name} → component_named (component_text low) ≡ Some component → NameConforms P a low
       → ComponentConforms P a component
   component_through {low = low} has (to_below {low = a} is) = subtype_component has ((program.links.below a low).0 is)
-  component_through {low = low} {component = c} has (to_interface is) = let e = no_array_interface P T program low (array_of_text low c has) in cc
+  component_through {low = low} {component = c} has (to_interface is) =
+      let e = no_array_interface P T program low (array_of_text low c has) in cc
   component_through {component = c} has to_object = absurd (no_object_array (array_of_text object c has))
   component_through {component = c} has (of_components {low_component = one} {high_component = other} is also conforms) =
       let same : other ≡ c = some_of (sym also ∙ has) in
@@ -53,20 +62,23 @@ module _ (P : Program) (T : Typings) (program : IsTypedProgram P T) where
     decides : IsSubtype (headers_in P) b c ↔ ((b ≡ c) ⊎ IsBelow (headers_in P) b c)
     decides =
         class_decides (headers_in P) (hierarchy_is_sound (headers_in P) program.hierarchy) program.hierarchy.no_array b c
-        (there_is_no_array (headers_in P) (hierarchy_is_sound (headers_in P) program.hierarchy) program.hierarchy.no_array b (low_is_there (directly b middle step)))
+        (there_is_no_array (headers_in P) (hierarchy_is_sound (headers_in P) program.hierarchy) program.hierarchy.no_array b
+        (low_is_there (directly b middle step)))
 
     by : (b ≡ c) ⊎ IsBelow (headers_in P) b c → NameConforms P a c
     by (inl same) = subst (λ n. NameConforms P a n) same conforms
     by (inr up) = name_assigned P T program b c (to_class_above b c up) conforms
   then_below (of_arrays _ _ is_array above) conforms = above_arrays P T program above
   then_below (components _ _ one other of_low also sub) conforms =
-      let c = component_through (component_is of_low) conforms in of_components c.is_component (component_is also) (then_below sub c.conforms)
+      let c = component_through (component_is of_low) conforms in of_components c.is_component (component_is also)
+      (then_below sub c.conforms)
 
   pub conforms_through : {b c : Name} → NameConforms P b c → {a : Name} → NameConforms P a b → NameConforms P a c
   conforms_through (to_below {low = b} {high = c} is) conforms = then_below ((program.links.below b c).0 is) conforms
   conforms_through (to_interface is) conforms = to_interface is
   conforms_through to_object conforms = to_object
-  conforms_through (of_components is also more) conforms = let c = component_through is conforms in of_components c.is_component also (conforms_through more c.conforms)
+  conforms_through (of_components is also more) conforms =
+      let c = component_through is conforms in of_components c.is_component also (conforms_through more c.conforms)
 
   pub shape_through : {shape : Shape} {b c : Name} → NameConforms P b c → ShapeConforms P shape b → ShapeConforms P shape c
   shape_through more (by_class is) = by_class (conforms_through more is)

@@ -117,16 +117,30 @@ abbrev AllTaken : ℕ → Option Elements → Type 0
 AllTaken n None = Unit {0}
 AllTaken n (Some e) = TakesElements n e
 
+takes_one : (n : ℕ) (kind : Kind) (name : Name) → IsArray name → component_named (component_text name) ≡ None → takes_array n name ≡ true
+    → kind_of (type_of (component_text name)) ≡ kind → TakesArray n kind name
+takes_one n kind name is flat takes same = record { is_array = is; of_numbers = flat; takes = takes; is_kind = same }
+
 all_taken : (n : ℕ) → n < 8 → AllTaken n (elements_of n)
 unfolding takes_ints takes_longs takes_floats takes_doubles
-all_taken zero below = record { kind = takes_ints 0 (λ x. refl); arrays = (record { is_array = (_, refl); of_numbers = refl; takes = refl; is_kind = refl }, tt) }
-all_taken (suc zero) below = record { kind = takes_longs 1 (λ x. refl); arrays = (record { is_array = (_, refl); of_numbers = refl; takes = refl; is_kind = refl }, tt) }
-all_taken (suc (suc zero)) below = record { kind = takes_floats 2 (λ x. refl); arrays = (record { is_array = (_, refl); of_numbers = refl; takes = refl; is_kind = refl }, tt) }
-all_taken (suc (suc (suc zero))) below = record { kind = takes_doubles 3 (λ x. refl); arrays = (record { is_array = (_, refl); of_numbers = refl; takes = refl; is_kind = refl }, tt) }
+all_taken zero below = record { kind = takes_ints 0 (λ x. refl); arrays = (takes_one _ _ _ (_, refl) refl refl refl, tt) }
+all_taken (suc zero) below = record { kind = takes_longs 1 (λ x. refl); arrays = (takes_one _ _ _ (_, refl) refl refl refl, tt) }
+all_taken (suc (suc zero)) below = record { kind = takes_floats 2 (λ x. refl); arrays = (takes_one _ _ _ (_, refl) refl refl refl, tt) }
+all_taken (suc (suc (suc zero))) below =
+    record { kind = takes_doubles 3 (λ x. refl); arrays = (takes_one _ _ _ (_, refl) refl refl refl, tt) }
 all_taken (suc (suc (suc (suc zero)))) below = tt
-all_taken (suc (suc (suc (suc (suc zero))))) below = record { kind = takes_ints 5 (λ x. refl); arrays = (record { is_array = (_, refl); of_numbers = refl; takes = refl; is_kind = refl }, (record { is_array = (_, refl); of_numbers = refl; takes = refl; is_kind = refl }, tt)) }
-all_taken (suc (suc (suc (suc (suc (suc zero)))))) below = record { kind = takes_ints 6 (λ x. refl); arrays = (record { is_array = (_, refl); of_numbers = refl; takes = refl; is_kind = refl }, tt) }
-all_taken (suc (suc (suc (suc (suc (suc (suc zero))))))) below = record { kind = takes_ints 7 (λ x. refl); arrays = (record { is_array = (_, refl); of_numbers = refl; takes = refl; is_kind = refl }, tt) }
+all_taken (suc (suc (suc (suc (suc zero))))) below =
+    record {
+      kind = takes_ints 5 (λ x. refl);
+      arrays = (
+        takes_one _ _ _ (_, refl) refl refl refl,
+        (takes_one _ _ _ (_, refl) refl refl refl, tt),
+      );
+    }
+all_taken (suc (suc (suc (suc (suc (suc zero)))))) below =
+    record { kind = takes_ints 6 (λ x. refl); arrays = (takes_one _ _ _ (_, refl) refl refl refl, tt) }
+all_taken (suc (suc (suc (suc (suc (suc (suc zero))))))) below =
+    record { kind = takes_ints 7 (λ x. refl); arrays = (takes_one _ _ _ (_, refl) refl refl refl, tt) }
 all_taken (suc (suc (suc (suc (suc (suc (suc (suc n)))))))) below = absurd (omega (arith, below))
 
 pub elements_taken : (n : ℕ) (e : Elements) → n < 8 → elements_of n ≡ Some e → TakesElements n e
@@ -166,4 +180,6 @@ component_type_of (first ∷ rest) component is = by (first == left_bracket) ref
 -- the name of a component as the rows have it
 pub component_name : {name component : Name} → IsReferenceComponent name component → component_of name ≡ component
 component_name (array component is) = rw is.1 refl
-component_name (class component) = take_at component (semicolon ∷ []) (length (component ++ semicolon ∷ []) - 1) (let e = length_push component semicolon in omega (arith, e))
+component_name (class component) =
+    take_at component (semicolon ∷ []) (length (component ++ semicolon ∷ []) - 1)
+    (let e = length_push component semicolon in omega (arith, e))

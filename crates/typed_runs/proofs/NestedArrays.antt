@@ -60,8 +60,10 @@ pub inner_there : (headers : Headers) (inner : Name) → IsNamedThere headers (l
 inner_there headers inner is =
     let outside : (brackets (left_bracket ∷ left_bracket ∷ inner) == 0) ≡ false = search arith in
     let inside : (brackets (left_bracket ∷ inner) == 0) ≡ false = search arith in
-    let more : brackets (left_bracket ∷ left_bracket ∷ inner) ≡ suc (brackets (left_bracket ∷ inner)) = one_bracket (left_bracket ∷ inner) in
-    let same : drop (brackets (left_bracket ∷ left_bracket ∷ inner)) (left_bracket ∷ left_bracket ∷ inner) ≡ drop (brackets (left_bracket ∷ inner)) (left_bracket ∷ inner) =
+    let more : brackets (left_bracket ∷ left_bracket ∷ inner) ≡ suc (brackets (left_bracket ∷ inner)) = one_bracket
+    (left_bracket ∷ inner) in
+    let same : drop (brackets (left_bracket ∷ left_bracket ∷ inner)) (left_bracket ∷ left_bracket ∷ inner) ≡ drop
+    (brackets (left_bracket ∷ inner)) (left_bracket ∷ inner) =
     ap (λ n. drop n (left_bracket ∷ left_bracket ∷ inner)) more in
     let named = rw outside at is in
     rw inside (rw same at named)
@@ -69,7 +71,8 @@ inner_there headers inner is =
 pub deep_of : (n dimensions : ℕ) (text : Name) → n ≤ dimensions → IsDeep n (replicate dimensions left_bracket ++ text)
 deep_of zero dimensions text few = tt
 deep_of (suc n) zero text few = absurd (omega (arith, few))
-deep_of (suc n) (suc dimensions) text few = (replicate dimensions left_bracket ++ text, refl, deep_of n dimensions text (omega (arith, few)))
+deep_of (suc n) (suc dimensions) text few =
+    (replicate dimensions left_bracket ++ text, refl, deep_of n dimensions text (omega (arith, few)))
 
 pub is_deep : (n : ℕ) (desc : Name) → HasDimensions desc n → IsDeep n desc
 is_deep n desc has = subst (IsDeep n) (sym has.spelled) (deep_of n has.dimensions _ has.enough)
@@ -106,15 +109,20 @@ module _ (P : Program) (T : Typings) (program : IsTypedProgram P T) where
       by deep.0 deep.2.0 deep.1 deep.2.1 deep.2.2 there (λ d n t below named. nested_made counts d next n t below named) where
         by : (rest inner : Name) → desc ≡ left_bracket ∷ rest → rest ≡ left_bracket ∷ inner → IsDeep (length counts) inner
             → IsNamedThere (headers_in P) desc
-            → ((d : Name) (n : Memory) → IsTypedMemory P n → IsDeep (suc (length counts)) d → IsNamedThere (headers_in P) d → ArrayMade P n d (nested d next counts n.heap))
+            → ((d : Name) (n : Memory) → IsTypedMemory P n → IsDeep (suc (length counts)) d → IsNamedThere (headers_in P) d → ArrayMade P n
+            d (nested d next counts n.heap))
             → ArrayMade P m desc (nested desc count (next ∷ counts) m.heap)
         by rest inner outer is below named each =
             let full : desc ≡ left_bracket ∷ left_bracket ∷ inner = outer ∙ ap (λ r. left_bracket ∷ r) is in
-            let there : IsNamedThere (headers_in P) (left_bracket ∷ left_bracket ∷ inner) = subst (λ d. IsNamedThere (headers_in P) d) full named in
-            let all = times_made inner (nested (left_bracket ∷ inner) next counts) (λ n t. each (left_bracket ∷ inner) n t (inner, refl, below) (inner_there (headers_in P) inner there)) count m typed in
+            let there : IsNamedThere (headers_in P) (left_bracket ∷ left_bracket ∷ inner) = subst (λ d. IsNamedThere (headers_in P) d) full
+            named in
+            let all = times_made inner (nested (left_bracket ∷ inner) next counts)
+            (λ n t. each (left_bracket ∷ inner) n t (inner, refl, below) (inner_there (headers_in P) inner there)) count m typed in
             let elements = made_times (nested (left_bracket ∷ inner) next counts) count m.heap in
-            let made = array_made P (with_heap m elements.heap) (left_bracket ∷ left_bracket ∷ inner) count elements.values all.typed (left_bracket ∷ inner, refl) there all.as_many all.elements in
-            subst (λ d. ArrayMade P m d (nested d count (next ∷ counts) m.heap)) (sym full) (record { keep = keeps_through all.keep made.keep; typed = made.typed; len = made.len; shape = made.shape })
+            let made = array_made P (with_heap m elements.heap) (left_bracket ∷ left_bracket ∷ inner) count elements.values all.typed
+            (left_bracket ∷ inner, refl) there all.as_many all.elements in
+            subst (λ d. ArrayMade P m d (nested d count (next ∷ counts) m.heap)) (sym full)
+            (record { keep = keeps_through all.keep made.keep; typed = made.typed; len = made.len; shape = made.shape })
 
 -- ---- counts
 
@@ -140,7 +148,8 @@ pub are_counts : {P : Program} {s : RowScope} {h : Heap} (r : RowScope) (n : ℕ
 are_counts r zero [] [] fit no_values = refl
 are_counts r (suc n) (t ∷ ts) (v ∷ vs) fit (and_value c others) =
     let i = an_int_value fit.0 c in
-    subst (λ x. AreCounts (suc n) (counts_of (x ∷ vs))) (sym i.1) (one_more n i.0 vs (counts_of vs) refl (are_counts r n ts vs fit.1 others))
+    subst (λ x. AreCounts (suc n) (counts_of (x ∷ vs))) (sym i.1)
+    (one_more n i.0 vs (counts_of vs) refl (are_counts r n ts vs fit.1 others))
 are_counts r zero (t ∷ ts) vs fit all = absurd fit
 are_counts r (suc n) [] vs fit all = absurd fit
 are_counts r zero [] (v ∷ vs) fit all = elim all [ ]
@@ -148,25 +157,37 @@ are_counts r (suc n) (t ∷ ts) [] fit all = elim all [ ]
 
 -- ---- multianewarray
 
-module _ {P : Program} {T : Typings} {w : World} {f : MethodState} {rest : List RunFrame} {s : RowScope} {frame : Frame} {place : ℕ} {numbered : ℕ → ℕ} where
+module _ {P : Program} {T : Typings} {w : World} {f : MethodState} {rest : List RunFrame} {s : RowScope} {frame : Frame} {place : ℕ}
+    {numbered : ℕ → ℕ} where
   pub new_arrays_stays : (desc : Name) (dimensions : ℕ)
-      → Here P T w f rest s frame place numbered (plain frame (ints dimensions) (types.Object desc ∷ [])) (new_arrays desc dimensions) true []
+      → Here P T w f rest s frame place numbered (plain frame (ints dimensions) (types.Object desc ∷ [])) (new_arrays desc dimensions) true
+      []
       → StaysTyped P T w (op_step P w f rest (new_arrays desc dimensions))
   new_arrays_stays desc dimensions h =
       worked h (length (ints dimensions)) (sym many) (operands_here h).enough
       (by (counts_of (reverse (take (length (ints dimensions)) f.stack)))
-      (are_counts s dimensions (topmost (length (ints dimensions)) frame.stack) (reverse (take (length (ints dimensions)) f.stack)) h.holds.operands (operands_here h).values)) where
+      (are_counts s dimensions (topmost (length (ints dimensions)) frame.stack) (reverse (take (length (ints dimensions)) f.stack))
+      h.holds.operands (operands_here h).values)) where
         many : length (ints dimensions) ≡ dimensions
         many = length-replicate dimensions (of_kind kinds.Int)
 
         by_test : (count : ℕ) (counts : List ℕ) → suc (length counts) ≡ dimensions → (b : Bool)
-            → ComesTyped P T w f rest (length (ints dimensions)) (if b then ends array_too_long else gives_arrays w.memory (arrays_made (count ∷ counts)) (nested desc count counts w.memory.heap))
+            → ComesTyped P T w f rest (length (ints dimensions))
+            (if b then ends array_too_long else gives_arrays w.memory (arrays_made (count ∷ counts))
+            (nested desc count counts w.memory.heap))
         by_test count counts same true = ends_goes h array_too_long (record f { stack = drop (length (ints dimensions)) f.stack }) (λ e. cc)
         by_test count counts same false =
-            let made = nested_made P T h.typed.program counts desc count w.memory h.typed.memory (subst (λ n. IsDeep n desc) (sym same) (is_deep dimensions desc h.linked.0)) h.linked.2 in
+            let made = nested_made P T h.typed.program counts desc count w.memory h.typed.memory
+            (subst (λ n. IsDeep n desc) (sym same) (is_deep dimensions desc h.linked.0)) h.linked.2 in
             let after : Heap = (nested desc count counts w.memory.heap).heap in
-            gives_values h (record w.memory { heap = (nested desc count counts w.memory.heap).heap; allocations = w.memory.allocations + arrays_made (count ∷ counts) }) made.keep
-            (allocations_typed P (with_heap w.memory (nested desc count counts w.memory.heap).heap) (w.memory.allocations + arrays_made (count ∷ counts)) made.typed) (values.Ref (nested desc count counts w.memory.heap).reference ∷ [])
+            gives_values h (record w.memory {
+              heap = (nested desc count counts w.memory.heap).heap;
+              allocations = w.memory.allocations +
+                  arrays_made (count ∷ counts);
+            }) made.keep
+            (allocations_typed P (with_heap w.memory (nested desc count counts w.memory.heap).heap)
+            (w.memory.allocations + arrays_made (count ∷ counts)) made.typed)
+            (values.Ref (nested desc count counts w.memory.heap).reference ∷ [])
             (and_value (an_object made.shape (by_class (array_itself P T h.typed.program desc))) no_values)
 
         by : (c : Counts) → AreCounts dimensions c
@@ -177,7 +198,8 @@ module _ {P : Program} {T : Typings} {w : World} {f : MethodState} {rest : List 
         by no_counts are = absurd are
 
   pub named_arrays_stays : (name : Option Name) (dimensions : ℕ)
-      → Here P T w f rest s frame place numbered (access_aside (made_row frame dimensions name)) (naming name (λ n. new_arrays n dimensions)) true []
+      → Here P T w f rest s frame place numbered (access_aside (made_row frame dimensions name))
+      (naming name (λ n. new_arrays n dimensions)) true []
       → StaysTyped P T w (op_step P w f rest (naming name (λ n. new_arrays n dimensions)))
   named_arrays_stays None dimensions h = absurd h.linked
   named_arrays_stays (Some desc) dimensions h = new_arrays_stays desc dimensions h

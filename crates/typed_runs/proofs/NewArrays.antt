@@ -65,7 +65,8 @@ array_made P m desc count elements typed is there long all =
             is_array = is;
             element_there = there;
             as_long = long;
-            elements = AllByRecursion-weaker (FitsDescriptor P m.heap (component_text desc)) (FitsDescriptor P after (component_text desc)) (λ x fits. field_kept P keep (type_of (component_text desc)) x fits) elements all;
+            elements = AllByRecursion-weaker (FitsDescriptor P m.heap (component_text desc)) (FitsDescriptor P after (component_text desc))
+                (λ x fits. field_kept P keep (type_of (component_text desc)) x fits) elements all;
           });
       len = count;
       shape = made_shape m.heap (shapes.Array desc count) elements;
@@ -75,8 +76,10 @@ array_made P m desc count elements typed is there long all =
 pub blank_made : (P : Program) (m : Memory) (desc : Name) (count : ℕ) → IsTypedMemory P m → IsArray desc → IsNamedThere (headers_in P) desc
     → ArrayMade P m desc (blank_array m.heap desc count)
 blank_made P m desc count typed is there =
-    array_made P m desc count (replicate count (blank_value (component_text desc))) typed is there (length-replicate count (blank_value (component_text desc)))
-    (each_same (FitsDescriptor P m.heap (component_text desc)) count (blank_value (component_text desc)) (blank_fits P m.heap (component_text desc)))
+    array_made P m desc count (replicate count (blank_value (component_text desc))) typed is there
+    (length-replicate count (blank_value (component_text desc)))
+    (each_same (FitsDescriptor P m.heap (component_text desc)) count (blank_value (component_text desc))
+    (blank_fits P m.heap (component_text desc)))
 
 -- another count of allocations
 pub allocations_typed : (P : Program) (m : Memory) (n : ℕ) → IsTypedMemory P m → IsTypedMemory P (record m { allocations = n })
@@ -87,7 +90,8 @@ array_itself P T program desc = to_below ((program.links.below desc desc).1 (its
 
 -- ---- newarray and anewarray
 
-module _ {P : Program} {T : Typings} {w : World} {f : MethodState} {rest : List RunFrame} {s : RowScope} {frame : Frame} {place : ℕ} {numbered : ℕ → ℕ} where
+module _ {P : Program} {T : Typings} {w : World} {f : MethodState} {rest : List RunFrame} {s : RowScope} {frame : Frame} {place : ℕ}
+    {numbered : ℕ → ℕ} where
   pub new_array_stays : (desc : Name)
       → Here P T w f rest s frame place numbered (plain frame (of_kind kinds.Int ∷ []) (types.Object desc ∷ [])) (new_array desc) true []
       → StaysTyped P T w (op_step P w f rest (new_array desc))
@@ -97,8 +101,10 @@ module _ {P : Program} {T : Typings} {w : World} {f : MethodState} {rest : List 
     by_test count true = ends_goes h array_too_long (record f { stack = drop 1 f.stack }) (λ e. cc)
     by_test count false =
         let made = blank_made P w.memory desc count h.typed.memory h.linked.0 h.linked.1 in
-        gives_values h (record w.memory { heap = (blank_array w.memory.heap desc count).heap; allocations = w.memory.allocations + 1 }) made.keep
-        (allocations_typed P (with_heap w.memory (blank_array w.memory.heap desc count).heap) (w.memory.allocations + 1) made.typed) (values.Ref (blank_array w.memory.heap desc count).reference ∷ [])
+        gives_values h (record w.memory { heap = (blank_array w.memory.heap desc count).heap; allocations = w.memory.allocations + 1 })
+        made.keep
+        (allocations_typed P (with_heap w.memory (blank_array w.memory.heap desc count).heap) (w.memory.allocations + 1) made.typed)
+        (values.Ref (blank_array w.memory.heap desc count).reference ∷ [])
         (and_value (an_object made.shape (by_class (array_itself P T h.typed.program desc))) no_values)
 
     by_int : (v : Value) (i : ℤ) → v ≡ values.Int i → ComesTyped P T w f rest 1 (new_array_work w.memory desc (v ∷ []))

@@ -64,8 +64,10 @@ all_blank P h [] = tt
 all_blank P h (name ∷ names) =
     let fields : List Member = own_fields (headers_in P) name in
     let others : List Member = flat_map (own_fields (headers_in P)) names in
-    subst (λ vs. FitSlots P h (own_slots P name ++ flat_map (own_slots P) names) vs) (sym (map-append (λ (field : Member). blank_value field.desc) fields others))
-    (append_fits P h (own_slots P name) (flat_map (own_slots P) names) (blank_values fields) (blank_values others) (own_blank P h name fields) (all_blank P h names))
+    subst (λ vs. FitSlots P h (own_slots P name ++ flat_map (own_slots P) names) vs)
+    (sym (map-append (λ (field : Member). blank_value field.desc) fields others))
+    (append_fits P h (own_slots P name) (flat_map (own_slots P) names) (blank_values fields) (blank_values others)
+    (own_blank P h name fields) (all_blank P h names))
 
 pub blank_slots : (P : Program) (h : Heap) (name : Name)
     → FitSlots P h (slots_of P name) (blank_values (instance_fields (headers_in P) name))
@@ -87,19 +89,26 @@ object_made P m name typed is = by (folder_number P name) refl where
   by : (n : Option ℕ) → folder_number P name ≡ n → ObjectMade P m name (object_of P m.heap name)
   by None outside = rw outside (record {
     keep = made_keeps m.heap (shapes.External name []) [];
-    typed = made_typed P m (shapes.External name []) [] typed (record { is_there = ap is_some is.found; of_library = outside; interfaces = tt });
+    typed = made_typed P m (shapes.External name []) [] typed
+        (record { is_there = ap is_some is.found; of_library = outside; interfaces = tt });
     shape = shapes.External name [];
     has_shape = made_shape m.heap (shapes.External name []) [];
     of_class = refl;
   })
   by (Some class) inside =
-      let found : First (λ (c : RunClass). bytes_eq name c.header.name) P.classes class = first_found (λ (c : RunClass). bytes_eq name c.header.name) P.classes class inside in
+      let found : First (λ (c : RunClass). bytes_eq name c.header.name) P.classes class = first_found
+      (λ (c : RunClass). bytes_eq name c.header.name) P.classes class inside in
       let there : slice_get P.classes class ≡ Some found.item = found.is_there in
       let same : name ≡ found.item.header.name = (bytes_eq-Decides name found.item.header.name).0 found.passed in
       let fields : List Value = blank_values (instance_fields (headers_in P) (name_of_class P class)) in
       rw inside (record {
         keep = made_keeps m.heap (shapes.Folder class) fields;
-        typed = made_typed P m (shapes.Folder class) fields typed (record { found = found.item; is_class = there; fields = blank_slots P (blank_object P m.heap class).heap (name_of_class P class) });
+        typed = made_typed P m (shapes.Folder class) fields typed
+            (record {
+              found = found.item;
+              is_class = there;
+              fields = blank_slots P (blank_object P m.heap class).heap (name_of_class P class);
+            });
         shape = shapes.Folder class;
         has_shape = made_shape m.heap (shapes.Folder class) fields;
         of_class = rw there (sym same);
@@ -127,7 +136,8 @@ older_units at (and_unit one others) = and_unit (older_unit at one) (older_units
 
 -- ---- new
 
-module _ {P : Program} {T : Typings} {w : World} {f : MethodState} {rest : List RunFrame} {s : RowScope} {frame : Frame} {place : ℕ} {numbered : ℕ → ℕ} where
+module _ {P : Program} {T : Typings} {w : World} {f : MethodState} {rest : List RunFrame} {s : RowScope} {frame : Frame} {place : ℕ}
+    {numbered : ℕ → ℕ} where
   pub new_object_stays : (name : Name)
       → Here P T w f rest s frame place numbered (access_aside (new_row frame place)) (new_object name) true [] → Does P T w.memory.heap f
       → StaysTyped P T w (op_step P w f rest (new_object name))
@@ -138,8 +148,10 @@ module _ {P : Program} {T : Typings} {w : World} {f : MethodState} {rest : List 
       let after : Memory = record w.memory { heap = (object_of P w.memory.heap name).heap; allocations = w.memory.allocations + 1 } in
       worked h 0 refl (omega arith)
       (begun_first_goes h does f name (gives after (values.Ref (object_of P w.memory.heap name).reference ∷ []))
-      (gives_goes h 0 after made.keep (allocations_typed P (with_heap w.memory heap) (w.memory.allocations + 1) made.typed) (values.Ref (object_of P w.memory.heap name).reference ∷ []) h.next
-      (units_kept made.keep (older_units place h.locals)) (all_kept made.keep o.rest) (and_value (of_new h.linked.1 made.has_shape made.of_class) no_values)))
+      (gives_goes h 0 after made.keep (allocations_typed P (with_heap w.memory heap) (w.memory.allocations + 1) made.typed)
+      (values.Ref (object_of P w.memory.heap name).reference ∷ []) h.next
+      (units_kept made.keep (older_units place h.locals)) (all_kept made.keep o.rest)
+      (and_value (of_new h.linked.1 made.has_shape made.of_class) no_values)))
 
   pub named_object_stays : (name : Option Name)
       → Here P T w f rest s frame place numbered (access_aside (new_row frame place)) (naming name new_object) true []

@@ -38,10 +38,14 @@ module _ (Family : Op → Type 0) (no_meaningless : Family meaningless → ⊥) 
   not_constant pool (Some (consts.Long n)) no_value no_object is = no_value _ is
   not_constant pool (Some (consts.Float n)) no_value no_object is = no_value _ is
   not_constant pool (Some (consts.Double n)) no_value no_object is = no_value _ is
-  not_constant pool (Some (consts.String t)) no_value no_object is = not_found (utf8_at pool t) (λ x. push_constant (objects.Str x)) (λ x. no_object (objects.Str x)) is
-  not_constant pool (Some (consts.Class t)) no_value no_object is = not_found (utf8_at pool t) (λ x. push_constant (objects.Class x)) (λ x. no_object (objects.Class x)) is
-  not_constant pool (Some (consts.MethodType t)) no_value no_object is = not_found (utf8_at pool t) (λ x. push_constant (objects.MethodType x)) (λ x. no_object (objects.MethodType x)) is
-  not_constant pool (Some (consts.MethodHandle kind reference)) no_value no_object is = not_found (handle_of pool kind reference) push_constant no_object is
+  not_constant pool (Some (consts.String t)) no_value no_object is =
+      not_found (utf8_at pool t) (λ x. push_constant (objects.Str x)) (λ x. no_object (objects.Str x)) is
+  not_constant pool (Some (consts.Class t)) no_value no_object is =
+      not_found (utf8_at pool t) (λ x. push_constant (objects.Class x)) (λ x. no_object (objects.Class x)) is
+  not_constant pool (Some (consts.MethodType t)) no_value no_object is =
+      not_found (utf8_at pool t) (λ x. push_constant (objects.MethodType x)) (λ x. no_object (objects.MethodType x)) is
+  not_constant pool (Some (consts.MethodHandle kind reference)) no_value no_object is =
+      not_found (handle_of pool kind reference) push_constant no_object is
   not_constant pool c no_value no_object is = no_meaningless is
 
   pub not_returned : (result : Option FieldType) (kind : Option Kind) → (Family return_nothing → ⊥)
@@ -54,23 +58,26 @@ module _ (Family : Op → Type 0) (no_meaningless : Family meaningless → ⊥) 
   pub not_called : (links : Links) (s : RowScope) (opcode : ℕ) (r : Reference) → (Family (call_virtual r) → ⊥)
       → ((start : Name) → Family (call_special r start) → ⊥) → (Family (call_static r) → ⊥) → (Family (call_interface r) → ⊥)
       → Family (call_op links s opcode r) → ⊥
-  not_called links s opcode r no_virtual no_special no_static no_interface is = by (opcode == INVOKEVIRTUAL) (opcode == INVOKESPECIAL) (opcode == INVOKESTATIC) (opcode == INVOKEINTERFACE) is where
-    by : (a b c d : Bool)
-        → Family (if a then call_virtual r else (if b then call_special r (special_start links s r.class) else (if c then call_static r else (if d then call_interface r else meaningless))))
-        → ⊥
-    by true b c d is = no_virtual is
-    by false true c d is = no_special (special_start links s r.class) is
-    by false false true d is = no_static is
-    by false false false true is = no_interface is
-    by false false false false is = no_meaningless is
+  not_called links s opcode r no_virtual no_special no_static no_interface is =
+      by (opcode == INVOKEVIRTUAL) (opcode == INVOKESPECIAL) (opcode == INVOKESTATIC) (opcode == INVOKEINTERFACE) is where
+        by : (a b c d : Bool)
+            → Family (if a then call_virtual r else (if b then call_special r (special_start links s r.class) else
+            (if c then call_static r else (if d then call_interface r else meaningless))))
+            → ⊥
+        by true b c d is = no_virtual is
+        by false true c d is = no_special (special_start links s r.class) is
+        by false false true d is = no_static is
+        by false false false true is = no_interface is
+        by false false false false is = no_meaningless is
 
   pub not_dynamic : (s : RowScope) (c : Option Const)
       → ((class : Name) (bootstrap : ℕ) (name desc : Name) → Family (call_dynamic class bootstrap name desc) → ⊥) → Family (dynamic_op s c)
       → ⊥
   not_dynamic s None no_call is = no_meaningless is
-  not_dynamic s (Some (consts.InvokeDynamic bootstrap member)) no_call is = by (name_at s.pool member) (descriptor_at s.pool member) is where
-    by : (n d : Option Name) → Family (dynamic_of s bootstrap n d) → ⊥
-    by None d is = no_meaningless is
-    by (Some n) None is = no_meaningless is
-    by (Some n) (Some d) is = no_call s.own.name bootstrap n d is
+  not_dynamic s (Some (consts.InvokeDynamic bootstrap member)) no_call is =
+      by (name_at s.pool member) (descriptor_at s.pool member) is where
+        by : (n d : Option Name) → Family (dynamic_of s bootstrap n d) → ⊥
+        by None d is = no_meaningless is
+        by (Some n) None is = no_meaningless is
+        by (Some n) (Some d) is = no_call s.own.name bootstrap n d is
   not_dynamic s (Some c) no_call is = no_meaningless is
