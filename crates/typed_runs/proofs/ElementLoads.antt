@@ -110,8 +110,8 @@ module _ {P : Program} {T : Typings} {w : World} {f : MethodState} {rest : List 
             → FitsDescriptor P w.memory.heap (component_text desc) y → Conforms P (T f.at).scope w.memory.heap e.type y
         held desc name same named y fits =
             let kind = field_kind P w.memory.heap (type_of (component_text desc)) y fits in
-            let has : has_kind taken.kind.kind y ≡ true =
-            subst (λ k. has_kind k y ≡ true) (ap (λ d. kind_of (type_of (component_text d))) same ∙ (array_taken name named).is_kind) kind in
+            let kind_is = ap (λ d. kind_of (type_of (component_text d))) same ∙ (array_taken name named).is_kind in
+            let has : has_kind taken.kind.kind y ≡ true = subst (λ k. has_kind k y ≡ true) kind_is kind in
             subst (λ t. Conforms P (T f.at).scope w.memory.heap t y) taken.kind.loads
             (number_conforms taken.kind.kind y has (taken.kind.numbers y has))
 
@@ -152,9 +152,8 @@ module _ {P : Program} {T : Typings} {w : World} {f : MethodState} {rest : List 
         by_array v x i int lowest (inr a) =
             let c = component_through P T h.typed.program (component_is a.named.1) a.array.conforms in
             let text : Name = component_text a.array.desc in
-            let of_array : types.Object (component_of a.name) ≡ component_type (lowest_of 2 frame.stack) = sym (ap component_type (lowest ∙ a.is_type)) in
             let type_is : types.Object a.named.0 ≡ component_type (lowest_of 2 frame.stack) =
-            ap types.Object (sym (component_name a.named.1)) ∙ of_array in
+            ap types.Object (sym (component_name a.named.1)) ∙ sym (ap component_type (lowest ∙ a.is_type)) in
             load_goes h (AALOAD - IALOAD) v x i int a.name a.array (rw c.is_component refl) (λ y fits.
             subst (λ t. Conforms P (T f.at).scope w.memory.heap t y) type_is
             (held a.named.0 c.name c.conforms y

@@ -22,6 +22,7 @@ use Rattle.machine_values.specs.declared.value.Value.{Value}
 use Rattle.machine_values.specs.declared.value.Value.TheVariants as values
 use Rattle.member_link.specs.Machine.ArraySteps.{takes_array, index_in, stores_value, fits_component, store_element_work}
 use Rattle.member_link.specs.Machine.Codes.{if_between}
+use Rattle.member_link.specs.Machine.Completions.{raises}
 use Rattle.member_link.specs.Machine.Ops.{Op, meaningless, store_element}
 use Rattle.member_link.specs.Machine.Performing.{perform}
 use Rattle.member_link.specs.Machine.Programs.{Program}
@@ -32,12 +33,12 @@ use Rattle.member_link.specs.Machine.Worlds.{World, Memory, with_heap}
 use Rattle.member_link.specs.RowScope.{RowScope}
 use Rattle.member_link.specs.Rows.ArrayRows.{Elements, elements_of, elements_from, elements_store_row, array_store_row, need_of_value}
 use Rattle.member_link.specs.Rows.Operands.{Need, of_kind, initialised, IsInitialised, array_among, array_of_references, Fits, IsAmong, topmost}
-use Rattle.member_link.specs.Rows.Row.{access_aside, plain, either}
-use Rattle.typed_runs.proofs.ArrayShapes.{IsArrayIn, IsArrayOf, an_array_value, same_array}
+use Rattle.member_link.specs.Rows.Row.{Row, access_aside, plain, either}
+use Rattle.typed_runs.proofs.ArrayShapes.{IsArrayIn, IsArrayOf, IsOfReferences, an_array_value, same_array}
 use Rattle.typed_runs.proofs.AssignedNames.{component_is}
 use Rattle.typed_runs.proofs.Basics.{same_number, within}
 use Rattle.typed_runs.proofs.ConformsThrough.{component_through}
-use Rattle.typed_runs.proofs.ElementTypes.{TakesElements, elements_taken, among_taken, counted_from, component_type_of}
+use Rattle.typed_runs.proofs.ElementTypes.{TakesElements, TakesArray, elements_taken, among_taken, counted_from, component_type_of}
 use Rattle.typed_runs.proofs.Here.{Here, operands_here, worked, gives_values}
 use Rattle.typed_runs.proofs.Kept.{Keeps, field_kept}
 use Rattle.typed_runs.proofs.Memories.{object_keeps, object_typed}
@@ -48,7 +49,7 @@ use Rattle.typed_runs.proofs.Starting.{number_narrowed}
 use Rattle.typed_runs.proofs.Taken.{an_int_value, takes_nothing}
 use Rattle.typed_runs.proofs.Units.{kind_conforms}
 use Rattle.typed_runs.proofs.Unwinding.{instance_conforms}
-use Rattle.typed_runs.specs.Conforming.{Conforms, only_null, null_object, an_object, no_values, to_none, to_one, FieldConforms, FitsDescriptor, HoldsShape, IsTypedMemory}
+use Rattle.typed_runs.specs.Conforming.{HasShape, RefersTo, Conforms, only_null, null_object, an_object, no_values, to_none, to_one, FieldConforms, FitsDescriptor, HoldsShape, IsTypedMemory}
 use Rattle.typed_runs.specs.TypedPrograms.{Typings}
 use Rattle.typed_runs.specs.TypedWorlds.{StaysTyped}
 
@@ -80,6 +81,7 @@ element_set P m a at y typed fits =
     let old : Object = record { shape = shapes.Array a.desc a.len; values = a.elements; monitor = a.monitor } in
     let after : Heap = with_object m.heap a.reference (changed a at y) in
     let keep : Keeps m.heap after = object_keeps m.heap a.reference old (changed a at y) a.is_there refl in
+    let text : Name = component_text a.desc in
     record {
       keep = keep;
       typed = object_typed P m a.reference old (changed a at y) typed a.is_there refl
@@ -87,34 +89,45 @@ element_set P m a at y typed fits =
             is_array = a.holds.is_array;
             element_there = a.holds.element_there;
             as_long = set_length a.elements at y ∙ a.holds.as_long;
-            elements = AllByRecursion-weaker (FitsDescriptor P m.heap (component_text a.desc)) (FitsDescriptor P after (component_text a.desc)) (λ x is. field_kept P keep (type_of (component_text a.desc)) x is) (slice_set a.elements at y)
-                (set_each (FitsDescriptor P m.heap (component_text a.desc)) a.elements at y a.holds.elements fits);
+            elements = AllByRecursion-weaker (FitsDescriptor P m.heap text) (FitsDescriptor P after text)
+                (λ x is. field_kept P keep (type_of text) x is) (slice_set a.elements at y)
+                (set_each (FitsDescriptor P m.heap text) a.elements at y a.holds.elements fits);
           });
     }
 
 -- ---- a store into an array
 
-module _ {P : Program} {T : Typings} {w : World} {f : MethodState} {rest : List RunFrame} {s : RowScope} {frame : Frame} {place : ℕ} {numbered : ℕ → ℕ} {first third : Need} {op : Op}
+module _ {P : Program} {T : Typings} {w : World} {f : MethodState} {rest : List RunFrame} {s : RowScope} {frame : Frame} {place : ℕ}
+    {numbered : ℕ → ℕ} {first third : Need} {op : Op}
     (h : Here P T w f rest s frame place numbered (plain frame (first ∷ of_kind kinds.Int ∷ third ∷ []) []) op true []) where
   pub store_null : (n : ℕ) (v x y : Value) (i : ℤ) → v ≡ values.Null → x ≡ values.Int i → stores_value n y ≡ true
       → ComesTyped P T w f rest 3 (store_element_work P w.memory n (v ∷ x ∷ y ∷ []))
-  store_null n v x y i null is stored = rw is (rw stored (rw null (raises_goes h null_pointer (drop 3 f.stack) (raises_null P T h.typed.program))))
+  store_null n v x y i null is stored =
+      rw is (rw stored (rw null (raises_goes h null_pointer (drop 3 f.stack) (raises_null P T h.typed.program))))
 
   pub store_goes : (n : ℕ) (v x y : Value) (i : ℤ) → x ≡ values.Int i → stores_value n y ≡ true
       → (name : Name) (a : IsArrayIn P w.memory.heap name v) → takes_array n a.desc ≡ true
-      → (fits_component P w.memory a.desc y ≡ true → FitsDescriptor P w.memory.heap (component_text a.desc) (narrowed (type_of (component_text a.desc)) y))
+      → (fits_component P w.memory a.desc y ≡ true
+      → FitsDescriptor P w.memory.heap (component_text a.desc) (narrowed (type_of (component_text a.desc)) y))
       → ComesTyped P T w f rest 3 (store_element_work P w.memory n (v ∷ x ∷ y ∷ []))
   store_goes n v x y i is stored name a takes element = by (index_in i a.len) refl where
+    outside : ComesTyped P T w f rest 3 (raises index_outside)
+    outside = raises_goes h index_outside (drop 3 f.stack) (raises_index P T h.typed.program)
+
+    no_instance : ComesTyped P T w f rest 3 (raises array_store)
+    no_instance = raises_goes h array_store (drop 3 f.stack) (raises_store P T h.typed.program)
+
     by_fit : (at : ℕ) → index_in i a.len ≡ Some at → (b : Bool) → fits_component P w.memory a.desc y ≡ b
         → ComesTyped P T w f rest 3 (store_element_work P w.memory n (v ∷ x ∷ y ∷ []))
-    by_fit at e false d = rw is (rw stored (rw a.is (rw a.is_there (rw takes (rw e (rw d (raises_goes h array_store (drop 3 f.stack) (raises_store P T h.typed.program))))))))
+    by_fit at e false d = rw is (rw stored (rw a.is (rw a.is_there (rw takes (rw e (rw d no_instance))))))
     by_fit at e true d =
         let set = element_set P w.memory a at (narrowed (type_of (component_text a.desc)) y) h.typed.memory (element d) in
+        let after : Heap = with_object w.memory.heap a.reference (changed a at (narrowed (type_of (component_text a.desc)) y)) in
         rw is (rw stored (rw a.is (rw a.is_there (rw takes (rw e (rw d (rw a.is_there
-        (gives_values h (with_heap w.memory (with_object w.memory.heap a.reference (changed a at (narrowed (type_of (component_text a.desc)) y)))) set.keep set.typed [] no_values))))))))
+        (gives_values h (with_heap w.memory after) set.keep set.typed [] no_values))))))))
 
     by : (at : Option ℕ) → index_in i a.len ≡ at → ComesTyped P T w f rest 3 (store_element_work P w.memory n (v ∷ x ∷ y ∷ []))
-    by None e = rw is (rw stored (rw a.is (rw a.is_there (rw takes (rw e (raises_goes h index_outside (drop 3 f.stack) (raises_index P T h.typed.program)))))))
+    by None e = rw is (rw stored (rw a.is (rw a.is_there (rw takes (rw e outside)))))
     by (Some at) e = by_fit at e (fits_component P w.memory a.desc y) refl
 
 -- ---- references
@@ -125,76 +138,90 @@ pub record StoresReference (P : Program) (m : Memory) (desc : Name) (y : Value) 
   pub fits : (component : Name) → component_named (component_text desc) ≡ Some component → fits_component P m desc y ≡ true
       → FitsDescriptor P m.heap (component_text desc) (narrowed (type_of (component_text desc)) y)
 
+-- a reference keeps all its bits
+pub reference_fits : (P : Program) (h : Heap) (text component : Name) (y : Value) → component_named text ≡ Some component
+    → narrowed (field_types.Named component) y ≡ y → RefersTo P h component y → FitsDescriptor P h text (narrowed (type_of text) y)
+reference_fits P h text component y is same refers =
+    subst (λ t. FieldConforms P h t (narrowed t y)) (sym (component_type_of text component is)) (subst (RefersTo P h component) (sym same) refers)
+
 pub null_stored : (P : Program) (m : Memory) (desc : Name) → StoresReference P m desc values.Null
 null_stored P m desc = record {
   stored = refl;
-  fits = λ component e fits. subst (λ t. FieldConforms P m.heap t (narrowed t values.Null)) (sym (component_type_of (component_text desc) component e)) to_none;
+  fits = λ component is fits. reference_fits P m.heap (component_text desc) component values.Null is refl to_none;
 }
 
-pub stores_reference : (P : Program) (m : Memory) (desc : Name) {s : RowScope} {t : VType} {y : Value} → IsInitialised t
-    → Conforms P s m.heap t y → StoresReference P m desc y
+pub stores_reference : (P : Program) (m : Memory) (desc : Name) {s : RowScope} {t : VType} {y : Value}
+    → IsInitialised t → Conforms P s m.heap t y → StoresReference P m desc y
 stores_reference P m desc is only_null = null_stored P m desc
 stores_reference P m desc is null_object = null_stored P m desc
 stores_reference P m desc is (an_object {reference = r} has conforms) = record {
   stored = refl;
   fits = λ component e fits.
       let test : is_instance P has.object.shape component ≡ true = rw has.is_there at (rw e at fits) in
-      subst (λ t. FieldConforms P m.heap t (narrowed t (values.Ref r))) (sym (component_type_of (component_text desc) component e))
-      (to_one (record { object = has.object; is_there = has.is_there; same = refl }) (instance_conforms P has.object.shape component test));
+      let shape : HasShape m.heap r has.object.shape = record { object = has.object; is_there = has.is_there; same = refl } in
+      reference_fits P m.heap (component_text desc) component (values.Ref r) e refl
+      (to_one shape (instance_conforms P has.object.shape component test));
 }
 stores_reference P m desc is conforms = absurd is
 
--- ---- arrays of numbers
+-- ---- arrays of numbers, and of references
 
-pub number_fits : (P : Program) (m : Memory) (desc : Name) (v : Value) → has_kind kinds.Ref v ≡ false → fits_component P m desc v ≡ true
-number_fits P m desc (values.Int n) is = refl
-number_fits P m desc (values.Long n) is = refl
-number_fits P m desc (values.Float n) is = refl
-number_fits P m desc (values.Double n) is = refl
-number_fits P m desc v is = cc
+abbrev pub reference_store_row : Frame → Row
+reference_store_row frame = plain frame (array_of_references ∷ of_kind kinds.Int ∷ initialised ∷ []) []
 
-module _ {P : Program} {T : Typings} {w : World} {f : MethodState} {rest : List RunFrame} {s : RowScope} {frame : Frame} {place : ℕ} {numbered : ℕ → ℕ} where
+module _ {P : Program} {T : Typings} {w : World} {f : MethodState} {rest : List RunFrame} {s : RowScope} {frame : Frame} {place : ℕ}
+    {numbered : ℕ → ℕ} where
   pub number_store : (opcode : ℕ) (e : Elements) → opcode - IASTORE < 8 → elements_of (opcode - IASTORE) ≡ Some e
-      → Here P T w f rest s frame place numbered (plain frame (array_among e.arrays ∷ of_kind kinds.Int ∷ need_of_value e.type ∷ []) []) (store_element opcode) true []
+      → Here P T w f rest s frame place numbered (elements_store_row frame (Some e)) (store_element opcode) true []
       → StaysTyped P T w (op_step P w f rest (store_element opcode))
   number_store opcode e few is h =
-      worked h 3 refl (operands_here h).enough (of_three (array_among e.arrays) (of_kind kinds.Int) (need_of_value e.type) h (store_element_work P w.memory (opcode - IASTORE)) by) where
+      worked h 3 refl (operands_here h).enough
+      (of_three (array_among e.arrays) (of_kind kinds.Int) (need_of_value e.type) h
+      (store_element_work P w.memory (opcode - IASTORE)) by) where
         taken : TakesElements (opcode - IASTORE) e
         taken = elements_taken (opcode - IASTORE) e few is
+
+        array_taken : (name : Name) → IsAmong e.arrays name → TakesArray (opcode - IASTORE) taken.kind.kind name
+        array_taken name named = among_taken (opcode - IASTORE) taken.kind.kind e.arrays taken.arrays name named
 
         by_array : (v x y : Value) (i : ℤ) → x ≡ values.Int i → has_kind taken.kind.kind y ≡ true → {t : VType}
             → (v ≡ values.Null) ⊎ IsArrayOf P w.memory.heap (IsAmong e.arrays) t v
             → ComesTyped P T w f rest 3 (store_element_work P w.memory (opcode - IASTORE) (v ∷ x ∷ y ∷ []))
         by_array v x y i int has (inl null) = store_null h (opcode - IASTORE) v x y i null int (taken.kind.stores y has)
         by_array v x y i int has (inr a) =
-            let one = among_taken (opcode - IASTORE) taken.kind.kind e.arrays taken.arrays a.name a.named in
-            let same : a.array.desc ≡ a.name = same_array P T h.typed.program a.array.desc a.name one.is_array one.of_numbers a.array.conforms in
-            let kind : has_kind (kind_of (type_of (component_text a.array.desc))) y ≡ true = subst (λ k. has_kind k y ≡ true) (sym (ap (λ d. kind_of (type_of (component_text d))) same ∙ one.is_kind)) has in
-            store_goes h (opcode - IASTORE) v x y i int (taken.kind.stores y has) a.name a.array (subst (λ d. takes_array (opcode - IASTORE) d ≡ true) (sym same) one.takes)
-            (λ fits. number_narrowed P w.memory.heap (type_of (component_text a.array.desc)) y kind (taken.kind.numbers y has))
+            let one = array_taken a.name a.named in
+            let d : Name = a.array.desc in
+            let same : d ≡ a.name = same_array P T h.typed.program d a.name one.is_array one.of_numbers a.array.conforms in
+            let kind_is = ap (λ n. kind_of (type_of (component_text n))) same ∙ one.is_kind in
+            let kind = subst (λ k. has_kind k y ≡ true) (sym kind_is) has in
+            store_goes h (opcode - IASTORE) v x y i int (taken.kind.stores y has) a.name a.array
+            (ap (takes_array (opcode - IASTORE)) same ∙ one.takes)
+            (λ fits. number_narrowed P w.memory.heap (type_of (component_text d)) y kind (taken.kind.numbers y has))
 
         by : (v x y : Value)
-            → Three P (T f.at).scope w.memory.heap s (array_among e.arrays) (of_kind kinds.Int) (need_of_value e.type) (topmost 3 frame.stack) v x y
+            → Three P (T f.at).scope w.memory.heap s (array_among e.arrays) (of_kind kinds.Int) (need_of_value e.type)
+            (topmost 3 frame.stack) v x y
             → ComesTyped P T w f rest 3 (store_element_work P w.memory (opcode - IASTORE) (v ∷ x ∷ y ∷ []))
         by v x y three =
             let i = an_int_value three.second_fits three.second_conforms in
-            let fits : Fits s (of_kind taken.kind.kind) three.third_type = subst (λ need. Fits s need three.third_type) taken.kind.needs three.third_fits in
+            let fits = subst (λ need. Fits s need three.third_type) taken.kind.needs three.third_fits in
             by_array v x y i.0 i.1 (kind_conforms taken.kind.kind fits three.third_conforms)
-            (an_array_value P T h.typed.program w.memory h.typed.memory (IsAmong e.arrays) (λ name is. (among_taken (opcode - IASTORE) taken.kind.kind e.arrays taken.arrays name is).is_array) three.first_fits three.first_conforms)
+            (an_array_value P T h.typed.program w.memory h.typed.memory (IsAmong e.arrays)
+            (λ name named. (array_taken name named).is_array) three.first_fits three.first_conforms)
 
-  -- ---- arrays of references
-
-  pub reference_store : Here P T w f rest s frame place numbered (plain frame (array_of_references ∷ of_kind kinds.Int ∷ initialised ∷ []) []) (store_element AASTORE) true []
+  pub reference_store : Here P T w f rest s frame place numbered (reference_store_row frame) (store_element AASTORE) true []
       → StaysTyped P T w (op_step P w f rest (store_element AASTORE))
   reference_store h =
-      worked h 3 refl (operands_here h).enough (of_three array_of_references (of_kind kinds.Int) initialised h (store_element_work P w.memory (AASTORE - IASTORE)) by) where
+      worked h 3 refl (operands_here h).enough
+      (of_three array_of_references (of_kind kinds.Int) initialised h (store_element_work P w.memory (AASTORE - IASTORE)) by) where
         by_array : (v x y : Value) (i : ℤ) → x ≡ values.Int i → ((desc : Name) → StoresReference P w.memory desc y) → {t : VType}
-            → (v ≡ values.Null) ⊎ IsArrayOf P w.memory.heap (λ name. (component : Name) × IsReferenceComponent name component) t v
+            → (v ≡ values.Null) ⊎ IsArrayOf P w.memory.heap IsOfReferences t v
             → ComesTyped P T w f rest 3 (store_element_work P w.memory (AASTORE - IASTORE) (v ∷ x ∷ y ∷ []))
         by_array v x y i int stores (inl null) = store_null h (AASTORE - IASTORE) v x y i null int (stores []).stored
         by_array v x y i int stores (inr a) =
             let c = component_through P T h.typed.program (component_is a.named.1) a.array.conforms in
-            store_goes h (AASTORE - IASTORE) v x y i int (stores a.array.desc).stored a.name a.array (rw c.is_component refl) ((stores a.array.desc).fits c.name c.is_component)
+            let one = stores a.array.desc in
+            store_goes h (AASTORE - IASTORE) v x y i int one.stored a.name a.array (rw c.is_component refl) (one.fits c.name c.is_component)
 
         by : (v x y : Value)
             → Three P (T f.at).scope w.memory.heap s array_of_references (of_kind kinds.Int) initialised (topmost 3 frame.stack) v x y
@@ -202,12 +229,14 @@ module _ {P : Program} {T : Typings} {w : World} {f : MethodState} {rest : List 
         by v x y three =
             let i = an_int_value three.second_fits three.second_conforms in
             by_array v x y i.0 i.1 (λ desc. stores_reference P w.memory desc three.third_fits three.third_conforms)
-            (an_array_value P T h.typed.program w.memory h.typed.memory (λ name. (component : Name) × IsReferenceComponent name component) (λ name is. is_array_of is.1) three.first_fits three.first_conforms)
+            (an_array_value P T h.typed.program w.memory h.typed.memory IsOfReferences (λ name is. is_array_of is.1) three.first_fits
+            three.first_conforms)
 
   -- ---- by opcode
 
   pub store_stays : (opcode : ℕ)
-      → Here P T w f rest s frame place numbered (access_aside (array_store_row frame opcode)) (if_between IASTORE SASTORE opcode (store_element opcode)) true []
+      → Here P T w f rest s frame place numbered (access_aside (array_store_row frame opcode))
+      (if_between IASTORE SASTORE opcode (store_element opcode)) true []
       → StaysTyped P T w (op_step P w f rest (if_between IASTORE SASTORE opcode (store_element opcode)))
   store_stays opcode h = by (nat_le IASTORE opcode && nat_le opcode SASTORE) refl h where
     by_elements : (o : Option Elements) → elements_from IASTORE opcode ≡ o → opcode - IASTORE < 8
@@ -217,16 +246,18 @@ module _ {P : Program} {T : Typings} {w : World} {f : MethodState} {rest : List 
     by_elements (Some elements) e few k = number_store opcode elements few (counted_from IASTORE opcode elements e) k
 
     by_sort : (b : Bool) → (opcode == AASTORE) ≡ b → opcode - IASTORE < 8
-        → Here P T w f rest s frame place numbered (access_aside (either b (plain frame (array_of_references ∷ of_kind kinds.Int ∷ initialised ∷ []) []) (elements_store_row frame (elements_from IASTORE opcode)))) (store_element opcode) true []
+        → Here P T w f rest s frame place numbered
+        (access_aside (either b (reference_store_row frame) (elements_store_row frame (elements_from IASTORE opcode))))
+        (store_element opcode) true []
         → StaysTyped P T w (op_step P w f rest (store_element opcode))
     by_sort true e few k =
-        let same : opcode ≡ AASTORE = same_number opcode AASTORE e in
-        subst (λ o. Here P T w f rest s frame place numbered (plain frame (array_of_references ∷ of_kind kinds.Int ∷ initialised ∷ []) []) (store_element o) true [] → StaysTyped P T w (op_step P w f rest (store_element o)))
-        (sym same) reference_store k
+        subst (λ o. Here P T w f rest s frame place numbered (reference_store_row frame) (store_element o) true []
+        → StaysTyped P T w (op_step P w f rest (store_element o))) (sym (same_number opcode AASTORE e)) reference_store k
     by_sort false e few k = by_elements (elements_from IASTORE opcode) refl few k
 
     by : (b : Bool) → (nat_le IASTORE opcode && nat_le opcode SASTORE) ≡ b
-        → Here P T w f rest s frame place numbered (access_aside (array_store_row frame opcode)) (if b then store_element opcode else meaningless) true []
+        → Here P T w f rest s frame place numbered (access_aside (array_store_row frame opcode))
+        (if b then store_element opcode else meaningless) true []
         → StaysTyped P T w (op_step P w f rest (if b then store_element opcode else meaningless))
     by false e k = absurd k.linked
     by true e k = by_sort (opcode == AASTORE) refl (within IASTORE SASTORE opcode 8 e (omega arith)) k
