@@ -6,7 +6,6 @@ use Rattle.class_model.specs.declared.frame.VType.{VType}
 use Rattle.class_model.specs.declared.frame.VType.TheVariants as types
 use Rattle.class_model.specs.declared.header.Header.{Header}
 use Rattle.class_tree.specs.Headers.{Name, IsThere, class_named}
-use Rattle.class_tree.specs.Laws.Above.{hierarchy_is_sound, directly_there, there_is_no_array}
 use Rattle.class_tree.specs.Laws.Arrays.{not_above_arrays}
 use Rattle.class_tree.specs.Names.{object, is_interface}
 use Rattle.class_tree.specs.Order.{header_at}
@@ -25,6 +24,7 @@ use Rattle.member_link.specs.Machine.Worlds.{Memory}
 use Rattle.member_link.specs.RowScope.{RowScope}
 use Rattle.member_link.specs.Rows.Operands.{IsNullOr}
 use Rattle.typed_runs.proofs.AssignedNames.{component_is, array_of_text, no_object_array, no_array_interface, array_below}
+use Rattle.typed_runs.proofs.ConformsThrough.{class_is_no_array, not_under_array}
 use Rattle.typed_runs.specs.Conforming.{NameConforms, to_below, to_interface, to_object, of_components, ShapeConforms, by_class, by_interface, Conforms, only_null, null_object, an_object, HoldsShape, IsArrayObject, IsTypedMemory}
 use Rattle.typed_runs.specs.TypedPrograms.{Typings, IsTypedProgram}
 
@@ -54,6 +54,7 @@ pub record IsArrayOf (P : Program) (heap : Heap) (Named : Name → Type 0) (t : 
   pub named : Named name
   pub array : IsArrayIn P heap name v
 
+-- an array of references, by its component
 abbrev pub IsOfReferences : Name → Type 0
 IsOfReferences name = (component : Name) × IsReferenceComponent name component
 
@@ -77,13 +78,11 @@ module _ (P : Program) (T : Typings) (program : IsTypedProgram P T) where
 
   pub class_no_array : (low name : Name) → IsThere (headers_in P) low → IsArray name → NameConforms P low name → ⊥
   class_no_array low name there is (to_below up) =
-      there_is_no_array (headers_in P) (hierarchy_is_sound (headers_in P) program.hierarchy) program.hierarchy.no_array low there
-      (array_below P T program ((program.links.below low name).0 up) is)
+      class_is_no_array P T program low there (array_below P T program ((program.links.below low name).0 up) is)
   class_no_array low name there is (to_interface kind) = let e = no_array_interface P T program name is in cc
   class_no_array low name there is to_object = no_object_array is
   class_no_array low name there is (of_components {low_component = component} has also conforms) =
-      there_is_no_array (headers_in P) (hierarchy_is_sound (headers_in P) program.hierarchy) program.hierarchy.no_array low there
-      (array_of_text low component has)
+      class_is_no_array P T program low there (array_of_text low component has)
 
   -- ---- what is taken for an array is one
 
@@ -96,8 +95,8 @@ module _ (P : Program) (T : Typings) (program : IsTypedProgram P T) where
   array_shape heap (shapes.External class also) held name holds is (by_class conforms) =
       absurd (class_no_array class name holds.is_there is conforms)
   array_shape heap (shapes.External class also) held name holds is (by_interface {interface = interface} number found conforms) =
-      absurd (class_no_array interface name (interface_there interface
-      (at_index (λ n. IsTrue (is_interface_named P n)) also number interface holds.interfaces found)) is conforms)
+      let kind = at_index (λ n. IsTrue (is_interface_named P n)) also number interface holds.interfaces found in
+      absurd (class_no_array interface name (interface_there interface kind) is conforms)
 
   -- null, or a reference to an array
   pub an_array_value : (m : Memory) → IsTypedMemory P m → (Named : Name → Type 0) → ((name : Name) → Named name → IsArray name)
@@ -133,8 +132,7 @@ module _ (P : Program) (T : Typings) (program : IsTypedProgram P T) where
     by : {low : Name} → IsSubtype (headers_in P) low name → low ≡ name
     by (itself _) = refl
     by (below _ middle _ step rest) =
-        absurd (there_is_no_array (headers_in P) (hierarchy_is_sound (headers_in P) program.hierarchy) program.hierarchy.no_array middle
-        (directly_there (headers_in P) (hierarchy_is_sound (headers_in P) program.hierarchy) step) (array_below P T program rest is))
+        absurd (not_under_array P T program step rest is)
     by (of_arrays _ _ is_array above) = absurd (not_above_arrays is above)
     by (components _ _ one other has also sub) = let e = component_is also in cc
   same_array desc name is flat (to_interface kind) = let e = no_array_interface P T program name is in cc

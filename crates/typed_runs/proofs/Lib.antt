@@ -33,6 +33,7 @@ mod ArrayShapes
 mod ElementTypes
 mod OperandsTaken
 mod ElementLoads
+mod ElementWrites
 mod ElementStores
 mod ArrayLengths
 mod BlankValues

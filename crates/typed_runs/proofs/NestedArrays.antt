@@ -33,7 +33,7 @@ use Rattle.member_link.specs.Rows.Operands.{Need, of_kind, AllFit, topmost}
 use Rattle.member_link.specs.Rows.Row.{access_aside, plain}
 use Rattle.typed_runs.proofs.Here.{Here, operands_here, worked, gives_values}
 use Rattle.typed_runs.proofs.Kept.{Keeps, keeps_same, keeps_through, field_kept, shape_kept}
-use Rattle.typed_runs.proofs.NewArrays.{ArrayMade, array_made, blank_made, allocations_typed, array_itself}
+use Rattle.typed_runs.proofs.NewArrays.{ArrayMade, array_made, blank_made, array_itself, array_given}
 use Rattle.typed_runs.proofs.OperandsTaken.{ComesTyped}
 use Rattle.typed_runs.proofs.Performing.{raises_goes, ends_goes}
 use Rattle.typed_runs.proofs.Raising.{raises_size}
@@ -49,6 +49,7 @@ abbrev pub IsDeep : ℕ → Name → Type 0
 IsDeep zero desc = Unit {0}
 IsDeep (suc n) desc = (rest : Name) × (desc ≡ left_bracket ∷ rest) × IsDeep n rest
 
+-- behind the first bracket the same element is named
 one_bracket : (rest : Name) → brackets (left_bracket ∷ rest) ≡ suc (brackets rest)
 one_bracket rest =
     let n : ℕ = prefix_len (λ b. b == left_bracket) rest in
@@ -60,11 +61,9 @@ pub inner_there : (headers : Headers) (inner : Name) → IsNamedThere headers (l
 inner_there headers inner is =
     let outside : (brackets (left_bracket ∷ left_bracket ∷ inner) == 0) ≡ false = search arith in
     let inside : (brackets (left_bracket ∷ inner) == 0) ≡ false = search arith in
-    let more : brackets (left_bracket ∷ left_bracket ∷ inner) ≡ suc (brackets (left_bracket ∷ inner)) = one_bracket
-    (left_bracket ∷ inner) in
-    let same : drop (brackets (left_bracket ∷ left_bracket ∷ inner)) (left_bracket ∷ left_bracket ∷ inner) ≡ drop
-    (brackets (left_bracket ∷ inner)) (left_bracket ∷ inner) =
-    ap (λ n. drop n (left_bracket ∷ left_bracket ∷ inner)) more in
+    let desc : Name = left_bracket ∷ left_bracket ∷ inner in
+    let more : brackets desc ≡ suc (brackets (left_bracket ∷ inner)) = one_bracket (left_bracket ∷ inner) in
+    let same : drop (brackets desc) desc ≡ drop (brackets (left_bracket ∷ inner)) (left_bracket ∷ inner) = ap (λ n. drop n desc) more in
     let named = rw outside at is in
     rw inside (rw same at named)
 
@@ -109,18 +108,20 @@ module _ (P : Program) (T : Typings) (program : IsTypedProgram P T) where
       by deep.0 deep.2.0 deep.1 deep.2.1 deep.2.2 there (λ d n t below named. nested_made counts d next n t below named) where
         by : (rest inner : Name) → desc ≡ left_bracket ∷ rest → rest ≡ left_bracket ∷ inner → IsDeep (length counts) inner
             → IsNamedThere (headers_in P) desc
-            → ((d : Name) (n : Memory) → IsTypedMemory P n → IsDeep (suc (length counts)) d → IsNamedThere (headers_in P) d → ArrayMade P n
-            d (nested d next counts n.heap))
+            → ((d : Name) (n : Memory) → IsTypedMemory P n → IsDeep (suc (length counts)) d → IsNamedThere (headers_in P) d
+            → ArrayMade P n d (nested d next counts n.heap))
             → ArrayMade P m desc (nested desc count (next ∷ counts) m.heap)
         by rest inner outer is below named each =
             let full : desc ≡ left_bracket ∷ left_bracket ∷ inner = outer ∙ ap (λ r. left_bracket ∷ r) is in
-            let there : IsNamedThere (headers_in P) (left_bracket ∷ left_bracket ∷ inner) = subst (λ d. IsNamedThere (headers_in P) d) full
-            named in
-            let all = times_made inner (nested (left_bracket ∷ inner) next counts)
-            (λ n t. each (left_bracket ∷ inner) n t (inner, refl, below) (inner_there (headers_in P) inner there)) count m typed in
-            let elements = made_times (nested (left_bracket ∷ inner) next counts) count m.heap in
-            let made = array_made P (with_heap m elements.heap) (left_bracket ∷ left_bracket ∷ inner) count elements.values all.typed
-            (left_bracket ∷ inner, refl) there all.as_many all.elements in
+            let there = subst (λ d. IsNamedThere (headers_in P) d) full named in
+            let inside = inner_there (headers_in P) inner there in
+            let make : Heap → Made = nested (left_bracket ∷ inner) next counts in
+            let all = times_made inner make (λ n t. each (left_bracket ∷ inner) n t (inner, refl, below) inside) count m typed in
+            let elements : MadeElements = made_times make count m.heap in
+            let after : Memory = with_heap m elements.heap in
+            let made =
+            array_made P after (left_bracket ∷ left_bracket ∷ inner) count elements.values all.typed (left_bracket ∷ inner, refl) there
+            all.as_many all.elements in
             subst (λ d. ArrayMade P m d (nested d count (next ∷ counts) m.heap)) (sym full)
             (record { keep = keeps_through all.keep made.keep; typed = made.typed; len = made.len; shape = made.shape })
 
@@ -160,35 +161,27 @@ are_counts r (suc n) (t ∷ ts) [] fit all = elim all [ ]
 module _ {P : Program} {T : Typings} {w : World} {f : MethodState} {rest : List RunFrame} {s : RowScope} {frame : Frame} {place : ℕ}
     {numbered : ℕ → ℕ} where
   pub new_arrays_stays : (desc : Name) (dimensions : ℕ)
-      → Here P T w f rest s frame place numbered (plain frame (ints dimensions) (types.Object desc ∷ [])) (new_arrays desc dimensions) true
-      []
+      → Here P T w f rest s frame place numbered (plain frame (ints dimensions) (types.Object desc ∷ []))
+      (new_arrays desc dimensions) true []
       → StaysTyped P T w (op_step P w f rest (new_arrays desc dimensions))
   new_arrays_stays desc dimensions h =
-      worked h (length (ints dimensions)) (sym many) (operands_here h).enough
-      (by (counts_of (reverse (take (length (ints dimensions)) f.stack)))
-      (are_counts s dimensions (topmost (length (ints dimensions)) frame.stack) (reverse (take (length (ints dimensions)) f.stack))
-      h.holds.operands (operands_here h).values)) where
+      let n : ℕ = length (ints dimensions) in
+      let operands : List Value = reverse (take n f.stack) in
+      let o = operands_here h in
+      worked h n (sym many) o.enough
+      (by (counts_of operands) (are_counts s dimensions (topmost n frame.stack) operands h.holds.operands o.values)) where
         many : length (ints dimensions) ≡ dimensions
         many = length-replicate dimensions (of_kind kinds.Int)
 
         by_test : (count : ℕ) (counts : List ℕ) → suc (length counts) ≡ dimensions → (b : Bool)
             → ComesTyped P T w f rest (length (ints dimensions))
-            (if b then ends array_too_long else gives_arrays w.memory (arrays_made (count ∷ counts))
-            (nested desc count counts w.memory.heap))
+            (if b then ends array_too_long
+            else gives_arrays w.memory (arrays_made (count ∷ counts)) (nested desc count counts w.memory.heap))
         by_test count counts same true = ends_goes h array_too_long (record f { stack = drop (length (ints dimensions)) f.stack }) (λ e. cc)
         by_test count counts same false =
-            let made = nested_made P T h.typed.program counts desc count w.memory h.typed.memory
-            (subst (λ n. IsDeep n desc) (sym same) (is_deep dimensions desc h.linked.0)) h.linked.2 in
-            let after : Heap = (nested desc count counts w.memory.heap).heap in
-            gives_values h (record w.memory {
-              heap = (nested desc count counts w.memory.heap).heap;
-              allocations = w.memory.allocations +
-                  arrays_made (count ∷ counts);
-            }) made.keep
-            (allocations_typed P (with_heap w.memory (nested desc count counts w.memory.heap).heap)
-            (w.memory.allocations + arrays_made (count ∷ counts)) made.typed)
-            (values.Ref (nested desc count counts w.memory.heap).reference ∷ [])
-            (and_value (an_object made.shape (by_class (array_itself P T h.typed.program desc))) no_values)
+            let deep = subst (λ n. IsDeep n desc) (sym same) (is_deep dimensions desc h.linked.0) in
+            array_given h (arrays_made (count ∷ counts)) (nested desc count counts w.memory.heap)
+            (nested_made P T h.typed.program counts desc count w.memory h.typed.memory deep h.linked.2)
 
         by : (c : Counts) → AreCounts dimensions c
             → ComesTyped P T w f rest (length (ints dimensions)) (arrays_of_counts w.memory desc c)

@@ -16,10 +16,10 @@ use Rattle.machine_values.specs.declared.frame.RunFrame.{RunFrame}
 use Rattle.machine_values.specs.declared.object.Shape.TheVariants as shapes
 use Rattle.machine_values.specs.declared.value.Value.{Value}
 use Rattle.machine_values.specs.declared.value.Value.TheVariants as values
-use Rattle.member_link.specs.Machine.ArraySteps.{most_elements, blank_array, gives_array, new_array_work}
+use Rattle.member_link.specs.Machine.ArraySteps.{most_elements, blank_array, gives_array, gives_arrays, new_array_work}
 use Rattle.member_link.specs.Machine.Codes.{naming}
 use Rattle.member_link.specs.Machine.Completions.{ends}
-use Rattle.member_link.specs.Machine.Ops.{new_array}
+use Rattle.member_link.specs.Machine.Ops.{Op, new_array}
 use Rattle.member_link.specs.Machine.Performing.{perform}
 use Rattle.member_link.specs.Machine.Programs.{Program, headers_in}
 use Rattle.member_link.specs.Machine.Stepping.{op_step}
@@ -28,7 +28,7 @@ use Rattle.member_link.specs.Machine.Worlds.{World, Memory, with_heap, array_too
 use Rattle.member_link.specs.References.{IsNamedThere}
 use Rattle.member_link.specs.RowScope.{RowScope}
 use Rattle.member_link.specs.Rows.ArrayRows.{made_row}
-use Rattle.member_link.specs.Rows.Operands.{of_kind, topmost}
+use Rattle.member_link.specs.Rows.Operands.{Need, of_kind, topmost}
 use Rattle.member_link.specs.Rows.Row.{access_aside, plain}
 use Rattle.typed_runs.proofs.BlankValues.{blank_fits, each_same}
 use Rattle.typed_runs.proofs.Here.{Here, operands_here, worked, gives_values}
@@ -57,6 +57,7 @@ pub array_made : (P : Program) (m : Memory) (desc : Name) (count : ℕ) (element
     → ArrayMade P m desc (allocated m.heap (shapes.Array desc count) elements)
 array_made P m desc count elements typed is there long all =
     let after : Heap = (allocated m.heap (shapes.Array desc count) elements).heap in
+    let text : Name = component_text desc in
     let keep : Keeps m.heap after = made_keeps m.heap (shapes.Array desc count) elements in
     record {
       keep = keep;
@@ -65,8 +66,8 @@ array_made P m desc count elements typed is there long all =
             is_array = is;
             element_there = there;
             as_long = long;
-            elements = AllByRecursion-weaker (FitsDescriptor P m.heap (component_text desc)) (FitsDescriptor P after (component_text desc))
-                (λ x fits. field_kept P keep (type_of (component_text desc)) x fits) elements all;
+            elements = AllByRecursion-weaker (FitsDescriptor P m.heap text) (FitsDescriptor P after text)
+                (λ x fits. field_kept P keep (type_of text) x fits) elements all;
           });
       len = count;
       shape = made_shape m.heap (shapes.Array desc count) elements;
@@ -76,17 +77,29 @@ array_made P m desc count elements typed is there long all =
 pub blank_made : (P : Program) (m : Memory) (desc : Name) (count : ℕ) → IsTypedMemory P m → IsArray desc → IsNamedThere (headers_in P) desc
     → ArrayMade P m desc (blank_array m.heap desc count)
 blank_made P m desc count typed is there =
-    array_made P m desc count (replicate count (blank_value (component_text desc))) typed is there
-    (length-replicate count (blank_value (component_text desc)))
-    (each_same (FitsDescriptor P m.heap (component_text desc)) count (blank_value (component_text desc))
-    (blank_fits P m.heap (component_text desc)))
+    let text : Name = component_text desc in
+    array_made P m desc count (replicate count (blank_value text)) typed is there (length-replicate count (blank_value text))
+    (each_same (FitsDescriptor P m.heap text) count (blank_value text) (blank_fits P m.heap text))
 
 -- another count of allocations
 pub allocations_typed : (P : Program) (m : Memory) (n : ℕ) → IsTypedMemory P m → IsTypedMemory P (record m { allocations = n })
 allocations_typed P m n typed = record { objects = typed.objects; constants = typed.constants; statics = typed.statics }
 
+-- each name is taken for itself
 pub array_itself : (P : Program) (T : Typings) → IsTypedProgram P T → (desc : Name) → NameConforms P desc desc
 array_itself P T program desc = to_below ((program.links.below desc desc).1 (itself desc))
+
+-- ---- an array that is given
+
+pub array_given : {P : Program} {T : Typings} {w : World} {f : MethodState} {rest : List RunFrame} {s : RowScope} {frame : Frame} {place : ℕ}
+    {numbered : ℕ → ℕ} {takes : List Need} {desc : Name} {op : Op}
+    → Here P T w f rest s frame place numbered (plain frame takes (types.Object desc ∷ [])) op true []
+    → (allocated : ℕ) (made : Made) → ArrayMade P w.memory desc made → ComesTyped P T w f rest (length takes) (gives_arrays w.memory allocated made)
+array_given {P = P} {T = T} {w = w} {desc = desc} h allocated made is =
+    let after : Memory = record w.memory { heap = made.heap; allocations = w.memory.allocations + allocated } in
+    let typed : IsTypedMemory P after = allocations_typed P (with_heap w.memory made.heap) (w.memory.allocations + allocated) is.typed in
+    gives_values h after is.keep typed (values.Ref made.reference ∷ [])
+    (and_value (an_object is.shape (by_class (array_itself P T h.typed.program desc))) no_values)
 
 -- ---- newarray and anewarray
 
@@ -100,12 +113,7 @@ module _ {P : Program} {T : Typings} {w : World} {f : MethodState} {rest : List 
         → ComesTyped P T w f rest 1 (if b then ends array_too_long else gives_array w.memory (blank_array w.memory.heap desc count))
     by_test count true = ends_goes h array_too_long (record f { stack = drop 1 f.stack }) (λ e. cc)
     by_test count false =
-        let made = blank_made P w.memory desc count h.typed.memory h.linked.0 h.linked.1 in
-        gives_values h (record w.memory { heap = (blank_array w.memory.heap desc count).heap; allocations = w.memory.allocations + 1 })
-        made.keep
-        (allocations_typed P (with_heap w.memory (blank_array w.memory.heap desc count).heap) (w.memory.allocations + 1) made.typed)
-        (values.Ref (blank_array w.memory.heap desc count).reference ∷ [])
-        (and_value (an_object made.shape (by_class (array_itself P T h.typed.program desc))) no_values)
+        array_given h 1 (blank_array w.memory.heap desc count) (blank_made P w.memory desc count h.typed.memory h.linked.0 h.linked.1)
 
     by_int : (v : Value) (i : ℤ) → v ≡ values.Int i → ComesTyped P T w f rest 1 (new_array_work w.memory desc (v ∷ []))
     by_int v (negsuc n) is = rw is (raises_goes h negative_size (drop 1 f.stack) (raises_size P T h.typed.program))

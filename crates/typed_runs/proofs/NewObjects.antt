@@ -96,8 +96,7 @@ object_made P m name typed is = by (folder_number P name) refl where
     of_class = refl;
   })
   by (Some class) inside =
-      let found : First (λ (c : RunClass). bytes_eq name c.header.name) P.classes class = first_found
-      (λ (c : RunClass). bytes_eq name c.header.name) P.classes class inside in
+      let found = first_found (λ (c : RunClass). bytes_eq name c.header.name) P.classes class inside in
       let there : slice_get P.classes class ≡ Some found.item = found.is_there in
       let same : name ≡ found.item.header.name = (bytes_eq-Decides name found.item.header.name).0 found.passed in
       let fields : List Value = blank_values (instance_fields (headers_in P) (name_of_class P class)) in
@@ -144,14 +143,13 @@ module _ {P : Program} {T : Typings} {w : World} {f : MethodState} {rest : List 
   new_object_stays name h does =
       let o = operands_here h in
       let made = object_made P w.memory name h.typed.memory h.linked.0 in
-      let heap : Heap = (object_of P w.memory.heap name).heap in
-      let after : Memory = record w.memory { heap = (object_of P w.memory.heap name).heap; allocations = w.memory.allocations + 1 } in
+      let new : Made = object_of P w.memory.heap name in
+      let after : Memory = record w.memory { heap = new.heap; allocations = w.memory.allocations + 1 } in
+      let typed = allocations_typed P (with_heap w.memory new.heap) (w.memory.allocations + 1) made.typed in
       worked h 0 refl (omega arith)
-      (begun_first_goes h does f name (gives after (values.Ref (object_of P w.memory.heap name).reference ∷ []))
-      (gives_goes h 0 after made.keep (allocations_typed P (with_heap w.memory heap) (w.memory.allocations + 1) made.typed)
-      (values.Ref (object_of P w.memory.heap name).reference ∷ []) h.next
-      (units_kept made.keep (older_units place h.locals)) (all_kept made.keep o.rest)
-      (and_value (of_new h.linked.1 made.has_shape made.of_class) no_values)))
+      (begun_first_goes h does f name (gives after (values.Ref new.reference ∷ []))
+      (gives_goes h 0 after made.keep typed (values.Ref new.reference ∷ []) h.next (units_kept made.keep (older_units place h.locals))
+      (all_kept made.keep o.rest) (and_value (of_new h.linked.1 made.has_shape made.of_class) no_values)))
 
   pub named_object_stays : (name : Option Name)
       → Here P T w f rest s frame place numbered (access_aside (new_row frame place)) (naming name new_object) true []

@@ -54,8 +54,7 @@ of_objects op is = absurd is
 
 module _ (P : Program) (T : Typings) where
   pub object_stays : (w : World) (f : MethodState) (rest : List RunFrame) (s : RowScope) (frame : Frame) (place : ℕ) (numbered : ℕ → ℕ)
-      (item : CodeItem)
-      → UsesObjects (item_op P.links numbered s item)
+      (item : CodeItem) → UsesObjects (item_op P.links numbered s item)
       → Does P T w.memory.heap f
       → Here P T w f rest s frame place numbered (access_aside (item_row s frame place item)) (item_op P.links numbered s item)
       (item_falls_through item) (item_targets item)
@@ -74,17 +73,17 @@ module _ (P : Program) (T : Typings) where
   object_stays w f rest s frame place numbered (item_instr (instrs.Ldc2 index)) is d h =
       absurd (not_constant UsesObjects (λ no. no) s.pool (constant_at s.pool index) (λ v no. no) (λ x no. no) is)
   object_stays w f rest s frame place numbered (item_instr (instrs.If opcode target)) is d h =
-      absurd (not_tested UsesObjects (λ no. no) (nat_le IFEQ opcode && nat_le opcode IFLE) (jump_by_int opcode (numbered target)) (λ no. no)
-      is)
+      absurd (not_tested UsesObjects (λ no. no) (nat_le IFEQ opcode && nat_le opcode IFLE)
+      (jump_by_int opcode (numbered target)) (λ no. no) is)
   object_stays w f rest s frame place numbered (item_instr (instrs.If2 opcode target)) is d h =
-      absurd (not_tested UsesObjects (λ no. no) (nat_le IF_ICMPEQ opcode && nat_le opcode IF_ICMPLE) (jump_by_ints opcode (numbered target))
-      (λ no. no) is)
+      absurd (not_tested UsesObjects (λ no. no) (nat_le IF_ICMPEQ opcode && nat_le opcode IF_ICMPLE)
+      (jump_by_ints opcode (numbered target)) (λ no. no) is)
   object_stays w f rest s frame place numbered (item_instr (instrs.IfSame opcode target)) is d h =
       absurd (not_tested UsesObjects (λ no. no) (nat_le IF_ACMPEQ opcode && nat_le opcode IF_ACMPNE)
       (jump_by_references opcode (numbered target)) (λ no. no) is)
   object_stays w f rest s frame place numbered (item_instr (instrs.IfNull opcode target)) is d h =
-      absurd (not_tested UsesObjects (λ no. no) (nat_le IFNULL opcode && nat_le opcode IFNONNULL) (jump_by_null opcode (numbered target))
-      (λ no. no) is)
+      absurd (not_tested UsesObjects (λ no. no) (nat_le IFNULL opcode && nat_le opcode IFNONNULL)
+      (jump_by_null opcode (numbered target)) (λ no. no) is)
   object_stays w f rest s frame place numbered (item_instr (instrs.Return kind)) is d h =
       absurd (not_returned UsesObjects (λ no. no) s.result kind (λ no. no) (λ t no. no) is)
   object_stays w f rest s frame place numbered (item_instr (instrs.GetStatic index)) is d h =
@@ -112,10 +111,10 @@ module _ (P : Program) (T : Typings) where
 
   pub arrays_typed : (w : World) → TypedWorld P T w → NextIs WorksOnArrays P w.frames → StaysTyped P T w (step P w)
   arrays_typed w typed next =
-      family_step P T WorksOnArrays (λ v f rest s frame place numbered item is. object_stays v f rest s frame place numbered item
-      (of_arrays (item_op P.links numbered s item) is)) w typed next
+      family_step P T WorksOnArrays (λ v f rest s frame place numbered item is.
+      object_stays v f rest s frame place numbered item (of_arrays (item_op P.links numbered s item) is)) w typed next
 
   pub objects_typed : (w : World) → TypedWorld P T w → NextIs MakesObject P w.frames → StaysTyped P T w (step P w)
   objects_typed w typed next =
-      family_step P T MakesObject (λ v f rest s frame place numbered item is. object_stays v f rest s frame place numbered item
-      (of_objects (item_op P.links numbered s item) is)) w typed next
+      family_step P T MakesObject (λ v f rest s frame place numbered item is.
+      object_stays v f rest s frame place numbered item (of_objects (item_op P.links numbered s item) is)) w typed next
