@@ -2,7 +2,6 @@ use Rattle.std.specs.Prelude.{◌≡◌, ◌⊎◌, refl, ℕ, pos, true, List, 
 use Rattle.std.proofs.Common.{inl, inr}
 use Rattle.class_model.specs.declared.frame.Frame.{Frame}
 use Rattle.class_model.specs.declared.frame.VType.{VType}
-use Rattle.class_model.specs.declared.frame.VType.TheVariants as types
 use Rattle.class_tree.specs.Subtype.{IsArray}
 use Rattle.machine_values.specs.Frames.{MethodState}
 use Rattle.machine_values.specs.declared.frame.RunFrame.{RunFrame}
@@ -10,7 +9,6 @@ use Rattle.machine_values.specs.declared.value.Value.{Value}
 use Rattle.machine_values.specs.declared.value.Value.TheVariants as values
 use Rattle.member_link.specs.Machine.ArraySteps.{array_length_work}
 use Rattle.member_link.specs.Machine.Ops.{array_length}
-use Rattle.member_link.specs.Machine.Performing.{perform}
 use Rattle.member_link.specs.Machine.Programs.{Program}
 use Rattle.member_link.specs.Machine.Stepping.{op_step}
 use Rattle.member_link.specs.Machine.Throwables.{null_pointer}

@@ -1,4 +1,4 @@
-use Rattle.std.specs.Prelude.{◌≡◌, ◌⊎◌, refl, ℕ, List, [], ◌∷◌, length, slice_get, Option, Some, None, IsTrue, is_some, option_map}
+use Rattle.std.specs.Prelude.{◌≡◌, ◌⊎◌, refl, ℕ, List, slice_get, Option, Some, None, IsTrue, is_some, option_map}
 use Rattle.std.proofs.Common.{inl, inr, ap, sym, ◌∙◌, subst}
 use Rattle.std.proofs.lemmas.Option.{slice_get-map}
 use Rattle.class_model.specs.Laws.Lists.{at_index}
@@ -7,13 +7,11 @@ use Rattle.class_model.specs.declared.frame.VType.TheVariants as types
 use Rattle.class_model.specs.declared.header.Header.{Header}
 use Rattle.class_tree.specs.Headers.{Name, IsThere, class_named}
 use Rattle.class_tree.specs.Laws.Arrays.{not_above_arrays}
-use Rattle.class_tree.specs.Names.{object, is_interface}
 use Rattle.class_tree.specs.Order.{header_at}
 use Rattle.class_tree.specs.Subtype.{IsArray, IsReferenceComponent, IsSubtype, itself, below, of_arrays, components}
 use Rattle.class_tree.specs.declared.place.Place.TheVariants as places
 use Rattle.machine_values.specs.Heaps.{Heap, object_at}
 use Rattle.machine_values.specs.Values.{component_text}
-use Rattle.machine_values.specs.declared.object.Object.{Object}
 use Rattle.machine_values.specs.declared.object.Shape.{Shape}
 use Rattle.machine_values.specs.declared.object.Shape.TheVariants as shapes
 use Rattle.machine_values.specs.declared.value.Value.{Value}

@@ -1,4 +1,4 @@
-use Rattle.std.specs.Prelude.{◌≡◌, refl, ℕ, Bool, true, false, List, ◌∷◌, slice_get, Option, Some, None, if◌then◌else◌}
+use Rattle.std.specs.Prelude.{◌≡◌, refl, ℕ, Bool, true, false, List, ◌∷◌, Option, Some, None, if◌then◌else◌}
 use Rattle.class_model.specs.declared.frame.Frame.{Frame}
 use Rattle.class_tree.specs.Headers.{Name}
 use Rattle.machine_values.specs.Frames.{MethodState}

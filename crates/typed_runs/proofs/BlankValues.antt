@@ -1,4 +1,4 @@
-use Rattle.std.specs.Prelude.{◌≡◌, refl, ℕ, zero, suc, List, [], ◌∷◌, ◌++◌, map, replicate}
+use Rattle.std.specs.Prelude.{refl, ℕ, zero, suc, List, replicate}
 use Rattle.std.specs.List.{AllByRecursion}
 use Rattle.class_model.specs.Descriptors.{kind_of, type_of}
 use Rattle.class_model.specs.declared.descriptor.FieldType.{FieldType}

@@ -1,9 +1,7 @@
 use Rattle.std.specs.Prelude.{◌≡◌, ◌==◌, ◌⊎◌, ◌<◌, ◌-◌, ◌&&◌, refl, ℕ, ℤ, zero, suc, pos, negsuc, nat_lt, nat_le, Bool, true, false, List, [], ◌∷◌, length, drop, slice_get, Option, Some, None, if◌then◌else◌}
 use Rattle.std.proofs.Common.{arith, inl, inr, ap, sym, ◌∙◌, subst}
-use Rattle.class_model.specs.ArrayTypes.{component_of}
 use Rattle.class_model.specs.Descriptors.{kind_of, type_of}
 use Rattle.class_model.specs.Laws.Lists.{at_index}
-use Rattle.class_model.specs.declared.descriptor.FieldType.TheVariants as field_types
 use Rattle.class_model.specs.declared.descriptor.Kind.TheVariants as kinds
 use Rattle.class_model.specs.declared.frame.Frame.{Frame}
 use Rattle.class_model.specs.declared.frame.VType.{VType}
@@ -11,9 +9,7 @@ use Rattle.class_model.specs.declared.frame.VType.TheVariants as types
 use Rattle.class_model.specs.declared.opcodes.TheConstants.{IALOAD, AALOAD, SALOAD}
 use Rattle.class_tree.specs.Headers.{Name}
 use Rattle.class_tree.specs.Laws.Arrays.{is_array_of}
-use Rattle.class_tree.specs.Subtype.{IsReferenceComponent}
 use Rattle.machine_values.specs.Frames.{MethodState}
-use Rattle.machine_values.specs.Heaps.{Heap}
 use Rattle.machine_values.specs.Values.{component_text, has_kind}
 use Rattle.machine_values.specs.declared.frame.RunFrame.{RunFrame}
 use Rattle.machine_values.specs.declared.value.Value.{Value}
@@ -22,7 +18,6 @@ use Rattle.member_link.specs.Machine.ArraySteps.{takes_array, index_in, load_ele
 use Rattle.member_link.specs.Machine.Codes.{if_between}
 use Rattle.member_link.specs.Machine.Completions.{raises}
 use Rattle.member_link.specs.Machine.Ops.{Op, meaningless, load_element}
-use Rattle.member_link.specs.Machine.Performing.{perform}
 use Rattle.member_link.specs.Machine.Programs.{Program}
 use Rattle.member_link.specs.Machine.Stepping.{op_step}
 use Rattle.member_link.specs.Machine.Throwables.{null_pointer, index_outside}

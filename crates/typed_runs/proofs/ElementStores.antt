@@ -1,55 +1,37 @@
-use Rattle.std.specs.Prelude.{◌≡◌, ◌==◌, ◌⊎◌, ◌<◌, ◌-◌, ◌&&◌, refl, ℕ, ℤ, zero, suc, nat_le, Bool, true, false, List, [], ◌∷◌, length, drop, slice_set, Option, Some, None, if◌then◌else◌}
-use Rattle.std.specs.List.{AllByRecursion}
+use Rattle.std.specs.Prelude.{◌≡◌, ◌==◌, ◌⊎◌, ◌<◌, ◌-◌, ◌&&◌, refl, ℕ, ℤ, nat_le, Bool, true, false, List, [], ◌∷◌, Option, Some, None, if◌then◌else◌}
 use Rattle.std.proofs.Common.{arith, inl, inr, ap, sym, ◌∙◌, subst}
 use Rattle.class_model.specs.Descriptors.{kind_of, type_of}
-use Rattle.class_model.specs.Laws.Lists.{AllByRecursion-weaker}
-use Rattle.class_model.specs.declared.descriptor.FieldType.{FieldType}
-use Rattle.class_model.specs.declared.descriptor.FieldType.TheVariants as field_types
 use Rattle.class_model.specs.declared.descriptor.Kind.TheVariants as kinds
 use Rattle.class_model.specs.declared.frame.Frame.{Frame}
 use Rattle.class_model.specs.declared.frame.VType.{VType}
 use Rattle.class_model.specs.declared.opcodes.TheConstants.{IASTORE, AASTORE, SASTORE}
 use Rattle.class_tree.specs.Headers.{Name}
 use Rattle.class_tree.specs.Laws.Arrays.{is_array_of}
-use Rattle.class_tree.specs.Subtype.{IsReferenceComponent}
 use Rattle.machine_values.specs.Frames.{MethodState}
-use Rattle.machine_values.specs.Heaps.{Heap, with_object}
-use Rattle.machine_values.specs.Values.{component_text, has_kind, narrowed}
+use Rattle.machine_values.specs.Values.{component_text, has_kind}
 use Rattle.machine_values.specs.declared.frame.RunFrame.{RunFrame}
-use Rattle.machine_values.specs.declared.object.Object.{Object}
-use Rattle.machine_values.specs.declared.object.Shape.TheVariants as shapes
 use Rattle.machine_values.specs.declared.value.Value.{Value}
 use Rattle.machine_values.specs.declared.value.Value.TheVariants as values
-use Rattle.member_link.specs.Machine.ArraySteps.{takes_array, index_in, stores_value, fits_component, store_element_work}
+use Rattle.member_link.specs.Machine.ArraySteps.{takes_array, store_element_work}
 use Rattle.member_link.specs.Machine.Codes.{if_between}
-use Rattle.member_link.specs.Machine.Completions.{raises}
-use Rattle.member_link.specs.Machine.Ops.{Op, meaningless, store_element}
-use Rattle.member_link.specs.Machine.Performing.{perform}
+use Rattle.member_link.specs.Machine.Ops.{meaningless, store_element}
 use Rattle.member_link.specs.Machine.Programs.{Program}
-use Rattle.member_link.specs.Machine.Shapes.{component_named, is_instance}
 use Rattle.member_link.specs.Machine.Stepping.{op_step}
-use Rattle.member_link.specs.Machine.Throwables.{null_pointer, index_outside, array_store}
-use Rattle.member_link.specs.Machine.Worlds.{World, Memory, with_heap}
+use Rattle.member_link.specs.Machine.Worlds.{World}
 use Rattle.member_link.specs.RowScope.{RowScope}
 use Rattle.member_link.specs.Rows.ArrayRows.{Elements, elements_of, elements_from, elements_store_row, array_store_row, need_of_value}
-use Rattle.member_link.specs.Rows.Operands.{Need, of_kind, initialised, IsInitialised, array_among, array_of_references, Fits, IsAmong, topmost}
+use Rattle.member_link.specs.Rows.Operands.{of_kind, initialised, array_among, array_of_references, Fits, IsAmong, topmost}
 use Rattle.member_link.specs.Rows.Row.{Row, access_aside, plain, either}
-use Rattle.typed_runs.proofs.ArrayShapes.{IsArrayIn, IsArrayOf, IsOfReferences, an_array_value, same_array}
+use Rattle.typed_runs.proofs.ArrayShapes.{IsArrayOf, IsOfReferences, an_array_value, same_array}
 use Rattle.typed_runs.proofs.AssignedNames.{component_is}
 use Rattle.typed_runs.proofs.Basics.{same_number, within}
 use Rattle.typed_runs.proofs.ConformsThrough.{component_through}
-use Rattle.typed_runs.proofs.ElementTypes.{TakesElements, TakesArray, elements_taken, among_taken, counted_from, component_type_of}
-use Rattle.typed_runs.proofs.Here.{Here, operands_here, worked, gives_values}
-use Rattle.typed_runs.proofs.Kept.{Keeps, field_kept}
-use Rattle.typed_runs.proofs.Memories.{object_keeps, object_typed}
+use Rattle.typed_runs.proofs.ElementTypes.{TakesElements, TakesArray, elements_taken, among_taken, counted_from}
+use Rattle.typed_runs.proofs.Here.{Here, operands_here, worked}
 use Rattle.typed_runs.proofs.OperandsTaken.{ComesTyped, Three, of_three}
-use Rattle.typed_runs.proofs.Performing.{raises_goes}
-use Rattle.typed_runs.proofs.Raising.{raises_null, raises_index, raises_store}
 use Rattle.typed_runs.proofs.Starting.{number_narrowed}
 use Rattle.typed_runs.proofs.Taken.{an_int_value, takes_nothing}
 use Rattle.typed_runs.proofs.Units.{kind_conforms}
-use Rattle.typed_runs.proofs.Unwinding.{instance_conforms}
-use Rattle.typed_runs.specs.Conforming.{HasShape, RefersTo, Conforms, only_null, null_object, an_object, no_values, to_none, to_one, FieldConforms, FitsDescriptor, HoldsShape, IsTypedMemory}
 use Rattle.typed_runs.specs.TypedPrograms.{Typings}
 use Rattle.typed_runs.specs.TypedWorlds.{StaysTyped}
 use Rattle.typed_runs.proofs.ElementWrites.{store_null, store_goes, StoresReference, stores_reference}

@@ -4,16 +4,14 @@ use Rattle.std.proofs.Common.{arith, ap, sym, ◌∙◌, subst}
 use Rattle.std.proofs.lemmas.List.{length-replicate}
 use Rattle.class_model.specs.Characters.{left_bracket}
 use Rattle.class_model.specs.Code.{HasDimensions}
-use Rattle.class_model.specs.Descriptors.{brackets, type_of}
+use Rattle.class_model.specs.Descriptors.{brackets}
 use Rattle.class_model.specs.declared.descriptor.Kind.TheVariants as kinds
 use Rattle.class_model.specs.declared.frame.Frame.{Frame}
 use Rattle.class_model.specs.declared.frame.VType.{VType}
 use Rattle.class_model.specs.declared.frame.VType.TheVariants as types
 use Rattle.class_tree.specs.Headers.{Name, Headers}
-use Rattle.class_tree.specs.Subtype.{IsArray}
 use Rattle.machine_values.specs.Frames.{MethodState}
 use Rattle.machine_values.specs.Heaps.{Heap, Made}
-use Rattle.machine_values.specs.Values.{component_text}
 use Rattle.machine_values.specs.declared.frame.RunFrame.{RunFrame}
 use Rattle.machine_values.specs.declared.value.Value.{Value}
 use Rattle.machine_values.specs.declared.value.Value.TheVariants as values
@@ -21,7 +19,6 @@ use Rattle.member_link.specs.Machine.ArraySteps.{MadeElements, made_times, neste
 use Rattle.member_link.specs.Machine.Codes.{naming}
 use Rattle.member_link.specs.Machine.Completions.{ends}
 use Rattle.member_link.specs.Machine.Ops.{new_arrays}
-use Rattle.member_link.specs.Machine.Performing.{perform}
 use Rattle.member_link.specs.Machine.Programs.{Program, headers_in}
 use Rattle.member_link.specs.Machine.Stepping.{op_step}
 use Rattle.member_link.specs.Machine.Throwables.{negative_size}
@@ -31,14 +28,14 @@ use Rattle.member_link.specs.RowScope.{RowScope}
 use Rattle.member_link.specs.Rows.ArrayRows.{made_row}
 use Rattle.member_link.specs.Rows.Operands.{Need, of_kind, AllFit, topmost}
 use Rattle.member_link.specs.Rows.Row.{access_aside, plain}
-use Rattle.typed_runs.proofs.Here.{Here, operands_here, worked, gives_values}
-use Rattle.typed_runs.proofs.Kept.{Keeps, keeps_same, keeps_through, field_kept, shape_kept}
+use Rattle.typed_runs.proofs.Here.{Here, operands_here, worked}
+use Rattle.typed_runs.proofs.Kept.{Keeps, keeps_same, keeps_through, shape_kept}
 use Rattle.typed_runs.proofs.NewArrays.{ArrayMade, array_made, blank_made, array_itself, array_given}
 use Rattle.typed_runs.proofs.OperandsTaken.{ComesTyped}
 use Rattle.typed_runs.proofs.Performing.{raises_goes, ends_goes}
 use Rattle.typed_runs.proofs.Raising.{raises_size}
 use Rattle.typed_runs.proofs.Taken.{an_int_value}
-use Rattle.typed_runs.specs.Conforming.{AllConform, by_class, an_object, no_values, and_value, to_one, FitsDescriptor, IsTypedMemory}
+use Rattle.typed_runs.specs.Conforming.{AllConform, by_class, no_values, and_value, to_one, FitsDescriptor, IsTypedMemory}
 use Rattle.typed_runs.specs.TypedPrograms.{Typings, IsTypedProgram}
 use Rattle.typed_runs.specs.TypedWorlds.{StaysTyped}
 

@@ -1,6 +1,5 @@
-use Rattle.std.specs.Prelude.{◌≡◌, ◌+◌, ◌≤◌, refl, ℕ, ℤ, zero, suc, pos, negsuc, nat_lt, Bool, true, false, List, [], ◌∷◌, length, drop, replicate, Option, Some, None, if◌then◌else◌}
+use Rattle.std.specs.Prelude.{◌≡◌, ◌+◌, refl, ℕ, ℤ, pos, negsuc, nat_lt, Bool, true, false, List, [], ◌∷◌, length, drop, replicate, Option, Some, None, if◌then◌else◌}
 use Rattle.std.specs.List.{AllByRecursion}
-use Rattle.std.proofs.Common.{arith, ap, sym, subst}
 use Rattle.std.proofs.lemmas.List.{length-replicate}
 use Rattle.class_model.specs.Descriptors.{type_of}
 use Rattle.class_model.specs.Laws.Lists.{AllByRecursion-weaker}
@@ -20,7 +19,6 @@ use Rattle.member_link.specs.Machine.ArraySteps.{most_elements, blank_array, giv
 use Rattle.member_link.specs.Machine.Codes.{naming}
 use Rattle.member_link.specs.Machine.Completions.{ends}
 use Rattle.member_link.specs.Machine.Ops.{Op, new_array}
-use Rattle.member_link.specs.Machine.Performing.{perform}
 use Rattle.member_link.specs.Machine.Programs.{Program, headers_in}
 use Rattle.member_link.specs.Machine.Stepping.{op_step}
 use Rattle.member_link.specs.Machine.Throwables.{negative_size}
@@ -38,7 +36,7 @@ use Rattle.typed_runs.proofs.OperandsTaken.{ComesTyped, of_one}
 use Rattle.typed_runs.proofs.Performing.{raises_goes, ends_goes}
 use Rattle.typed_runs.proofs.Raising.{raises_size}
 use Rattle.typed_runs.proofs.Taken.{One, an_int_value}
-use Rattle.typed_runs.specs.Conforming.{HasShape, NameConforms, to_below, by_class, Conforms, an_object, no_values, and_value, FitsDescriptor, IsTypedMemory}
+use Rattle.typed_runs.specs.Conforming.{HasShape, NameConforms, to_below, by_class, an_object, no_values, and_value, FitsDescriptor, IsTypedMemory}
 use Rattle.typed_runs.specs.TypedPrograms.{Typings, IsTypedProgram}
 use Rattle.typed_runs.specs.TypedWorlds.{StaysTyped}
 
@@ -94,10 +92,10 @@ array_itself P T program desc = to_below ((program.links.below desc desc).1 (its
 pub array_given : {P : Program} {T : Typings} {w : World} {f : MethodState} {rest : List RunFrame} {s : RowScope} {frame : Frame} {place : ℕ}
     {numbered : ℕ → ℕ} {takes : List Need} {desc : Name} {op : Op}
     → Here P T w f rest s frame place numbered (plain frame takes (types.Object desc ∷ [])) op true []
-    → (allocated : ℕ) (made : Made) → ArrayMade P w.memory desc made → ComesTyped P T w f rest (length takes) (gives_arrays w.memory allocated made)
-array_given {P = P} {T = T} {w = w} {desc = desc} h allocated made is =
-    let after : Memory = record w.memory { heap = made.heap; allocations = w.memory.allocations + allocated } in
-    let typed : IsTypedMemory P after = allocations_typed P (with_heap w.memory made.heap) (w.memory.allocations + allocated) is.typed in
+    → (more : ℕ) (made : Made) → ArrayMade P w.memory desc made → ComesTyped P T w f rest (length takes) (gives_arrays w.memory more made)
+array_given {P = P} {T = T} {w = w} {desc = desc} h more made is =
+    let after : Memory = record w.memory { heap = made.heap; allocations = w.memory.allocations + more } in
+    let typed : IsTypedMemory P after = allocations_typed P (with_heap w.memory made.heap) (w.memory.allocations + more) is.typed in
     gives_values h after is.keep typed (values.Ref made.reference ∷ [])
     (and_value (an_object is.shape (by_class (array_itself P T h.typed.program desc))) no_values)
 

@@ -1,16 +1,16 @@
-use Rattle.std.specs.Prelude.{◌≡◌, ◌==◌, ◌+◌, ◌≤◌, refl, ℕ, Bool, true, false, List, [], ◌∷◌, ◌++◌, map, length, reverse, slice_get, bytes_eq, is_some, Option, Some, None, if◌then◌else◌}
+use Rattle.std.specs.Prelude.{◌≡◌, ◌==◌, ◌+◌, refl, ℕ, Bool, true, false, List, [], ◌∷◌, ◌++◌, map, reverse, slice_get, bytes_eq, is_some, Option, Some, None, if◌then◌else◌}
 use Rattle.std.specs.List.{flat_map}
-use Rattle.std.proofs.Common.{arith, ap, sym, ◌∙◌, subst}
+use Rattle.std.proofs.Common.{arith, ap, sym, subst}
 use Rattle.std.proofs.lemmas.List.{map-append}
 use Rattle.std.proofs.lemmas.Slice.Eq.{bytes_eq-Decides}
 use Rattle.class_model.specs.declared.frame.Frame.{Frame}
 use Rattle.class_model.specs.declared.frame.VType.{VType}
 use Rattle.class_model.specs.declared.frame.VType.TheVariants as types
 use Rattle.class_model.specs.declared.header.Member.{Member}
-use Rattle.class_tree.specs.Headers.{Name, class_named}
+use Rattle.class_tree.specs.Headers.{Name}
 use Rattle.class_tree.specs.Layouts.{superclasses, own_fields, instance_fields}
 use Rattle.machine_values.specs.Frames.{MethodState}
-use Rattle.machine_values.specs.Heaps.{Heap, Made, external}
+use Rattle.machine_values.specs.Heaps.{Heap, Made}
 use Rattle.machine_values.specs.Values.{blank_value, blank_values}
 use Rattle.machine_values.specs.declared.frame.RunFrame.{RunFrame}
 use Rattle.machine_values.specs.declared.object.Shape.{Shape}
@@ -32,7 +32,7 @@ use Rattle.member_link.specs.RowScope.{RowScope}
 use Rattle.member_link.specs.Rows.Row.{access_aside}
 use Rattle.member_link.specs.Rows.Table.{without_older, new_row}
 use Rattle.typed_runs.proofs.Assigned.{conforms_in_heap}
-use Rattle.typed_runs.proofs.BeginningSteps.{First, first_found}
+use Rattle.typed_runs.proofs.BeginningSteps.{first_found}
 use Rattle.typed_runs.proofs.BegunFirst.{begun_first_goes}
 use Rattle.typed_runs.proofs.BlankValues.{blank_fits}
 use Rattle.typed_runs.proofs.Here.{Here, operands_here, worked, gives_goes}

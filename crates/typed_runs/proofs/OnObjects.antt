@@ -1,4 +1,4 @@
-use Rattle.std.specs.Prelude.{◌&&◌, nat_le, ℕ, List, Option, Some}
+use Rattle.std.specs.Prelude.{◌&&◌, nat_le, ℕ, List}
 use Rattle.class_model.specs.Pool.{constant_at}
 use Rattle.class_model.specs.PoolChecks.{class_at}
 use Rattle.class_model.specs.declared.frame.Frame.{Frame}
@@ -6,7 +6,7 @@ use Rattle.class_model.specs.declared.instr.Instr.TheVariants as instrs
 use Rattle.class_model.specs.declared.opcodes.TheConstants.{IFEQ, IFLE, IF_ICMPEQ, IF_ICMPLE, IF_ACMPEQ, IF_ACMPNE, IFNULL, IFNONNULL}
 use Rattle.machine_values.specs.Frames.{MethodState}
 use Rattle.machine_values.specs.declared.frame.RunFrame.{RunFrame}
-use Rattle.member_link.specs.Bodies.{CodeItem, item_instr, item_null_test, item_row, item_targets, item_falls_through}
+use Rattle.member_link.specs.Bodies.{CodeItem, item_instr, item_row, item_targets, item_falls_through}
 use Rattle.member_link.specs.Machine.Codes.{item_op, call_op, initialises}
 use Rattle.member_link.specs.Machine.Ops.{Op, jump_by_int, jump_by_ints, jump_by_references, jump_by_null, get_static, put_static, get_field, put_field, check_cast, instance_of, new_object, new_array, new_arrays, load_element, store_element, array_length}
 use Rattle.member_link.specs.Machine.Programs.{Program}

@@ -1,5 +1,5 @@
 use Rattle.std.specs.Prelude.{◌==◌, ℕ, Bool, true, false, Option, Some, None, option_map, if◌then◌else◌}
-use Rattle.class_model.specs.Pool.{Constants, constant_at}
+use Rattle.class_model.specs.Pool.{Constants}
 use Rattle.class_model.specs.PoolChecks.{utf8_at, descriptor_at, name_at}
 use Rattle.class_model.specs.Descriptors.{kind_of}
 use Rattle.class_model.specs.declared.descriptor.FieldType.{FieldType}
