@@ -1,5 +1,6 @@
-use Rattle.std.specs.Prelude.{◌≡◌, ◌==◌, ◌&&◌, refl, ℕ, Bool, true, false, Some}
+use Rattle.std.specs.Prelude.{◌≡◌, ◌==◌, ◌&&◌, ◌-◌, ◌<◌, nat_le, refl, ℕ, Bool, true, false, Some}
 use Rattle.std.proofs.Common.{arith}
+use Rattle.std.proofs.lemmas.Bool.{leb-true}
 
 pub some_of : {A : Type 0} {a b : A} → Some a ≡ Some b → a ≡ b
 some_of e = cc
@@ -14,3 +15,7 @@ and_second false b is = cc
 
 pub same_number : (a b : ℕ) → (a == b) ≡ true → a ≡ b
 same_number a b is = search arith
+
+-- a number of a range, counted from its beginning
+pub within : (low high opcode n : ℕ) → (nat_le low opcode && nat_le opcode high) ≡ true → high - low < n → opcode - low < n
+within low high opcode n test few = grind (arith, leb-true)

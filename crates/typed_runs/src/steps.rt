@@ -2,7 +2,7 @@
 ghost use Rattle.member_link.specs.Machine.Programs.{Program};
 ghost use Rattle.member_link.specs.Machine.Stepping.{step};
 ghost use Rattle.member_link.specs.Machine.Worlds.{World};
-ghost use Rattle.typed_runs.specs.Families.{BeginsClass, NextIs, WorksOnOperands};
+ghost use Rattle.typed_runs.specs.Families.{BeginsClass, MakesObject, NextIs, WorksOnArrays, WorksOnOperands};
 ghost use Rattle.typed_runs.specs.TypedPrograms.{Typings};
 ghost use Rattle.typed_runs.specs.TypedWorlds.{TypedWorld, StaysTyped};
 
@@ -13,6 +13,25 @@ pub fn an_instruction_on_operands_stays_typed()
     ensures { (P : Program) (T : Typings) (w : World)
         → TypedWorld P T w
         → NextIs WorksOnOperands P w.frames
+        → StaysTyped P T w (step P w) }
+{}
+
+/// So does an instruction that makes an array, reads or writes an element, or gives an array's length. A length that is negative, an
+/// index outside the array and a value that is no instance of its component raise a throwable of the machine; an array that is too
+/// long ends the run.
+pub fn an_instruction_on_arrays_stays_typed()
+    ensures { (P : Program) (T : Typings) (w : World)
+        → TypedWorld P T w
+        → NextIs WorksOnArrays P w.frames
+        → StaysTyped P T w (step P w) }
+{}
+
+/// So does one that makes an object. The class is begun first if it is one of the folder that is not begun; then the instruction is
+/// done later.
+pub fn a_new_object_stays_typed()
+    ensures { (P : Program) (T : Typings) (w : World)
+        → TypedWorld P T w
+        → NextIs MakesObject P w.frames
         → StaysTyped P T w (step P w) }
 {}
 
