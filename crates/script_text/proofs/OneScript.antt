@@ -1,13 +1,19 @@
 -- A script has one list of actions, or one first line outside the grammar.
-use Rattle.std.proofs.Common.{◌≡◌, ◌≢◌, ◌∷◌, [], ◌+◌, ◌/◌, ◌%◌, ◌^◌, ◌<◌, ◌∙◌, ℕ, zero, suc, ℤ, List, Some, None, codes, ap, sym, refl, subst, arith}
+use Rattle.std.proofs.Common.{◌≡◌, ◌∷◌, [], ◌/◌, ◌%◌, ◌^◌, ◌<◌, ◌∙◌, ℕ, zero, suc, ℤ, List, Some, None, ap, sym, refl}
+use Rattle.std.proofs.Common.{subst, arith}
 use Rattle.std.specs.Int.{Width}
 use Rattle.std.proofs.Math.Nat.{pow-suc}
 use Rattle.machine_values.specs.declared.action.Action.{Action}
-use Rattle.machine_values.specs.declared.action.Action.TheVariants.{Call, Construct, Return, Throw, ArrayGet, ArraySet, ArrayLength, NewArray, NewExternal, Stop}
+use Rattle.machine_values.specs.declared.action.Action.TheVariants.{Return, Throw, ArrayLength}
 use Rattle.machine_values.specs.declared.action.Given.{Given}
-use Rattle.machine_values.specs.declared.action.Given.TheVariants.{Int, Long, Float, Double, Null, Known}
+use Rattle.machine_values.specs.declared.action.Given.TheVariants.{Int, Long, Float, Double, Known}
 use Rattle.script_text.specs.PrintedTexts.{Bytes, hex_text}
-use Rattle.script_text.specs.Scripts.{Word, SpellsNumber, SpellsInteger, SpellsBits, SpellsText, SpellsKnown, spells_known, SpellsGiven, given_int, given_long, given_float, given_double, given_null, given_known, SpellsEach, none_spelled, more_spelled, SpellsAction, call_line, construct_line, return_line, return_value_line, throw_line, get_line, set_line, length_line, array_line, new_line, stop_line, IsScript, SpellsLine, SpellsLines, no_lines, line_without_action, line_with_action, empty_line, comment_line, action_line, pieces, words_of, IsFirstOutside, outside_here, outside_behind}
+use Rattle.script_text.specs.Scripts.{Word, SpellsNumber, SpellsInteger, SpellsBits, SpellsKnown, spells_known, SpellsGiven}
+use Rattle.script_text.specs.Scripts.{given_int, given_long, given_float, given_double, given_null, given_known, SpellsEach, none_spelled}
+use Rattle.script_text.specs.Scripts.{more_spelled, SpellsAction, call_line, construct_line, return_line, return_value_line, throw_line}
+use Rattle.script_text.specs.Scripts.{get_line, set_line, length_line, array_line, new_line, stop_line, IsScript, SpellsLine, SpellsLines}
+use Rattle.script_text.specs.Scripts.{no_lines, line_without_action, line_with_action, empty_line, comment_line, action_line, lines_of}
+use Rattle.script_text.specs.Scripts.{words_of, IsFirstOutside, outside_here, outside_behind}
 use Rattle.script_text.proofs.ActionLines.{no_form}
 use Rattle.script_text.proofs.HexTexts.{last_split}
 use Rattle.script_text.proofs.Pieces.{some_piece, unmarked_first}
@@ -44,7 +50,11 @@ given_once (given_double spelled) (given_double also) = ap Double (bits_once spe
 given_once given_null given_null = refl
 given_once (given_known spelled) (given_known also) = ap Known (number_once spelled also)
 
-each_once : {X : Type 0} {Spells : X → Word → Type 0} {one other : List X} {words : List Word} → ((x y : X) (word : Word) → Spells x word → Spells y word → x ≡ y) → SpellsEach Spells one words → SpellsEach Spells other words → one ≡ other
+each_once : {X : Type 0} {Spells : X → Word → Type 0} {one other : List X} {words : List Word}
+    → ((x y : X) (word : Word) → Spells x word → Spells y word → x ≡ y)
+    → SpellsEach Spells one words
+    → SpellsEach Spells other words
+    → one ≡ other
 each_once once none_spelled none_spelled = refl
 each_once once (more_spelled spelled others) (more_spelled also rest) =
     let first = once _ _ _ spelled also in
@@ -127,7 +137,9 @@ none_outside (line_with_action spelled others) (outside_here never) = never (Som
 none_outside (line_without_action spelled others) (outside_behind is outside) = none_outside others outside
 none_outside (line_with_action spelled others) (outside_behind is outside) = none_outside others outside
 
-pub no_line_outside : (bytes : Bytes) (actions : List Action) (number : ℕ) → IsScript bytes actions → ¬ IsFirstOutside (pieces 10 bytes) number
+pub no_line_outside : (bytes : Bytes) (actions : List Action) (number : ℕ)
+    → IsScript bytes actions
+    → ¬ IsFirstOutside (lines_of bytes) number
 no_line_outside bytes actions number spelled outside = none_outside spelled outside
 
 first_once : {lines : List Bytes} {one other : ℕ} → IsFirstOutside lines one → IsFirstOutside lines other → one ≡ other

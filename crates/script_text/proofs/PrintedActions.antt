@@ -1,20 +1,27 @@
 -- A printed action is spelled by the words of its line, and a printed script by its lines.
-use Rattle.std.proofs.Common.{◌≡◌, ◌≢◌, ◌++◌, ◌∷◌, [], ◌==◌, ◌^◌, ◌<◌, ◌≤◌, ◌∙◌, ℕ, suc, ℤ, pos, negsuc, neg_ℤ, Bool, false, List, Some, None, codes, decimal, map, FitsSigned, ap, sym, refl, subst, arith, rules, append_assoc}
+use Rattle.std.proofs.Common.{◌≡◌, ◌≢◌, ◌++◌, ◌∷◌, [], ◌==◌, ◌≤◌, ◌∙◌, ℕ, suc, ℤ, pos, negsuc, neg_ℤ, false, List, Some}
+use Rattle.std.proofs.Common.{None, codes, decimal, map, FitsSigned, ap, sym, refl, subst, arith, rules, append_assoc}
 use Rattle.std.specs.Fmt.{signed_decimal}
 use Rattle.std.specs.Int.{Width, w32, w64}
-use Rattle.std.specs.List.{AllByRecursion, join_with_byte}
-use Rattle.std.specs.Str.Parse.{IsNumeral, digits_value, starts_with_minus}
+use Rattle.std.specs.List.{AllByRecursion}
+use Rattle.std.specs.Str.Parse.{IsNumeral, starts_with_minus}
 use Rattle.std.proofs.lemmas.Bool.Decides.{nat_tests}
 use Rattle.std.proofs.lemmas.Fmt.{decimal_is_IsNumeral}
 use Rattle.std.proofs.lemmas.Str.Parse.{digit_from_value}
 use Rattle.class_model.specs.ModifiedUtf8.{IsText}
 use Rattle.machine_values.specs.declared.action.Action.{Action}
-use Rattle.machine_values.specs.declared.action.Action.TheVariants.{Call, Construct, Return, Throw, ArrayGet, ArraySet, ArrayLength, NewArray, NewExternal, Stop}
+use Rattle.machine_values.specs.declared.action.Action.TheVariants.{Call, Construct, Return, Throw, ArrayGet, ArraySet, ArrayLength}
+use Rattle.machine_values.specs.declared.action.Action.TheVariants.{NewArray, NewExternal, Stop}
 use Rattle.machine_values.specs.declared.action.Given.{Given}
 use Rattle.machine_values.specs.declared.action.Given.TheVariants.{Int, Long, Float, Double, Null, Known}
-use Rattle.script_text.specs.PrintedTexts.{Bytes, printed_text, hex_text}
-use Rattle.script_text.specs.PrintedScripts.{IsAction, IsGiven, IsKnown, action_words, printed_action, printed_given, printed_known, printed_script}
-use Rattle.script_text.specs.Scripts.{Word, SpellsNumber, SpellsInteger, SpellsBits, SpellsText, SpellsKnown, spells_known, SpellsGiven, given_int, given_long, given_float, given_double, given_null, given_known, SpellsEach, none_spelled, more_spelled, SpellsAction, call_line, construct_line, return_line, return_value_line, throw_line, get_line, set_line, length_line, array_line, new_line, stop_line, IsScript, SpellsLines, no_lines, line_without_action, line_with_action, empty_line, action_line, words_of, lines_of, without_minus, integer_value}
+use Rattle.script_text.specs.PrintedTexts.{Bytes, printed_text}
+use Rattle.script_text.specs.PrintedScripts.{IsAction, IsGiven, IsKnown, action_words, printed_action, printed_given, printed_known}
+use Rattle.script_text.specs.PrintedScripts.{printed_script}
+use Rattle.script_text.specs.Scripts.{Word, SpellsNumber, SpellsInteger, SpellsText, SpellsKnown, spells_known, SpellsGiven}
+use Rattle.script_text.specs.Scripts.{given_int, given_long, given_float, given_double, given_null, given_known, SpellsEach, none_spelled}
+use Rattle.script_text.specs.Scripts.{more_spelled, SpellsAction, call_line, construct_line, return_line, return_value_line, throw_line}
+use Rattle.script_text.specs.Scripts.{get_line, set_line, length_line, array_line, new_line, stop_line, IsScript, SpellsLines, no_lines}
+use Rattle.script_text.specs.Scripts.{line_without_action, line_with_action, empty_line, action_line, lines_of}
 use Rattle.script_text.specs.Inner.SpacedWords.{spaced_line}
 use Rattle.script_text.proofs.SpacedLines.{Above, joined, words_back, line_above, first_piece}
 use Rattle.script_text.proofs.VisibleWords.{text_above, hex_above, decimal_above, integer_above}
@@ -32,7 +39,10 @@ no_minus (digit ∷ digits) numeral = other (digit_from_value digit numeral.1.0)
   other : (48 ≤ digit) × (digit ≤ 57) → (digit == 45) ≡ false
   other within = grind (arith, nat_tests)
 
-integer_spelled : (width : Width) (number : ℤ) → FitsSigned width number → FitsSigned w64 number → SpellsInteger width number (signed_decimal number)
+integer_spelled : (width : Width) (number : ℤ)
+    → FitsSigned width number
+    → FitsSigned w64 number
+    → SpellsInteger width number (signed_decimal number)
 integer_spelled width (pos number) fits small =
     let digits = decimal_is_IsNumeral number (omega (arith, small.sfits)) in
     let unsigned = no_minus (decimal number) digits.0 in
@@ -74,7 +84,11 @@ given_spelled (Double bits) is = given_double (record { spelled = refl; fits = o
 given_spelled Null is = given_null
 given_spelled (Known number) is = given_known (number_spelled number is)
 
-each_spelled : {X : Type 0} (Is : X → Type 0) (Spells : X → Word → Type 0) (print : X → Word) → ((x : X) → Is x → Spells x (print x)) → (items : List X) → AllByRecursion Is items → SpellsEach Spells items (map print items)
+each_spelled : {X : Type 0} (Is : X → Type 0) (Spells : X → Word → Type 0) (print : X → Word)
+    → ((x : X) → Is x → Spells x (print x))
+    → (items : List X)
+    → AllByRecursion Is items
+    → SpellsEach Spells items (map print items)
 each_spelled Is Spells print spelled [] are = none_spelled
 each_spelled Is Spells print spelled (item ∷ items) are = more_spelled (spelled item are.0) (each_spelled Is Spells print spelled items are.1)
 
@@ -116,7 +130,11 @@ given_above (Double bits) is = (omega arith, (omega arith, hex_above 16 bits))
 given_above Null is = search rules
 given_above (Known number) is = known_above number is
 
-each_above : {X : Type 0} (Is : X → Type 0) (print : X → Word) → ((x : X) → Is x → Above 32 (print x)) → (items : List X) → AllByRecursion Is items → AllByRecursion (Above 32) (map print items)
+each_above : {X : Type 0} (Is : X → Type 0) (print : X → Word)
+    → ((x : X) → Is x → Above 32 (print x))
+    → (items : List X)
+    → AllByRecursion Is items
+    → AllByRecursion (Above 32) (map print items)
 each_above Is print above [] are = tt
 each_above Is print above (item ∷ items) are = (above item are.0, each_above Is print above items are.1)
 
@@ -158,13 +176,18 @@ some_words Stop e = cc
 
 -- ---- scripts
 
-pub as_printed : (start middle end : Bytes) (action : Action) → middle ≡ start ++ spaced_line (action_words action) → end ≡ middle ++ 10 ∷ [] → end ≡ start ++ printed_action action
+pub as_printed : (start middle end : Bytes) (action : Action)
+    → middle ≡ start ++ spaced_line (action_words action)
+    → end ≡ middle ++ 10 ∷ []
+    → end ≡ start ++ printed_action action
 as_printed start middle end action is line =
     line ∙ (ap (λ (t : Bytes). t ++ 10 ∷ []) is
     ∙ (append_assoc start (spaced_line (action_words action)) (10 ∷ [])
     ∙ ap (λ (t : Bytes). start ++ (t ++ 10 ∷ [])) (sym (joined (action_words action)))))
 
-line_back : (action : Action) (rest : Bytes) → IsAction action → lines_of (printed_action action ++ rest) ≡ spaced_line (action_words action) ∷ lines_of rest
+line_back : (action : Action) (rest : Bytes)
+    → IsAction action
+    → lines_of (printed_action action ++ rest) ≡ spaced_line (action_words action) ∷ lines_of rest
 line_back action rest is =
     let line = spaced_line (action_words action) in
     ap (λ (t : Bytes). lines_of ((t ++ 10 ∷ []) ++ rest)) (joined (action_words action))

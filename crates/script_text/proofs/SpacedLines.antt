@@ -1,6 +1,6 @@
 -- Words with a space between them are cut into these words again.
-use Rattle.std.proofs.Common.{◌≡◌, ◌≢◌, ◌++◌, ◌∷◌, [], ◌<◌, ◌≤◌, nat_lt, ℕ, Bool, true, false, List, ap, sym, refl, subst, ◌∙◌, arith}
-use Rattle.std.specs.List.{AllByRecursion, join_with_byte, list_all}
+use Rattle.std.proofs.Common.{◌≡◌, ◌≢◌, ◌++◌, ◌∷◌, [], ◌<◌, ◌≤◌, ℕ, List, ap, sym, refl, ◌∙◌, arith}
+use Rattle.std.specs.List.{AllByRecursion, join_with_byte}
 use Rattle.std.proofs.lemmas.List.{append-nil}
 use Rattle.script_text.specs.Events.{spaced}
 use Rattle.script_text.specs.Inner.SpacedWords.{spaced_line}
@@ -37,7 +37,10 @@ one_piece mark [] above = refl
 one_piece mark (byte ∷ piece) above =
     unmarked_first mark byte piece piece [] (λ e. omega (arith, above.0, e)) (one_piece mark piece above.1)
 
-some_back : (first : Word) (words : List Word) → Above 32 first → AllByRecursion (Above 32) words → words_of (spaced_line (first ∷ words)) ≡ first ∷ words
+some_back : (first : Word) (words : List Word)
+    → Above 32 first
+    → AllByRecursion (Above 32) words
+    → words_of (spaced_line (first ∷ words)) ≡ first ∷ words
 some_back first [] above others = ap (λ (t : List ℕ). pieces 32 t) (append-nil first) ∙ one_piece 32 first above
 some_back first (second ∷ words) above others =
     first_piece 32 first (second ++ spaced words) above

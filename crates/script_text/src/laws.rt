@@ -15,16 +15,12 @@ pub fn a_script_has_one_list_of_actions()
         → one ≡ other }
 {}
 
-/// A script has no line outside the grammar.
-pub fn a_script_has_no_line_outside()
-    ensures { (bytes : Bytes) (actions : List Action) (line : ℕ)
+/// A script has no line outside the grammar, and bytes have at most one first line outside.
+pub fn a_script_has_actions_or_a_first_line_outside()
+    ensures not_both { (bytes : Bytes) (actions : List Action) (line : ℕ)
         → IsScript bytes actions
         → ¬ IsFirstOutside (lines_of bytes) line }
-{}
-
-/// Bytes have at most one first line outside the grammar.
-pub fn one_first_line_outside()
-    ensures { (bytes : Bytes) (one other : ℕ)
+    ensures one_line { (bytes : Bytes) (one other : ℕ)
         → IsFirstOutside (lines_of bytes) one
         → IsFirstOutside (lines_of bytes) other
         → one ≡ other }

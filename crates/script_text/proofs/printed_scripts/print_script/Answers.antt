@@ -1,5 +1,5 @@
 -- The lines are those of a script.
-use Rattle.std.proofs.Common.{◌≡◌, ◌∙◌, List, ℕ, rules, subst, sym}
+use Rattle.std.proofs.Common.{◌≡◌, List, ℕ, rules, subst, sym}
 use Rattle.std.specs.List.{AllByRecursion}
 use Rattle.script_text.specs.PrintedScripts.{IsAction, printed_script}
 use Rattle.script_text.specs.Scripts.{IsScript}
