@@ -9,12 +9,12 @@ not_dashed : (word rest : Word) → IsOperand word → word ≢ 45 ∷ rest
 not_dashed [] rest operand e = absurd operand
 not_dashed (first ∷ word) rest operand e = operand cc
 
--- and so is the name of no option
+-- it is the name of no option
 pub not_name : (option : CommandOption) (word : Word) → IsOperand word → word ≢ option_name option
 not_name lib_option word operand e = not_dashed word (codes "-lib") operand e
 not_name steps_option word operand e = not_dashed word (codes "-steps") operand e
 
--- nor such a name with a value behind an equals sign
+-- nor such a name with its value behind an equals sign
 not_joined : (option : CommandOption) (word value : Word) → IsOperand word → word ≢ option_name option ++ codes "=" ++ value
 not_joined lib_option word value operand e = not_dashed word (codes "-lib=" ++ value) operand e
 not_joined steps_option word value operand e = not_dashed word (codes "-steps=" ++ value) operand e
@@ -37,14 +37,16 @@ name_not_joined lib_option steps_option value e = not_both (codes "ib") (codes "
 name_not_joined steps_option lib_option value e = not_both (codes "ib=" ++ value) (codes "teps") (sym e)
 name_not_joined steps_option steps_option value e = cc
 
-same_joined : (one other : CommandOption) (value word : Word) → option_name one ++ codes "=" ++ value ≡ option_name other ++ codes "=" ++ word → Joined one value ≡ Joined other word
+same_joined : (one other : CommandOption) (value word : Word)
+    → option_name one ++ codes "=" ++ value ≡ option_name other ++ codes "=" ++ word → Joined one value ≡ Joined other word
 same_joined lib_option lib_option value word e = cc
 same_joined lib_option steps_option value word e = absurd (not_both (codes "ib=" ++ value) (codes "teps=" ++ word) e)
 same_joined steps_option lib_option value word e = absurd (not_both (codes "ib=" ++ word) (codes "teps=" ++ value) (sym e))
 same_joined steps_option steps_option value word e = cc
 
 -- words that begin with a part begin with no other
-pub same_part : (one other : Part) (xs ys : List Word) → IsPart one → IsPart other → words_of one ++ xs ≡ words_of other ++ ys → (one ≡ other) × (xs ≡ ys)
+pub same_part : (one other : Part) (xs ys : List Word) → IsPart one → IsPart other → words_of one ++ xs ≡ words_of other ++ ys
+    → (one ≡ other) × (xs ≡ ys)
 same_part (Positional word) (Positional value) xs ys h i e = (cc, cc)
 same_part (Positional word) (Separate option value) xs ys h i e = absurd (not_name option word h cc)
 same_part (Positional word) (Joined option value) xs ys h i e = absurd (not_joined option word value h cc)
@@ -64,7 +66,8 @@ not_empty (Separate option value) rest e = cc
 not_empty (Joined option value) rest e = cc
 
 -- words are spelled by one list of parts at most
-same_parts : (ps qs : List Part) → AllByRecursion IsPart ps → AllByRecursion IsPart qs → flat_map words_of ps ≡ flat_map words_of qs → ps ≡ qs
+same_parts : (ps qs : List Part) → AllByRecursion IsPart ps → AllByRecursion IsPart qs → flat_map words_of ps ≡ flat_map words_of qs
+    → ps ≡ qs
 same_parts [] [] h i e = refl
 same_parts [] (q ∷ qs) h i e = absurd (not_empty q _ (sym e))
 same_parts (p ∷ ps) [] h i e = absurd (not_empty p _ e)
@@ -74,13 +77,15 @@ same_parts (p ∷ ps) (q ∷ qs) h i e =
     cc
 
 -- the values of --steps are those of one number
-same_steps : (input script library : Word) (steps others : ℕ) (values : List Word) → HasSteps (Run input script library steps) values → HasSteps (Run input script library others) values → steps ≡ others
+same_steps : (input script library : Word) (steps others : ℕ) (values : List Word) → HasSteps (Run input script library steps) values
+    → HasSteps (Run input script library others) values → steps ≡ others
 same_steps input script library steps others [] h i = h ∙ sym i
 same_steps input script library steps others (word ∷ []) h i = sym h.number.value ∙ i.number.value
 same_steps input script library steps others (first ∷ second ∷ values) h i = absurd h
 
 -- a command is given by its name, its positional words and the values of its options
-same_words : (one other : Command) (values : List Word) → name_of one ≡ name_of other → positionals_of one ≡ positionals_of other → library_of one ∷ [] ≡ library_of other ∷ [] → HasSteps one values → HasSteps other values → one ≡ other
+same_words : (one other : Command) (values : List Word) → name_of one ≡ name_of other → positionals_of one ≡ positionals_of other
+    → library_of one ∷ [] ≡ library_of other ∷ [] → HasSteps one values → HasSteps other values → one ≡ other
 same_words (Optimise input output library) (Optimise input' output' library') values n p l h i = cc
 same_words (Optimise input output library) (Verify input' library') values n p l h i = cc
 same_words (Optimise input output library) (Run input' script' library' steps') values n p l h i = cc

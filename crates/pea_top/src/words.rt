@@ -7,7 +7,7 @@ ghost use Rattle.pea_top.specs.CommandView.{command_view};
 ghost use Rattle.pea_top.specs.Seen.{option_view, Makes, MakesNone, EndsCommand, AreBehindName, Leads, Fails, Adds, IsTooMany};
 
 /// What the words ask for: to optimise the folder `input` into the folder `output`, to verify the folder `input`, or to run it by
-/// the script of this name in at most so many steps, with the folder of the library.
+/// the file `script` for at most `steps` steps. Each uses the folder of the library.
 #[derive(Clone, Copy, Debug)]
 pub(crate) enum Command<'a> {
     Optimise {
@@ -161,7 +161,7 @@ impl<'a> Seen<'a> {
         ensures some { IfSome result (λ next. Leads self.entry word.now next) }
         ensures none { IfNone result (Fails self.entry word.now) }
     {
-        let arguments = self.arguments.with_value(option, operand(word)?)?;
+        let arguments = self.arguments.with_option(option, operand(word)?)?;
         Some(Seen {
             arguments,
             awaited: None,
@@ -181,7 +181,7 @@ impl<'a> Seen<'a> {
             });
         }
         let arguments = match joined_value(word) {
-            Some((option, value)) => self.arguments.with_value(option, value)?,
+            Some((option, value)) => self.arguments.with_option(option, value)?,
             None => self.arguments.with_positional(operand(word)?)?,
         };
         Some(Seen {
@@ -206,20 +206,21 @@ impl<'a> Arguments<'a> {
     }
 
     /// With the value of an option, which is given once at most.
-    fn with_value(self, option: OptionName, value: &'a str) -> Option<Self>
+    fn with_option(self, option: OptionName, value: &'a str) -> Option<Self>
         ensures some { IfSome result
             (λ next. Adds self.entry (Joined (option_view option) value.now) next) }
         ensures none { IfNone result (IsTooMany self.entry (Joined (option_view option) value.now)) }
     {
         match option {
-            OptionName::Lib => match self.library {
-                Some(_) => None,
-                None => Some(Arguments { library: Some(value), ..self }),
-            },
-            OptionName::Steps => match self.steps {
-                Some(_) => None,
-                None => Some(Arguments { steps: Some(value), ..self }),
-            },
+            OptionName::Lib if self.library.is_none() => Some(Arguments {
+                library: Some(value),
+                ..self
+            }),
+            OptionName::Steps if self.steps.is_none() => Some(Arguments {
+                steps: Some(value),
+                ..self
+            }),
+            _ => None,
         }
     }
 
@@ -319,7 +320,11 @@ fn joined_value(word: &str) -> Option<(OptionName, &str)>
 {
     let (name, value) = word.split_once('=')?;
     let option = option_of(name)?;
-    if value.is_empty() { None } else { Some((option, value)) }
+    if value.is_empty() {
+        None
+    } else {
+        Some((option, value))
+    }
 }
 
 /// The number of steps that a word gives.

@@ -7,16 +7,23 @@ use Rattle.pea_top.proofs.words.command_of.Goals as goal
 
 pub returns-in_err-arguments-clause-none : goal.returns-in_err-arguments-clause-none
 returns-in_err-arguments-clause-none c =
-    rw c.from_residual-in_err-arguments.ensures (λ command h. c.in_err-arguments.ensures.none command (behind_name _ _ command (rw c.in_ok-name.ensures.cases.0 at h)))
+    rw c.from_residual-in_err-arguments.ensures (λ command h.
+    c.in_err-arguments.ensures.none command (behind_name _ _ command (rw c.in_ok-name.ensures.cases.0 at h)))
 
 pub returns-in-optimise-clause-none : goal.returns-in-optimise-clause-none
 returns-in-optimise-clause-none c =
-    none_then c.optimise.result (unspelled _ _ _ _ c.in_ok-arguments.arguments (ap (λ words. map string_bytes words) c.in_ok-name.ensures.cases.0) (sym c.as_str.ensures.value ∙ c.in-optimise.is) c.in_ok-arguments.ensures.some) c.optimise.ensures.none
+    let split = ap (λ words. map string_bytes words) c.in_ok-name.ensures.cases.0 in
+    let named = sym c.as_str.ensures.value ∙ c.in-optimise.is in
+    none_then c.optimise.result (unspelled _ _ _ _ _ split named c.in_ok-arguments.ensures.some) c.optimise.ensures.none
 
 pub returns-in-verify-clause-none : goal.returns-in-verify-clause-none
 returns-in-verify-clause-none c =
-    none_then c.verify.result (unspelled _ _ _ _ c.in_ok-arguments.arguments (ap (λ words. map string_bytes words) c.in_ok-name.ensures.cases.0) (sym c.as_str.ensures.value ∙ c.in-verify.is) c.in_ok-arguments.ensures.some) c.verify.ensures.none
+    let split = ap (λ words. map string_bytes words) c.in_ok-name.ensures.cases.0 in
+    let named = sym c.as_str.ensures.value ∙ c.in-verify.is in
+    none_then c.verify.result (unspelled _ _ _ _ c.in_ok-arguments.arguments split named c.in_ok-arguments.ensures.some) c.verify.ensures.none
 
 pub returns-in-run-clause-none : goal.returns-in-run-clause-none
 returns-in-run-clause-none c =
-    none_then c.run.result (unspelled _ _ _ _ c.in_ok-arguments.arguments (ap (λ words. map string_bytes words) c.in_ok-name.ensures.cases.0) (sym c.as_str.ensures.value ∙ c.in-run.is) c.in_ok-arguments.ensures.some) c.run.ensures.none
+    let split = ap (λ words. map string_bytes words) c.in_ok-name.ensures.cases.0 in
+    let named = sym c.as_str.ensures.value ∙ c.in-run.is in
+    none_then c.run.result (unspelled _ _ _ _ c.in_ok-arguments.arguments split named c.in_ok-arguments.ensures.some) c.run.ensures.none
