@@ -28,3 +28,15 @@ mod Casts
 mod ConstantObjects
 mod Starting
 mod BeginningSteps
+mod HereMethods
+mod FamilySteps
+mod OpSorts
+mod FieldValues
+mod ClassesTaken
+mod Members
+mod LinkedFields
+mod FolderFields
+mod FieldOwners
+mod StaticFields
+mod InstanceFields
+mod OnFields
