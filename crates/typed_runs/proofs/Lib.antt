@@ -40,3 +40,5 @@ mod FieldOwners
 mod StaticFields
 mod InstanceFields
 mod OnFields
+mod Resumed
+mod Returns

@@ -2,7 +2,7 @@
 ghost use Rattle.member_link.specs.Machine.Programs.{Program};
 ghost use Rattle.member_link.specs.Machine.Stepping.{step};
 ghost use Rattle.member_link.specs.Machine.Worlds.{World};
-ghost use Rattle.typed_runs.specs.Families.{BeginsClass, NamesField, NextIs, WorksOnOperands};
+ghost use Rattle.typed_runs.specs.Families.{BeginsClass, EndsMethod, NamesField, NextIs, WorksOnOperands};
 ghost use Rattle.typed_runs.specs.TypedPrograms.{Typings};
 ghost use Rattle.typed_runs.specs.TypedWorlds.{TypedWorld, StaysTyped};
 
@@ -35,3 +35,12 @@ pub fn an_instruction_on_fields_stays_typed()
     member_link::a_look_up_finds_one_field();
     member_link::a_found_field_is_above();
 }
+
+/// So does a return: to the frame that waits for its value, to the library, which sees the value or the object that it constructed, or as the end of a
+/// class initialiser.
+pub fn a_return_stays_typed()
+    ensures { (P : Program) (T : Typings) (w : World)
+        → TypedWorld P T w
+        → NextIs EndsMethod P w.frames
+        → StaysTyped P T w (step P w) }
+{}
