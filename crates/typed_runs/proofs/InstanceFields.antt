@@ -45,22 +45,12 @@ use Rattle.typed_runs.proofs.LinkedFields.{FieldLaws, FieldLinked, field_linked,
 use Rattle.typed_runs.proofs.Memories.{object_keeps, object_typed}
 use Rattle.typed_runs.proofs.Performing.{raises_goes, asks_goes}
 use Rattle.typed_runs.proofs.Raising.{raises_access, raises_null}
+use Rattle.typed_runs.proofs.Receivers.{IsReceiver, no_receiver, a_receiver, receiver_of}
 use Rattle.typed_runs.proofs.Stacks.{Operands, lowest_is}
 use Rattle.typed_runs.proofs.Taken.{one_of, two_of}
 use Rattle.typed_runs.specs.Conforming.{HasShape, to_below, ShapeConforms, by_class, Conforms, null_object, an_object, of_this, no_values, and_value, FieldConforms, FitsDescriptor, FitSlots, HoldsShape, IsTypedMemory}
 use Rattle.typed_runs.specs.TypedPrograms.{Typings, IsTypedProgram}
 use Rattle.typed_runs.specs.TypedWorlds.{StaysTyped}
-
--- ---- receivers
-
--- null, or an object that conforms to a class
-pub data IsReceiver (P : Program) (h : Heap) (name : Name) : Value → Type 0 where
-  no_receiver : IsReceiver P h name values.Null
-  a_receiver : {reference : ℕ} {shape : Shape} → HasShape h reference shape → ShapeConforms P shape name → IsReceiver P h name (values.Ref reference)
-
-pub receiver_of : {P : Program} {s : RowScope} {h : Heap} {name : Name} {v : Value} → Conforms P s h (types.Object name) v → IsReceiver P h name v
-receiver_of null_object = no_receiver
-receiver_of (an_object has is) = a_receiver has is
 
 -- ---- the value of a field of the folder
 

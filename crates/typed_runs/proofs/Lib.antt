@@ -38,7 +38,9 @@ mod LinkedFields
 mod FolderFields
 mod FieldOwners
 mod StaticFields
+mod Receivers
 mod InstanceFields
 mod OnFields
 mod Resumed
 mod Returns
+mod Throwing

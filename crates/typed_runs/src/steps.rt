@@ -1,8 +1,12 @@
 //! Steps of a typed world.
-ghost use Rattle.member_link.specs.Machine.Programs.{Program};
+ghost use Rattle.std.specs.Prelude.{IsFalse};
+ghost use Rattle.class_tree.specs.Names.{throwable};
+ghost use Rattle.member_link.specs.Machine.Programs.{Program, is_interface_named};
 ghost use Rattle.member_link.specs.Machine.Stepping.{step};
 ghost use Rattle.member_link.specs.Machine.Worlds.{World};
-ghost use Rattle.typed_runs.specs.Families.{BeginsClass, EndsMethod, NamesField, NextIs, WorksOnOperands};
+ghost use Rattle.typed_runs.specs.Families.{
+    BeginsClass, EndsMethod, NamesField, NextIs, ThrowsReference, WorksOnOperands,
+};
 ghost use Rattle.typed_runs.specs.TypedPrograms.{Typings};
 ghost use Rattle.typed_runs.specs.TypedWorlds.{TypedWorld, StaysTyped};
 
@@ -42,5 +46,15 @@ pub fn a_return_stays_typed()
     ensures { (P : Program) (T : Typings) (w : World)
         → TypedWorld P T w
         → NextIs EndsMethod P w.frames
+        → StaysTyped P T w (step P w) }
+{}
+
+/// So does an `athrow`, where java/lang/Throwable is no interface: each reference conforms to an interface, and the machine throws
+/// instances alone.
+pub fn a_throw_stays_typed()
+    ensures { (P : Program) (T : Typings) (w : World)
+        → IsFalse (is_interface_named P throwable)
+        → TypedWorld P T w
+        → NextIs ThrowsReference P w.frames
         → StaysTyped P T w (step P w) }
 {}
