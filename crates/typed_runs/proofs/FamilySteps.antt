@@ -1,4 +1,4 @@
-use Rattle.std.specs.Prelude.{◌≡◌, ◌+◌, ℕ, List, [], ◌∷◌, IfSome, if◌then◌else◌}
+use Rattle.std.specs.Prelude.{◌+◌, ℕ, List, [], ◌∷◌, IfSome, if◌then◌else◌}
 use Rattle.std.proofs.Common.{sym, subst}
 use Rattle.class_model.specs.declared.frame.Frame.{Frame}
 use Rattle.machine_values.specs.Frames.{MethodState}
@@ -28,7 +28,8 @@ EachStays P T Family =
     → StaysTyped P T w (op_step P w f rest (item_op P.links numbered s item))
 
 module _ (P : Program) (T : Typings) (Family : Op → Type 0) (each : EachStays P T Family) where
-  family_op : (w : World) (f : MethodState) (rest : List RunFrame) → TypedWorld P T w → (d : Does P T w.memory.heap f) → FramesConform P T w.memory.heap (above_of P (frames.Method f)) rest
+  family_op : (w : World) (f : MethodState) (rest : List RunFrame) → TypedWorld P T w → (d : Does P T w.memory.heap f)
+      → FramesConform P T w.memory.heap (above_of P (frames.Method f)) rest
       → Family d.stands.point.op → StaysTyped P T w (op_step P w f rest d.stands.point.op)
   family_op w f rest typed d below is =
       subst (λ op. StaysTyped P T w (op_step P w f rest op)) (sym d.stands.fits.is_op)

@@ -1,22 +1,16 @@
 use Rattle.std.specs.Prelude.{◌≡◌, refl, true}
-use Rattle.std.proofs.Common.{subst}
 use Rattle.class_model.specs.Code.{verification_type}
 use Rattle.class_model.specs.Descriptors.{kind_of}
 use Rattle.class_model.specs.declared.descriptor.FieldType.{FieldType}
 use Rattle.class_model.specs.declared.descriptor.FieldType.TheVariants as types
-use Rattle.class_model.specs.declared.descriptor.Kind.{Kind}
-use Rattle.class_model.specs.declared.descriptor.Kind.TheVariants as kinds
-use Rattle.class_model.specs.declared.frame.VType.{VType}
 use Rattle.machine_values.specs.Heaps.{Heap}
 use Rattle.machine_values.specs.Values.{has_kind, narrowed, blank_of_kind}
 use Rattle.machine_values.specs.declared.value.Value.{Value}
 use Rattle.machine_values.specs.declared.value.Value.TheVariants as values
 use Rattle.member_link.specs.Machine.Programs.{Program}
 use Rattle.member_link.specs.RowScope.{RowScope}
-use Rattle.member_link.specs.Rows.Operands.{IsOfKind}
 use Rattle.typed_runs.proofs.Kept.{there}
-use Rattle.typed_runs.proofs.Units.{kind_conforms}
-use Rattle.typed_runs.specs.Conforming.{IsValueInHeap, Conforms, an_int, a_long, a_float, a_double, null_object, an_object, RefersTo, to_none, to_one, FieldConforms}
+use Rattle.typed_runs.specs.Conforming.{IsValueInHeap, Conforms, an_int, a_long, a_float, a_double, null_object, an_object, to_none, to_one, FieldConforms}
 
 -- ---- a value of a field type is one of its verification type
 

@@ -1,5 +1,4 @@
-use Rattle.std.specs.Prelude.{◌≡◌, ◌⊎◌, ◌<◌, ◌≤◌, not, refl, ℕ, zero, suc, Bool, true, false, List, [], ◌∷◌, ◌++◌, map, length, reverse, filter, bytes_eq, slice_get, Option, Some, None, IsTrue, IsFalse, option_map, if◌then◌else◌}
-use Rattle.std.specs.List.{AllByRecursion}
+use Rattle.std.specs.Prelude.{◌≡◌, ◌⊎◌, ◌≤◌, not, refl, ℕ, zero, suc, Bool, true, false, List, [], ◌∷◌, ◌++◌, map, length, reverse, bytes_eq, slice_get, Option, Some, None, IsTrue, IsFalse, option_map}
 use Rattle.std.proofs.Common.{arith, inl, inr, ap, sym, ◌∙◌, subst}
 use Rattle.std.proofs.lemmas.Slice.Eq.{bytes_eq-Decides}
 use Rattle.class_model.specs.Laws.Lists.{at_index}
@@ -8,20 +7,20 @@ use Rattle.class_model.specs.declared.header.Header.{Header}
 use Rattle.class_model.specs.declared.header.Member.{Member}
 use Rattle.class_tree.specs.Headers.{Name, Headers, all_headers, class_named, named, IsThere}
 use Rattle.class_tree.specs.Hierarchy.{IsHierarchy, superclass_of, climb, height}
-use Rattle.class_tree.specs.Laws.Above.{hierarchy_is_sound, hierarchy_is_rooted, low_is_there, above_is_there, directly_there, nothing_above_object, class_above_interface, class_is_climbed, class_decides}
+use Rattle.class_tree.specs.Laws.Above.{hierarchy_is_sound, hierarchy_is_rooted, low_is_there, class_is_climbed}
 use Rattle.class_tree.specs.Laws.Headers.{class_there, superclass_is}
 use Rattle.class_tree.specs.Layouts.{classes_up, superclasses, own_fields}
 use Rattle.class_tree.specs.Names.{object, is_interface}
 use Rattle.class_tree.specs.Order.{place_of}
-use Rattle.class_tree.specs.Subtype.{IsArray, IsBelow, IsSubtype}
+use Rattle.class_tree.specs.Subtype.{IsBelow}
 use Rattle.class_tree.specs.declared.place.Place.{Place}
 use Rattle.member_link.specs.DeclaredMembers.{declared}
 use Rattle.member_link.specs.Machine.Layouts.{own_slots, slots_of, slot_number}
-use Rattle.member_link.specs.Machine.Programs.{Program, RunClass, headers_in, folder_number, number_of_first, member_of, is_interface_named, same_reference}
+use Rattle.member_link.specs.Machine.Programs.{Program, RunClass, headers_in, folder_number, number_of_first, same_reference}
 use Rattle.member_link.specs.References.{Reference}
-use Rattle.typed_runs.proofs.Basics.{and_second, some_of}
-use Rattle.typed_runs.proofs.LinkedFields.{FieldLinked, FolderClass, folder_class, declared_is, declared_number}
-use Rattle.typed_runs.proofs.Members.{IsIn, in_front, in_reverse, in_map, in_filter, in_flat_map, in_at, Passes, one_passes}
+use Rattle.typed_runs.proofs.Basics.{and_second}
+use Rattle.typed_runs.proofs.LinkedFields.{FieldLinked, folder_class, declared_is, declared_number}
+use Rattle.typed_runs.proofs.Members.{IsIn, in_reverse, in_map, in_filter, in_flat_map, in_at, one_passes}
 use Rattle.typed_runs.specs.TypedPrograms.{Typings, IsTypedProgram}
 
 -- ---- a class among those above another
@@ -33,7 +32,8 @@ fits hs (suc fuel) None = omega arith
 fits hs (suc fuel) (Some place) = omega (arith, fits hs fuel (superclass_of hs place))
 
 -- upwards of a class to one that is no interface
-climbs : (hs : Headers) → IsHierarchy hs → (fuel : ℕ) (low high : Name) (header above : Header) → class_named hs low ≡ Some header → class_named hs high ≡ Some above → IsFalse (is_interface above)
+climbs : (hs : Headers) → IsHierarchy hs → (fuel : ℕ) (low high : Name) (header above : Header) → class_named hs low ≡ Some header
+    → class_named hs high ≡ Some above → IsFalse (is_interface above)
     → (low ≡ high) ⊎ IsBelow hs low high → height hs (place_of hs low) ≤ fuel → IsIn high (classes_up hs fuel (Some low))
 climbs hs hierarchy zero low high header above is above_is kind up enough =
     let stands = hierarchy.of_name low header is in
@@ -47,7 +47,8 @@ climbs hs hierarchy (suc fuel) low high header above is above_is kind (inr up) e
     let stands = hierarchy.of_name low header is in
     let falls = hierarchy.falls stands.0 header stands.1.at in
     let now : height hs (Some stands.0) ≤ suc fuel = subst (λ p. height hs p ≤ suc fuel) stands.1.is_place enough in
-    let left : height hs (place_of hs next.0) ≤ fuel = subst (λ p. height hs p ≤ fuel) (superclass_is hs stands.0 header stands.1.at next.0 next.1) (omega (arith, falls, now)) in
+    let left : height hs (place_of hs next.0) ≤ fuel =
+    subst (λ p. height hs p ≤ fuel) (superclass_is hs stands.0 header stands.1.at next.0 next.1) (omega (arith, falls, now)) in
     let others : (name : Name) (h : Header) → class_named hs name ≡ Some h → (name ≡ high) ⊎ IsBelow hs name high → height hs (place_of hs name) ≤ fuel → IsIn high (classes_up hs fuel (Some name)) =
     λ name h named more few. climbs hs hierarchy fuel name high h above named above_is kind more few in
     inr (rw is (rw next.1 (further others next.0 next.2 left))) where
@@ -56,7 +57,8 @@ climbs hs hierarchy (suc fuel) low high header above is above_is kind (inr up) e
       further others name (inl same) left = others name above (subst (λ n. class_named hs n ≡ Some above) (sym same) above_is) (inl same) left
       further others name (inr more) left = let c = class_there hs name (low_is_there more) in others name c.0 c.1 (inr more) left
 
-pub among_superclasses : (hs : Headers) → IsHierarchy hs → (low high : Name) (above : Header) → IsThere hs low → class_named hs high ≡ Some above → IsFalse (is_interface above)
+pub among_superclasses : (hs : Headers) → IsHierarchy hs → (low high : Name) (above : Header) → IsThere hs low → class_named hs high ≡ Some above
+    → IsFalse (is_interface above)
     → (low ≡ high) ⊎ IsBelow hs low high → IsIn high (superclasses hs low)
 among_superclasses hs hierarchy low high above is_there is kind up =
     let c = class_there hs low is_there in
@@ -65,35 +67,18 @@ among_superclasses hs hierarchy low high above is_there is kind up =
 -- ---- a field of an object of the folder
 
 -- the class that declares it is of the folder
-pub record FolderField (P : Program) (l : Reference) (class : ℕ) : Type 0 where
+pub record FolderField (P : Program) (field : Reference) : Type 0 where
   pub header : Header
-  pub found : class_named (headers_in P) l.class ≡ Some header
-  pub in_folder : named l.class (headers_in P).folder ≡ Some header
+  pub found : class_named (headers_in P) field.class ≡ Some header
+  pub in_folder : named field.class (headers_in P).folder ≡ Some header
   pub member : Member
-  pub declares : declared l.name l.desc header.fields ≡ Some member
+  pub declares : declared field.name field.desc header.fields ≡ Some member
   pub of_object : has member.flags STATIC ≡ false
   pub no_interface : is_interface header ≡ false
-  pub no_object : l.class ≡ object → ⊥
-
-named_in_folder : (name : Name) (cs : List RunClass) (library : List Header) (n : ℕ) (header : Header)
-    → number_of_first (λ (class : RunClass). bytes_eq name class.header.name) cs ≡ Some n → named name (map (λ (class : RunClass). class.header) cs ++ library) ≡ Some header
-    → named name (map (λ (class : RunClass). class.header) cs) ≡ Some header
-named_in_folder name [] library n header number is = cc
-named_in_folder name (c ∷ cs) library n header number is = by (bytes_eq name c.header.name) refl (λ k e f. named_in_folder name cs library k header e f) where
-  by_rest : (m : Option ℕ) → number_of_first (λ (class : RunClass). bytes_eq name class.header.name) cs ≡ m → option_map suc m ≡ Some n
-      → ((k : ℕ) → number_of_first (λ (class : RunClass). bytes_eq name class.header.name) cs ≡ Some k → named name (map (λ (class : RunClass). class.header) cs) ≡ Some header)
-      → named name (map (λ (class : RunClass). class.header) cs) ≡ Some header
-  by_rest None e same others = cc
-  by_rest (Some k) e same others = others k e
-
-  by : (b : Bool) → bytes_eq name c.header.name ≡ b
-      → ((k : ℕ) → number_of_first (λ (class : RunClass). bytes_eq name class.header.name) cs ≡ Some k → named name (map (λ (class : RunClass). class.header) cs ++ library) ≡ Some header → named name (map (λ (class : RunClass). class.header) cs) ≡ Some header)
-      → named name (map (λ (class : RunClass). class.header) (c ∷ cs)) ≡ Some header
-  by true e others = rw e (rw e at is)
-  by false e others = rw e (by_rest (number_of_first (λ (class : RunClass). bytes_eq name class.header.name) cs) refl (rw e at number) (λ k same. others k same (rw e at is)))
+  pub no_object : field.class ≡ object → ⊥
 
 module _ (P : Program) (T : Typings) (program : IsTypedProgram P T) where
-  pub folder_field : (r : Reference) (l : FieldLinked P r false) (class : ℕ) → folder_number P l.field.class ≡ Some class → FolderField P l.field class
+  pub folder_field : (r : Reference) (l : FieldLinked P r false) (class : ℕ) → folder_number P l.field.class ≡ Some class → FolderField P l.field
   folder_field r l class is =
       let c = folder_class P l.field.class class l.header is l.found in
       let n = declared_number l.field l.header.fields l.member l.declares in
@@ -101,17 +86,19 @@ module _ (P : Program) (T : Typings) (program : IsTypedProgram P T) where
       record {
         header = l.header;
         found = l.found;
-        in_folder = named_in_folder l.field.class P.classes P.library class l.header is l.found;
+        in_folder = c.in_folder;
         member = l.member;
         declares = l.declares;
         of_object = l.static;
         no_interface = subst (λ (h : Header). is_interface h ≡ false) c.header_is (flat c.class c.is_class n.0 at (is_interface c.class.header) refl);
         no_object = λ same. let no : None ≡ Some class = sym program.base.of_object.outside ∙ ap (folder_number P) (sym same) ∙ is in cc;
       } where
-        flat : (found : RunClass) → slice_get P.classes class ≡ Some found → (n : ℕ) → slice_get found.header.fields n ≡ Some l.member → (b : Bool) → is_interface found.header ≡ b → is_interface found.header ≡ false
+        flat : (found : RunClass) → slice_get P.classes class ≡ Some found → (n : ℕ) → slice_get found.header.fields n ≡ Some l.member → (b : Bool)
+            → is_interface found.header ≡ b → is_interface found.header ≡ false
         flat found is_class n there false e = e
         flat found is_class n there true e =
-            let static = at_index (λ (field : Member). IsTrue (has field.flags STATIC)) found.header.fields n l.member ((program.classes class found is_class).of_interface e) there in
+            let static =
+            at_index (λ (field : Member). IsTrue (has field.flags STATIC)) found.header.fields n l.member ((program.classes class found is_class).of_interface e) there in
             let no : true ≡ false = sym static ∙ l.static in
             cc
 
@@ -126,10 +113,12 @@ module _ (P : Program) (T : Typings) (program : IsTypedProgram P T) where
     pub same_desc : slot.desc ≡ field.desc
 
   same_itself : (r : Reference) → same_reference r r ≡ true
-  same_itself r = rw ((bytes_eq-Decides r.class r.class).1 refl) (rw ((bytes_eq-Decides r.name r.name).1 refl) ((bytes_eq-Decides r.desc r.desc).1 refl))
+  same_itself r =
+      rw ((bytes_eq-Decides r.class r.class).1 refl) (rw ((bytes_eq-Decides r.name r.name).1 refl) ((bytes_eq-Decides r.desc r.desc).1 refl))
 
-  pub slot_there : (name : Name) (field : Reference) (class : ℕ) → FolderField P field class → IsThere (headers_in P) name → (name ≡ field.class) ⊎ IsBelow (headers_in P) name field.class → SlotThere name field
-  slot_there name field class f is_there up =
+  pub slot_there : (name : Name) (field : Reference) → FolderField P field → IsThere (headers_in P) name
+      → (name ≡ field.class) ⊎ IsBelow (headers_in P) name field.class → SlotThere name field
+  slot_there name field f is_there up =
       let above = among_superclasses (headers_in P) program.hierarchy name field.class f.header is_there f.found f.no_interface up in
       let n = declared_number field f.header.fields f.member f.declares in
       let own : IsIn f.member (own_fields (headers_in P) field.class) =

@@ -1,10 +1,13 @@
 use Rattle.std.specs.Prelude.{◌≡◌, refl, ℕ, Bool, true, false, List, ◌∷◌, slice_get, Option, Some, None, if◌then◌else◌}
-use Rattle.std.proofs.Common.{ap, sym, ◌∙◌, subst}
+use Rattle.std.proofs.Common.{◌∙◌, subst}
 use Rattle.class_model.specs.declared.frame.Frame.{Frame}
+use Rattle.class_model.specs.declared.frame.VType.{VType}
 use Rattle.machine_values.specs.Frames.{MethodState}
 use Rattle.machine_values.specs.Heaps.{Heap}
 use Rattle.machine_values.specs.declared.frame.RunFrame.{RunFrame}
 use Rattle.machine_values.specs.declared.frame.RunFrame.TheVariants as frames
+use Rattle.machine_values.specs.declared.value.Value.{Value}
+use Rattle.member_link.specs.Assignability.{IsAssignable}
 use Rattle.member_link.specs.Machine.Completions.{Completion, begins}
 use Rattle.member_link.specs.Machine.FieldSteps.{begun_first}
 use Rattle.member_link.specs.Machine.Ops.{Op}
@@ -13,9 +16,11 @@ use Rattle.member_link.specs.Machine.Programs.{Program, Code, RunMethod, headers
 use Rattle.member_link.specs.Machine.Worlds.{World, is_begun}
 use Rattle.member_link.specs.RowScope.{RowScope}
 use Rattle.member_link.specs.Rows.Row.{Row}
+use Rattle.typed_runs.proofs.Assigned.{assigned}
 use Rattle.typed_runs.proofs.BeginningSteps.{class_there, begun_on_stays}
 use Rattle.typed_runs.proofs.Here.{Here}
 use Rattle.typed_runs.proofs.Points.{of_chain}
+use Rattle.typed_runs.specs.Conforming.{Conforms}
 use Rattle.typed_runs.specs.TypedFrames.{StandsAt, Does, upon}
 use Rattle.typed_runs.specs.TypedPrograms.{Typings, IsTypedProgram, IsTypedMethod}
 use Rattle.typed_runs.specs.TypedWorlds.{StaysTyped}
@@ -33,13 +38,20 @@ method_of_frame P T h f program stands =
     let m = of_chain code_run (run_method P f.at) c.0 c.1 in
     record { method = m.0; run = m.1; code = c.0; typed = program.methods f.at m.0 c.0 m.1 m.2 }
 
-module _ {P : Program} {T : Typings} {w : World} {f : MethodState} {rest : List RunFrame} {s : RowScope} {frame : Frame} {place : ℕ} {numbered : ℕ → ℕ} {row : Row} {op : Op} {falls : Bool} {places : List ℕ} (h : Here P T w f rest s frame place numbered row op falls places) where
+module _ {P : Program} {T : Typings} {w : World} {f : MethodState} {rest : List RunFrame} {s : RowScope} {frame : Frame} {place : ℕ}
+    {numbered : ℕ → ℕ} {row : Row} {op : Op} {falls : Bool} {places : List ℕ} (h : Here P T w f rest s frame place numbered row op falls places) where
   pub method_here : MethodOf P T f
   method_here = method_of_frame P T w.memory.heap f h.typed.program h.stands
 
   -- what the row reads are the classes of the program
   pub headers_here : s.headers ≡ headers_in P
   headers_here = h.reads.headers ∙ method_here.typed.headers
+
+  -- a value of a type that the row takes for another
+  pub assigned_here : {t wanted : VType} {v : Value} → IsAssignable s.headers t wanted → Conforms P (T f.at).scope w.memory.heap t v
+      → Conforms P (T f.at).scope w.memory.heap wanted v
+  assigned_here {t = t} {wanted = wanted} assignable is =
+      assigned P T h.typed.program (subst (λ hs. IsAssignable hs t wanted) headers_here assignable) is
 
   -- a class that is begun first is begun, and the instruction is still to be done
   pub first_begun : Does P T w.memory.heap f → (class : List ℕ) (taken : MethodState) (otherwise : Completion)

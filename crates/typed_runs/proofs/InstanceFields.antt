@@ -1,5 +1,4 @@
-use Rattle.std.specs.Prelude.{◌≡◌, ◌≢◌, ◌⊎◌, ◌&&◌, ◌-◌, not, refl, ℕ, zero, suc, Bool, true, false, List, [], ◌∷◌, length, take, drop, reverse, slice_get, slice_set, Option, Some, None, if◌then◌else◌}
-use Rattle.std.specs.List.{AllByRecursion}
+use Rattle.std.specs.Prelude.{◌≡◌, ◌⊎◌, ◌-◌, refl, ℕ, zero, suc, Bool, true, false, List, [], ◌∷◌, length, take, drop, reverse, slice_set, Option, Some, None}
 use Rattle.std.proofs.Common.{arith, inl, inr, ap, sym, ◌∙◌, subst}
 use Rattle.class_model.specs.Descriptors.{type_of}
 use Rattle.class_model.specs.declared.frame.Frame.{Frame}
@@ -16,10 +15,10 @@ use Rattle.machine_values.specs.declared.object.Shape.TheVariants as shapes
 use Rattle.machine_values.specs.declared.value.Value.{Value}
 use Rattle.machine_values.specs.declared.value.Value.TheVariants as values
 use Rattle.member_link.specs.Assignability.{IsAssignable}
-use Rattle.member_link.specs.Machine.Completions.{Completion, gives, asks_get, asks_put}
+use Rattle.member_link.specs.Machine.Completions.{gives, asks_get, asks_put}
 use Rattle.member_link.specs.Machine.FieldSteps.{is_barred, get_from, got_field, put_into, put_field_value, put_field_in, put_field_tested, get_field_work, put_field_work}
 use Rattle.member_link.specs.Machine.Layouts.{slots_of, slot_number}
-use Rattle.member_link.specs.Machine.Ops.{Op, get_field, put_field}
+use Rattle.member_link.specs.Machine.Ops.{get_field, put_field}
 use Rattle.member_link.specs.Machine.Performing.{perform}
 use Rattle.member_link.specs.Machine.Programs.{Program, folder_number, name_of_class}
 use Rattle.member_link.specs.Machine.Shapes.{reference_conforms}
@@ -29,17 +28,16 @@ use Rattle.member_link.specs.Machine.Worlds.{World, Memory, with_heap}
 use Rattle.member_link.specs.References.{Reference}
 use Rattle.member_link.specs.RowScope.{RowScope}
 use Rattle.member_link.specs.Rows.MemberRows.{put_field_row, MayPut, IsOwnField, NoUninitThis}
-use Rattle.member_link.specs.Rows.Operands.{Need, assignable_to, assignable_or_this, topmost, lowest_of}
-use Rattle.member_link.specs.Rows.Row.{Row, access_aside, plain}
+use Rattle.member_link.specs.Rows.Operands.{assignable_to, assignable_or_this, topmost, lowest_of}
+use Rattle.member_link.specs.Rows.Row.{access_aside, plain}
 use Rattle.member_link.specs.Signatures.{field_type}
 use Rattle.typed_runs.proofs.Assigned.{assigned}
-use Rattle.typed_runs.proofs.Basics.{some_of}
 use Rattle.typed_runs.proofs.ClassesTaken.{no_array_there, receiver_passes}
-use Rattle.typed_runs.proofs.FieldOwners.{IsOwner, owner, value_there, value_put}
+use Rattle.typed_runs.proofs.FieldOwners.{owner, value_there, value_put}
 use Rattle.typed_runs.proofs.FieldValues.{of_field, to_field, field_kind, field_narrowed, field_in_heap}
 use Rattle.typed_runs.proofs.FolderFields.{folder_field, SlotThere, slot_there}
 use Rattle.typed_runs.proofs.Here.{Here, operands_here, worked, gives_same, gives_goes}
-use Rattle.typed_runs.proofs.HereMethods.{headers_here}
+use Rattle.typed_runs.proofs.HereMethods.{assigned_here}
 use Rattle.typed_runs.proofs.Kept.{Keeps, there, units_kept, all_kept, slots_kept}
 use Rattle.typed_runs.proofs.LinkedFields.{FieldLaws, FieldLinked, field_linked, flag_is}
 use Rattle.typed_runs.proofs.Memories.{object_keeps, object_typed}
@@ -48,79 +46,21 @@ use Rattle.typed_runs.proofs.Raising.{raises_access, raises_null}
 use Rattle.typed_runs.proofs.Receivers.{IsReceiver, no_receiver, a_receiver, receiver_of}
 use Rattle.typed_runs.proofs.Stacks.{Operands, lowest_is}
 use Rattle.typed_runs.proofs.Taken.{one_of, two_of}
-use Rattle.typed_runs.specs.Conforming.{HasShape, to_below, ShapeConforms, by_class, Conforms, null_object, an_object, of_this, no_values, and_value, FieldConforms, FitsDescriptor, FitSlots, HoldsShape, IsTypedMemory}
+use Rattle.typed_runs.specs.Conforming.{HasShape, to_below, ShapeConforms, by_class, Conforms, of_this, no_values, and_value, FieldConforms, FitsDescriptor, FitSlots, HoldsShape, IsTypedMemory}
 use Rattle.typed_runs.specs.TypedPrograms.{Typings, IsTypedProgram}
 use Rattle.typed_runs.specs.TypedWorlds.{StaysTyped}
-
--- ---- the value of a field of the folder
-
-module _ (P : Program) (T : Typings) (program : IsTypedProgram P T) (r : Reference) (l : FieldLinked P r false) (class : ℕ) (is_folder : folder_number P l.field.class ≡ Some class) where
-  -- the object, its class, and the slot of the field
-  pub record FieldPlace (m : Memory) (reference : ℕ) : Type 0 where
-    pub object : Object
-    pub is_there : object_at m.heap reference ≡ Some object
-    pub number : ℕ
-    pub same : object.shape ≡ shapes.Folder number
-    pub holds : HoldsShape P m.heap (shapes.Folder number) object.values
-    pub at : SlotThere P T program (name_of_class P number) l.field
-
-  pub field_place : (m : Memory) (reference : ℕ) (shape : Shape) → IsTypedMemory P m → HasShape m.heap reference shape → ShapeConforms P shape r.class → FieldPlace m reference
-  field_place m reference shape typed has is =
-      let f = folder_field P T program r l class is_folder in
-      let holds = typed.objects reference has.object has.is_there in
-      let o = owner P T program l.field class is_folder f r.class l.named_there l.above m.heap has.object.shape has.object.values holds (subst (λ x. ShapeConforms P x r.class) (sym has.same) is) in
-      record {
-        object = has.object;
-        is_there = has.is_there;
-        number = o.number;
-        same = o.same;
-        holds = subst (λ x. HoldsShape P m.heap x has.object.values) o.same holds;
-        at = slot_there P T program (name_of_class P o.number) l.field class f o.number_there o.up;
-      }
-
-  -- the value there
-  pub got_is : (m : Memory) (reference : ℕ) (p : FieldPlace m reference) → (v : Value) × (got_field P m l.field (object_at m.heap reference) ≡ gives m (v ∷ [])) × FieldConforms P m.heap (type_of r.desc) v
-  got_is m reference p =
-      let v = value_there P m.heap (slots_of P (name_of_class P p.number)) p.object.values p.at.number p.at.slot p.holds.fields p.at.is_slot in (
-        v.0,
-        rw p.is_there (rw p.same (rw p.at.is_number (rw v.1 refl))),
-        subst (λ (desc : List ℕ). FieldConforms P m.heap (type_of desc) v.0) (p.at.same_desc ∙ l.same_desc) v.2,
-      )
-
-  -- the memory with another
-  pub record FieldPut (m : Memory) (reference : ℕ) (v : Value) : Type 0 where
-    pub heap : Heap
-    pub is_put : put_field_value P m l.field reference v (object_at m.heap reference) ≡ gives (with_heap m heap) []
-    pub keep : Keeps m.heap heap
-    pub typed : IsTypedMemory P (with_heap m heap)
-
-  pub put_is : (m : Memory) (reference : ℕ) (v : Value) → IsTypedMemory P m → (p : FieldPlace m reference) → FieldConforms P m.heap (type_of l.field.desc) v → FieldPut m reference v
-  put_is m reference v typed p fits =
-      let new : Object = record p.object { values = slice_set p.object.values p.at.number v } in
-      let slots : List Reference = slots_of P (name_of_class P p.number) in
-      let own : FitsDescriptor P m.heap p.at.slot.desc v = subst (λ (desc : List ℕ). FitsDescriptor P m.heap desc v) (sym p.at.same_desc) fits in
-      let values : FitSlots P m.heap slots new.values = value_put P m.heap slots p.object.values p.at.number p.at.slot v p.holds.fields p.at.is_slot own in
-      let keep = object_keeps m.heap reference p.object new p.is_there refl in
-      let holds : HoldsShape P (with_object m.heap reference new) (shapes.Folder p.number) new.values =
-      record { found = p.holds.found; is_class = p.holds.is_class; fields = slots_kept P keep slots new.values values } in
-      let put : with_value m.heap reference p.at.number v ≡ with_object m.heap reference new = rw p.is_there refl in
-      record {
-        heap = with_object m.heap reference new;
-        is_put = ap (put_field_value P m l.field reference v) p.is_there ∙ put_at p.object.shape p.object.values p.object.monitor p.number p.at.number p.same p.at.is_number ∙ ap (λ h. gives (with_heap m h) []) put;
-        keep = keep;
-        typed = object_typed P m reference p.object new typed p.is_there refl (subst (λ x. HoldsShape P (with_object m.heap reference new) x new.values) (sym p.same) holds);
-      } where
-        put_at : (s : Shape) (vs : List Value) (monitor number n : ℕ) → s ≡ shapes.Folder number → slot_number P (name_of_class P number) l.field ≡ Some n
-            → put_field_value P m l.field reference v (Some (record { shape = s; values = vs; monitor = monitor })) ≡ gives (with_heap m (with_value m.heap reference n v)) []
-        put_at s vs monitor number n same is_number = rw same (rw is_number refl)
+use Rattle.typed_runs.proofs.FieldPlaces.{field_place, got_is, put_is}
 
 -- a receiver passes the test of the named class
-passes : (P : Program) (T : Typings) (program : IsTypedProgram P T) (m : Memory) → IsTypedMemory P m → (r : Reference) → FieldLinked P r false → (reference : ℕ) (shape : Shape) → HasShape m.heap reference shape → ShapeConforms P shape r.class
+passes : (P : Program) (T : Typings) (program : IsTypedProgram P T) (m : Memory) → IsTypedMemory P m → (r : Reference) → FieldLinked P r false
+    → (reference : ℕ) (shape : Shape) → HasShape m.heap reference shape → ShapeConforms P shape r.class
     → reference_conforms P m.heap reference r.class ≡ true
-passes P T program m memory r l reference shape has is = receiver_passes P T program m.heap reference shape r.class memory.objects (no_array_there P T program r.class l.named_there) has is
+passes P T program m memory r l reference shape has is =
+    receiver_passes P T program m.heap reference shape r.class memory.objects (no_array_there P T program r.class l.named_there) has is
 
 -- an uninitialised this is a receiver of its own class
-this_receiver : {P : Program} {c : RowScope} {h : Heap} {v : Value} (r : Reference) → c.own.name ≡ r.class → Conforms P c h types.UninitThis v → IsReceiver P h r.class v
+this_receiver : {P : Program} {c : RowScope} {h : Heap} {v : Value} (r : Reference) → c.own.name ≡ r.class → Conforms P c h types.UninitThis v
+    → IsReceiver P h r.class v
 this_receiver {P = P} r same (of_this {class = class} has below) =
     a_receiver has (by_class (to_below (subst (λ (n : Name). P.links.below (name_of_class P class) n ≡ true) same below)))
 
@@ -136,15 +76,19 @@ no_this_under (suc k) (t ∷ ts) us all is = no_this_under k ts us all.1 is
 
 -- ---- getfield
 
-module _ {P : Program} {T : Typings} {w : World} {f : MethodState} {rest : List RunFrame} {s : RowScope} {frame : Frame} {place : ℕ} {numbered : ℕ → ℕ} (laws : FieldLaws) where
-  pub get_field_stays : (r : Reference) → Here P T w f rest s frame place numbered (plain frame (assignable_to (types.Object r.class) ∷ []) (field_type r.desc ∷ [])) (get_field r) true []
+module _ {P : Program} {T : Typings} {w : World} {f : MethodState} {rest : List RunFrame} {s : RowScope} {frame : Frame} {place : ℕ}
+    {numbered : ℕ → ℕ} (laws : FieldLaws) where
+  pub get_field_stays : (r : Reference)
+      → Here P T w f rest s frame place numbered (plain frame (assignable_to (types.Object r.class) ∷ []) (field_type r.desc ∷ [])) (get_field r) true []
       → StaysTyped P T w (op_step P w f rest (get_field r))
   get_field_stays r h =
       let l = field_linked P T h.typed.program laws r false h.linked in
       worked h 1 refl (operands_here h).enough (rw l.link (by l f.stack refl (operands_here h))) where
-        got : (l : FieldLinked P r false) (reference : ℕ) (shape : Shape) → HasShape w.memory.heap reference shape → ShapeConforms P shape r.class → (class : Option ℕ) → folder_number P l.field.class ≡ class
+        got : (l : FieldLinked P r false) (reference : ℕ) (shape : Shape) → HasShape w.memory.heap reference shape → ShapeConforms P shape r.class
+            → (class : Option ℕ) → folder_number P l.field.class ≡ class
             → StaysTyped P T w (perform P w f (record f { stack = drop 1 f.stack }) rest (get_from P w.memory l.field reference class))
-        got l reference shape has is None e = asks_goes h (asks_get l.field (Some (values.Ref reference))) (drop 1 f.stack) h.locals (operands_here h).rest refl (there has)
+        got l reference shape has is None e =
+            asks_goes h (asks_get l.field (Some (values.Ref reference))) (drop 1 f.stack) h.locals (operands_here h).rest refl (there has)
         got l reference shape has is (Some class) e =
             let p = field_place P T h.typed.program r l class e w.memory reference shape h.typed.memory has is in
             let v = got_is P T h.typed.program r l class e w.memory reference p in
@@ -161,17 +105,20 @@ module _ {P : Program} {T : Typings} {w : World} {f : MethodState} {rest : List 
         by l [] e o = absurd (omega (arith, o.enough))
         by l (v ∷ others) e o =
             let one = one_of s (assignable_to (types.Object r.class)) (topmost 1 frame.stack) h.holds.operands o.values in
-            on l v (receiver_of (assigned P T h.typed.program (subst (λ hs. IsAssignable hs one.type (types.Object r.class)) (headers_here h) one.fits) one.conforms))
+            on l v (receiver_of (assigned_here h one.fits one.conforms))
 
   -- ---- putfield
 
-  pub put_field_stays : (r : Reference) (initialises : Option Name) → Here P T w f rest s frame place numbered (access_aside (put_field_row s frame (Some r))) (put_field r initialises) true []
+  pub put_field_stays : (r : Reference) (initialises : Option Name)
+      → Here P T w f rest s frame place numbered (access_aside (put_field_row s frame (Some r))) (put_field r initialises) true []
       → StaysTyped P T w (op_step P w f rest (put_field r initialises))
   put_field_stays r initialises h =
       let l = field_linked P T h.typed.program laws r false h.linked in
       worked h 2 refl (operands_here h).enough (rw l.link (by l f.stack refl (operands_here h))) where
-        put : (l : FieldLinked P r false) (reference : ℕ) (shape : Shape) (v : Value) → HasShape w.memory.heap reference shape → ShapeConforms P shape r.class → FieldConforms P w.memory.heap (type_of l.field.desc) v
-            → (class : Option ℕ) → folder_number P l.field.class ≡ class → StaysTyped P T w (perform P w f (record f { stack = drop 2 f.stack }) rest (put_into P w.memory l.field reference v class))
+        put : (l : FieldLinked P r false) (reference : ℕ) (shape : Shape) (v : Value) → HasShape w.memory.heap reference shape
+            → ShapeConforms P shape r.class → FieldConforms P w.memory.heap (type_of l.field.desc) v
+            → (class : Option ℕ) → folder_number P l.field.class ≡ class
+            → StaysTyped P T w (perform P w f (record f { stack = drop 2 f.stack }) rest (put_into P w.memory l.field reference v class))
         put l reference shape v has is fits None e =
             asks_goes h (asks_put l.field (Some (values.Ref reference)) v) (drop 2 f.stack) h.locals (operands_here h).rest refl (there has, field_in_heap P w.memory.heap (type_of l.field.desc) v fits)
         put l reference shape v has is fits (Some class) e =
@@ -180,22 +127,27 @@ module _ {P : Program} {T : Typings} {w : World} {f : MethodState} {rest : List 
             subst (λ c. StaysTyped P T w (perform P w f (record f { stack = drop 2 f.stack }) rest c)) (sym n.is_put)
             (gives_goes h 2 (with_heap w.memory n.heap) n.keep n.typed [] h.next (units_kept n.keep h.locals) (all_kept n.keep (operands_here h).rest) no_values)
 
-        into : (l : FieldLinked P r false) (receiver v : Value) → IsReceiver P w.memory.heap r.class receiver → FieldConforms P w.memory.heap (type_of l.field.desc) v
+        into : (l : FieldLinked P r false) (receiver v : Value) → IsReceiver P w.memory.heap r.class receiver
+            → FieldConforms P w.memory.heap (type_of l.field.desc) v
             → StaysTyped P T w (perform P w f (record f { stack = drop 2 f.stack }) rest (put_field_in P w.memory r.class l.field receiver v))
         into l _ v no_receiver fits = raises_goes h null_pointer (drop 2 f.stack) (raises_null P T h.typed.program)
         into l _ v (a_receiver {reference = reference} {shape = shape} has is) fits =
             rw (passes P T h.typed.program w.memory h.typed.memory r l reference shape has is)
             (put l reference shape (narrowed (type_of l.field.desc) v) has is (field_narrowed P w.memory.heap (type_of l.field.desc) v fits) (folder_number P l.field.class) refl)
 
-        tested : (l : FieldLinked P r false) (receiver v : Value) → IsReceiver P w.memory.heap r.class receiver → FieldConforms P w.memory.heap (type_of l.field.desc) v
-            → (b : Bool) → is_barred P l.field initialises ≡ b → StaysTyped P T w (perform P w f (record f { stack = drop 2 f.stack }) rest (put_field_tested P w.memory r.class l.field initialises receiver v))
+        tested : (l : FieldLinked P r false) (receiver v : Value) → IsReceiver P w.memory.heap r.class receiver
+            → FieldConforms P w.memory.heap (type_of l.field.desc) v
+            → (b : Bool) → is_barred P l.field initialises ≡ b
+            → StaysTyped P T w (perform P w f (record f { stack = drop 2 f.stack }) rest (put_field_tested P w.memory r.class l.field initialises receiver v))
         tested l receiver v is fits true e = rw e (raises_goes h illegal_access (drop 2 f.stack) (raises_access P T h.typed.program))
         tested l receiver v is fits false e = rw e (into l receiver v is fits)
 
-        on : (l : FieldLinked P r false) (receiver v : Value) → IsReceiver P w.memory.heap r.class receiver → FieldConforms P w.memory.heap (type_of r.desc) v
+        on : (l : FieldLinked P r false) (receiver v : Value) → IsReceiver P w.memory.heap r.class receiver
+            → FieldConforms P w.memory.heap (type_of r.desc) v
             → StaysTyped P T w (perform P w f (record f { stack = drop 2 f.stack }) rest (put_field_work P w.memory r.class (Some l.field) initialises (receiver ∷ v ∷ [])))
         on l receiver v is fits =
-            let own : FieldConforms P w.memory.heap (type_of l.field.desc) v = subst (λ (desc : List ℕ). FieldConforms P w.memory.heap (type_of desc) v) (sym l.same_desc) fits in
+            let own : FieldConforms P w.memory.heap (type_of l.field.desc) v =
+            subst (λ (desc : List ℕ). FieldConforms P w.memory.heap (type_of desc) v) (sym l.same_desc) fits in
             rw (flag_is l) (rw (field_kind P w.memory.heap (type_of l.field.desc) v own) (tested l receiver v is own (is_barred P l.field initialises) refl))
 
         -- the current class of the method is the one that is named
@@ -204,13 +156,15 @@ module _ {P : Program} {T : Typings} {w : World} {f : MethodState} {rest : List 
           may : MayPut s r (lowest_of 2 frame.stack) → s.own.name ≡ r.class
           may put = let own : IsOwnField s r = subst (MayPut s r) (lowest_is 2 frame.stack types.UninitThis us is) put in sym own.0
 
-          of_scope : (s.own.name ≡ (T f.at).scope.own.name) ⊎ (NoUninitThis frame.locals × NoUninitThis frame.stack) → (T f.at).scope.own.name ≡ r.class
+          of_scope : (s.own.name ≡ (T f.at).scope.own.name) ⊎ (NoUninitThis frame.locals × NoUninitThis frame.stack)
+              → (T f.at).scope.own.name ≡ r.class
           of_scope (inl same) = sym same ∙ may h.holds.further
           of_scope (inr none) = absurd (no_this_under (length frame.stack - 2) frame.stack us none.1 is)
 
-        receives : (t : VType) (us : List VType) (v : Value) → topmost 2 frame.stack ≡ t ∷ us → IsAssignable s.headers t (types.Object r.class) ⊎ (t ≡ types.UninitThis)
+        receives : (t : VType) (us : List VType) (v : Value) → topmost 2 frame.stack ≡ t ∷ us
+            → IsAssignable s.headers t (types.Object r.class) ⊎ (t ≡ types.UninitThis)
             → Conforms P (T f.at).scope w.memory.heap t v → IsReceiver P w.memory.heap r.class v
-        receives t us v are (inl assignable) is = receiver_of (assigned P T h.typed.program (subst (λ hs. IsAssignable hs t (types.Object r.class)) (headers_here h) assignable) is)
+        receives t us v are (inl assignable) is = receiver_of (assigned_here h assignable is)
         receives t us v are (inr this) is =
             this_receiver r (own_class us (are ∙ ap (λ x. x ∷ us) this)) (subst (λ x. Conforms P (T f.at).scope w.memory.heap x v) this is)
 
@@ -219,6 +173,7 @@ module _ {P : Program} {T : Typings} {w : World} {f : MethodState} {rest : List 
         by l [] e o = absurd (omega (arith, o.enough))
         by l (v ∷ []) e o = absurd (omega (arith, o.enough))
         by l (v ∷ receiver ∷ others) e o =
-            let two = two_of s (assignable_or_this (types.Object r.class)) (assignable_to (field_type r.desc)) (topmost 2 frame.stack) h.holds.operands o.values in
+            let two =
+            two_of s (assignable_or_this (types.Object r.class)) (assignable_to (field_type r.desc)) (topmost 2 frame.stack) h.holds.operands o.values in
             on l receiver v (receives two.first_type (two.second_type ∷ []) receiver two.are_types two.first_fits two.first_conforms)
-            (to_field (type_of r.desc) (assigned P T h.typed.program (subst (λ hs. IsAssignable hs two.second_type (field_type r.desc)) (headers_here h) two.second_fits) two.second_conforms))
+            (to_field (type_of r.desc) (assigned_here h two.second_fits two.second_conforms))

@@ -39,6 +39,7 @@ mod FolderFields
 mod FieldOwners
 mod StaticFields
 mod Receivers
+mod FieldPlaces
 mod InstanceFields
 mod OnFields
 mod Resumed

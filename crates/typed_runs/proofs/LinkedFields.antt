@@ -32,7 +32,8 @@ pub record FieldLaws : Type 0 where
 pub declared_is : (name desc : List ℕ) (ms : List Member) (m : Member) → declared name desc ms ≡ Some m → (m.name ≡ name) × (m.desc ≡ desc)
 declared_is name desc [] m is = cc
 declared_is name desc (first ∷ ms) m is = by (is_member name desc first) refl (λ e. declared_is name desc ms m e) where
-  by : (b : Bool) → is_member name desc first ≡ b → (declared name desc ms ≡ Some m → (m.name ≡ name) × (m.desc ≡ desc)) → (m.name ≡ name) × (m.desc ≡ desc)
+  by : (b : Bool) → is_member name desc first ≡ b → (declared name desc ms ≡ Some m → (m.name ≡ name) × (m.desc ≡ desc))
+      → (m.name ≡ name) × (m.desc ≡ desc)
   by true e others =
       let same : first ≡ m = some_of (rw e at is) in
       subst (λ (x : Member). (x.name ≡ name) × (x.desc ≡ desc)) same (
@@ -45,7 +46,8 @@ pub first_declared : (r : Reference) (ms : List Member) → first_member r ms �
 first_declared r [] = refl
 first_declared r (m ∷ ms) = ap (λ (o : Option Member). if is_member r.name r.desc m then Some m else o) (first_declared r ms)
 
-pub declared_number : (r : Reference) (ms : List Member) (m : Member) → declared r.name r.desc ms ≡ Some m → (n : ℕ) × (number_of_first (member_of r) ms ≡ Some n) × (slice_get ms n ≡ Some m)
+pub declared_number : (r : Reference) (ms : List Member) (m : Member) → declared r.name r.desc ms ≡ Some m
+    → (n : ℕ) × (number_of_first (member_of r) ms ≡ Some n) × (slice_get ms n ≡ Some m)
 declared_number r [] m is = cc
 declared_number r (first ∷ ms) m is = by (is_member r.name r.desc first) refl (λ e. declared_number r ms m e) where
   by : (b : Bool) → is_member r.name r.desc first ≡ b
@@ -56,38 +58,50 @@ declared_number r (first ∷ ms) m is = by (is_member r.name r.desc first) refl 
 
 -- ---- classes of the folder
 
--- a class of the folder by its number is the one of the name
-pub record FolderClass (P : Program) (number : ℕ) (header : Header) : Type 0 where
+-- the class of a name is that of the folder with a number
+pub record FolderClass (P : Program) (name : Name) (number : ℕ) (header : Header) : Type 0 where
   pub class : RunClass
   pub is_class : slice_get P.classes number ≡ Some class
   pub header_is : class.header ≡ header
+  pub in_folder : named name (headers_in P).folder ≡ Some header
 
-in_folder : (name : Name) (cs : List RunClass) (library : List Header) (n : ℕ) (header : Header)
-    → number_of_first (λ (class : RunClass). bytes_eq name class.header.name) cs ≡ Some n → named name (map (λ (class : RunClass). class.header) cs ++ library) ≡ Some header
-    → (class : RunClass) × (slice_get cs n ≡ Some class) × (class.header ≡ header)
-in_folder name [] library n header number is = cc
-in_folder name (c ∷ cs) library n header number is = by (bytes_eq name c.header.name) refl (λ m e f. in_folder name cs library m header e f) where
-  by_rest : (m : Option ℕ) → number_of_first (λ (class : RunClass). bytes_eq name class.header.name) cs ≡ m → option_map suc m ≡ Some n
-      → ((k : ℕ) → number_of_first (λ (class : RunClass). bytes_eq name class.header.name) cs ≡ Some k → (class : RunClass) × (slice_get cs k ≡ Some class) × (class.header ≡ header))
-      → (class : RunClass) × (slice_get (c ∷ cs) n ≡ Some class) × (class.header ≡ header)
-  by_rest None e same others = cc
-  by_rest (Some k) e same others =
-      let o = others k e in
-      (o.0, subst (λ j. slice_get (c ∷ cs) j ≡ Some o.0) (some_of same) o.1, o.2)
+abbrev number_in : Name → List RunClass → Option ℕ
+number_in name cs = number_of_first (λ (class : RunClass). bytes_eq name class.header.name) cs
 
-  by : (b : Bool) → bytes_eq name c.header.name ≡ b
-      → ((k : ℕ) → number_of_first (λ (class : RunClass). bytes_eq name class.header.name) cs ≡ Some k → named name (map (λ (class : RunClass). class.header) cs ++ library) ≡ Some header → (class : RunClass) × (slice_get cs k ≡ Some class) × (class.header ≡ header))
-      → (class : RunClass) × (slice_get (c ∷ cs) n ≡ Some class) × (class.header ≡ header)
-  by true e others =
-      let first : zero ≡ n = some_of (rw e at number) in
-      (c, subst (λ j. slice_get (c ∷ cs) j ≡ Some c) first refl, some_of (rw e at is))
-  by false e others =
-      by_rest (number_of_first (λ (class : RunClass). bytes_eq name class.header.name) cs) refl (rw e at number) (λ k same. others k same (rw e at is))
+abbrev headers_of_classes : List RunClass → List Header
+headers_of_classes cs = map (λ (class : RunClass). class.header) cs
 
-pub folder_class : (P : Program) (name : Name) (n : ℕ) (header : Header) → folder_number P name ≡ Some n → class_named (headers_in P) name ≡ Some header → FolderClass P n header
+-- the same of a list of classes with headers behind them
+abbrev StandsIn : Name → List RunClass → ℕ → Header → Type 0
+StandsIn name cs n header =
+    (class : RunClass) × (slice_get cs n ≡ Some class) × (class.header ≡ header) × (named name (headers_of_classes cs) ≡ Some header)
+
+stands_in : (name : Name) (cs : List RunClass) (library : List Header) (n : ℕ) (header : Header)
+    → number_in name cs ≡ Some n → named name (headers_of_classes cs ++ library) ≡ Some header → StandsIn name cs n header
+stands_in name [] library n header number is = cc
+stands_in name (c ∷ cs) library n header number is =
+    by (bytes_eq name c.header.name) refl (λ k same found. stands_in name cs library k header same found) where
+      by_rest : (m : Option ℕ) → bytes_eq name c.header.name ≡ false → number_in name cs ≡ m → option_map suc m ≡ Some n
+          → ((k : ℕ) → number_in name cs ≡ Some k → StandsIn name cs k header) → StandsIn name (c ∷ cs) n header
+      by_rest None other e same rest = cc
+      by_rest (Some k) other e same rest =
+          let o = rest k e in
+          subst (λ j. StandsIn name (c ∷ cs) j header) (some_of same) (o.0, o.1, o.2, rw other o.3)
+
+      by : (b : Bool) → bytes_eq name c.header.name ≡ b
+          → ((k : ℕ) → number_in name cs ≡ Some k → named name (headers_of_classes cs ++ library) ≡ Some header → StandsIn name cs k header)
+          → StandsIn name (c ∷ cs) n header
+      by true e rest =
+          let first : zero ≡ n = some_of (rw e at number) in
+          let same : c.header ≡ header = some_of (rw e at is) in
+          subst (λ j. StandsIn name (c ∷ cs) j header) first (c, refl, same, rw e (ap Some same))
+      by false e rest = by_rest (number_in name cs) e refl (rw e at number) (λ k same. rest k same (rw e at is))
+
+pub folder_class : (P : Program) (name : Name) (n : ℕ) (header : Header) → folder_number P name ≡ Some n
+    → class_named (headers_in P) name ≡ Some header → FolderClass P name n header
 folder_class P name n header number is =
-    let f = in_folder name P.classes P.library n header number is in
-    record { class = f.0; is_class = f.1; header_is = f.2 }
+    let f = stands_in name P.classes P.library n header number is in
+    record { class = f.0; is_class = f.1; header_is = f.2; in_folder = f.3 }
 
 -- ---- a field that an instruction names
 
@@ -130,7 +144,8 @@ field_linked P T program laws r is_static f =
       header = a.header;
       found = a.found;
       member = f.field.member;
-      declares = ap (λ (x : List ℕ). declared x f.field.member.desc a.header.fields) d.0 ∙ ap (λ (x : List ℕ). declared r.name x a.header.fields) d.1 ∙ a.declares;
+      declares =
+          ap (λ (x : List ℕ). declared x f.field.member.desc a.header.fields) d.0 ∙ ap (λ (x : List ℕ). declared r.name x a.header.fields) d.1 ∙ a.declares;
       static = f.form;
       above = a.above;
       named_there = finds_there (headers_in P) r.class r.name r.desc f.field f.finds;

@@ -10,7 +10,7 @@ use Rattle.class_model.specs.declared.opcodes.TheConstants.{IALOAD, SALOAD, IAST
 use Rattle.class_model.specs.declared.pool.Const.{Const}
 use Rattle.class_model.specs.declared.pool.Const.TheVariants as consts
 use Rattle.machine_values.specs.declared.object.Constant.TheVariants as objects
-use Rattle.member_link.specs.Bodies.{CodeItem, item_instr, item_null_test}
+use Rattle.member_link.specs.Bodies.{CodeItem, item_instr}
 use Rattle.member_link.specs.Machine.Codes.{item_op, constant_op, handle_of, or_meaningless, return_op, same_kind, call_op, dynamic_op, special_start, initialises}
 use Rattle.member_link.specs.Machine.Ops.{Op, meaningless, push_constant, return_nothing, return_value, throw_reference, get_static, put_static, get_field, put_field, call_static, call_virtual, call_interface, call_special, call_dynamic, new_object, new_array, new_arrays, load_element, store_element, check_cast, instance_of, jump_by_int, jump_by_ints, jump_by_references, jump_by_null}
 use Rattle.member_link.specs.Machine.Programs.{Links}
@@ -59,7 +59,8 @@ tested_sort : (sort : OpSort) (b : Bool) (op : Op) → HasSort op sort → HasSo
 tested_sort sort true op has = has
 tested_sort sort false op has = inl refl
 
-found_sort : {A : Type 0} (sort : OpSort) (o : Option A) (op : A → Op) → ((a : A) → HasSort (op a) sort) → HasSort (or_meaningless (option_map op o)) sort
+found_sort : {A : Type 0} (sort : OpSort) (o : Option A) (op : A → Op) → ((a : A) → HasSort (op a) sort)
+    → HasSort (or_meaningless (option_map op o)) sort
 found_sort sort None op has = inl refl
 found_sort sort (Some a) op has = has a
 
@@ -103,28 +104,44 @@ dynamic_sort s (Some c) = inr refl
 pub item_sort : (links : Links) (numbered : ℕ → ℕ) (s : RowScope) (item : CodeItem) → HasSort (item_op links numbered s item) (sort_of_item item)
 item_sort links numbered s (item_instr (instrs.Ldc index)) = constant_sort s.pool (constant_at s.pool index)
 item_sort links numbered s (item_instr (instrs.Ldc2 index)) = constant_sort s.pool (constant_at s.pool index)
-item_sort links numbered s (item_instr (instrs.ArrayLoad opcode)) = tested_sort of_others (nat_le IALOAD opcode && nat_le opcode SALOAD) (load_element opcode) (inr refl)
-item_sort links numbered s (item_instr (instrs.ArrayStore opcode)) = tested_sort of_others (nat_le IASTORE opcode && nat_le opcode SASTORE) (store_element opcode) (inr refl)
-item_sort links numbered s (item_instr (instrs.If opcode target)) = tested_sort of_others (nat_le IFEQ opcode && nat_le opcode IFLE) (jump_by_int opcode (numbered target)) (inr refl)
-item_sort links numbered s (item_instr (instrs.If2 opcode target)) = tested_sort of_others (nat_le IF_ICMPEQ opcode && nat_le opcode IF_ICMPLE) (jump_by_ints opcode (numbered target)) (inr refl)
-item_sort links numbered s (item_instr (instrs.IfSame opcode target)) = tested_sort of_others (nat_le IF_ACMPEQ opcode && nat_le opcode IF_ACMPNE) (jump_by_references opcode (numbered target)) (inr refl)
-item_sort links numbered s (item_instr (instrs.IfNull opcode target)) = tested_sort of_others (nat_le IFNULL opcode && nat_le opcode IFNONNULL) (jump_by_null opcode (numbered target)) (inr refl)
+item_sort links numbered s (item_instr (instrs.ArrayLoad opcode)) =
+    tested_sort of_others (nat_le IALOAD opcode && nat_le opcode SALOAD) (load_element opcode) (inr refl)
+item_sort links numbered s (item_instr (instrs.ArrayStore opcode)) =
+    tested_sort of_others (nat_le IASTORE opcode && nat_le opcode SASTORE) (store_element opcode) (inr refl)
+item_sort links numbered s (item_instr (instrs.If opcode target)) =
+    tested_sort of_others (nat_le IFEQ opcode && nat_le opcode IFLE) (jump_by_int opcode (numbered target)) (inr refl)
+item_sort links numbered s (item_instr (instrs.If2 opcode target)) =
+    tested_sort of_others (nat_le IF_ICMPEQ opcode && nat_le opcode IF_ICMPLE) (jump_by_ints opcode (numbered target)) (inr refl)
+item_sort links numbered s (item_instr (instrs.IfSame opcode target)) =
+    tested_sort of_others (nat_le IF_ACMPEQ opcode && nat_le opcode IF_ACMPNE) (jump_by_references opcode (numbered target)) (inr refl)
+item_sort links numbered s (item_instr (instrs.IfNull opcode target)) =
+    tested_sort of_others (nat_le IFNULL opcode && nat_le opcode IFNONNULL) (jump_by_null opcode (numbered target)) (inr refl)
 item_sort links numbered s (item_instr (instrs.Return kind)) = return_sort s.result kind
-item_sort links numbered s (item_instr (instrs.GetStatic index)) = found_sort of_fields (reference_of s.pool (constant_at s.pool index)) get_static (λ r. inr refl)
-item_sort links numbered s (item_instr (instrs.PutStatic index)) = found_sort of_fields (reference_of s.pool (constant_at s.pool index)) (λ r. put_static r (initialises s.is_clinit s.own)) (λ r. inr refl)
-item_sort links numbered s (item_instr (instrs.GetField index)) = found_sort of_fields (reference_of s.pool (constant_at s.pool index)) get_field (λ r. inr refl)
-item_sort links numbered s (item_instr (instrs.PutField index)) = found_sort of_fields (reference_of s.pool (constant_at s.pool index)) (λ r. put_field r (initialises s.is_init s.own)) (λ r. inr refl)
-item_sort links numbered s (item_instr (instrs.Invoke opcode index count)) = found_sort of_calls (reference_of s.pool (constant_at s.pool index)) (call_op links s opcode) (λ r. call_sort links s opcode r)
+item_sort links numbered s (item_instr (instrs.GetStatic index)) =
+    found_sort of_fields (reference_of s.pool (constant_at s.pool index)) get_static (λ r. inr refl)
+item_sort links numbered s (item_instr (instrs.PutStatic index)) =
+    found_sort of_fields (reference_of s.pool (constant_at s.pool index)) (λ r. put_static r (initialises s.is_clinit s.own)) (λ r. inr refl)
+item_sort links numbered s (item_instr (instrs.GetField index)) =
+    found_sort of_fields (reference_of s.pool (constant_at s.pool index)) get_field (λ r. inr refl)
+item_sort links numbered s (item_instr (instrs.PutField index)) =
+    found_sort of_fields (reference_of s.pool (constant_at s.pool index)) (λ r. put_field r (initialises s.is_init s.own)) (λ r. inr refl)
+item_sort links numbered s (item_instr (instrs.Invoke opcode index count)) =
+    found_sort of_calls (reference_of s.pool (constant_at s.pool index)) (call_op links s opcode) (λ r. call_sort links s opcode r)
 item_sort links numbered s (item_instr (instrs.Dynamic index)) = dynamic_sort s (constant_at s.pool index)
 item_sort links numbered s (item_instr (instrs.New index)) = found_sort of_others (class_at s.pool index) new_object (λ r. inr refl)
 item_sort links numbered s (item_instr (instrs.NewArray code)) = found_sort of_others (primitive_array code) new_array (λ r. inr refl)
 item_sort links numbered s (item_instr (instrs.NewRefArray index)) = found_sort of_others (array_of (class_at s.pool index)) new_array (λ r. inr refl)
-item_sort links numbered s (item_instr (instrs.NewMulti index dimensions)) = found_sort of_others (class_at s.pool index) (λ name. new_arrays name dimensions) (λ r. inr refl)
+item_sort links numbered s (item_instr (instrs.NewMulti index dimensions)) =
+    found_sort of_others (class_at s.pool index) (λ name. new_arrays name dimensions) (λ r. inr refl)
 item_sort links numbered s (item_instr (instrs.Cast index)) = found_sort of_others (class_at s.pool index) check_cast (λ r. inr refl)
 item_sort links numbered s (item_instr (instrs.InstanceOf index)) = found_sort of_others (class_at s.pool index) instance_of (λ r. inr refl)
 item_sort links numbered s item = inr refl
 
--- it is of no other family
-pub not_of : (op : Op) (sort other : OpSort) → HasSort op sort → sort_of_op op ≡ other → (of_others ≡ other → ⊥) → (sort ≡ other → ⊥) → ⊥
-not_of op sort other (inl e) is no_family differs = no_family (sym e ∙ is)
-not_of op sort other (inr e) is no_family differs = differs (sym e ∙ is)
+-- an item of another sort has no operation of a family
+pub not_of_family : (links : Links) (numbered : ℕ → ℕ) (s : RowScope) (item : CodeItem) (family : OpSort)
+    → sort_of_op (item_op links numbered s item) ≡ family
+    → (of_others ≡ family → ⊥) → (sort_of_item item ≡ family → ⊥) → ⊥
+not_of_family links numbered s item family is no_others differs = by (item_sort links numbered s item) where
+  by : HasSort (item_op links numbered s item) (sort_of_item item) → ⊥
+  by (inl e) = no_others (sym e ∙ is)
+  by (inr e) = differs (sym e ∙ is)

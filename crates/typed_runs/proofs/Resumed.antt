@@ -1,5 +1,5 @@
-use Rattle.std.specs.Prelude.{◌≡◌, ◌==◌, ◌+◌, ◌++◌, refl, ℕ, Bool, true, false, List, [], ◌∷◌, reverse, bytes_eq, Option, Some, None, IfSome, option_map, if◌then◌else◌}
-use Rattle.std.proofs.Common.{ap, sym, ◌∙◌, subst}
+use Rattle.std.specs.Prelude.{◌≡◌, ◌==◌, ◌+◌, ◌++◌, refl, ℕ, Bool, true, false, List, reverse, bytes_eq, Option, Some, None, IfSome, option_map, if◌then◌else◌}
+use Rattle.std.proofs.Common.{sym, subst}
 use Rattle.class_model.specs.Names.{init}
 use Rattle.class_model.specs.Pool.{constant_at}
 use Rattle.class_model.specs.declared.frame.Frame.{Frame}
@@ -21,7 +21,7 @@ use Rattle.member_link.specs.Rows.MemberRows.{call_row, static_row, init_row, sp
 use Rattle.member_link.specs.Rows.Row.{Row, either, row_frame, stack_behind}
 use Rattle.member_link.specs.Signatures.{reference_of, result_of}
 use Rattle.typed_runs.proofs.Here.{pushed}
-use Rattle.typed_runs.proofs.OpSorts.{of_calls, sort_of_op, sort_of_item, item_sort, not_of}
+use Rattle.typed_runs.proofs.OpSorts.{of_calls, sort_of_op, not_of_family}
 use Rattle.typed_runs.proofs.Points.{does_there}
 use Rattle.typed_runs.specs.Conforming.{AllConform, IsTypedMemory}
 use Rattle.typed_runs.specs.TypedFrames.{FitsCall, Waits, Does}
@@ -36,7 +36,8 @@ pub record GoesOn (given : List VType) (falls : Bool) (row : Row) : Type 0 where
 
 -- ---- calls give the result of their descriptor
 
-call_goes_on : (s : RowScope) (frame : Frame) (opcode : ℕ) (r : Reference) → GoesOn (result_types (result_of r.desc)) true (call_row s frame opcode (Some r))
+call_goes_on : (s : RowScope) (frame : Frame) (opcode : ℕ) (r : Reference)
+    → GoesOn (result_types (result_of r.desc)) true (call_row s frame opcode (Some r))
 call_goes_on s frame opcode r = by (opcode == INVOKESTATIC) (opcode == INVOKESPECIAL) (bytes_eq r.name init) where
   by : (a b c : Bool)
       → GoesOn (result_types (result_of r.desc)) true
@@ -46,16 +47,18 @@ call_goes_on s frame opcode r = by (opcode == INVOKESTATIC) (opcode == INVOKESPE
   by false true false = record { gives = refl; row_goes = refl; falls_through = refl }
   by false false c = record { gives = refl; row_goes = refl; falls_through = refl }
 
-calls_desc : (member : Member) (links : Links) (s : RowScope) (opcode : ℕ) (r : Reference) → FitsCall member (call_op links s opcode r) → member.desc ≡ r.desc
-calls_desc member links s opcode r is = by (opcode == INVOKEVIRTUAL) (opcode == INVOKESPECIAL) (opcode == INVOKESTATIC) (opcode == INVOKEINTERFACE) is where
-  by : (a b c d : Bool)
-      → FitsCall member (if a then call_virtual r else (if b then call_special r (special_start links s r.class) else (if c then call_static r else (if d then call_interface r else meaningless))))
-      → member.desc ≡ r.desc
-  by true b c d fits = fits
-  by false true c d fits = fits
-  by false false true d fits = fits
-  by false false false true fits = fits
-  by false false false false fits = absurd fits
+calls_desc : (member : Member) (links : Links) (s : RowScope) (opcode : ℕ) (r : Reference) → FitsCall member (call_op links s opcode r)
+    → member.desc ≡ r.desc
+calls_desc member links s opcode r is =
+    by (opcode == INVOKEVIRTUAL) (opcode == INVOKESPECIAL) (opcode == INVOKESTATIC) (opcode == INVOKEINTERFACE) is where
+      by : (a b c d : Bool)
+          → FitsCall member (if a then call_virtual r else (if b then call_special r (special_start links s r.class) else (if c then call_static r else (if d then call_interface r else meaningless))))
+          → member.desc ≡ r.desc
+      by true b c d fits = fits
+      by false true c d fits = fits
+      by false false true d fits = fits
+      by false false false true fits = fits
+      by false false false false fits = absurd fits
 
 fits_sort : (member : Member) (op : Op) → FitsCall member op → sort_of_op op ≡ of_calls
 fits_sort member (call_static r) is = refl
@@ -65,29 +68,34 @@ fits_sort member (call_special r from) is = refl
 fits_sort member op is = absurd is
 
 module _ (member : Member) (links : Links) (numbered : ℕ → ℕ) (s : RowScope) (frame : Frame) (place : ℕ) where
-  of_reference : (opcode : ℕ) (o : Option Reference) → FitsCall member (or_meaningless (option_map (call_op links s opcode) o)) → GoesOn (result_types (result_of member.desc)) true (call_row s frame opcode o)
+  of_reference : (opcode : ℕ) (o : Option Reference) → FitsCall member (or_meaningless (option_map (call_op links s opcode) o))
+      → GoesOn (result_types (result_of member.desc)) true (call_row s frame opcode o)
   of_reference opcode None is = absurd is
   of_reference opcode (Some r) is =
       subst (λ (desc : List ℕ). GoesOn (result_types (result_of desc)) true (call_row s frame opcode (Some r))) (sym (calls_desc member links s opcode r is)) (call_goes_on s frame opcode r)
 
   -- an item whose operation a method's frame fits
-  pub call_item_goes : (item : CodeItem) → FitsCall member (item_op links numbered s item) → GoesOn (result_types (result_of member.desc)) (item_falls_through item) (item_row s frame place item)
+  pub call_item_goes : (item : CodeItem) → FitsCall member (item_op links numbered s item)
+      → GoesOn (result_types (result_of member.desc)) (item_falls_through item) (item_row s frame place item)
   call_item_goes (item_instr (instrs.Invoke opcode index count)) is = of_reference opcode (reference_of s.pool (constant_at s.pool index)) is
   call_item_goes item is =
-      absurd (not_of (item_op links numbered s item) (sort_of_item item) of_calls (item_sort links numbered s item) (fits_sort member (item_op links numbered s item) is) (λ e. cc) (λ e. cc))
+      absurd (not_of_family links numbered s item of_calls (fits_sort member (item_op links numbered s item) is) (λ e. cc) (λ e. cc))
 
 -- ---- a frame that waited for a call goes on
 
-pub leads_on : (t : Typing) (n : ℕ) (frame : Frame) (given : List VType) (falls : Bool) (row : Row) → GoesOn given falls row → IfSome (if falls then row_frame frame row else None) (LeadsTo t n)
+pub leads_on : (t : Typing) (n : ℕ) (frame : Frame) (given : List VType) (falls : Bool) (row : Row) → GoesOn given falls row
+    → IfSome (if falls then row_frame frame row else None) (LeadsTo t n)
     → LeadsTo t n (record { locals = row.locals; stack = stack_behind frame row })
 leads_on t n frame given falls row on next = by falls row.goes_on on.falls_through on.row_goes next where
-  by : (a b : Bool) → a ≡ true → b ≡ true → IfSome (if a then (if b then Some (record { locals = row.locals; stack = stack_behind frame row }) else None) else None) (LeadsTo t n)
+  by : (a b : Bool) → a ≡ true → b ≡ true
+      → IfSome (if a then (if b then Some (record { locals = row.locals; stack = stack_behind frame row }) else None) else None) (LeadsTo t n)
       → LeadsTo t n (record { locals = row.locals; stack = stack_behind frame row })
   by true true e f leads = leads
   by true false e f leads = cc
   by false b e f leads = cc
 
-pub resumes : (P : Program) (T : Typings) (m : Memory) → IsTypedProgram P T → IsTypedMemory P m → (f : MethodState) (member : Member) → Waits P T m.heap f (FitsCall member)
+pub resumes : (P : Program) (T : Typings) (m : Memory) → IsTypedProgram P T → IsTypedMemory P m → (f : MethodState) (member : Member)
+    → Waits P T m.heap f (FitsCall member)
     → (vs : List Value) → ((s : RowScope) → AllConform P s m.heap (result_types (result_of member.desc)) vs) → Does P T m.heap (resumed f vs)
 resumes P T m program memory f member waits vs given =
     let p = waits.stands.fits in

@@ -12,12 +12,12 @@ use Rattle.class_model.specs.declared.header.Member.{Member}
 use Rattle.class_model.specs.declared.instr.Instr.TheVariants as instrs
 use Rattle.machine_values.specs.Frames.{MethodState}
 use Rattle.machine_values.specs.Heaps.{Heap}
-use Rattle.machine_values.specs.Values.{has_kind, narrowed}
+use Rattle.machine_values.specs.Values.{narrowed}
 use Rattle.machine_values.specs.declared.frame.RunFrame.{RunFrame}
 use Rattle.machine_values.specs.declared.frame.RunFrame.TheVariants as frames
 use Rattle.machine_values.specs.declared.value.Value.{Value}
 use Rattle.member_link.specs.Assignability.{IsAssignable}
-use Rattle.member_link.specs.Bodies.{CodeItem, item_instr, item_row, item_targets, item_falls_through}
+use Rattle.member_link.specs.Bodies.{item_instr}
 use Rattle.member_link.specs.Machine.Codes.{item_op, return_op, same_kind}
 use Rattle.member_link.specs.Machine.Ops.{Op, meaningless, return_nothing, return_value}
 use Rattle.member_link.specs.Machine.Performing.{unlocked, resumed, value_in, result_seen, returned_to, returned_by, returned, is_initialiser}
@@ -25,8 +25,8 @@ use Rattle.member_link.specs.Machine.Programs.{Program, headers_in}
 use Rattle.member_link.specs.Machine.Stepping.{op_step, return_step, step}
 use Rattle.member_link.specs.Machine.Worlds.{World, Memory}
 use Rattle.member_link.specs.RowScope.{RowScope}
-use Rattle.member_link.specs.Rows.MemberRows.{return_row, result_types}
-use Rattle.member_link.specs.Rows.Operands.{IsOfKind, of_kind, topmost}
+use Rattle.member_link.specs.Rows.MemberRows.{MayReturnValue, return_row, result_types}
+use Rattle.member_link.specs.Rows.Operands.{IsOfKind, of_kind, topmost, lowest_of}
 use Rattle.member_link.specs.Rows.Row.{Row, access_aside}
 use Rattle.member_link.specs.Signatures.{result_of}
 use Rattle.typed_runs.proofs.Assigned.{conforms_in_heap, assigned}
@@ -34,10 +34,10 @@ use Rattle.typed_runs.proofs.Basics.{some_of}
 use Rattle.typed_runs.proofs.FamilySteps.{EachStays, family_step}
 use Rattle.typed_runs.proofs.FieldValues.{of_field, to_field, field_kind, field_narrowed}
 use Rattle.typed_runs.proofs.Here.{Here, stays, operands_here}
-use Rattle.typed_runs.proofs.HereMethods.{MethodOf, method_here, headers_here}
+use Rattle.typed_runs.proofs.HereMethods.{MethodOf, method_here, assigned_here}
 use Rattle.typed_runs.proofs.Kept.{Keeps, in_heap_kept, all_kept, known_kept, waits_kept, frames_kept}
 use Rattle.typed_runs.proofs.Memories.{unlocked_typed}
-use Rattle.typed_runs.proofs.OpSorts.{of_returns, sort_of_op, sort_of_item, item_sort, not_of}
+use Rattle.typed_runs.proofs.OpSorts.{of_returns, sort_of_op, not_of_family}
 use Rattle.typed_runs.proofs.Resumed.{resumes}
 use Rattle.typed_runs.proofs.Shown.{IsOptionInHeap, option_known, showing_stays}
 use Rattle.typed_runs.proofs.Stacks.{Operands, lowest_is}
@@ -57,9 +57,6 @@ value_seen (and_value one others) = conforms_in_heap one
 
 module _ (P : Program) (T : Typings) (w : World) (typed : TypedWorld P T w) (held : Option ℕ) (member : Member) (vs : List Value)
     (given : (s : RowScope) → AllConform P s w.memory.heap (result_types (result_of member.desc)) vs) where
-  left : Memory
-  left = unlocked w.memory held
-
   is_left : (Keeps w.memory.heap (unlocked w.memory held).heap) × IsTypedMemory P (unlocked w.memory held)
   is_left = unlocked_typed P w.memory held typed.memory
 
@@ -68,7 +65,8 @@ module _ (P : Program) (T : Typings) (w : World) (typed : TypedWorld P T w) (hel
   seen s (Some r) is = in_heap_kept is_left.0 r is
 
   -- the library sees the result, or what it constructed
-  to_library : (s : RowScope) (made : Option ℕ) (others : List RunFrame) → IfSome made (IsInHeap w.memory.heap) → FramesConform P T (unlocked w.memory held).heap nothing_awaited (frames.Library None ∷ others)
+  to_library : (s : RowScope) (made : Option ℕ) (others : List RunFrame) → IfSome made (IsInHeap w.memory.heap)
+      → FramesConform P T (unlocked w.memory held).heap nothing_awaited (frames.Library None ∷ others)
       → StaysTyped P T w (returned_to P w held vs (frames.Library made ∷ others))
   to_library s made others is conform =
       let k : Memory = unlocked w.memory held in
@@ -79,7 +77,8 @@ module _ (P : Program) (T : Typings) (w : World) (typed : TypedWorld P T w) (hel
         not_stuck = λ no. no;
       }
 
-  to_frames : (s : RowScope) (fs : List RunFrame) → FramesConform P T w.memory.heap (called_method member) fs → StaysTyped P T w (returned_to P w held vs fs)
+  to_frames : (s : RowScope) (fs : List RunFrame) → FramesConform P T w.memory.heap (called_method member) fs
+      → StaysTyped P T w (returned_to P w held vs fs)
   to_frames s _ (lowest {made = made} is) = to_library s made [] is (lowest tt)
   to_frames s (frames.Library made ∷ others) (upon is below) = to_library s made others is (upon tt (frames_kept is_left.0 below))
   to_frames s (frames.Beginning class ∷ others) (upon is below) = let no = is.free in cc
@@ -91,21 +90,24 @@ module _ (P : Program) (T : Typings) (w : World) (typed : TypedWorld P T w) (hel
 -- ---- a returned value
 
 -- it is of the declared type
-returned_fits : (P : Program) (T : Typings) (program : IsTypedProgram P T) {s : RowScope} (h : Heap) (kind : Kind) (result : FieldType) (t : VType) (v : Value)
-    → kind_of result ≡ kind → IsOfKind kind t → (kind ≡ kinds.Ref → IsAssignable (headers_in P) t (verification_type result)) → Conforms P s h t v → FieldConforms P h result v
-returned_fits P T program h kind (field_types.Named name) t v same is assignable c = to_field (field_types.Named name) (assigned P T program (assignable (sym same)) c)
-returned_fits P T program h kind field_types.Byte t v same is assignable c = kind_conforms kinds.Int (subst (λ k. IsOfKind k t) (sym same) is) c
-returned_fits P T program h kind field_types.Char t v same is assignable c = kind_conforms kinds.Int (subst (λ k. IsOfKind k t) (sym same) is) c
-returned_fits P T program h kind field_types.Short t v same is assignable c = kind_conforms kinds.Int (subst (λ k. IsOfKind k t) (sym same) is) c
-returned_fits P T program h kind field_types.Bool t v same is assignable c = kind_conforms kinds.Int (subst (λ k. IsOfKind k t) (sym same) is) c
-returned_fits P T program h kind field_types.Int t v same is assignable c = kind_conforms kinds.Int (subst (λ k. IsOfKind k t) (sym same) is) c
-returned_fits P T program h kind field_types.Long t v same is assignable c = kind_conforms kinds.Long (subst (λ k. IsOfKind k t) (sym same) is) c
-returned_fits P T program h kind field_types.Float t v same is assignable c = kind_conforms kinds.Float (subst (λ k. IsOfKind k t) (sym same) is) c
-returned_fits P T program h kind field_types.Double t v same is assignable c = kind_conforms kinds.Double (subst (λ k. IsOfKind k t) (sym same) is) c
+returned_fits : (P : Program) {s : RowScope} (h : Heap) (kind : Kind) (result : FieldType) (t : VType) (v : Value) → kind_of result ≡ kind
+    → IsOfKind kind t
+    → (kind ≡ kinds.Ref → Conforms P s h (verification_type result) v) → Conforms P s h t v → FieldConforms P h result v
+returned_fits P h kind (field_types.Named name) t v same is named c = to_field (field_types.Named name) (named (sym same))
+returned_fits P h kind field_types.Byte t v same is named c = kind_conforms kinds.Int (subst (λ k. IsOfKind k t) (sym same) is) c
+returned_fits P h kind field_types.Char t v same is named c = kind_conforms kinds.Int (subst (λ k. IsOfKind k t) (sym same) is) c
+returned_fits P h kind field_types.Short t v same is named c = kind_conforms kinds.Int (subst (λ k. IsOfKind k t) (sym same) is) c
+returned_fits P h kind field_types.Bool t v same is named c = kind_conforms kinds.Int (subst (λ k. IsOfKind k t) (sym same) is) c
+returned_fits P h kind field_types.Int t v same is named c = kind_conforms kinds.Int (subst (λ k. IsOfKind k t) (sym same) is) c
+returned_fits P h kind field_types.Long t v same is named c = kind_conforms kinds.Long (subst (λ k. IsOfKind k t) (sym same) is) c
+returned_fits P h kind field_types.Float t v same is named c = kind_conforms kinds.Float (subst (λ k. IsOfKind k t) (sym same) is) c
+returned_fits P h kind field_types.Double t v same is named c = kind_conforms kinds.Double (subst (λ k. IsOfKind k t) (sym same) is) c
 
-module _ {P : Program} {T : Typings} {w : World} {f : MethodState} {rest : List RunFrame} {s : RowScope} {frame : Frame} {place : ℕ} {numbered : ℕ → ℕ} {falls : Bool} {places : List ℕ} where
+module _ {P : Program} {T : Typings} {w : World} {f : MethodState} {rest : List RunFrame} {s : RowScope} {frame : Frame} {place : ℕ}
+    {numbered : ℕ → ℕ} {falls : Bool} {places : List ℕ} where
   -- a class initialiser's end, or a value for the frame below
-  returns_goes : {row : Row} {op : Op} (h : Here P T w f rest s frame place numbered row op falls places) (vs : List Value) (result : Option FieldType) → (T f.at).scope.result ≡ result
+  returns_goes : {row : Row} {op : Op} (h : Here P T w f rest s frame place numbered row op falls places) (vs : List Value) (result : Option FieldType)
+      → (T f.at).scope.result ≡ result
       → ((c : RowScope) → AllConform P c w.memory.heap (result_types result) vs) → StaysTyped P T w (returned P w f rest vs)
   returns_goes h vs result is given =
       let m = method_here h in
@@ -116,24 +118,35 @@ module _ {P : Program} {T : Typings} {w : World} {f : MethodState} {rest : List 
         by : (m : MethodOf P T f) → ((c : RowScope) → AllConform P c w.memory.heap (result_types (result_of m.method.member.desc)) vs)
             → (b : Bool) → FramesConform P T w.memory.heap (if b then nothing_awaited else called_method m.method.member) rest
             → StaysTyped P T w (if b then record w { memory = unlocked w.memory f.held; frames = rest } else returned_to P w f.held vs rest)
-        by m there true below = let l = unlocked_typed P w.memory f.held h.typed.memory in stays P T w (unlocked w.memory f.held) rest h.typed l.0 l.1 (frames_kept l.0 below)
+        by m there true below =
+            let l = unlocked_typed P w.memory f.held h.typed.memory in stays P T w (unlocked w.memory f.held) rest h.typed l.0 l.1 (frames_kept l.0 below)
         by m there false below = to_frames P T w h.typed f.held m.method.member vs there s rest below
 
-  pub return_nothing_stays : Here P T w f rest s frame place numbered (access_aside (return_row s frame None)) return_nothing falls places → StaysTyped P T w (op_step P w f rest return_nothing)
+  pub return_nothing_stays : Here P T w f rest s frame place numbered (access_aside (return_row s frame None)) return_nothing falls places
+      → StaysTyped P T w (op_step P w f rest return_nothing)
   return_nothing_stays h = returns_goes h [] None h.linked (λ c. no_values)
 
-  pub return_value_stays : (result : FieldType) (kind : Kind) → s.result ≡ Some result → Here P T w f rest s frame place numbered (access_aside (return_row s frame (Some kind))) (return_value result) falls places
+  pub return_value_stays : (result : FieldType) (kind : Kind) → s.result ≡ Some result
+      → Here P T w f rest s frame place numbered (access_aside (return_row s frame (Some kind))) (return_value result) falls places
       → StaysTyped P T w (op_step P w f rest (return_value result))
   return_value_stays result kind is h = by f.stack refl (operands_here h) where
-    fits : (t : VType) (v : Value) → topmost 1 frame.stack ≡ t ∷ [] → IsOfKind kind t → Conforms P (T f.at).scope w.memory.heap t v → FieldConforms P w.memory.heap result v
+    reference : (may : MayReturnValue s kind (lowest_of 1 frame.stack)) → may.type ≡ result → (t : VType) (v : Value) → topmost 1 frame.stack ≡ t ∷ []
+        → kind ≡ kinds.Ref
+        → Conforms P (T f.at).scope w.memory.heap t v → Conforms P (T f.at).scope w.memory.heap (verification_type result) v
+    reference may same t v taken e c =
+        let lowest_fits =
+        subst (λ x. IsAssignable s.headers x (verification_type may.type)) (lowest_is 1 frame.stack t [] taken) (may.assignable e) in
+        assigned_here h (subst (λ x. IsAssignable s.headers t (verification_type x)) same lowest_fits) c
+
+    fits : (t : VType) (v : Value) → topmost 1 frame.stack ≡ t ∷ [] → IsOfKind kind t → Conforms P (T f.at).scope w.memory.heap t v
+        → FieldConforms P w.memory.heap result v
     fits t v taken of c =
         let may = h.holds.further in
         let same : may.type ≡ result = some_of (sym may.is_result ∙ is) in
-        returned_fits P T h.typed.program w.memory.heap kind result t v (ap kind_of (sym same) ∙ may.same_kind) of
-        (λ e. subst (λ x. IsAssignable (headers_in P) t (verification_type x)) same
-        (subst (λ hs. IsAssignable hs t (verification_type may.type)) (headers_here h) (subst (λ x. IsAssignable s.headers x (verification_type may.type)) (lowest_is 1 frame.stack t [] taken) (may.assignable e)))) c
+        returned_fits P w.memory.heap kind result t v (ap kind_of (sym same) ∙ may.same_kind) of (λ e. reference may same t v taken e c) c
 
-    by : (stack : List Value) → f.stack ≡ stack → Operands P (T f.at).scope w.memory.heap frame.stack stack 1 → StaysTyped P T w (return_step P w f rest result stack)
+    by : (stack : List Value) → f.stack ≡ stack → Operands P (T f.at).scope w.memory.heap frame.stack stack 1
+        → StaysTyped P T w (return_step P w f rest result stack)
     by [] e o = absurd (omega (arith, o.enough))
     by (v ∷ others) e o =
         let one = one_of s (of_kind kind) (topmost 1 frame.stack) h.holds.operands o.values in
@@ -141,13 +154,15 @@ module _ {P : Program} {T : Typings} {w : World} {f : MethodState} {rest : List 
         rw (field_kind P w.memory.heap result v own)
         (returns_goes h (narrowed result v ∷ []) (Some result) h.linked (λ c. and_value (of_field result (narrowed result v) (field_narrowed P w.memory.heap result v own)) no_values))
 
-  by_result : (o : Option FieldType) (kind : Option Kind) → s.result ≡ o → Here P T w f rest s frame place numbered (access_aside (return_row s frame kind)) (return_op o kind) falls places
+  by_result : (o : Option FieldType) (kind : Option Kind) → s.result ≡ o
+      → Here P T w f rest s frame place numbered (access_aside (return_row s frame kind)) (return_op o kind) falls places
       → StaysTyped P T w (op_step P w f rest (return_op o kind))
   by_result None None is h = return_nothing_stays h
   by_result None (Some kind) is h = absurd h.linked
   by_result (Some result) None is h = absurd h.linked
   by_result (Some result) (Some kind) is h = by (same_kind (kind_of result) kind) h where
-    by : (b : Bool) → Here P T w f rest s frame place numbered (access_aside (return_row s frame (Some kind))) (if b then return_value result else meaningless) falls places
+    by : (b : Bool)
+        → Here P T w f rest s frame place numbered (access_aside (return_row s frame (Some kind))) (if b then return_value result else meaningless) falls places
         → StaysTyped P T w (op_step P w f rest (if b then return_value result else meaningless))
     by true k = return_value_stays result kind is k
     by false k = absurd k.linked
@@ -162,7 +177,7 @@ ends_method op is = absurd is
 pub each_return : (P : Program) (T : Typings) → EachStays P T EndsMethod
 each_return P T w f rest s frame place numbered (item_instr (instrs.Return kind)) is d h = by_result s.result kind refl h
 each_return P T w f rest s frame place numbered item is d h =
-    absurd (not_of (item_op P.links numbered s item) (sort_of_item item) of_returns (item_sort P.links numbered s item) (ends_method (item_op P.links numbered s item) is) (λ e. cc) (λ e. cc))
+    absurd (not_of_family P.links numbered s item of_returns (ends_method (item_op P.links numbered s item) is) (λ e. cc) (λ e. cc))
 
 pub returns_typed : (P : Program) (T : Typings) (w : World) → TypedWorld P T w → NextIs EndsMethod P w.frames → StaysTyped P T w (step P w)
 returns_typed P T w typed next = family_step P T EndsMethod (each_return P T) w typed next

@@ -1,4 +1,4 @@
-use Rattle.std.specs.Prelude.{◌≡◌, ◌⊎◌, refl, ℕ, Bool, true, false, List, [], ◌∷◌, take, drop, reverse, get_or, Some, IsFalse}
+use Rattle.std.specs.Prelude.{◌≡◌, ◌⊎◌, refl, ℕ, Bool, true, false, List, [], ◌∷◌, take, drop, reverse, get_or, IsFalse}
 use Rattle.std.proofs.Common.{arith, inl, inr, ap, sym, ◌∙◌, subst}
 use Rattle.class_model.specs.Characters.{left_bracket}
 use Rattle.class_model.specs.declared.frame.Frame.{Frame}
@@ -7,12 +7,11 @@ use Rattle.class_model.specs.declared.instr.Instr.TheVariants as instrs
 use Rattle.class_tree.specs.Names.{throwable}
 use Rattle.class_tree.specs.Subtype.{IsArray}
 use Rattle.machine_values.specs.Frames.{MethodState}
-use Rattle.machine_values.specs.Heaps.{Heap}
 use Rattle.machine_values.specs.declared.frame.RunFrame.{RunFrame}
 use Rattle.machine_values.specs.declared.object.Shape.{Shape}
 use Rattle.machine_values.specs.declared.value.Value.{Value}
 use Rattle.member_link.specs.Assignability.{IsAssignable}
-use Rattle.member_link.specs.Bodies.{CodeItem, item_instr}
+use Rattle.member_link.specs.Bodies.{item_instr}
 use Rattle.member_link.specs.Machine.Codes.{item_op}
 use Rattle.member_link.specs.Machine.ObjectSteps.{throw_work}
 use Rattle.member_link.specs.Machine.Ops.{Op, throw_reference}
@@ -30,8 +29,8 @@ use Rattle.typed_runs.proofs.Assigned.{assigned}
 use Rattle.typed_runs.proofs.ClassesTaken.{shape_taken}
 use Rattle.typed_runs.proofs.FamilySteps.{EachStays, family_step}
 use Rattle.typed_runs.proofs.Here.{Here, operands_here, worked}
-use Rattle.typed_runs.proofs.HereMethods.{headers_here}
-use Rattle.typed_runs.proofs.OpSorts.{of_throws, sort_of_op, sort_of_item, item_sort, not_of}
+use Rattle.typed_runs.proofs.HereMethods.{assigned_here}
+use Rattle.typed_runs.proofs.OpSorts.{of_throws, sort_of_op, not_of_family}
 use Rattle.typed_runs.proofs.Performing.{raises_goes, throws_goes}
 use Rattle.typed_runs.proofs.Raising.{raises_null}
 use Rattle.typed_runs.proofs.Receivers.{IsReceiver, no_receiver, a_receiver, receiver_of}
@@ -47,23 +46,28 @@ no_throwable_array : IsArray throwable → ⊥
 no_throwable_array is = let e : 106 ≡ left_bracket = ap (λ xs. get_or xs 0 0) is.1 in absurd (omega (arith, e))
 
 -- where java/lang/Throwable is no interface, an object that conforms to it is an instance
-is_thrown : (P : Program) (T : Typings) → IsTypedProgram P T → IsFalse (is_interface_named P throwable) → (m : Memory) → IsTypedMemory P m → (r : ℕ) (shape : Shape) → HasShape m.heap r shape → ShapeConforms P shape throwable
+is_thrown : (P : Program) (T : Typings) → IsTypedProgram P T → IsFalse (is_interface_named P throwable) → (m : Memory) → IsTypedMemory P m
+    → (r : ℕ) (shape : Shape) → HasShape m.heap r shape → ShapeConforms P shape throwable
     → IsThrown P m.heap r
 is_thrown P T program class m memory r shape has is =
     let holds = memory.objects r has.object has.is_there in
     record {
       object = has.object;
       is_there = has.is_there;
-      is_throwable = by has.object.shape (shape_taken P T program m.heap has.object.shape has.object.values throwable no_throwable_array holds (subst (λ s. ShapeConforms P s throwable) (sym has.same) is));
+      is_throwable =
+          by has.object.shape (shape_taken P T program m.heap has.object.shape has.object.values throwable no_throwable_array holds (subst (λ s. ShapeConforms P s throwable) (sym has.same) is));
     } where
       by : (s : Shape) → (is_interface_named P throwable ≡ true) ⊎ (is_instance P s throwable ≡ true) → is_instance P s throwable ≡ true
       by s (inl e) = let no : true ≡ false = sym e ∙ class in cc
       by s (inr e) = e
 
-module _ {P : Program} {T : Typings} {w : World} {f : MethodState} {rest : List RunFrame} {s : RowScope} {frame : Frame} {place : ℕ} {numbered : ℕ → ℕ} {falls : Bool} {places : List ℕ} (class : IsFalse (is_interface_named P throwable)) where
-  pub throw_stays : Here P T w f rest s frame place numbered (access_aside (throw_row frame)) throw_reference falls places → StaysTyped P T w (op_step P w f rest throw_reference)
+module _ {P : Program} {T : Typings} {w : World} {f : MethodState} {rest : List RunFrame} {s : RowScope} {frame : Frame} {place : ℕ}
+    {numbered : ℕ → ℕ} {falls : Bool} {places : List ℕ} (class : IsFalse (is_interface_named P throwable)) where
+  pub throw_stays : Here P T w f rest s frame place numbered (access_aside (throw_row frame)) throw_reference falls places
+      → StaysTyped P T w (op_step P w f rest throw_reference)
   throw_stays h = worked h 1 refl (operands_here h).enough (by f.stack refl (operands_here h)) where
-    on : (v : Value) → IsReceiver P w.memory.heap throwable v → StaysTyped P T w (perform P w f (record f { stack = drop 1 f.stack }) rest (throw_work P w.memory (v ∷ [])))
+    on : (v : Value) → IsReceiver P w.memory.heap throwable v
+        → StaysTyped P T w (perform P w f (record f { stack = drop 1 f.stack }) rest (throw_work P w.memory (v ∷ [])))
     on _ no_receiver = raises_goes h null_pointer (drop 1 f.stack) (raises_null P T h.typed.program)
     on _ (a_receiver {reference = r} {shape = shape} has is) =
         let thrown = is_thrown P T h.typed.program class w.memory h.typed.memory r shape has is in
@@ -74,7 +78,7 @@ module _ {P : Program} {T : Typings} {w : World} {f : MethodState} {rest : List 
     by [] e o = absurd (omega (arith, o.enough))
     by (v ∷ others) e o =
         let one = one_of s (assignable_to (types.Object throwable)) (topmost 1 frame.stack) h.holds.operands o.values in
-        on v (receiver_of (assigned P T h.typed.program (subst (λ hs. IsAssignable hs one.type (types.Object throwable)) (headers_here h) one.fits) one.conforms))
+        on v (receiver_of (assigned_here h one.fits one.conforms))
 
 -- ---- the family
 
@@ -85,7 +89,8 @@ throws_reference op is = absurd is
 pub each_throw : (P : Program) (T : Typings) → IsFalse (is_interface_named P throwable) → EachStays P T ThrowsReference
 each_throw P T class w f rest s frame place numbered (item_instr instrs.Throw) is d h = throw_stays class h
 each_throw P T class w f rest s frame place numbered item is d h =
-    absurd (not_of (item_op P.links numbered s item) (sort_of_item item) of_throws (item_sort P.links numbered s item) (throws_reference (item_op P.links numbered s item) is) (λ e. cc) (λ e. cc))
+    absurd (not_of_family P.links numbered s item of_throws (throws_reference (item_op P.links numbered s item) is) (λ e. cc) (λ e. cc))
 
-pub throws_typed : (P : Program) (T : Typings) (w : World) → IsFalse (is_interface_named P throwable) → TypedWorld P T w → NextIs ThrowsReference P w.frames → StaysTyped P T w (step P w)
+pub throws_typed : (P : Program) (T : Typings) (w : World) → IsFalse (is_interface_named P throwable) → TypedWorld P T w
+    → NextIs ThrowsReference P w.frames → StaysTyped P T w (step P w)
 throws_typed P T w class typed next = family_step P T ThrowsReference (each_throw P T class) w typed next

@@ -5,7 +5,12 @@ ghost use Rattle.member_link.specs.Machine.Programs.{Program, is_interface_named
 ghost use Rattle.member_link.specs.Machine.Stepping.{step};
 ghost use Rattle.member_link.specs.Machine.Worlds.{World};
 ghost use Rattle.typed_runs.specs.Families.{
-    BeginsClass, EndsMethod, NamesField, NextIs, ThrowsReference, WorksOnOperands,
+  BeginsClass,
+  EndsMethod,
+  NamesField,
+  NextIs,
+  ThrowsReference,
+  WorksOnOperands,
 };
 ghost use Rattle.typed_runs.specs.TypedPrograms.{Typings};
 ghost use Rattle.typed_runs.specs.TypedWorlds.{TypedWorld, StaysTyped};
