@@ -45,7 +45,8 @@ module _ (P : Program) (T : Typings) (program : IsTypedProgram P T) where
   directly_outside (superclass low high header is some) out =
       super_has (λ above. folder_number P above ≡ None) header high (program.base.leans_on_itself low header is out) some
   directly_outside (interface low high header is one) out =
-      each_of_names (λ above. folder_number P above ≡ None) header.interfaces (interfaces_have (λ above. folder_number P above ≡ None) header (program.base.leans_on_itself low header is out)) high one
+      each_of_names (λ above. folder_number P above ≡ None) header.interfaces
+      (interfaces_have (λ above. folder_number P above ≡ None) header (program.base.leans_on_itself low header is out)) high one
 
   pub stays_outside : {low high : Name} → IsBelow (headers_in P) low high → folder_number P low ≡ None → folder_number P high ≡ None
   stays_outside (directly low high step) out = directly_outside step out
@@ -130,7 +131,12 @@ module _ (P : Program) (T : Typings) (program : IsTypedProgram P T) where
       by s has (inl e) = absurd (no_interface_named e)
       by (shapes.Folder number) has (inr e) =
           let low_there = numbered_there P T program number has.found has.is_class in
-          record { number = number; same = refl; number_there = low_there; up = below_named (name_of_class P number) low_there ((program.links.below (name_of_class P number) name).0 e) }
+          record {
+            number = number;
+            same = refl;
+            number_there = low_there;
+            up = below_named (name_of_class P number) low_there ((program.links.below (name_of_class P number) name).0 e);
+          }
       by (shapes.Array desc len) has (inr e) = absurd (no_array_below desc has.is_array ((program.links.below desc name).0 e))
       by (shapes.External low also) has (inr e) =
           absurd (external low also has.is_there has.of_library has.interfaces (P.links.below low name) refl e)

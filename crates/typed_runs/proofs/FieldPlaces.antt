@@ -69,7 +69,8 @@ module _ (P : Program) (T : Typings) (program : IsTypedProgram P T) (r : Referen
       let f = folder_field P T program r l class is_folder in
       let holds = typed.objects reference has.object has.is_there in
       let o =
-      owner P T program l.field class is_folder f r.class l.named_there l.above m.heap has.object.shape has.object.values holds (subst (λ x. ShapeConforms P x r.class) (sym has.same) is) in
+      owner P T program l.field class is_folder f r.class l.named_there l.above m.heap has.object.shape has.object.values holds
+      (subst (λ x. ShapeConforms P x r.class) (sym has.same) is) in
       record {
         object = has.object;
         is_there = has.is_there;
@@ -111,12 +112,15 @@ module _ (P : Program) (T : Typings) (program : IsTypedProgram P T) (r : Referen
       record {
         heap = with_object m.heap reference new;
         is_put =
-            ap (put_field_value P m l.field reference v) p.is_there ∙ put_at p.object.shape p.object.values p.object.monitor p.number p.at.number p.same p.at.is_number ∙ ap (λ h. gives (with_heap m h) []) put;
+            ap (put_field_value P m l.field reference v) p.is_there
+            ∙ put_at p.object.shape p.object.values p.object.monitor p.number p.at.number p.same p.at.is_number
+            ∙ ap (λ h. gives (with_heap m h) []) put;
         keep = keep;
         typed =
             object_typed P m reference p.object new typed p.is_there refl (subst (λ x. HoldsShape P (with_object m.heap reference new) x new.values) (sym p.same) holds);
       } where
         put_at : (s : Shape) (vs : List Value) (monitor number n : ℕ) → s ≡ shapes.Folder number
             → slot_number P (name_of_class P number) l.field ≡ Some n
-            → put_field_value P m l.field reference v (Some (record { shape = s; values = vs; monitor = monitor })) ≡ gives (with_heap m (with_value m.heap reference n v)) []
+            → put_field_value P m l.field reference v (Some (record { shape = s; values = vs; monitor = monitor }))
+            ≡ gives (with_heap m (with_value m.heap reference n v)) []
         put_at s vs monitor number n same is_number = rw same (rw is_number refl)

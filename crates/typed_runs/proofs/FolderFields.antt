@@ -31,6 +31,12 @@ fits hs zero next = omega arith
 fits hs (suc fuel) None = omega arith
 fits hs (suc fuel) (Some place) = omega (arith, fits hs fuel (superclass_of hs place))
 
+-- a class is among those upwards of each class at or below it, followed so often
+abbrev Reaches : Headers → ℕ → Name → Type 0
+Reaches hs fuel high =
+    (name : Name) (header : Header) → class_named hs name ≡ Some header → (name ≡ high) ⊎ IsBelow hs name high → height hs (place_of hs name) ≤ fuel
+    → IsIn high (classes_up hs fuel (Some name))
+
 -- upwards of a class to one that is no interface
 climbs : (hs : Headers) → IsHierarchy hs → (fuel : ℕ) (low high : Name) (header above : Header) → class_named hs low ≡ Some header
     → class_named hs high ≡ Some above → IsFalse (is_interface above)
@@ -49,10 +55,10 @@ climbs hs hierarchy (suc fuel) low high header above is above_is kind (inr up) e
     let now : height hs (Some stands.0) ≤ suc fuel = subst (λ p. height hs p ≤ suc fuel) stands.1.is_place enough in
     let left : height hs (place_of hs next.0) ≤ fuel =
     subst (λ p. height hs p ≤ fuel) (superclass_is hs stands.0 header stands.1.at next.0 next.1) (omega (arith, falls, now)) in
-    let others : (name : Name) (h : Header) → class_named hs name ≡ Some h → (name ≡ high) ⊎ IsBelow hs name high → height hs (place_of hs name) ≤ fuel → IsIn high (classes_up hs fuel (Some name)) =
+    let others : Reaches hs fuel high =
     λ name h named more few. climbs hs hierarchy fuel name high h above named above_is kind more few in
     inr (rw is (rw next.1 (further others next.0 next.2 left))) where
-      further : ((name : Name) (h : Header) → class_named hs name ≡ Some h → (name ≡ high) ⊎ IsBelow hs name high → height hs (place_of hs name) ≤ fuel → IsIn high (classes_up hs fuel (Some name)))
+      further : Reaches hs fuel high
           → (name : Name) → (name ≡ high) ⊎ IsBelow hs name high → height hs (place_of hs name) ≤ fuel → IsIn high (classes_up hs fuel (Some name))
       further others name (inl same) left = others name above (subst (λ n. class_named hs n ≡ Some above) (sym same) above_is) (inl same) left
       further others name (inr more) left = let c = class_there hs name (low_is_there more) in others name c.0 c.1 (inr more) left

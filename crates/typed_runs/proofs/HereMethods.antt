@@ -1,4 +1,4 @@
-use Rattle.std.specs.Prelude.{◌≡◌, refl, ℕ, Bool, true, false, List, ◌∷◌, slice_get, Option, Some, None, if◌then◌else◌}
+use Rattle.std.specs.Prelude.{◌≡◌, refl, ℕ, Bool, true, false, List, ◌∷◌, slice_get, Option, Some, None, if◌then◌else◌, drop}
 use Rattle.std.proofs.Common.{◌∙◌, subst}
 use Rattle.class_model.specs.declared.frame.Frame.{Frame}
 use Rattle.class_model.specs.declared.frame.VType.{VType}
@@ -24,6 +24,10 @@ use Rattle.typed_runs.specs.Conforming.{Conforms}
 use Rattle.typed_runs.specs.TypedFrames.{StandsAt, Does, upon}
 use Rattle.typed_runs.specs.TypedPrograms.{Typings, IsTypedProgram, IsTypedMethod}
 use Rattle.typed_runs.specs.TypedWorlds.{StaysTyped}
+
+-- the world stays typed behind an operation that took so many operands and comes to this
+abbrev pub CompletesTyped : Program → Typings → World → MethodState → List RunFrame → ℕ → Completion → Type 0
+CompletesTyped P T w f rest taken completion = StaysTyped P T w (perform P w f (record f { stack = drop taken f.stack }) rest completion)
 
 -- the method of a frame, and how its code is typed
 pub record MethodOf (P : Program) (T : Typings) (f : MethodState) : Type 0 where

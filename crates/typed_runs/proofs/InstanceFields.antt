@@ -37,7 +37,7 @@ use Rattle.typed_runs.proofs.FieldOwners.{owner, value_there, value_put}
 use Rattle.typed_runs.proofs.FieldValues.{of_field, to_field, field_kind, field_narrowed, field_in_heap}
 use Rattle.typed_runs.proofs.FolderFields.{folder_field, SlotThere, slot_there}
 use Rattle.typed_runs.proofs.Here.{Here, operands_here, worked, gives_same, gives_goes}
-use Rattle.typed_runs.proofs.HereMethods.{assigned_here}
+use Rattle.typed_runs.proofs.HereMethods.{CompletesTyped, assigned_here}
 use Rattle.typed_runs.proofs.Kept.{Keeps, there, units_kept, all_kept, slots_kept}
 use Rattle.typed_runs.proofs.LinkedFields.{FieldLaws, FieldLinked, field_linked, flag_is}
 use Rattle.typed_runs.proofs.Memories.{object_keeps, object_typed}
@@ -86,22 +86,22 @@ module _ {P : Program} {T : Typings} {w : World} {f : MethodState} {rest : List 
       worked h 1 refl (operands_here h).enough (rw l.link (by l f.stack refl (operands_here h))) where
         got : (l : FieldLinked P r false) (reference : ℕ) (shape : Shape) → HasShape w.memory.heap reference shape → ShapeConforms P shape r.class
             → (class : Option ℕ) → folder_number P l.field.class ≡ class
-            → StaysTyped P T w (perform P w f (record f { stack = drop 1 f.stack }) rest (get_from P w.memory l.field reference class))
+            → CompletesTyped P T w f rest 1 (get_from P w.memory l.field reference class)
         got l reference shape has is None e =
             asks_goes h (asks_get l.field (Some (values.Ref reference))) (drop 1 f.stack) h.locals (operands_here h).rest refl (there has)
         got l reference shape has is (Some class) e =
             let p = field_place P T h.typed.program r l class e w.memory reference shape h.typed.memory has is in
             let v = got_is P T h.typed.program r l class e w.memory reference p in
-            subst (λ c. StaysTyped P T w (perform P w f (record f { stack = drop 1 f.stack }) rest c)) (sym v.1) (gives_same h (v.0 ∷ []) (and_value (of_field (type_of r.desc) v.0 v.2) no_values))
+            subst (λ c. CompletesTyped P T w f rest 1 c) (sym v.1) (gives_same h (v.0 ∷ []) (and_value (of_field (type_of r.desc) v.0 v.2) no_values))
 
         on : (l : FieldLinked P r false) (v : Value) → IsReceiver P w.memory.heap r.class v
-            → StaysTyped P T w (perform P w f (record f { stack = drop 1 f.stack }) rest (get_field_work P w.memory r.class (Some l.field) (v ∷ [])))
+            → CompletesTyped P T w f rest 1 (get_field_work P w.memory r.class (Some l.field) (v ∷ []))
         on l _ no_receiver = rw (flag_is l) (raises_goes h null_pointer (drop 1 f.stack) (raises_null P T h.typed.program))
         on l _ (a_receiver {reference = reference} {shape = shape} has is) =
             rw (flag_is l) (rw (passes P T h.typed.program w.memory h.typed.memory r l reference shape has is) (got l reference shape has is (folder_number P l.field.class) refl))
 
         by : (l : FieldLinked P r false) (stack : List Value) → f.stack ≡ stack → Operands P (T f.at).scope w.memory.heap frame.stack stack 1
-            → StaysTyped P T w (perform P w f (record f { stack = drop 1 f.stack }) rest (get_field_work P w.memory r.class (Some l.field) (reverse (take 1 stack))))
+            → CompletesTyped P T w f rest 1 (get_field_work P w.memory r.class (Some l.field) (reverse (take 1 stack)))
         by l [] e o = absurd (omega (arith, o.enough))
         by l (v ∷ others) e o =
             let one = one_of s (assignable_to (types.Object r.class)) (topmost 1 frame.stack) h.holds.operands o.values in
@@ -118,18 +118,19 @@ module _ {P : Program} {T : Typings} {w : World} {f : MethodState} {rest : List 
         put : (l : FieldLinked P r false) (reference : ℕ) (shape : Shape) (v : Value) → HasShape w.memory.heap reference shape
             → ShapeConforms P shape r.class → FieldConforms P w.memory.heap (type_of l.field.desc) v
             → (class : Option ℕ) → folder_number P l.field.class ≡ class
-            → StaysTyped P T w (perform P w f (record f { stack = drop 2 f.stack }) rest (put_into P w.memory l.field reference v class))
+            → CompletesTyped P T w f rest 2 (put_into P w.memory l.field reference v class)
         put l reference shape v has is fits None e =
-            asks_goes h (asks_put l.field (Some (values.Ref reference)) v) (drop 2 f.stack) h.locals (operands_here h).rest refl (there has, field_in_heap P w.memory.heap (type_of l.field.desc) v fits)
+            asks_goes h (asks_put l.field (Some (values.Ref reference)) v) (drop 2 f.stack) h.locals (operands_here h).rest refl
+            (there has, field_in_heap P w.memory.heap (type_of l.field.desc) v fits)
         put l reference shape v has is fits (Some class) e =
             let p = field_place P T h.typed.program r l class e w.memory reference shape h.typed.memory has is in
             let n = put_is P T h.typed.program r l class e w.memory reference v h.typed.memory p fits in
-            subst (λ c. StaysTyped P T w (perform P w f (record f { stack = drop 2 f.stack }) rest c)) (sym n.is_put)
+            subst (λ c. CompletesTyped P T w f rest 2 c) (sym n.is_put)
             (gives_goes h 2 (with_heap w.memory n.heap) n.keep n.typed [] h.next (units_kept n.keep h.locals) (all_kept n.keep (operands_here h).rest) no_values)
 
         into : (l : FieldLinked P r false) (receiver v : Value) → IsReceiver P w.memory.heap r.class receiver
             → FieldConforms P w.memory.heap (type_of l.field.desc) v
-            → StaysTyped P T w (perform P w f (record f { stack = drop 2 f.stack }) rest (put_field_in P w.memory r.class l.field receiver v))
+            → CompletesTyped P T w f rest 2 (put_field_in P w.memory r.class l.field receiver v)
         into l _ v no_receiver fits = raises_goes h null_pointer (drop 2 f.stack) (raises_null P T h.typed.program)
         into l _ v (a_receiver {reference = reference} {shape = shape} has is) fits =
             rw (passes P T h.typed.program w.memory h.typed.memory r l reference shape has is)
@@ -138,13 +139,13 @@ module _ {P : Program} {T : Typings} {w : World} {f : MethodState} {rest : List 
         tested : (l : FieldLinked P r false) (receiver v : Value) → IsReceiver P w.memory.heap r.class receiver
             → FieldConforms P w.memory.heap (type_of l.field.desc) v
             → (b : Bool) → is_barred P l.field initialises ≡ b
-            → StaysTyped P T w (perform P w f (record f { stack = drop 2 f.stack }) rest (put_field_tested P w.memory r.class l.field initialises receiver v))
+            → CompletesTyped P T w f rest 2 (put_field_tested P w.memory r.class l.field initialises receiver v)
         tested l receiver v is fits true e = rw e (raises_goes h illegal_access (drop 2 f.stack) (raises_access P T h.typed.program))
         tested l receiver v is fits false e = rw e (into l receiver v is fits)
 
         on : (l : FieldLinked P r false) (receiver v : Value) → IsReceiver P w.memory.heap r.class receiver
             → FieldConforms P w.memory.heap (type_of r.desc) v
-            → StaysTyped P T w (perform P w f (record f { stack = drop 2 f.stack }) rest (put_field_work P w.memory r.class (Some l.field) initialises (receiver ∷ v ∷ [])))
+            → CompletesTyped P T w f rest 2 (put_field_work P w.memory r.class (Some l.field) initialises (receiver ∷ v ∷ []))
         on l receiver v is fits =
             let own : FieldConforms P w.memory.heap (type_of l.field.desc) v =
             subst (λ (desc : List ℕ). FieldConforms P w.memory.heap (type_of desc) v) (sym l.same_desc) fits in
@@ -169,7 +170,7 @@ module _ {P : Program} {T : Typings} {w : World} {f : MethodState} {rest : List 
             this_receiver r (own_class us (are ∙ ap (λ x. x ∷ us) this)) (subst (λ x. Conforms P (T f.at).scope w.memory.heap x v) this is)
 
         by : (l : FieldLinked P r false) (stack : List Value) → f.stack ≡ stack → Operands P (T f.at).scope w.memory.heap frame.stack stack 2
-            → StaysTyped P T w (perform P w f (record f { stack = drop 2 f.stack }) rest (put_field_work P w.memory r.class (Some l.field) initialises (reverse (take 2 stack))))
+            → CompletesTyped P T w f rest 2 (put_field_work P w.memory r.class (Some l.field) initialises (reverse (take 2 stack)))
         by l [] e o = absurd (omega (arith, o.enough))
         by l (v ∷ []) e o = absurd (omega (arith, o.enough))
         by l (v ∷ receiver ∷ others) e o =

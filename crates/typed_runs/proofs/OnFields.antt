@@ -46,11 +46,13 @@ pub each_field : (P : Program) (T : Typings) → FieldLaws → EachStays P T Nam
 each_field P T laws w f rest s frame place numbered (item_instr (instrs.GetStatic index)) is d h =
     named (reference_of s.pool (constant_at s.pool index)) (λ o. access_aside (get_static_row frame o)) get_static (λ r k. get_static_stays laws d r k) h
 each_field P T laws w f rest s frame place numbered (item_instr (instrs.PutStatic index)) is d h =
-    named (reference_of s.pool (constant_at s.pool index)) (λ o. access_aside (put_static_row frame o)) (λ r. put_static r (initialises s.is_clinit s.own)) (λ r k. put_static_stays laws d r (initialises s.is_clinit s.own) k) h
+    named (reference_of s.pool (constant_at s.pool index)) (λ o. access_aside (put_static_row frame o)) (λ r. put_static r (initialises s.is_clinit s.own))
+    (λ r k. put_static_stays laws d r (initialises s.is_clinit s.own) k) h
 each_field P T laws w f rest s frame place numbered (item_instr (instrs.GetField index)) is d h =
     named (reference_of s.pool (constant_at s.pool index)) (λ o. access_aside (get_field_row s frame o)) get_field (λ r k. get_field_stays laws r k) h
 each_field P T laws w f rest s frame place numbered (item_instr (instrs.PutField index)) is d h =
-    named (reference_of s.pool (constant_at s.pool index)) (λ o. access_aside (put_field_row s frame o)) (λ r. put_field r (initialises s.is_init s.own)) (λ r k. put_field_stays laws r (initialises s.is_init s.own) k) h
+    named (reference_of s.pool (constant_at s.pool index)) (λ o. access_aside (put_field_row s frame o)) (λ r. put_field r (initialises s.is_init s.own))
+    (λ r k. put_field_stays laws r (initialises s.is_init s.own) k) h
 each_field P T laws w f rest s frame place numbered item is d h =
     absurd (not_of_family P.links numbered s item of_fields (names_field (item_op P.links numbered s item) is) (λ e. cc) (λ e. cc))
 

@@ -80,7 +80,9 @@ return_sort (Some t) (Some k) = tested_sort of_returns (same_kind (kind_of t) k)
 call_sort : (links : Links) (s : RowScope) (opcode : ℕ) (r : Reference) → HasSort (call_op links s opcode r) of_calls
 call_sort links s opcode r = by (opcode == INVOKEVIRTUAL) (opcode == INVOKESPECIAL) (opcode == INVOKESTATIC) (opcode == INVOKEINTERFACE) where
   by : (a b c d : Bool)
-      → HasSort (if a then call_virtual r else (if b then call_special r (special_start links s r.class) else (if c then call_static r else (if d then call_interface r else meaningless)))) of_calls
+      → HasSort
+      (if a then call_virtual r else (if b then call_special r (special_start links s r.class)
+      else (if c then call_static r else (if d then call_interface r else meaningless)))) of_calls
   by true b c d = inr refl
   by false true c d = inr refl
   by false false true d = inr refl

@@ -41,7 +41,8 @@ call_goes_on : (s : RowScope) (frame : Frame) (opcode : ℕ) (r : Reference)
 call_goes_on s frame opcode r = by (opcode == INVOKESTATIC) (opcode == INVOKESPECIAL) (bytes_eq r.name init) where
   by : (a b c : Bool)
       → GoesOn (result_types (result_of r.desc)) true
-      (either a (static_row frame r) (either b (either c (init_row s frame r) (special_row s frame r)) (instance_row frame r (Unit {0}) (PassesMethod s r (receiver frame r.desc)))))
+      (either a (static_row frame r) (either b (either c (init_row s frame r) (special_row s frame r))
+      (instance_row frame r (Unit {0}) (PassesMethod s r (receiver frame r.desc)))))
   by true b c = record { gives = refl; row_goes = refl; falls_through = refl }
   by false true true = record { gives = refl; row_goes = refl; falls_through = refl }
   by false true false = record { gives = refl; row_goes = refl; falls_through = refl }
@@ -52,7 +53,9 @@ calls_desc : (member : Member) (links : Links) (s : RowScope) (opcode : ℕ) (r 
 calls_desc member links s opcode r is =
     by (opcode == INVOKEVIRTUAL) (opcode == INVOKESPECIAL) (opcode == INVOKESTATIC) (opcode == INVOKEINTERFACE) is where
       by : (a b c d : Bool)
-          → FitsCall member (if a then call_virtual r else (if b then call_special r (special_start links s r.class) else (if c then call_static r else (if d then call_interface r else meaningless))))
+          → FitsCall member
+          (if a then call_virtual r else (if b then call_special r (special_start links s r.class)
+          else (if c then call_static r else (if d then call_interface r else meaningless))))
           → member.desc ≡ r.desc
       by true b c d fits = fits
       by false true c d fits = fits
@@ -72,7 +75,8 @@ module _ (member : Member) (links : Links) (numbered : ℕ → ℕ) (s : RowScop
       → GoesOn (result_types (result_of member.desc)) true (call_row s frame opcode o)
   of_reference opcode None is = absurd is
   of_reference opcode (Some r) is =
-      subst (λ (desc : List ℕ). GoesOn (result_types (result_of desc)) true (call_row s frame opcode (Some r))) (sym (calls_desc member links s opcode r is)) (call_goes_on s frame opcode r)
+      subst (λ (desc : List ℕ). GoesOn (result_types (result_of desc)) true (call_row s frame opcode (Some r)))
+      (sym (calls_desc member links s opcode r is)) (call_goes_on s frame opcode r)
 
   -- an item whose operation a method's frame fits
   pub call_item_goes : (item : CodeItem) → FitsCall member (item_op links numbered s item)

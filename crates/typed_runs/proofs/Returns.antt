@@ -152,7 +152,8 @@ module _ {P : Program} {T : Typings} {w : World} {f : MethodState} {rest : List 
         let one = one_of s (of_kind kind) (topmost 1 frame.stack) h.holds.operands o.values in
         let own = fits one.type v one.is_type one.fits one.conforms in
         rw (field_kind P w.memory.heap result v own)
-        (returns_goes h (narrowed result v ∷ []) (Some result) h.linked (λ c. and_value (of_field result (narrowed result v) (field_narrowed P w.memory.heap result v own)) no_values))
+        (returns_goes h (narrowed result v ∷ []) (Some result) h.linked
+        (λ c. and_value (of_field result (narrowed result v) (field_narrowed P w.memory.heap result v own)) no_values))
 
   by_result : (o : Option FieldType) (kind : Option Kind) → s.result ≡ o
       → Here P T w f rest s frame place numbered (access_aside (return_row s frame kind)) (return_op o kind) falls places

@@ -27,7 +27,7 @@ use Rattle.typed_runs.proofs.Assigned.{assigned}
 use Rattle.typed_runs.proofs.Basics.{and_first, and_second, same_number, some_of}
 use Rattle.typed_runs.proofs.FieldValues.{of_field, to_field, field_kind, field_narrowed, field_in_heap, blank_conforms}
 use Rattle.typed_runs.proofs.Here.{Here, operands_here, worked, gives_same, gives_values}
-use Rattle.typed_runs.proofs.HereMethods.{assigned_here, first_begun}
+use Rattle.typed_runs.proofs.HereMethods.{CompletesTyped, assigned_here, first_begun}
 use Rattle.typed_runs.proofs.Kept.{keeps_same}
 use Rattle.typed_runs.proofs.LinkedFields.{FieldLaws, FieldLinked, field_linked, flag_is, number_is}
 use Rattle.typed_runs.proofs.Performing.{raises_goes, asks_goes}
@@ -77,7 +77,7 @@ module _ {P : Program} {T : Typings} {w : World} {f : MethodState} {rest : List 
       (rw l.link (rw (flag_is l) (first_begun h d l.field.class (record f { stack = drop 0 f.stack }) (got_static P w.memory l.field (folder_number P l.field.class))
       (by l (folder_number P l.field.class) refl)))) where
         by : (l : FieldLinked P r true) (class : Option ℕ) → folder_number P l.field.class ≡ class
-            → StaysTyped P T w (perform P w f (record f { stack = drop 0 f.stack }) rest (got_static P w.memory l.field class))
+            → CompletesTyped P T w f rest 0 (got_static P w.memory l.field class)
         by l None is = asks_goes h (asks_get l.field None) (drop 0 f.stack) h.locals (operands_here h).rest refl tt
         by l (Some class) is =
             let n = number_is l class is in
@@ -91,11 +91,11 @@ module _ {P : Program} {T : Typings} {w : World} {f : MethodState} {rest : List 
   -- the one value that is taken
   value_taken : (r : Reference) (op : Op) (work : List Value → Completion)
       → (h : Here P T w f rest s frame place numbered (plain frame (assignable_to (field_type r.desc) ∷ []) []) op true [])
-      → ((v : Value) → FieldConforms P w.memory.heap (type_of r.desc) v → StaysTyped P T w (perform P w f (record f { stack = drop 1 f.stack }) rest (work (v ∷ []))))
-      → StaysTyped P T w (perform P w f (record f { stack = drop 1 f.stack }) rest (work (reverse (take 1 f.stack))))
+      → ((v : Value) → FieldConforms P w.memory.heap (type_of r.desc) v → CompletesTyped P T w f rest 1 (work (v ∷ [])))
+      → CompletesTyped P T w f rest 1 (work (reverse (take 1 f.stack)))
   value_taken r op work h proved = by f.stack refl (operands_here h) where
     by : (stack : List Value) → f.stack ≡ stack → Operands P (T f.at).scope w.memory.heap frame.stack stack 1
-        → StaysTyped P T w (perform P w f (record f { stack = drop 1 f.stack }) rest (work (reverse (take 1 stack))))
+        → CompletesTyped P T w f rest 1 (work (reverse (take 1 stack)))
     by [] e o = absurd (omega (arith, o.enough))
     by (v ∷ others) e o =
         let one = one_of s (assignable_to (field_type r.desc)) (topmost 1 frame.stack) h.holds.operands o.values in
@@ -110,7 +110,7 @@ module _ {P : Program} {T : Typings} {w : World} {f : MethodState} {rest : List 
       (rw l.link (value_taken r (put_static r initialises) (put_static_work P w.memory (Some l.field) initialises) h (by_value l))) where
         put : (l : FieldLinked P r true) (v : Value) → FieldConforms P w.memory.heap (type_of l.field.desc) v → (class : Option ℕ)
             → folder_number P l.field.class ≡ class
-            → StaysTyped P T w (perform P w f (record f { stack = drop 1 f.stack }) rest (put_static_value P w.memory l.field v class))
+            → CompletesTyped P T w f rest 1 (put_static_value P w.memory l.field v class)
         put l v fits None is =
             asks_goes h (asks_put l.field None v) (drop 1 f.stack) h.locals (operands_here h).rest refl (tt, field_in_heap P w.memory.heap (type_of l.field.desc) v fits)
         put l v fits (Some class) is =
@@ -121,13 +121,13 @@ module _ {P : Program} {T : Typings} {w : World} {f : MethodState} {rest : List 
 
         tested : (l : FieldLinked P r true) (v : Value) → FieldConforms P w.memory.heap (type_of l.field.desc) v → (b : Bool)
             → is_barred P l.field initialises ≡ b
-            → StaysTyped P T w (perform P w f (record f { stack = drop 1 f.stack }) rest (put_static_begun P w.memory l.field initialises v))
+            → CompletesTyped P T w f rest 1 (put_static_begun P w.memory l.field initialises v)
         tested l v fits true e = rw e (raises_goes h illegal_access (drop 1 f.stack) (raises_access P T h.typed.program))
         tested l v fits false e =
             rw e (put l (narrowed (type_of l.field.desc) v) (field_narrowed P w.memory.heap (type_of l.field.desc) v fits) (folder_number P l.field.class) refl)
 
         by_value : (l : FieldLinked P r true) (v : Value) → FieldConforms P w.memory.heap (type_of r.desc) v
-            → StaysTyped P T w (perform P w f (record f { stack = drop 1 f.stack }) rest (put_static_work P w.memory (Some l.field) initialises (v ∷ [])))
+            → CompletesTyped P T w f rest 1 (put_static_work P w.memory (Some l.field) initialises (v ∷ []))
         by_value l v fits =
             let own : FieldConforms P w.memory.heap (type_of l.field.desc) v =
             subst (λ (desc : List ℕ). FieldConforms P w.memory.heap (type_of desc) v) (sym l.same_desc) fits in

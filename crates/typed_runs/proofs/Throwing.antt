@@ -29,7 +29,7 @@ use Rattle.typed_runs.proofs.Assigned.{assigned}
 use Rattle.typed_runs.proofs.ClassesTaken.{shape_taken}
 use Rattle.typed_runs.proofs.FamilySteps.{EachStays, family_step}
 use Rattle.typed_runs.proofs.Here.{Here, operands_here, worked}
-use Rattle.typed_runs.proofs.HereMethods.{assigned_here}
+use Rattle.typed_runs.proofs.HereMethods.{CompletesTyped, assigned_here}
 use Rattle.typed_runs.proofs.OpSorts.{of_throws, sort_of_op, not_of_family}
 use Rattle.typed_runs.proofs.Performing.{raises_goes, throws_goes}
 use Rattle.typed_runs.proofs.Raising.{raises_null}
@@ -55,7 +55,8 @@ is_thrown P T program class m memory r shape has is =
       object = has.object;
       is_there = has.is_there;
       is_throwable =
-          by has.object.shape (shape_taken P T program m.heap has.object.shape has.object.values throwable no_throwable_array holds (subst (λ s. ShapeConforms P s throwable) (sym has.same) is));
+          by has.object.shape (shape_taken P T program m.heap has.object.shape has.object.values throwable no_throwable_array holds
+          (subst (λ s. ShapeConforms P s throwable) (sym has.same) is));
     } where
       by : (s : Shape) → (is_interface_named P throwable ≡ true) ⊎ (is_instance P s throwable ≡ true) → is_instance P s throwable ≡ true
       by s (inl e) = let no : true ≡ false = sym e ∙ class in cc
@@ -67,14 +68,14 @@ module _ {P : Program} {T : Typings} {w : World} {f : MethodState} {rest : List 
       → StaysTyped P T w (op_step P w f rest throw_reference)
   throw_stays h = worked h 1 refl (operands_here h).enough (by f.stack refl (operands_here h)) where
     on : (v : Value) → IsReceiver P w.memory.heap throwable v
-        → StaysTyped P T w (perform P w f (record f { stack = drop 1 f.stack }) rest (throw_work P w.memory (v ∷ [])))
+        → CompletesTyped P T w f rest 1 (throw_work P w.memory (v ∷ []))
     on _ no_receiver = raises_goes h null_pointer (drop 1 f.stack) (raises_null P T h.typed.program)
     on _ (a_receiver {reference = r} {shape = shape} has is) =
         let thrown = is_thrown P T h.typed.program class w.memory h.typed.memory r shape has is in
         rw thrown.is_there (rw thrown.is_throwable (throws_goes h r (drop 1 f.stack) thrown))
 
     by : (stack : List Value) → f.stack ≡ stack → Operands P (T f.at).scope w.memory.heap frame.stack stack 1
-        → StaysTyped P T w (perform P w f (record f { stack = drop 1 f.stack }) rest (throw_work P w.memory (reverse (take 1 stack))))
+        → CompletesTyped P T w f rest 1 (throw_work P w.memory (reverse (take 1 stack)))
     by [] e o = absurd (omega (arith, o.enough))
     by (v ∷ others) e o =
         let one = one_of s (assignable_to (types.Object throwable)) (topmost 1 frame.stack) h.holds.operands o.values in
