@@ -4,7 +4,7 @@ use Rattle.std.proofs.Common.{inl, inr, ap, sym, ◌∙◌, subst}
 use Rattle.class_model.specs.Laws.Lists.{at_index}
 use Rattle.class_model.specs.declared.header.Header.{Header}
 use Rattle.class_tree.specs.Headers.{Name, class_named, IsThere}
-use Rattle.class_tree.specs.Laws.Above.{hierarchy_is_sound, hierarchy_is_rooted, below_more, nothing_above_object, class_above_interface, class_decides}
+use Rattle.class_tree.specs.Laws.Above.{below_more}
 use Rattle.class_tree.specs.Laws.Arrays.{is_array_of, not_directly_below}
 use Rattle.class_tree.specs.Laws.Headers.{class_there}
 use Rattle.class_tree.specs.Laws.Names.{each_of_names}

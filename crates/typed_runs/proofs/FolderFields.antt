@@ -1,4 +1,4 @@
-use Rattle.std.specs.Prelude.{◌≡◌, ◌⊎◌, ◌≤◌, not, refl, ℕ, zero, suc, Bool, true, false, List, [], ◌∷◌, ◌++◌, map, length, reverse, bytes_eq, slice_get, Option, Some, None, IsTrue, IsFalse, option_map}
+use Rattle.std.specs.Prelude.{◌≡◌, ◌⊎◌, ◌≤◌, not, refl, ℕ, zero, suc, Bool, true, false, List, length, reverse, bytes_eq, slice_get, Option, Some, None, IsTrue, IsFalse}
 use Rattle.std.proofs.Common.{arith, inl, inr, ap, sym, ◌∙◌, subst}
 use Rattle.std.proofs.lemmas.Slice.Eq.{bytes_eq-Decides}
 use Rattle.class_model.specs.Laws.Lists.{at_index}
@@ -16,7 +16,7 @@ use Rattle.class_tree.specs.Subtype.{IsBelow}
 use Rattle.class_tree.specs.declared.place.Place.{Place}
 use Rattle.member_link.specs.DeclaredMembers.{declared}
 use Rattle.member_link.specs.Machine.Layouts.{own_slots, slots_of, slot_number}
-use Rattle.member_link.specs.Machine.Programs.{Program, RunClass, headers_in, folder_number, number_of_first, same_reference}
+use Rattle.member_link.specs.Machine.Programs.{Program, RunClass, headers_in, folder_number, same_reference}
 use Rattle.member_link.specs.References.{Reference}
 use Rattle.typed_runs.proofs.Basics.{and_second}
 use Rattle.typed_runs.proofs.LinkedFields.{FieldLinked, folder_class, declared_is, declared_number}

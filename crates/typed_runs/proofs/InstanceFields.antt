@@ -1,4 +1,4 @@
-use Rattle.std.specs.Prelude.{◌≡◌, ◌⊎◌, ◌-◌, refl, ℕ, zero, suc, Bool, true, false, List, [], ◌∷◌, length, take, drop, reverse, slice_set, Option, Some, None}
+use Rattle.std.specs.Prelude.{◌≡◌, ◌⊎◌, ◌-◌, refl, ℕ, zero, suc, Bool, true, false, List, [], ◌∷◌, length, take, drop, reverse, Option, Some, None}
 use Rattle.std.proofs.Common.{arith, inl, inr, ap, sym, ◌∙◌, subst}
 use Rattle.class_model.specs.Descriptors.{type_of}
 use Rattle.class_model.specs.declared.frame.Frame.{Frame}
@@ -6,20 +6,16 @@ use Rattle.class_model.specs.declared.frame.VType.{VType}
 use Rattle.class_model.specs.declared.frame.VType.TheVariants as types
 use Rattle.class_tree.specs.Headers.{Name}
 use Rattle.machine_values.specs.Frames.{MethodState}
-use Rattle.machine_values.specs.Heaps.{Heap, object_at, with_object, with_value}
+use Rattle.machine_values.specs.Heaps.{Heap}
 use Rattle.machine_values.specs.Values.{narrowed}
 use Rattle.machine_values.specs.declared.frame.RunFrame.{RunFrame}
-use Rattle.machine_values.specs.declared.object.Object.{Object}
 use Rattle.machine_values.specs.declared.object.Shape.{Shape}
-use Rattle.machine_values.specs.declared.object.Shape.TheVariants as shapes
 use Rattle.machine_values.specs.declared.value.Value.{Value}
 use Rattle.machine_values.specs.declared.value.Value.TheVariants as values
 use Rattle.member_link.specs.Assignability.{IsAssignable}
-use Rattle.member_link.specs.Machine.Completions.{gives, asks_get, asks_put}
-use Rattle.member_link.specs.Machine.FieldSteps.{is_barred, get_from, got_field, put_into, put_field_value, put_field_in, put_field_tested, get_field_work, put_field_work}
-use Rattle.member_link.specs.Machine.Layouts.{slots_of, slot_number}
+use Rattle.member_link.specs.Machine.Completions.{asks_get, asks_put}
+use Rattle.member_link.specs.Machine.FieldSteps.{is_barred, get_from, put_into, put_field_in, put_field_tested, get_field_work, put_field_work}
 use Rattle.member_link.specs.Machine.Ops.{get_field, put_field}
-use Rattle.member_link.specs.Machine.Performing.{perform}
 use Rattle.member_link.specs.Machine.Programs.{Program, folder_number, name_of_class}
 use Rattle.member_link.specs.Machine.Shapes.{reference_conforms}
 use Rattle.member_link.specs.Machine.Stepping.{op_step}
@@ -31,22 +27,18 @@ use Rattle.member_link.specs.Rows.MemberRows.{put_field_row, MayPut, IsOwnField,
 use Rattle.member_link.specs.Rows.Operands.{assignable_to, assignable_or_this, topmost, lowest_of}
 use Rattle.member_link.specs.Rows.Row.{access_aside, plain}
 use Rattle.member_link.specs.Signatures.{field_type}
-use Rattle.typed_runs.proofs.Assigned.{assigned}
 use Rattle.typed_runs.proofs.ClassesTaken.{no_array_there, receiver_passes}
-use Rattle.typed_runs.proofs.FieldOwners.{owner, value_there, value_put}
 use Rattle.typed_runs.proofs.FieldValues.{of_field, to_field, field_kind, field_narrowed, field_in_heap}
-use Rattle.typed_runs.proofs.FolderFields.{folder_field, SlotThere, slot_there}
 use Rattle.typed_runs.proofs.Here.{Here, operands_here, worked, gives_same, gives_goes}
 use Rattle.typed_runs.proofs.HereMethods.{CompletesTyped, assigned_here}
-use Rattle.typed_runs.proofs.Kept.{Keeps, there, units_kept, all_kept, slots_kept}
+use Rattle.typed_runs.proofs.Kept.{there, units_kept, all_kept}
 use Rattle.typed_runs.proofs.LinkedFields.{FieldLaws, FieldLinked, field_linked, flag_is}
-use Rattle.typed_runs.proofs.Memories.{object_keeps, object_typed}
 use Rattle.typed_runs.proofs.Performing.{raises_goes, asks_goes}
 use Rattle.typed_runs.proofs.Raising.{raises_access, raises_null}
 use Rattle.typed_runs.proofs.Receivers.{IsReceiver, no_receiver, a_receiver, receiver_of}
 use Rattle.typed_runs.proofs.Stacks.{Operands, lowest_is}
 use Rattle.typed_runs.proofs.Taken.{one_of, two_of}
-use Rattle.typed_runs.specs.Conforming.{HasShape, to_below, ShapeConforms, by_class, Conforms, of_this, no_values, and_value, FieldConforms, FitsDescriptor, FitSlots, HoldsShape, IsTypedMemory}
+use Rattle.typed_runs.specs.Conforming.{HasShape, to_below, ShapeConforms, by_class, Conforms, of_this, no_values, and_value, FieldConforms, IsTypedMemory}
 use Rattle.typed_runs.specs.TypedPrograms.{Typings, IsTypedProgram}
 use Rattle.typed_runs.specs.TypedWorlds.{StaysTyped}
 use Rattle.typed_runs.proofs.FieldPlaces.{field_place, got_is, put_is}

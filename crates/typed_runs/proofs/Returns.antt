@@ -21,7 +21,7 @@ use Rattle.member_link.specs.Bodies.{item_instr}
 use Rattle.member_link.specs.Machine.Codes.{item_op, return_op, same_kind}
 use Rattle.member_link.specs.Machine.Ops.{Op, meaningless, return_nothing, return_value}
 use Rattle.member_link.specs.Machine.Performing.{unlocked, resumed, value_in, result_seen, returned_to, returned_by, returned, is_initialiser}
-use Rattle.member_link.specs.Machine.Programs.{Program, headers_in}
+use Rattle.member_link.specs.Machine.Programs.{Program}
 use Rattle.member_link.specs.Machine.Stepping.{op_step, return_step, step}
 use Rattle.member_link.specs.Machine.Worlds.{World, Memory}
 use Rattle.member_link.specs.RowScope.{RowScope}
@@ -29,7 +29,7 @@ use Rattle.member_link.specs.Rows.MemberRows.{MayReturnValue, return_row, result
 use Rattle.member_link.specs.Rows.Operands.{IsOfKind, of_kind, topmost, lowest_of}
 use Rattle.member_link.specs.Rows.Row.{Row, access_aside}
 use Rattle.member_link.specs.Signatures.{result_of}
-use Rattle.typed_runs.proofs.Assigned.{conforms_in_heap, assigned}
+use Rattle.typed_runs.proofs.Assigned.{conforms_in_heap}
 use Rattle.typed_runs.proofs.Basics.{some_of}
 use Rattle.typed_runs.proofs.FamilySteps.{EachStays, family_step}
 use Rattle.typed_runs.proofs.FieldValues.{of_field, to_field, field_kind, field_narrowed}
@@ -46,7 +46,7 @@ use Rattle.typed_runs.proofs.Units.{kind_conforms}
 use Rattle.typed_runs.specs.Conforming.{IsInHeap, Conforms, AllConform, no_values, and_value, FieldConforms, IsTypedMemory}
 use Rattle.typed_runs.specs.Families.{NextIs, EndsMethod}
 use Rattle.typed_runs.specs.TypedFrames.{nothing_awaited, called_method, above_method, FramesConform, lowest, upon}
-use Rattle.typed_runs.specs.TypedPrograms.{Typings, IsTypedProgram}
+use Rattle.typed_runs.specs.TypedPrograms.{Typings}
 use Rattle.typed_runs.specs.TypedWorlds.{TypedWorld, StaysTyped}
 
 -- ---- to the frame below

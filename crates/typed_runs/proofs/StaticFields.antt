@@ -9,11 +9,9 @@ use Rattle.machine_values.specs.Heaps.{Heap}
 use Rattle.machine_values.specs.Values.{narrowed}
 use Rattle.machine_values.specs.declared.frame.RunFrame.{RunFrame}
 use Rattle.machine_values.specs.declared.value.Value.{Value}
-use Rattle.member_link.specs.Assignability.{IsAssignable}
 use Rattle.member_link.specs.Machine.Completions.{Completion, asks_get, asks_put}
 use Rattle.member_link.specs.Machine.FieldSteps.{is_barred, got_static, put_static_value, put_static_begun, put_static_work}
 use Rattle.member_link.specs.Machine.Ops.{Op, get_static, put_static}
-use Rattle.member_link.specs.Machine.Performing.{perform}
 use Rattle.member_link.specs.Machine.Programs.{Program, folder_number}
 use Rattle.member_link.specs.Machine.Stepping.{op_step}
 use Rattle.member_link.specs.Machine.Throwables.{illegal_access}
@@ -23,7 +21,6 @@ use Rattle.member_link.specs.RowScope.{RowScope}
 use Rattle.member_link.specs.Rows.Operands.{assignable_to, topmost}
 use Rattle.member_link.specs.Rows.Row.{plain}
 use Rattle.member_link.specs.Signatures.{field_type}
-use Rattle.typed_runs.proofs.Assigned.{assigned}
 use Rattle.typed_runs.proofs.Basics.{and_first, and_second, same_number, some_of}
 use Rattle.typed_runs.proofs.FieldValues.{of_field, to_field, field_kind, field_narrowed, field_in_heap, blank_conforms}
 use Rattle.typed_runs.proofs.Here.{Here, operands_here, worked, gives_same, gives_values}

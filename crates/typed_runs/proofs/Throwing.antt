@@ -10,12 +10,10 @@ use Rattle.machine_values.specs.Frames.{MethodState}
 use Rattle.machine_values.specs.declared.frame.RunFrame.{RunFrame}
 use Rattle.machine_values.specs.declared.object.Shape.{Shape}
 use Rattle.machine_values.specs.declared.value.Value.{Value}
-use Rattle.member_link.specs.Assignability.{IsAssignable}
 use Rattle.member_link.specs.Bodies.{item_instr}
 use Rattle.member_link.specs.Machine.Codes.{item_op}
 use Rattle.member_link.specs.Machine.ObjectSteps.{throw_work}
 use Rattle.member_link.specs.Machine.Ops.{Op, throw_reference}
-use Rattle.member_link.specs.Machine.Performing.{perform}
 use Rattle.member_link.specs.Machine.Programs.{Program, is_interface_named}
 use Rattle.member_link.specs.Machine.Shapes.{is_instance}
 use Rattle.member_link.specs.Machine.Stepping.{op_step, step}
@@ -25,7 +23,6 @@ use Rattle.member_link.specs.RowScope.{RowScope}
 use Rattle.member_link.specs.Rows.Operands.{assignable_to, topmost}
 use Rattle.member_link.specs.Rows.Row.{access_aside}
 use Rattle.member_link.specs.Rows.Table.{throw_row}
-use Rattle.typed_runs.proofs.Assigned.{assigned}
 use Rattle.typed_runs.proofs.ClassesTaken.{shape_taken}
 use Rattle.typed_runs.proofs.FamilySteps.{EachStays, family_step}
 use Rattle.typed_runs.proofs.Here.{Here, operands_here, worked}

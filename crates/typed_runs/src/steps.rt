@@ -45,8 +45,8 @@ pub fn an_instruction_on_fields_stays_typed()
     member_link::a_found_field_is_above();
 }
 
-/// So does a return: to the frame that waits for its value, to the library, which sees the value or the object that it constructed, or as the end of a
-/// class initialiser.
+/// So does a return: to the frame that waits for its value, to the library, which sees the value or the object that was constructed,
+/// or as the end of a class initialiser.
 pub fn a_return_stays_typed()
     ensures { (P : Program) (T : Typings) (w : World)
         → TypedWorld P T w
