@@ -2,7 +2,7 @@
 ghost use Rattle.member_link.specs.Machine.Programs.{Program};
 ghost use Rattle.member_link.specs.Machine.Stepping.{step};
 ghost use Rattle.member_link.specs.Machine.Worlds.{World};
-ghost use Rattle.typed_runs.specs.Families.{BeginsClass, MakesObject, NextIs, WorksOnArrays, WorksOnOperands};
+ghost use Rattle.typed_runs.specs.Families.{BeginsClass, EndsMethod, MakesObject, NamesField, NextIs, ThrowsReference, WorksOnArrays, WorksOnOperands};
 ghost use Rattle.typed_runs.specs.TypedPrograms.{Typings};
 ghost use Rattle.typed_runs.specs.TypedWorlds.{TypedWorld, StaysTyped};
 
@@ -41,5 +41,33 @@ pub fn a_step_of_a_beginning_stays_typed()
     ensures { (P : Program) (T : Typings) (w : World)
         → TypedWorld P T w
         → BeginsClass w.frames
+        → StaysTyped P T w (step P w) }
+{}
+
+/// So does an instruction that reads or writes a field. It may begin a class, ask the library for a field of its own, and raise.
+pub fn an_instruction_on_fields_stays_typed()
+    ensures { (P : Program) (T : Typings) (w : World)
+        → TypedWorld P T w
+        → NextIs NamesField P w.frames
+        → StaysTyped P T w (step P w) }
+{
+    member_link::a_look_up_finds_one_field();
+    member_link::a_found_field_is_above();
+}
+
+/// So does a return: to the frame that waits for its value, to the library, which sees the value or the object that was constructed,
+/// or as the end of a class initialiser.
+pub fn a_return_stays_typed()
+    ensures { (P : Program) (T : Typings) (w : World)
+        → TypedWorld P T w
+        → NextIs EndsMethod P w.frames
+        → StaysTyped P T w (step P w) }
+{}
+
+/// So does an `athrow`, which throws what conforms to java/lang/Throwable.
+pub fn a_throw_stays_typed()
+    ensures { (P : Program) (T : Typings) (w : World)
+        → TypedWorld P T w
+        → NextIs ThrowsReference P w.frames
         → StaysTyped P T w (step P w) }
 {}
