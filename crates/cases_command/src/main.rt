@@ -3,13 +3,15 @@
 //!
 //! A line of a file that begins with `#` is a comment, and one that begins with two spaces goes on with the line before it.
 //! Any other has statements, with ` ; ` between them. They are done in order, over one host in memory, and what a file leaves
-//! stands for the next. A statement is a setting or a case: a question, ` => ` and the answer.
+//! stands for the next. A statement is a setting or a case: a question, ` => ` and the answer. A case is the last of its line,
+//! and in its answer ` ; ` stands for itself.
 //!
 //! The settings are:
 //! - `host`, a new host without files; `host failing 3`, one whose calls of these numbers fail, counted from 0;
 //! - `base ROOT`, which puts the class files of the base library there; `base ROOT 2`, its first two;
 //! - `put ROOT/FILE CONTENT`, which puts a file there;
 //! - `class ROOT/FILE CLASS`, which puts a class file there, written in the notation of cases_notation;
+//! - `script FILE LINES`, which puts a script under the root without a name, its lines with ` | ` between them;
 //! - `bytes NAME CONTENT`, which names a content.
 //!
 //! A content is words, each of which appends bytes to those before: hex digits; `"first`, a text; `'first`, the Utf8 constant
@@ -76,19 +78,40 @@ fn compare_file(rt: &HostRuntime, setting: &mut Setting, name: &str) -> Option<(
     let mut count: u64 = 0;
     for line in lines_of(rt.alloc(), &text)?.as_slice() {
         let place = format!(in rt.alloc(); "{name}:{}", line.number).ok()?;
-        for statement in line.text.split(" ; ") {
-            if is_case(rt, setting, &place, statement)? {
-                let came = question_of(statement).and_then(|question| answer(
-                    rt.alloc(),
-                    setting,
-                    question,
-                ));
-                print_difference(rt, &place, statement, came)?;
-                count = count.wrapping_add(1);
-            }
+        let (settings, last) = settings_and_last(&line.text);
+        for statement in settings.split(" ; ") {
+            count = count.wrapping_add(take_statement(rt, setting, &place, statement)?);
         }
+        count = count.wrapping_add(take_statement(rt, setting, &place, last)?);
     }
     println!(rt; "{name}: {count}").ok()
+}
+
+// The statements of a line but for the last one, and that.
+fn settings_and_last(line: &str) -> (&str, &str) {
+    let question = question_of(line).unwrap_or(line);
+    match question.rsplit_once(" ; ") {
+        Some((settings, _)) => {
+            let behind = settings.len().saturating_add(" ; ".len());
+            (settings, line.get(behind..).unwrap_or(""))
+        }
+        None => ("", line),
+    }
+}
+
+// Does a setting, or asks a case. How many cases it is: one or none. None where memory or the output fails.
+fn take_statement(
+    rt: &HostRuntime,
+    setting: &mut Setting,
+    place: &str,
+    statement: &str,
+) -> Option<u64> {
+    if statement.is_empty() || !is_case(rt, setting, place, statement)? {
+        return Some(0);
+    }
+    let came = question_of(statement).and_then(|question| answer(rt.alloc(), setting, question));
+    print_difference(rt, place, statement, came)?;
+    Some(1)
 }
 
 // Whether a statement is a case. A setting is done, and printed with its place where it cannot be.

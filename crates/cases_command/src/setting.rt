@@ -31,6 +31,7 @@ impl Setting {
             "base" => self.put_library(alloc, said)?,
             "put" => self.put_file(alloc, said)?,
             "class" => self.put_class(alloc, said)?,
+            "script" => self.put_script(alloc, said)?,
             "bytes" => self.name_content(alloc, said)?,
             _ => return Some(false),
         }
@@ -60,6 +61,17 @@ impl Setting {
         let (root, name) = root_and_name(alloc, path)?;
         let bytes = class_file(alloc, notation).ok()?;
         self.host.put(alloc, &root, &name, &bytes).ok()
+    }
+
+    // Puts a script under the root without a name.
+    fn put_script(&mut self, alloc: Global, said: &str) -> Option<()> {
+        let (name, lines) = word_and_rest(said);
+        let mut bytes = Vec::new(alloc);
+        for line in lines.split(" | ") {
+            bytes.extend_from_slice(line.as_bytes()).ok()?;
+            bytes.push(b'\n').ok()?;
+        }
+        self.host.put(alloc, "", name, &bytes).ok()
     }
 
     // Names a content.

@@ -34,6 +34,11 @@ pub(crate) fn text_of(alloc: Global, status: &Status) -> Option<String> {
             let place = place_of(alloc, class, method)?;
             format!(in alloc; "{code} Unverified {place} {offset} {rule:?}").ok()
         }
+        Status::BadScript { line } => format!(in alloc; "{code} BadScript {line}").ok(),
+        Status::Absent { name } => {
+            let name = shown(alloc, name.as_str().as_bytes())?;
+            format!(in alloc; "{code} Absent {name}").ok()
+        }
         status => format!(in alloc; "{code} {status:?}").ok(),
     }
 }

@@ -6,7 +6,7 @@ use class_model::ByteList;
 use host_tree::{FileName, FileNameList, Host, HostFail};
 use std::alloc::Global;
 
-/// Lists one file of each root and finds none, as where others change a folder. It tells nothing, and remembers whether it
+/// Lists one file of each root but of `empty`, and finds none, as where others change a folder. It tells nothing, and remembers whether it
 /// was asked to write or to print.
 #[derive(Drop)]
 pub(crate) struct Vanishing {
@@ -24,9 +24,11 @@ impl Host for Vanishing {
 
     ghost faults = { λ host. count_of (record { list = 0; read = host.reads; write = 0; print = 0 }) };
 
-    fn list(&mut self, alloc: Global, _root: &str, _most: u64) -> Result<FileNameList, HostFail> {
+    fn list(&mut self, alloc: Global, root: &str, _most: u64) -> Result<FileNameList, HostFail> {
         let mut names = FileNameList::new(alloc);
-        names.push(FileName::new(String::from_str(alloc, "a.txt")?))?;
+        if root != "empty" {
+            names.push(FileName::new(String::from_str(alloc, "a.txt")?))?;
+        }
         Ok(names)
     }
 

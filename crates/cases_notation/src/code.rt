@@ -28,7 +28,8 @@ struct Code {
 /// member, class, descriptor or handle that it names, as `getstatic A x I`, `new A` or `ldc class A`; a `!` behind a call's
 /// name makes an InterfaceMethodref, and a number behind a descriptor is the count of an invokeinterface, which is else 1.
 /// Any other instruction has its operand bytes in decimal, as `iinc 1 255`. `limits 3 4` are the greatest depth of the stack
-/// and the number of locals, which are else 9. With `open` the code has no `return` at its end.
+/// and the number of locals, which are else 9. With `open` the code has no `return` at its end, and with `exact` in front it has
+/// neither that nor the `nop`. `dynamic get (LP;)LF;` is a dynamic call of this name and descriptor, and without a name of `run`.
 ///
 /// `handler 0 4 7 A` is an entry of the exception table: the start, the end and the handler as offsets in decimal, and the
 /// class, which is `any` for none. `catch A` is `handler 0 1 0 A`. `full 5 int A : long` states a full frame with this
@@ -100,6 +101,11 @@ fn push_use(
             code.is_open = true;
             Ok(())
         }
+        ["exact"] => {
+            code.instructions.clear();
+            code.is_open = true;
+            Ok(())
+        }
         ["limits", stack, locals] => {
             code.max_stack = byte(stack);
             code.max_locals = byte(locals);
@@ -115,14 +121,23 @@ fn push_use(
         ["frame", name] => push_frame(&mut code.frames, pool, name),
         ["full", delta, types @ ..] => push_full(alloc, &mut code.frames, pool, delta, types),
         ["ldc", constant @ ..] => push_load(&mut code.instructions, pool, constant),
-        ["dynamic", desc] => {
-            let index = pool.dynamic(b"run", desc.as_bytes())?;
-            push_instruction(&mut code.instructions, INVOKEDYNAMIC, index)?;
-            push_u2(&mut code.instructions, 0)
-        }
+        ["dynamic", desc] => push_dynamic(&mut code.instructions, pool, "run", desc),
+        ["dynamic", name, desc] => push_dynamic(&mut code.instructions, pool, name, desc),
         [op, operands @ ..] => push_named(&mut code.instructions, pool, op, operands),
         _ => Ok(()),
     }
+}
+
+// Appends a dynamic call of a name and a descriptor.
+fn push_dynamic(
+    out: &mut Vec<u8>,
+    pool: &mut PoolBytes,
+    name: &str,
+    desc: &str,
+) -> Result<(), NoMemory> {
+    let index = pool.dynamic(name.as_bytes(), desc.as_bytes())?;
+    push_instruction(out, INVOKEDYNAMIC, index)?;
+    push_u2(out, 0)
 }
 
 // Appends an instruction that names a member or class, or has its operand bytes.

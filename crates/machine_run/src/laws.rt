@@ -20,7 +20,7 @@ use machine_step::{RunOp, World as RunWorld, WorldState, arity};
 use member_link::a_hierarchy_has_links;
 
 /// The classes of a tree have a program.
-pub(crate) fn a_tree_has_a_program(tree: &Tree)
+pub fn a_tree_has_a_program(tree: &Tree)
     ensures { (P : Program) × IsProgram tree.now P }
 {
     a_tree_is_a_hierarchy(tree);

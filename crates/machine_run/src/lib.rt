@@ -22,5 +22,6 @@ mod throw_targets;
 mod unwinding;
 
 pub use acting::act;
+pub use laws::a_tree_has_a_program;
 pub use running::run;
 pub use stepping::step;

@@ -19,4 +19,5 @@ pub mod FirstRefused
 pub mod BytesLaws
 pub mod OneLinkProblem
 pub mod OneTypeFailure
+pub mod OneScript
 pub mod OneAnswer

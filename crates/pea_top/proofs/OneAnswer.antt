@@ -1,5 +1,5 @@
 -- Words and told files have one answer.
-use Rattle.std.proofs.Common.{◌≡◌, ℕ, List, refl, ap, subst}
+use Rattle.std.proofs.Common.{◌≡◌, ℕ, List, [], None, Some, refl, sym, ap, ◌∙◌, subst}
 use Rattle.class_model.specs.Checks.{Fault, fault}
 use Rattle.class_model.specs.Cutting.{Version}
 use Rattle.class_model.specs.declared.class_file.ClassFile.{ClassFile}
@@ -11,10 +11,11 @@ use Rattle.class_tree.specs.declared.fault.LinkRule.{LinkRule}
 use Rattle.type_rules.specs.declared.fault.TypeRule.{TypeRule}
 use Rattle.verify_folder.specs.Verifying.{Failure}
 use Rattle.host_tree.specs.Host.{Bytes, Folder, Files}
-use Rattle.pea_top.specs.Answer.{Refusal, broken, other_version, IsRefusedClass, IsRefusedHeader, IsFirstOf, of_input, of_library, AreRead, CanDo, MustRefuse, CannotLink, CannotVerify, IsAnswer}
+use Rattle.pea_top.specs.Answer.{Refusal, broken, other_version, IsRefusedClass, IsRefusedHeader, IsFirstOf, of_input, of_library, AreRead, HasScript, CanDo, MustRefuse, LacksScript, HasBadScript, CannotLink, CannotVerify, IsAnswer}
 use Rattle.pea_top.specs.Linking.{IsLinkProblem}
 use Rattle.pea_top.specs.Verifying.{IsTypeFailure}
-use Rattle.pea_top.specs.Words.{Word, Command, input_of, library_of, Spells}
+use Rattle.script_text.specs.Scripts.{lines_of, IsFirstOutside}
+use Rattle.pea_top.specs.Words.{Word, Command, Run, input_of, library_of, Spells}
 use Rattle.pea_top.specs.declared.status.Status.{Status}
 use Rattle.pea_top.specs.declared.status.Status.TheVariants as statuses
 use Rattle.pea_top.proofs.BytesLaws.{ClassLaws, HeaderLaws, one_class, one_class_refusal, class_not_refused, one_header, one_header_refusal, header_not_refused}
@@ -22,6 +23,7 @@ use Rattle.pea_top.proofs.FirstRefused.{one_first_of}
 use Rattle.pea_top.proofs.FolderValues.{one_list_of_values, none_refused}
 use Rattle.pea_top.proofs.OneLinkProblem.{TreeLaws, one_link_problem, linked_no_problem}
 use Rattle.pea_top.proofs.OneTypeFailure.{TypeLaws, one_type_failure, verified_no_failure}
+use Rattle.pea_top.proofs.OneScript.{one_line_outside, no_line_outside}
 use Rattle.pea_top.proofs.WordGrammar.{same_command}
 
 abbrev version : ℕ → ℕ → Version
@@ -109,6 +111,51 @@ module _ (laws : Laws) where
     fails_linked failure problem h i =
         linked_no_problem laws.trees h.classes h.headers h.first.classes problem h.first.arranged h.first.tree h.first.linked (problem_at h.command h.classes h.headers problem h.spelled h.read i)
 
+    -- ---- scripts
+
+    -- a run is one command with one script
+    same_run : (input other_input script other_script library other_library : Word) (steps other_steps : ℕ) → Spells (Run input script library steps) words → Spells (Run other_input other_script other_library other_steps) words → script ≡ other_script
+    same_run input other_input script other_script library other_library steps other_steps spelled other_spelled =
+        cc (same_command words (Run input script library steps) (Run other_input other_script other_library other_steps) spelled other_spelled)
+
+    -- the script of the command is there, where the command is this run
+    script_at : (command : Command) (input script library : Word) (steps : ℕ) → Spells command words → Spells (Run input script library steps) words → HasScript command files → HasScript (Run input script library steps) files
+    script_at command input script library steps spelled run_spelled there = subst (λ (at : Command). HasScript at files) (same_command words command (Run input script library steps) spelled run_spelled) there
+
+    -- a script that is there is no bad one, and is not absent
+    not_bad : (command : Command) (line : ℕ) → Spells command words → HasScript command files → ¬ HasBadScript words files line
+    not_bad command line spelled has h =
+        let there = (script_at command h.input h.script h.library h.steps spelled h.spelled has).1 in
+        let same : there.bytes ≡ h.bytes = cc (there.there, h.there) in
+        no_line_outside there.is_script (subst (λ (bytes : Bytes). IsFirstOutside (lines_of bytes) line) (sym same) h.outside)
+
+    not_absent : (command : Command) (name : Bytes) → Spells command words → HasScript command files → ¬ LacksScript words files name
+    not_absent command name spelled has h =
+        let there = (script_at command h.input name h.library h.steps spelled h.spelled has).1 in
+        cc (there.there, h.absent)
+
+    one_absent : (name other : Bytes) → LacksScript words files name → LacksScript words files other → name ≡ other
+    one_absent name other h i = same_run h.input i.input name other h.library i.library h.steps i.steps h.spelled i.spelled
+
+    absent_not_bad : (name : Bytes) (line : ℕ) → LacksScript words files name → ¬ HasBadScript words files line
+    absent_not_bad name line h i =
+        let same = same_run h.input i.input name i.script h.library i.library h.steps i.steps h.spelled i.spelled in
+        let none = subst (λ (script : Bytes). files [] script ≡ None) same h.absent in
+        cc (none, i.there)
+
+    one_bad : (line other : ℕ) → HasBadScript words files line → HasBadScript words files other → line ≡ other
+    one_bad line other h i =
+        let script = same_run i.input h.input i.script h.script i.library h.library i.steps h.steps i.spelled h.spelled in
+        let there = subst (λ (name : Bytes). files [] name ≡ Some i.bytes) script i.there in
+        let same : i.bytes ≡ h.bytes = cc (there, h.there) in
+        one_line_outside h.outside (subst (λ (bytes : Bytes). IsFirstOutside (lines_of bytes) other) same i.outside)
+
+    refused_not_absent : (name : Bytes) (why : Refusal) (missing : Bytes) → LacksScript words files missing → ¬ MustRefuse words files name why
+    refused_not_absent name why missing h = read_not_refused (Run h.input missing h.library h.steps) h.classes h.headers name why h.spelled h.read
+
+    refused_not_bad : (name : Bytes) (why : Refusal) (line : ℕ) → HasBadScript words files line → ¬ MustRefuse words files name why
+    refused_not_bad name why line h = read_not_refused (Run h.input h.script h.library h.steps) h.classes h.headers name why h.spelled h.read
+
     pub one_answer : (one other : Status) → IsAnswer words files one → IsAnswer words files other → one ≡ other
     one_answer statuses.Done statuses.Done h i = refl
     one_answer statuses.Done statuses.Usage h i = absurd (i h.command h.spelled)
@@ -116,12 +163,16 @@ module _ (laws : Laws) where
     one_answer statuses.Done (statuses.Version name major minor) h i = absurd (not_refused name (other_version (version major minor)) h i)
     one_answer statuses.Done (statuses.Unlinked class member rule) h i = absurd (no_problem (problem_of class member rule) h i)
     one_answer statuses.Done (statuses.Unverified class method offset failed) h i = absurd (no_failure (failure_of class method offset failed) h i)
+    one_answer statuses.Done (statuses.BadScript line) h i = absurd (not_bad h.command line h.spelled h.script i)
+    one_answer statuses.Done (statuses.Absent missing) h i = absurd (not_absent h.command missing h.spelled h.script i)
     one_answer statuses.Usage statuses.Done h i = absurd (h i.command i.spelled)
     one_answer statuses.Usage statuses.Usage h i = refl
     one_answer statuses.Usage (statuses.Malformed name at rule) h i = absurd (h i.command i.spelled)
     one_answer statuses.Usage (statuses.Version name major minor) h i = absurd (h i.command i.spelled)
     one_answer statuses.Usage (statuses.Unlinked class member rule) h i = absurd (h i.command i.spelled)
     one_answer statuses.Usage (statuses.Unverified class method offset failed) h i = absurd (h i.command i.spelled)
+    one_answer statuses.Usage (statuses.BadScript line) h i = absurd (h (Run i.input i.script i.library i.steps) i.spelled)
+    one_answer statuses.Usage (statuses.Absent missing) h i = absurd (h (Run i.input missing i.library i.steps) i.spelled)
     one_answer (statuses.Malformed name at rule) statuses.Done h i = absurd (not_refused name (broken (fault at rule)) i h)
     one_answer (statuses.Malformed name at rule) statuses.Usage h i = absurd (i h.command h.spelled)
     one_answer (statuses.Malformed name at rule) (statuses.Malformed other_name other_at other_rule) h i =
@@ -133,6 +184,8 @@ module _ (laws : Laws) where
         cc (same.1)
     one_answer (statuses.Malformed name at rule) (statuses.Unlinked class member broken_rule) h i = absurd (refused_not_linked name (broken (fault at rule)) (problem_of class member broken_rule) i h)
     one_answer (statuses.Malformed name at rule) (statuses.Unverified class method offset failed) h i = absurd (refused_not_verified name (broken (fault at rule)) (failure_of class method offset failed) i h)
+    one_answer (statuses.Malformed name at rule) (statuses.BadScript line) h i = absurd (refused_not_bad name (broken (fault at rule)) line i h)
+    one_answer (statuses.Malformed name at rule) (statuses.Absent missing) h i = absurd (refused_not_absent name (broken (fault at rule)) missing i h)
     one_answer (statuses.Version name major minor) statuses.Done h i = absurd (not_refused name (other_version (version major minor)) i h)
     one_answer (statuses.Version name major minor) statuses.Usage h i = absurd (i h.command h.spelled)
     one_answer (statuses.Version name major minor) (statuses.Malformed other_name at rule) h i =
@@ -144,6 +197,8 @@ module _ (laws : Laws) where
         cc (same.0, ap (λ (v : Version). v.major) versions, ap (λ (v : Version). v.minor) versions)
     one_answer (statuses.Version name major minor) (statuses.Unlinked class member rule) h i = absurd (refused_not_linked name (other_version (version major minor)) (problem_of class member rule) i h)
     one_answer (statuses.Version name major minor) (statuses.Unverified class method offset failed) h i = absurd (refused_not_verified name (other_version (version major minor)) (failure_of class method offset failed) i h)
+    one_answer (statuses.Version name major minor) (statuses.BadScript line) h i = absurd (refused_not_bad name (other_version (version major minor)) line i h)
+    one_answer (statuses.Version name major minor) (statuses.Absent missing) h i = absurd (refused_not_absent name (other_version (version major minor)) missing i h)
     one_answer (statuses.Unlinked class member rule) statuses.Done h i = absurd (no_problem (problem_of class member rule) i h)
     one_answer (statuses.Unlinked class member rule) statuses.Usage h i = absurd (i h.command h.spelled)
     one_answer (statuses.Unlinked class member rule) (statuses.Malformed name at broken_rule) h i = absurd (refused_not_linked name (broken (fault at broken_rule)) (problem_of class member rule) h i)
@@ -152,6 +207,8 @@ module _ (laws : Laws) where
         let same = one_problem (problem_of class member rule) (problem_of other_class other_member other_rule) h i in
         cc (ap (λ (p : Problem). p.class) same, ap (λ (p : Problem). p.member) same, ap (λ (p : Problem). p.rule) same)
     one_answer (statuses.Unlinked at_class member rule) (statuses.Unverified class method offset failed) h i = absurd (fails_linked (failure_of class method offset failed) (problem_of at_class member rule) i h)
+    one_answer (statuses.Unlinked class member rule) (statuses.BadScript line) h i = absurd (not_bad h.command line h.spelled h.script i)
+    one_answer (statuses.Unlinked class member rule) (statuses.Absent missing) h i = absurd (not_absent h.command missing h.spelled h.script i)
     one_answer (statuses.Unverified class method offset failed) statuses.Done h i = absurd (no_failure (failure_of class method offset failed) i h)
     one_answer (statuses.Unverified class method offset failed) statuses.Usage h i = absurd (i h.command h.spelled)
     one_answer (statuses.Unverified class method offset failed) (statuses.Malformed name at rule) h i = absurd (refused_not_verified name (broken (fault at rule)) (failure_of class method offset failed) h i)
@@ -160,6 +217,24 @@ module _ (laws : Laws) where
     one_answer (statuses.Unverified class method offset failed) (statuses.Unverified other_class other_method other_offset other_failed) h i =
         let same = one_failure (failure_of class method offset failed) (failure_of other_class other_method other_offset other_failed) h i in
         cc (ap (λ (f : Failure). f.class) same, ap (λ (f : Failure). f.method) same, ap (λ (f : Failure). f.offset) same, ap (λ (f : Failure). f.rule) same)
+    one_answer (statuses.Unverified class method offset failed) (statuses.BadScript line) h i = absurd (not_bad h.command line h.spelled h.script i)
+    one_answer (statuses.Unverified class method offset failed) (statuses.Absent missing) h i = absurd (not_absent h.command missing h.spelled h.script i)
+    one_answer (statuses.BadScript line) statuses.Done h i = absurd (not_bad i.command line i.spelled i.script h)
+    one_answer (statuses.BadScript line) statuses.Usage h i = absurd (i (Run h.input h.script h.library h.steps) h.spelled)
+    one_answer (statuses.BadScript line) (statuses.Malformed name at rule) h i = absurd (refused_not_bad name (broken (fault at rule)) line h i)
+    one_answer (statuses.BadScript line) (statuses.Version name major minor) h i = absurd (refused_not_bad name (other_version (version major minor)) line h i)
+    one_answer (statuses.BadScript line) (statuses.Unlinked class member rule) h i = absurd (not_bad i.command line i.spelled i.script h)
+    one_answer (statuses.BadScript line) (statuses.Unverified class method offset failed) h i = absurd (not_bad i.command line i.spelled i.script h)
+    one_answer (statuses.BadScript line) (statuses.BadScript other) h i = cc (one_bad line other h i)
+    one_answer (statuses.BadScript line) (statuses.Absent missing) h i = absurd (absent_not_bad missing line i h)
+    one_answer (statuses.Absent missing) statuses.Done h i = absurd (not_absent i.command missing i.spelled i.script h)
+    one_answer (statuses.Absent missing) statuses.Usage h i = absurd (i (Run h.input missing h.library h.steps) h.spelled)
+    one_answer (statuses.Absent missing) (statuses.Malformed name at rule) h i = absurd (refused_not_absent name (broken (fault at rule)) missing h i)
+    one_answer (statuses.Absent missing) (statuses.Version name major minor) h i = absurd (refused_not_absent name (other_version (version major minor)) missing h i)
+    one_answer (statuses.Absent missing) (statuses.Unlinked class member rule) h i = absurd (not_absent i.command missing i.spelled i.script h)
+    one_answer (statuses.Absent missing) (statuses.Unverified class method offset failed) h i = absurd (not_absent i.command missing i.spelled i.script h)
+    one_answer (statuses.Absent missing) (statuses.BadScript line) h i = absurd (absent_not_bad missing line h i)
+    one_answer (statuses.Absent missing) (statuses.Absent other) h i = cc (one_absent missing other h i)
     one_answer (statuses.HostFault call) other h i = absurd h
     one_answer statuses.NoMemory other h i = absurd h
     one_answer one (statuses.HostFault call) h i = absurd i

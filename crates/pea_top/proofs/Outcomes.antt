@@ -9,20 +9,26 @@ use Rattle.host_tree.specs.Counts.{NeverFalls, Rose}
 use Rattle.host_tree.specs.Host.{Bytes, Folder, Files, SameFiles, IsPrefixPrinted}
 use Rattle.host_tree.specs.declared.call.HostCall.{HostCall}
 use Rattle.host_tree.specs.declared.call.HostCall.TheVariants as calls
-use Rattle.pea_top.specs.Answer.{AreRead, IsFirstOf, MustRefuse, CanDo, IsAnswer, CauseOf, HasCause}
+use Rattle.class_tree.specs.Headers.{Classes}
+use Rattle.machine_values.specs.declared.action.Action.{Action}
+use Rattle.member_link.specs.Machine.Runs.{shown_after}
+use Rattle.script_text.specs.Events.{events_text}
+use Rattle.pea_top.specs.Answer.{AreRead, IsFirstOf, IsScriptThere, HasScript, MustRefuse, CanDo, IsAnswer, CauseOf, HasCause}
 use Rattle.pea_top.specs.Inner.CommandEffects.{WrittenSome, some_files, all_files, LeavesWritten, LeavesPrinted}
-use Rattle.pea_top.specs.Inner.Deciding.{AreInput, AreReady, IsOutcome, Stands, IsStop}
-use Rattle.pea_top.specs.Effects.{LeavesDone, LeavesPart, method_count, done_line, IsSummary, PrintsPart, PrintsLine, before_work, in_refusal, in_writes, in_print, Leaves}
+use Rattle.pea_top.specs.Inner.Deciding.{AreInput, IsWork, IsPrepared, AreReady, IsShown, IsOutcome, Stands, IsStop}
+use Rattle.pea_top.specs.Effects.{DoneFiles, LeavesDone, LeavesPart, IsRunText, IsDoneText, IsSummary, PrintsPart, PrintsLine, before_work, in_refusal, in_writes, in_print, Leaves}
 use Rattle.pea_top.specs.Folders.{HasClassFiles}
 use Rattle.pea_top.specs.Inner.Reading.{AreGoodFiles, StopsAt, status_of}
 use Rattle.pea_top.specs.Status.{Ending, completed, refused, failed, out_of_memory, ending, is_refused, line_of}
 use Rattle.pea_top.specs.Inner.Ended.{ended}
-use Rattle.pea_top.specs.Words.{Word, Command, Optimise, Verify, input_of, library_of, Spells}
+use Rattle.pea_top.specs.Words.{Word, Command, Optimise, Verify, Run, input_of, library_of, Spells}
 use Rattle.pea_top.specs.Inner.Writing.{Puts, PutsSome}
 use Rattle.pea_top.specs.declared.folder.NamedFile.{NamedFile}
 use Rattle.pea_top.specs.declared.reading.ReadStop.{ReadStop}
 use Rattle.pea_top.specs.declared.reading.ReadStop.TheVariants as stops
 use Rattle.pea_top.specs.declared.status.Status.{Status}
+use Rattle.pea_top.specs.declared.work.Work.{Work}
+use Rattle.pea_top.specs.declared.work.Work.TheVariants as works
 use Rattle.pea_top.specs.declared.status.Status.TheVariants.{Done, Usage, Malformed, Version, Unlinked, Unverified, HostFault, NoMemory}
 use Rattle.pea_top.proofs.Copying.{IsCopied-puts, IsPartlyCopied-puts}
 
@@ -67,7 +73,7 @@ module _ (words : List Word) (old new : Files) (before after : Bytes) (same : Sa
       stands (failed call) never = absurd (false≢true never)
       stands out_of_memory never = absurd (false≢true never)
 
-  stop_failed : (call : HostCall) → (call ≡ calls.List) ⊎ (call ≡ calls.Read) → IsStop words old new before after (HostFault call)
+  pub stop_failed : (call : HostCall) → (call ≡ calls.List) ⊎ (call ≡ calls.Read) → IsStop words old new before after (HostFault call)
   stop_failed call (inl is) = subst (λ (call : HostCall). IsStop words old new before after (HostFault call)) (sym is) (record { cause = tt; stands = (same, none) })
   stop_failed call (inr is) = subst (λ (call : HostCall). IsStop words old new before after (HostFault call)) (sym is) (record { cause = tt; stands = (same, none) })
 
@@ -99,74 +105,125 @@ stop_then words old mid new before text after status same same_text stop =
 
 -- ---- a command that is carried out
 
-module _ (words : List Word) (command : Command) (spelled : Spells command words) (old : Files) {files : List NamedFile} {line : Bytes} (ready : AreReady command old files line) where
+-- the script of a run is there
+script_there : (command : Command) (old : Files) (count : ℕ) (classes : List ClassFile) (work : Work) → IsWork command old count classes work → HasScript command old
+script_there (Optimise input output library) old count classes work is = tt
+script_there (Verify input library) old count classes work is = tt
+script_there (Run input script library steps) old count classes (works.Write folder line) never = absurd never
+script_there (Run input script library steps) old count classes (works.Print line) never = absurd never
+script_there (Run input script library steps) old count classes (works.Run actions most) is = (actions, is.0)
+
+pub prepared_script : {command : Command} {old : Files} {files : List NamedFile} {classes : List ClassFile} {headers : List Header} {work : Work} → IsPrepared command old files classes headers work → HasScript command old
+prepared_script {command} {old} {files} {classes} {headers} {work} prepared = script_there command old (length files) classes work prepared.is_work
+
+module _ (words : List Word) (command : Command) (spelled : Spells command words) (old : Files) {files : List NamedFile} {tree : Classes} {work : Work} (ready : AreReady command old files tree work) where
   can_do : CanDo words old
   can_do = record {
     command = command;
     spelled = spelled;
     classes = ready.classes;
     headers = ready.headers;
-    read = input_read ready.summed_up.input;
-    verified = ready.verified;
+    read = input_read ready.prepared.input;
+    script = prepared_script ready.prepared;
+    verified = record { classes = tree; arranged = ready.arranged; verified = ready.verified };
   }
 
-  is_summary : IsSummary words old line
-  is_summary = record {
+  is_summary : (text : Bytes) → IsDoneText command old (length files) ready.classes text → IsSummary words old text
+  is_summary text is = record {
     command = command;
     spelled = spelled;
     names = map (λ (file : NamedFile). file.name) files;
-    of_input = ready.summed_up.input.good.are.names;
+    of_input = ready.prepared.input.good.are.names;
     classes = ready.classes;
-    are_read = ready.summed_up.input.good.are_read;
-    is = ready.summed_up.is_line ∙ ap (λ n. done_line command n (length ready.classes) (method_count ready.classes)) (sym (length-map files (λ file. file.name)));
+    are_read = ready.prepared.input.good.are_read;
+    is = subst (λ (count : ℕ). IsDoneText command old count ready.classes text) (sym (length-map files (λ file. file.name))) is;
   }
 
-  part_of_summary : (before after : Bytes) → IsPrefixPrinted line before after → PrintsPart words old before after
-  part_of_summary before after prefix = record { line = line; is_line = is_summary; prefix = prefix }
+  part_of_summary : (text before after : Bytes) → IsDoneText command old (length files) ready.classes text → IsPrefixPrinted text before after → PrintsPart words old before after
+  part_of_summary text before after is prefix = record { line = text; is_line = is_summary text is; prefix = prefix }
 
--- the files of the input are written
-module _ (words : List Word) (input output library : Word) (spelled : Spells (Optimise input output library) words) (old new : Files) {files : List NamedFile} {line : Bytes} (ready : AreReady (Optimise input output library) old files line)
-    (before after : Bytes) where
+-- the files of the input are written, and then a line is printed
+module _ (words : List Word) (input output library : Word) (spelled : Spells (Optimise input output library) words) (old new : Files) {files : List NamedFile} {tree : Classes} {work : Work} (ready : AreReady (Optimise input output library) old files tree work)
+    (line : Bytes) (is_line : IsDoneText (Optimise input output library) old (length files) ready.classes line) (before after : Bytes) where
   copies : Puts output files old new → LeavesDone words old new
-  copies puts = record { command = Optimise input output library; spelled = spelled; files = IsCopied-puts input output files old new ready.summed_up.input.good.are puts }
+  copies puts = record { command = Optimise input output library; spelled = spelled; files = IsCopied-puts input output files old new ready.prepared.input.good.are puts }
 
   partly_copies : PutsSome output files old new → LeavesPart words old new
-  partly_copies puts = record { command = Optimise input output library; spelled = spelled; files = IsPartlyCopied-puts input output files old new ready.summed_up.input.good.are puts }
+  partly_copies puts = record { command = Optimise input output library; spelled = spelled; files = IsPartlyCopied-puts input output files old new ready.prepared.input.good.are puts }
 
   written : (Refuses : Type 0) (e : Ending) → LeavesWritten output files line old new before after e → CauseOf words old Refuses e × Stands words old new before after e
-  written Refuses completed left = (can_do words _ spelled old ready, (copies left.0, record { line = line; is_line = is_summary words _ spelled old ready; printed = left.1 }))
+  written Refuses completed left = (can_do words _ spelled old ready, (copies left.0, record { line = line; is_line = is_summary words _ spelled old ready line is_line; printed = left.1 }))
   written Refuses (refused refusal) never = absurd never
   written Refuses (failed calls.List) never = absurd never
   written Refuses (failed calls.Read) never = absurd never
   written Refuses (failed calls.Write) left = (can_do words _ spelled old ready, (partly_copies left.0, left.1))
-  written Refuses (failed calls.Print) left = (can_do words _ spelled old ready, (copies left.0, part_of_summary words _ spelled old ready before after left.1))
+  written Refuses (failed calls.Print) left = (can_do words _ spelled old ready, (copies left.0, part_of_summary words _ spelled old ready line before after is_line left.1))
   written Refuses out_of_memory (some_files puts none) = (tt, in_writes (can_do words _ spelled old ready) (partly_copies puts) none)
-  written Refuses out_of_memory (all_files puts prefix) = (tt, in_print (can_do words _ spelled old ready) (copies puts) (part_of_summary words _ spelled old ready before after prefix))
+  written Refuses out_of_memory (all_files puts prefix) = (tt, in_print (can_do words _ spelled old ready) (copies puts) (part_of_summary words _ spelled old ready line before after is_line prefix))
 
-  pub stop_written : (status : Status) → LeavesWritten output files line old new before after (ending status) → IsStop words old new before after status
+  stop_written : (status : Status) → LeavesWritten output files line old new before after (ending status) → IsStop words old new before after status
   stop_written status left =
       let both = written (IsAnswer words old status) (ending status) left in
       record { cause = both.0; stands = both.1 }
 
--- nothing is written
-module _ (words : List Word) (input library : Word) (spelled : Spells (Verify input library) words) (old new : Files) {files : List NamedFile} {line : Bytes} (ready : AreReady (Verify input library) old files line)
-    (before after : Bytes) where
-  unchanged : SameFiles old new → LeavesDone words old new
-  unchanged same = record { command = Verify input library; spelled = spelled; files = same }
+-- a text is printed, and nothing is written
+module _ (words : List Word) (command : Command) (spelled : Spells command words) (old new : Files) {files : List NamedFile} {tree : Classes} {work : Work} (ready : AreReady command old files tree work)
+    (unchanged : SameFiles old new → DoneFiles command old new) (text : Bytes) (is_text : IsDoneText command old (length files) ready.classes text) (before after : Bytes) where
+  leaves_same : SameFiles old new → LeavesDone words old new
+  leaves_same same = record { command = command; spelled = spelled; files = unchanged same }
 
-  printed : (Refuses : Type 0) (e : Ending) → LeavesPrinted line old new before after e → CauseOf words old Refuses e × Stands words old new before after e
-  printed Refuses completed left = (can_do words _ spelled old ready, (unchanged left.0, record { line = line; is_line = is_summary words _ spelled old ready; printed = left.1 }))
+  printed : (Refuses : Type 0) (e : Ending) → LeavesPrinted text old new before after e → CauseOf words old Refuses e × Stands words old new before after e
+  printed Refuses completed left = (can_do words _ spelled old ready, (leaves_same left.0, record { line = text; is_line = is_summary words _ spelled old ready text is_text; printed = left.1 }))
   printed Refuses (refused refusal) never = absurd never
   printed Refuses (failed calls.List) never = absurd never
   printed Refuses (failed calls.Read) never = absurd never
   printed Refuses (failed calls.Write) never = absurd never
-  printed Refuses (failed calls.Print) left = (can_do words _ spelled old ready, (unchanged left.0, part_of_summary words _ spelled old ready before after left.1))
-  printed Refuses out_of_memory left = (tt, in_print (can_do words _ spelled old ready) (unchanged left.0) (part_of_summary words _ spelled old ready before after left.1))
+  printed Refuses (failed calls.Print) left = (can_do words _ spelled old ready, (leaves_same left.0, part_of_summary words _ spelled old ready text before after is_text left.1))
+  printed Refuses out_of_memory left = (tt, in_print (can_do words _ spelled old ready) (leaves_same left.0) (part_of_summary words _ spelled old ready text before after is_text left.1))
 
-  pub stop_finished : (status : Status) → LeavesPrinted line old new before after (ending status) → IsStop words old new before after status
-  stop_finished status left =
+  stop_printed : (status : Status) → LeavesPrinted text old new before after (ending status) → IsStop words old new before after status
+  stop_printed status left =
       let both = printed (IsAnswer words old status) (ending status) left in
       record { cause = both.0; stands = both.1 }
+
+-- what carrying out the work leaves, as its calls say
+abbrev pub WorkLeaves : Work → List NamedFile → Classes → Files → Files → Bytes → Bytes → Ending → Type 0
+WorkLeaves (works.Write folder line) files tree old new before after e = LeavesWritten folder.now files line.items old new before after e
+WorkLeaves (works.Print line) files tree old new before after e = LeavesPrinted line.items old new before after e
+WorkLeaves (works.Run actions most) files tree old new before after e = (text : Bytes) × (IsShown tree actions most text × LeavesPrinted text old new before after e)
+
+module _ (words : List Word) (old new : Files) {files : List NamedFile} {tree : Classes} (before after : Bytes) where
+  -- the text of a run
+  run_text : (input script library : Word) (steps : ℕ) (work : Work) (ready : AreReady (Run input script library steps) old files tree work) (actions : List Action) (most : ℕ) (text : Bytes)
+      → IsScriptThere old script actions → most ≡ steps → IsShown tree actions most text → IsRunText old script library steps ready.classes text
+  run_text input script library steps work ready actions most text there same shown = record {
+    headers = ready.headers;
+    headers_read = ready.prepared.input.library;
+    actions = actions;
+    is_script = there;
+    tree = tree;
+    arranged = ready.arranged;
+    program = shown.program;
+    is_program = shown.is_program;
+    is = subst (λ (count : ℕ). text ≡ events_text (shown_after shown.program actions count)) same shown.is;
+  }
+
+  -- the work of a command was carried out, or that stopped
+  pub stop_carried : (command : Command) → Spells command words → (work : Work) → AreReady command old files tree work → (status : Status) → WorkLeaves work files tree old new before after (ending status) → IsStop words old new before after status
+  stop_carried (Optimise input output library) spelled (works.Write folder line) ready status left =
+      stop_written words input output library spelled old new ready line.items ready.prepared.is_work.1 before after status
+      (subst (λ (root : Bytes). LeavesWritten root files line.items old new before after (ending status)) ready.prepared.is_work.0 left)
+  stop_carried (Optimise input output library) spelled (works.Print line) ready status left = absurd ready.prepared.is_work
+  stop_carried (Optimise input output library) spelled (works.Run actions most) ready status left = absurd ready.prepared.is_work
+  stop_carried (Verify input library) spelled (works.Write folder line) ready status left = absurd ready.prepared.is_work
+  stop_carried (Verify input library) spelled (works.Print line) ready status left =
+      stop_printed words _ spelled old new ready (λ same. same) line.items ready.prepared.is_work before after status left
+  stop_carried (Verify input library) spelled (works.Run actions most) ready status left = absurd ready.prepared.is_work
+  stop_carried (Run input script library steps) spelled (works.Write folder line) ready status left = absurd ready.prepared.is_work
+  stop_carried (Run input script library steps) spelled (works.Print line) ready status left = absurd ready.prepared.is_work
+  stop_carried (Run input script library steps) spelled (works.Run actions most) ready status (text, (shown, left)) =
+      let is_text = run_text input script library steps (works.Run actions most) ready actions most text ready.prepared.is_work.0 ready.prepared.is_work.1 shown in
+      stop_printed words _ spelled old new ready (λ same. same) text is_text before after status left
 
 -- files that are put, and then a line
 module _ (root : Bytes) (files : List NamedFile) (line : Bytes) (old mid new : Files) (puts : Puts root files old mid) (before after : Bytes) where

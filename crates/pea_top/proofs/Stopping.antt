@@ -1,5 +1,5 @@
 -- What stands where linking or verifying stops a command, and what was then explained.
-use Rattle.std.proofs.Common.{◌≡◌, List, Err, refl}
+use Rattle.std.proofs.Common.{◌≡◌, List, [], None, Err, refl, sym, subst, inr}
 use Rattle.class_model.specs.declared.class_file.ClassFile.{ClassFile}
 use Rattle.class_model.specs.declared.header.Header.{Header}
 use Rattle.class_tree.specs.Headers.{Classes}
@@ -7,25 +7,29 @@ use Rattle.class_tree.specs.Trees.{IsArranged, IsTree}
 use Rattle.class_tree.specs.declared.fault.LinkFault.{LinkFault}
 use Rattle.class_tree.specs.declared.fault.LinkFault.TheVariants as links
 use Rattle.host_tree.specs.Host.{Bytes, Files, SameFiles}
+use Rattle.host_tree.specs.declared.call.HostCall.TheVariants.{Read}
 use Rattle.member_link.specs.Linked.{IsLinked}
 use Rattle.type_rules.specs.declared.fault.VerifyFault.{VerifyFault}
 use Rattle.type_rules.specs.declared.fault.VerifyFault.TheVariants as failures
 use Rattle.verify_folder.specs.Verifying.{FolderIsTyped}
-use Rattle.pea_top.specs.Answer.{AreRead}
+use Rattle.pea_top.specs.Answer.{AreRead, HasScript}
 use Rattle.pea_top.specs.Inner.Deciding.{IsStop}
 use Rattle.pea_top.specs.Inner.Linking.{link_status}
 use Rattle.pea_top.specs.Inner.Linking.{IsLinkFault}
+use Rattle.pea_top.specs.Inner.Scripts.{IsCommandStop, script_status}
 use Rattle.pea_top.specs.Inner.Verifying.{verify_status}
-use Rattle.pea_top.specs.Words.{Word, Command, input_of, library_of, Spells}
-use Rattle.pea_top.specs.declared.status.Status.TheVariants.{Unlinked, Unverified}
-use Rattle.pea_top.proofs.Outcomes.{stop_no_memory, stop_refused}
+use Rattle.pea_top.specs.Words.{Word, Command, Optimise, Verify, Run, input_of, library_of, Spells}
+use Rattle.pea_top.specs.declared.script.ScriptStop.{ScriptStop}
+use Rattle.pea_top.specs.declared.script.ScriptStop.TheVariants as scripts
+use Rattle.pea_top.specs.declared.status.Status.TheVariants.{Unlinked, Unverified, BadScript, Absent}
+use Rattle.pea_top.proofs.Outcomes.{stop_no_memory, stop_refused, stop_failed}
 
 module _ (words : List Word) (command : Command) (spelled : Spells command words) (old new : Files) (before after : Bytes) (same : SameFiles old new) (none : after ≡ before)
-    (classes : List ClassFile) (headers : List Header) (read : AreRead (old (input_of command)) (old (library_of command)) classes headers) where
+    (classes : List ClassFile) (headers : List Header) (read : AreRead (old (input_of command)) (old (library_of command)) classes headers) (script : HasScript command old) where
   pub stop_linking : (fault : LinkFault) → IsLinkFault classes headers fault → IsStop words old new before after (link_status fault)
   stop_linking (links.Unlinked class member rule) first =
       stop_refused words old new before after same none (Unlinked class member rule) refl
-      (record { command = command; spelled = spelled; classes = classes; headers = headers; read = read; first = first })
+      (record { command = command; spelled = spelled; classes = classes; headers = headers; read = read; script = script; first = first })
   stop_linking links.NoMemory first = stop_no_memory words old new before after same none
 
   pub stop_verifying : (tree : Classes) → IsArranged classes headers tree → IsTree tree → IsLinked tree → (fault : VerifyFault) → FolderIsTyped tree (Err fault) → IsStop words old new before after (verify_status fault)
@@ -37,6 +41,28 @@ module _ (words : List Word) (command : Command) (spelled : Spells command words
         classes = classes;
         headers = headers;
         read = read;
+        script = script;
         first = record { classes = tree; arranged = arranged; tree = is_tree; linked = linked; fails = fails };
       })
   stop_verifying tree arranged is_tree linked failures.NoMemory fails = stop_no_memory words old new before after same none
+
+-- what a command is to do was not made
+module _ (words : List Word) (old new : Files) (before after : Bytes) (same : SameFiles old new) (none : after ≡ before) (classes : List ClassFile) (headers : List Header) where
+  pub stop_making : (command : Command) → Spells command words → AreRead (old (input_of command)) (old (library_of command)) classes headers → (stop : ScriptStop) → IsCommandStop command old stop → IsStop words old new before after (script_status stop)
+  stop_making (Optimise input output library) spelled read (scripts.Absent name) never = absurd never
+  stop_making (Optimise input output library) spelled read scripts.Fault never = absurd never
+  stop_making (Optimise input output library) spelled read (scripts.Outside line bytes) never = absurd never
+  stop_making (Optimise input output library) spelled read scripts.NoMemory is = stop_no_memory words old new before after same none
+  stop_making (Verify input library) spelled read (scripts.Absent name) never = absurd never
+  stop_making (Verify input library) spelled read scripts.Fault never = absurd never
+  stop_making (Verify input library) spelled read (scripts.Outside line bytes) never = absurd never
+  stop_making (Verify input library) spelled read scripts.NoMemory is = stop_no_memory words old new before after same none
+  stop_making (Run input script library steps) spelled read (scripts.Absent name) is =
+      let at_name = subst (λ (missing : Bytes). Spells (Run input missing library steps) words × (old [] missing ≡ None)) (sym is.0) (spelled, is.1) in
+      stop_refused words old new before after same none (Absent name) refl
+      (record { input = input; library = library; steps = steps; spelled = at_name.0; classes = classes; headers = headers; read = read; absent = at_name.1 })
+  stop_making (Run input script library steps) spelled read scripts.Fault is = stop_failed words old new before after same none Read (inr refl)
+  stop_making (Run input script library steps) spelled read (scripts.Outside line bytes) is =
+      stop_refused words old new before after same none (BadScript line) refl
+      (record { input = input; script = script; library = library; steps = steps; spelled = spelled; classes = classes; headers = headers; read = read; bytes = bytes; there = is.0; outside = is.1 })
+  stop_making (Run input script library steps) spelled read scripts.NoMemory is = stop_no_memory words old new before after same none

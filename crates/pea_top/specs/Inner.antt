@@ -2,6 +2,7 @@
 -- without them, so a reader of the definitions may pass them over.
 pub mod Reading
 pub mod ReadingSteps
+pub mod Scripts
 pub mod Linking
 pub mod Verifying
 pub mod Writing

@@ -8,12 +8,13 @@ ghost use Rattle.member_link.specs.Linked.{IsLinked};
 use crate::folder::{NamedFile, is_class_file};
 use crate::linking::LinkStop;
 use crate::reading::{Input, ReadStop};
+use crate::script::ScriptStop;
 use class_bytes::read_class;
 use class_model::NoMemory;
 use class_tree::{ClassFileList, LinkFault, Tree};
 use explain::{
-    Folders, Outlines, class_counts, explain_hierarchy, explain_links, explain_malformed,
-    explain_verification, explain_version, usage,
+    Folders, Outlines, class_counts, explain_absent, explain_hierarchy, explain_line,
+    explain_links, explain_malformed, explain_verification, explain_version, usage,
 };
 use host_tree::Host;
 use std::alloc::Global;
@@ -78,6 +79,23 @@ fn lines_of_reading(alloc: Global, stop: &ReadStop) -> Result<String, NoMemory> 
             side,
         } => explain_version(alloc, *side, name.as_str(), *major, *minor),
         ReadStop::Fault(_) | ReadStop::NoMemory => Err(NoMemory),
+    }
+}
+
+/// Explains why a script is not read.
+pub(crate) fn explain_script<H: Host>(alloc: Global, host: &mut H, stop: &ScriptStop)
+    ensures files { IsTrue H.tells → SameFiles (H.file host.old) (H.file host.new) }
+    ensures printed { IsTrue H.tells → H.printed host.new ≡ H.printed host.old }
+    ensures counts { (call : HostCall) → H.faults host.new call ≡ H.faults host.old call }
+{
+    show(host, lines_of_script(alloc, stop));
+}
+
+fn lines_of_script(alloc: Global, stop: &ScriptStop) -> Result<String, NoMemory> {
+    match stop {
+        ScriptStop::Absent { name } => explain_absent(alloc, name.as_str()),
+        ScriptStop::Outside { line, bytes } => explain_line(alloc, bytes.as_slice(), *line),
+        ScriptStop::Fault | ScriptStop::NoMemory => Err(NoMemory),
     }
 }
 

@@ -7,10 +7,12 @@ mod laws;
 mod lines;
 mod linking;
 mod reading;
+mod script;
 mod sharing;
 mod status;
 mod top;
 mod words;
+mod work;
 mod writing;
 
 pub use laws::{words_and_files_have_one_answer, words_spell_one_command};

@@ -59,6 +59,11 @@ pub(crate) fn refusal(alloc: Global, status: &Status) -> Result<Vec<u8>, NoMemor
             offset,
             rule,
         } => unverified(alloc, class, method, *offset, *rule),
+        Status::BadScript { line } => {
+            let text = format!(in alloc; "refused 7 BadScript {line}\n")?;
+            Ok(text.into_bytes())
+        }
+        Status::Absent { name } => file_refusal(alloc, b"refused 12 Absent ", name, "\n"),
         Status::Done | Status::HostFault(_) | Status::NoMemory => Ok(Vec::new(alloc)),
     }
 }

@@ -1,35 +1,34 @@
 //! The top call.
-ghost use Rattle.std.specs.Prelude.{◌≡◌, ◌⊎◌, List, ◌++◌, length, map, string_bytes, IsTrue, IfOk, IsErrOf};
+ghost use Rattle.std.specs.Prelude.{◌≡◌, ◌⊎◌, List, map, string_bytes, IsTrue, IsErrOf};
 ghost use Rattle.std.specs.List.{AllByRecursion};
 ghost use Rattle.class_tree.specs.Headers.{IsClassFile, IsLibraryClass};
 ghost use Rattle.host_tree.specs.declared.call.HostCall.{HostCall};
-ghost use Rattle.host_tree.specs.Host.{Files, Bytes, SameFiles};
+ghost use Rattle.host_tree.specs.Host.{Bytes, Files};
 ghost use Rattle.host_tree.specs.Counts.{NeverFalls, Rose, CountsOnly};
 ghost use Rattle.member_link.specs.Linked.{IsLinked};
-ghost use Rattle.pea_top.specs.Words.{Word, Spells, IsUsage};
+ghost use Rattle.pea_top.specs.Words.{Word, Command as grammar_command, Spells, IsUsage};
 ghost use Rattle.pea_top.specs.CommandView.{command_view};
 ghost use Rattle.pea_top.specs.Status.{ending};
 ghost use Rattle.pea_top.specs.Inner.Ended.{ended};
 ghost use Rattle.pea_top.specs.Answer.{HasCause};
-ghost use Rattle.pea_top.specs.Effects.{method_count, done_line, IsWriting, SpellNoWrite, Leaves};
-ghost use Rattle.pea_top.specs.Inner.CommandEffects.{LeavesWritten, LeavesPrinted};
+ghost use Rattle.pea_top.specs.Effects.{IsWriting, SpellNoWrite, Leaves};
 ghost use Rattle.pea_top.specs.Inner.Verifying.{verify_status};
-ghost use Rattle.pea_top.specs.Inner.Deciding.{AreInput, AreArranged, AreReady, IsOutcome, IsStop};
+ghost use Rattle.pea_top.specs.Inner.Deciding.{AreInput, WritesFiles, IsPrepared, AreArranged, IsOutcome, IsStop};
 
 use crate::explaining::{
-    explain_linking, explain_reading, explain_usage, explain_verifying, note_input,
+    explain_linking, explain_reading, explain_script, explain_usage, explain_verifying, note_input,
 };
 use crate::folder::NamedFile;
-use crate::lines::{refusal, summary, verified};
+use crate::lines::refusal;
 use crate::linking::{link, link_status};
 use crate::reading::{Input, read_input, status_of};
+use crate::script::script_status;
 use crate::status::Status;
 use crate::words::{Command, command_of};
-use crate::writing::write_files;
-use class_model::{ClassFile, NoMemory};
+use crate::work::{Work, carry_out, work_of};
 use class_tree::Tree;
 use explain::Outlines;
-use host_tree::{Host, HostCall, HostFail};
+use host_tree::{Host, HostFail};
 use std::alloc::Global;
 use type_rules::VerifyFault;
 use verify_folder::check_all;
@@ -38,7 +37,9 @@ use verify_folder::check_all;
 ///
 /// `optimise IN OUT --lib LIB` reads the folder IN and the class files of the folder LIB whole, links them and verifies
 /// those of IN, and only then writes the files of IN under the same names into the folder OUT, which is not cleared, and
-/// prints one line. `verify IN --lib LIB` decides the same, writes no file and prints one line.
+/// prints one line. `verify IN --lib LIB` decides the same, writes no file and prints one line. `run IN SCRIPT --lib LIB`
+/// decides the same and that the file SCRIPT is a script, runs the folder IN by it, in at most as many steps as `--steps N`
+/// says or else 1,000,000, writes no file, and prints the events of the run and its end.
 ///
 /// # Errors
 /// `Done` and each refusal come exactly where their clauses say, unless memory runs out or a call of the host fails; those two
@@ -57,7 +58,7 @@ pub fn pea<H: Host>(alloc: Global, words: &[String], host: &mut H) -> Status
         → NeverFalls (H.faults host.old call) (H.faults host.new call) }
 
     // Of a host that does not tell, a script is absent only where its count of reading rose.
-    ensures absent { (name : FileName)
+    ensures absent { (name : Bytes)
         → result ≡ Status.Absent name
         → IsTrue H.tells ⊎ Rose (H.faults host.old HostCall.Read) (H.faults host.new HostCall.Read) }
 
@@ -92,6 +93,9 @@ fn run<H: Host>(alloc: Global, words: &[String], host: &mut H) -> Result<(), Sta
         → Rose (H.faults host.old call) (H.faults host.new call) }
     ensures counts { (call : HostCall)
         → NeverFalls (H.faults host.old call) (H.faults host.new call) }
+    ensures absent { (name : Bytes)
+        → IsErrOf result (Status.Absent name)
+        → IsTrue H.tells ⊎ Rose (H.faults host.old HostCall.Read) (H.faults host.new HostCall.Read) }
     ensures write_count { SpellNoWrite (map string_bytes words.now)
         → H.faults host.new HostCall.Write ≡ H.faults host.old HostCall.Write }
     ensures stop { IsTrue H.tells
@@ -115,6 +119,9 @@ fn perform<H: Host>(alloc: Global, command: Command<'_>, host: &mut H) -> Result
         → Rose (H.faults host.old call) (H.faults host.new call) }
     ensures counts { (call : HostCall)
         → NeverFalls (H.faults host.old call) (H.faults host.new call) }
+    ensures absent { (name : Bytes)
+        → IsErrOf result (Status.Absent name)
+        → IsTrue H.tells ⊎ Rose (H.faults host.old HostCall.Read) (H.faults host.new HostCall.Read) }
     ensures write_count { ¬ IsWriting (command_view command.entry)
         → H.faults host.new HostCall.Write ≡ H.faults host.old HostCall.Write }
     ensures stop { (words : List Word)
@@ -135,7 +142,7 @@ fn perform<H: Host>(alloc: Global, command: Command<'_>, host: &mut H) -> Result
     }
 }
 
-/// Makes the line of a command, links what was read for it, and goes on with the hierarchy.
+/// Makes the work of a command of what was read for it, reading its script, and goes on with it.
 fn decide<H: Host>(
     alloc: Global,
     command: Command<'_>,
@@ -153,6 +160,9 @@ fn decide<H: Host>(
         → Rose (H.faults host.old call) (H.faults host.new call) }
     ensures counts { (call : HostCall)
         → NeverFalls (H.faults host.old call) (H.faults host.new call) }
+    ensures absent { (name : Bytes)
+        → IsErrOf result (Status.Absent name)
+        → IsTrue H.tells ⊎ Rose (H.faults host.old HostCall.Read) (H.faults host.new HostCall.Read) }
     ensures write_count { ¬ IsWriting (command_view command.entry)
         → H.faults host.new HostCall.Write ≡ H.faults host.old HostCall.Write }
     ensures stop { (words : List Word)
@@ -161,19 +171,43 @@ fn decide<H: Host>(
         → IsStop words (H.file host.old) (H.file host.new) (H.printed host.old) (H.printed host.new)
         (ended result) }
 {
-    let Ok(line) = line_of(alloc, command, &input) else {
-        return Err(Status::NoMemory);
-    };
+    match work_of(alloc, command, host, &input) {
+        Ok(work) => resolve(alloc, host, input, &work),
+        Err(stop) => {
+            explain_script(alloc, host, &stop);
+            Err(script_status(stop))
+        }
+    }
+}
+
+/// Links what was read for a command, and goes on with the hierarchy.
+fn resolve<H: Host>(
+    alloc: Global,
+    host: &mut H,
+    input: Input,
+    work: &Work<'_>,
+) -> Result<(), Status>
+    requires classes { AllByRecursion IsClassFile input.classes }
+    requires headers { AllByRecursion IsLibraryClass input.headers }
+    ensures not_usage { ¬ IsErrOf result Status.Usage }
+    ensures not_absent { (name : Bytes) → ¬ IsErrOf result (Status.Absent name) }
+    ensures fault { (call : HostCall)
+        → IsErrOf result (Status.HostFault call)
+        → Rose (H.faults host.old call) (H.faults host.new call) }
+    ensures counts { (call : HostCall)
+        → NeverFalls (H.faults host.old call) (H.faults host.new call) }
+    ensures write_count { ¬ WritesFiles work.now
+        → H.faults host.new HostCall.Write ≡ H.faults host.old HostCall.Write }
+    ensures stop { (command : grammar_command) (words : List Word)
+        → Spells command words
+        → IsTrue H.tells
+        → IsPrepared command (H.file host.old) input.files.items input.classes input.headers work.now
+        → IsStop words (H.file host.old) (H.file host.new) (H.printed host.old) (H.printed host.new)
+        (ended result) }
+{
     let library = Outlines::of(alloc, input.headers.as_slice());
     match link(alloc, input.classes, input.headers) {
-        Ok(tree) => verify(
-            alloc,
-            command,
-            host,
-            &tree,
-            input.files.as_slice(),
-            line.as_slice(),
-        ),
+        Ok(tree) => verify(alloc, host, &tree, input.files.as_slice(), work),
         Err(stop) => {
             explain_linking(alloc, host, input.files.as_slice(), &library, &stop);
             Err(link_status(stop.fault))
@@ -184,31 +218,30 @@ fn decide<H: Host>(
 /// Verifies a hierarchy, and only then carries the command out.
 fn verify<H: Host>(
     alloc: Global,
-    command: Command<'_>,
     host: &mut H,
     tree: &Tree,
     files: &[NamedFile],
-    line: &[u8],
+    work: &Work<'_>,
 ) -> Result<(), Status>
-    requires arranged { IsTrue H.tells
-        → AreArranged (command_view command) (H.file host.old) files.now line.now tree.now }
-    requires linked { IsLinked tree.now }
+    requires { IsLinked tree.now }
     ensures not_usage { ¬ IsErrOf result Status.Usage }
+    ensures not_absent { (name : Bytes) → ¬ IsErrOf result (Status.Absent name) }
     ensures fault { (call : HostCall)
         → IsErrOf result (Status.HostFault call)
         → Rose (H.faults host.old call) (H.faults host.new call) }
     ensures counts { (call : HostCall)
         → NeverFalls (H.faults host.old call) (H.faults host.new call) }
-    ensures write_count { ¬ IsWriting (command_view command.entry)
+    ensures write_count { ¬ WritesFiles work.now
         → H.faults host.new HostCall.Write ≡ H.faults host.old HostCall.Write }
-    ensures stop { (words : List Word)
-        → Spells (command_view command.entry) words
+    ensures stop { (command : grammar_command) (words : List Word)
+        → Spells command words
         → IsTrue H.tells
+        → AreArranged command (H.file host.old) files.now tree.now work.now
         → IsStop words (H.file host.old) (H.file host.new) (H.printed host.old) (H.printed host.new)
         (ended result) }
 {
     match check_all(alloc, tree) {
-        Ok(()) => carry_out(alloc, command, host, files, line),
+        Ok(()) => carry_out(alloc, host, tree, files, work),
         Err(fault) => {
             explain_verifying(alloc, host, tree, &fault);
             Err(verify_status(fault))
@@ -233,107 +266,6 @@ fn verify_status(fault: VerifyFault) -> Status
             rule,
         },
         VerifyFault::NoMemory => Status::NoMemory,
-    }
-}
-
-/// Writes what a command writes, and prints its line.
-fn carry_out<H: Host>(
-    alloc: Global,
-    command: Command<'_>,
-    host: &mut H,
-    files: &[NamedFile],
-    line: &[u8],
-) -> Result<(), Status>
-    requires { IsTrue H.tells
-        → AreReady (command_view command) (H.file host.old) files.now line.now }
-    ensures not_usage { ¬ IsErrOf result Status.Usage }
-    ensures fault { (call : HostCall)
-        → IsErrOf result (Status.HostFault call)
-        → Rose (H.faults host.old call) (H.faults host.new call) }
-    ensures counts { (call : HostCall)
-        → NeverFalls (H.faults host.old call) (H.faults host.new call) }
-    ensures write_count { ¬ IsWriting (command_view command.entry)
-        → H.faults host.new HostCall.Write ≡ H.faults host.old HostCall.Write }
-    ensures stop { (words : List Word)
-        → Spells (command_view command.entry) words
-        → IsTrue H.tells
-        → IsStop words (H.file host.old) (H.file host.new) (H.printed host.old) (H.printed host.new)
-        (ended result) }
-{
-    match command {
-        Command::Optimise { output, .. } => write_out(alloc, host, output, files, line),
-        Command::Verify { .. } => finish(alloc, host, line),
-    }
-}
-
-/// The line of a command that was done.
-fn line_of(alloc: Global, command: Command<'_>, input: &Input) -> Result<Vec<u8>, NoMemory>
-    ensures { IfOk result (λ line.
-        line.items
-        ≡ done_line (command_view command.entry) (length input.now.files.items)
-        (length input.now.classes) (method_count input.now.classes)) }
-{
-    let classes = input.classes.len();
-    let methods = methods(input.classes.as_slice());
-    match command {
-        Command::Optimise { .. } => summary(alloc, input.files.len(), classes, methods),
-        Command::Verify { .. } => verified(alloc, classes, methods),
-    }
-}
-
-/// How many methods class files have together.
-fn methods(classes: &[ClassFile]) -> u128
-    ensures { result ≡ method_count classes.now }
-{
-    let mut total = 0;
-    for class in classes {
-        total += class.methods.len() as u128;
-    }
-    total
-}
-
-/// Writes the files under a root and prints a line.
-fn write_out<H: Host>(
-    alloc: Global,
-    host: &mut H,
-    root: &str,
-    files: &[NamedFile],
-    line: &[u8],
-) -> Result<(), Status>
-    ensures not_usage { ¬ IsErrOf result Status.Usage }
-    ensures fault { (call : HostCall)
-        → IsErrOf result (Status.HostFault call)
-        → Rose (H.faults host.old call) (H.faults host.new call) }
-    ensures counts { (call : HostCall)
-        → NeverFalls (H.faults host.old call) (H.faults host.new call) }
-    ensures left { IsTrue H.tells
-        → LeavesWritten root.now files.now line.now (H.file host.old) (H.file host.new)
-        (H.printed host.old) (H.printed host.new) (ending (ended result)) }
-{
-    match write_files(alloc, host, root, files) {
-        Ok(()) => finish(alloc, host, line),
-        Err(HostFail::Failed) => Err(Status::HostFault(HostCall::Write)),
-        Err(HostFail::NoMemory) => Err(Status::NoMemory),
-        Err(HostFail::Absent) => unreachable!(),
-    }
-}
-
-/// Prints the last line of a command that was done.
-fn finish<H: Host>(alloc: Global, host: &mut H, line: &[u8]) -> Result<(), Status>
-    ensures not_usage { ¬ IsErrOf result Status.Usage }
-    ensures fault { (call : HostCall)
-        → IsErrOf result (Status.HostFault call)
-        → Rose (H.faults host.old call) (H.faults host.new call) }
-    ensures counts { CountsOnly HostCall.Print (H.faults host.old) (H.faults host.new) }
-    ensures left { IsTrue H.tells
-        → LeavesPrinted line.now (H.file host.old) (H.file host.new) (H.printed host.old)
-        (H.printed host.new) (ending (ended result)) }
-{
-    match host.print(alloc, line) {
-        Ok(()) => Ok(()),
-        Err(HostFail::Failed) => Err(Status::HostFault(HostCall::Print)),
-        Err(HostFail::NoMemory) => Err(Status::NoMemory),
-        Err(HostFail::Absent) => unreachable!(),
     }
 }
 

@@ -1,20 +1,28 @@
 -- What is decided of a command, step by step, and what a call then leaves and prints.
-use Rattle.std.specs.Prelude.{◌≡◌, List, length}
+use Rattle.std.specs.Prelude.{◌≡◌, ℕ, List, length}
 use Rattle.class_model.specs.Header.{HeaderOf}
 use Rattle.class_model.specs.declared.class_file.ClassFile.{ClassFile}
 use Rattle.class_model.specs.declared.header.Header.{Header}
 use Rattle.class_tree.specs.Headers.{Classes}
 use Rattle.class_tree.specs.Trees.{IsArranged, IsTree}
 use Rattle.host_tree.specs.Host.{Bytes, Files, SameFiles}
-use Rattle.pea_top.specs.Answer.{HasCause}
-use Rattle.pea_top.specs.Effects.{method_count, done_line, Leaves}
+use Rattle.machine_step.specs.Programs.{IsProgram}
+use Rattle.machine_values.specs.declared.action.Action.{Action}
+use Rattle.member_link.specs.Machine.Programs.{Program}
+use Rattle.member_link.specs.Machine.Runs.{shown_after}
+use Rattle.script_text.specs.Events.{events_text}
+use Rattle.type_rules.specs.Verified.{IsVerified}
+use Rattle.pea_top.specs.Answer.{HasCause, IsScriptThere}
+use Rattle.pea_top.specs.Effects.{method_count, Leaves}
 use Rattle.pea_top.specs.Folders.{HasClassFiles}
 use Rattle.pea_top.specs.Inner.Reading.{AreGoodFiles}
+use Rattle.pea_top.specs.Lines.{summary_line, verified_line}
 use Rattle.pea_top.specs.Status.{Ending, completed, refused, failed, out_of_memory, ending}
-use Rattle.pea_top.specs.Verifying.{AreVerified}
-use Rattle.pea_top.specs.Words.{Word, Command, input_of, library_of}
+use Rattle.pea_top.specs.Words.{Word, Command, Optimise, Verify, Run, input_of, library_of}
 use Rattle.pea_top.specs.declared.folder.NamedFile.{NamedFile}
 use Rattle.pea_top.specs.declared.status.Status.{Status}
+use Rattle.pea_top.specs.declared.work.Work.{Work}
+use Rattle.pea_top.specs.declared.work.Work.TheVariants as works
 
 -- the files of the command's input and the headers of its library
 pub record AreInput (command : Command) (old : Files) (files : List NamedFile)
@@ -23,30 +31,55 @@ pub record AreInput (command : Command) (old : Files) (files : List NamedFile)
   pub good : AreGoodFiles (old (input_of command)) files classes
   pub library : HasClassFiles HeaderOf (old (library_of command)) headers
 
--- these, and the line of the command that is done with them
-pub record AreSummedUp (command : Command) (old : Files) (files : List NamedFile)
-    (classes : List ClassFile) (headers : List Header) (line : Bytes)
+-- what is left to do of a command, over so many files of its input, of which these are its class files
+abbrev pub IsWork : Command → Files → ℕ → List ClassFile → Work → Type 0
+IsWork (Optimise input output library) old count classes (works.Write folder line) =
+    (folder.now ≡ output)
+    × (line.items ≡ summary_line count (length classes) (method_count classes))
+IsWork (Verify input library) old count classes (works.Print line) =
+    line.items ≡ verified_line (length classes) (method_count classes)
+IsWork (Run input script library steps) old count classes (works.Run actions most) =
+    IsScriptThere old script actions × (most ≡ steps)
+IsWork command old count classes work = ⊥
+
+-- the work writes files
+abbrev pub WritesFiles : Work → Type 0
+WritesFiles (works.Write folder line) = Unit {0}
+WritesFiles (works.Print line) = ⊥
+WritesFiles (works.Run actions most) = ⊥
+
+-- the text of what a program of these classes shows by these actions, in at most so many steps
+pub record IsShown (tree : Classes) (actions : List Action) (steps : ℕ) (text : Bytes) : Type 0 where
+  pub program : Program
+  pub is_program : IsProgram tree program
+  pub is : text ≡ events_text (shown_after program actions steps)
+
+-- what was read for a command, and what is left to do
+pub record IsPrepared (command : Command) (old : Files) (files : List NamedFile)
+    (classes : List ClassFile) (headers : List Header) (work : Work)
     : Type 0 where
   pub input : AreInput command old files classes headers
-  pub is_line : line ≡ done_line command (length files) (length classes) (method_count classes)
+  pub is_work : IsWork command old (length files) classes work
 
 -- these files with their class files and headers, which are the hierarchy
-pub record AreArranged (command : Command) (old : Files) (files : List NamedFile) (line : Bytes)
-    (tree : Classes)
+pub record AreArranged (command : Command) (old : Files) (files : List NamedFile) (tree : Classes)
+    (work : Work)
     : Type 0 where
   pub classes : List ClassFile
   pub headers : List Header
-  pub summed_up : AreSummedUp command old files classes headers line
+  pub prepared : IsPrepared command old files classes headers work
   pub arranged : IsArranged classes headers tree
   pub is_tree : IsTree tree
 
 -- all is decided: the command can be done
-pub record AreReady (command : Command) (old : Files) (files : List NamedFile) (line : Bytes)
+pub record AreReady (command : Command) (old : Files) (files : List NamedFile) (tree : Classes)
+    (work : Work)
     : Type 0 where
   pub classes : List ClassFile
   pub headers : List Header
-  pub summed_up : AreSummedUp command old files classes headers line
-  pub verified : AreVerified classes headers
+  pub prepared : IsPrepared command old files classes headers work
+  pub arranged : IsArranged classes headers tree
+  pub verified : IsVerified tree
 
 -- a status, with its cause, the files that it leaves and what was printed
 pub record IsOutcome (words : List Word) (old new : Files) (PrintRose : Type 0)

@@ -1,11 +1,21 @@
--- what was linked does not verify
-use Rattle.pea_top.specs.CommandView.{command_view}
-use Rattle.pea_top.proofs.Outcomes.{input_read}
+-- what was linked verifies, or does not
+use Rattle.pea_top.proofs.Outcomes.{input_read, prepared_script}
 use Rattle.pea_top.proofs.Stopping.{stop_verifying}
 use Rattle.pea_top.proofs.top.verify.Goals as goal
 
+pub returns-in-Ok-clause-stop : goal.returns-in-Ok-clause-stop
+returns-in-Ok-clause-stop g c = λ command words spelled tells found.
+    let typed = c.in-Ok.ensures in
+    c.carry_out.ensures.stop command words spelled tells
+    (record {
+      classes = found.classes;
+      headers = found.headers;
+      prepared = found.prepared;
+      arranged = found.arranged;
+      verified = record { tree = found.is_tree; linked = c.requires; typed = typed.0; types = typed.1 };
+    })
+
 pub returns-in-Err-clause-stop : goal.returns-in-Err-clause-stop
-returns-in-Err-clause-stop g c = λ words spelled tells.
-    let found = c.requires.arranged tells in
-    let stop = stop_verifying words (command_view c.args.command) spelled _ _ _ _ (c.explain_verifying.ensures.files tells) (c.explain_verifying.ensures.printed tells) found.classes found.headers (input_read found.summed_up.input) c.args.tree.now found.arranged found.is_tree c.requires.linked c.in-Err.fault c.in-Err.ensures in
+returns-in-Err-clause-stop g c = λ command words spelled tells found.
+    let stop = stop_verifying words command spelled _ _ _ _ (c.explain_verifying.ensures.files tells) (c.explain_verifying.ensures.printed tells) found.classes found.headers (input_read found.prepared.input) (prepared_script found.prepared) c.args.tree.now found.arranged found.is_tree c.requires c.in-Err.fault c.in-Err.ensures in
     rw c.verify_status.ensures stop

@@ -1,0 +1,188 @@
+//! What is left to do of a command whose files were read.
+ghost use Rattle.std.specs.Prelude.{◌≡◌, ◌⊎◌, List, length, IsTrue, IfOk, IfErr, IsErrOf};
+ghost use Rattle.host_tree.specs.declared.call.HostCall.{HostCall};
+ghost use Rattle.host_tree.specs.Host.{Bytes, Files, SameFiles};
+ghost use Rattle.host_tree.specs.Counts.{NeverFalls, Rose, CountsOnly};
+ghost use Rattle.pea_top.specs.Words.{Word, Command as grammar_command, Spells};
+ghost use Rattle.pea_top.specs.CommandView.{command_view};
+ghost use Rattle.pea_top.specs.Status.{ending};
+ghost use Rattle.pea_top.specs.Effects.{method_count, IsWriting};
+ghost use Rattle.pea_top.specs.Inner.CommandEffects.{LeavesWritten, LeavesPrinted};
+ghost use Rattle.pea_top.specs.Inner.Deciding.{AreReady, IsShown, IsWork, WritesFiles, IsStop};
+ghost use Rattle.pea_top.specs.Inner.Ended.{ended};
+ghost use Rattle.pea_top.specs.Inner.Scripts.{IsCommandStop};
+
+use crate::folder::NamedFile;
+use crate::lines::{summary, verified};
+use crate::reading::Input;
+use crate::script::{ScriptStop, read_actions};
+use crate::status::Status;
+use crate::words::Command;
+use crate::writing::write_files;
+use class_model::{ByteList, ClassFile, NoMemory};
+use class_tree::Tree;
+use host_tree::{Host, HostCall, HostFail};
+use machine_run::{a_tree_has_a_program, run};
+use machine_values::ActionList;
+use script_text::print_events;
+use std::alloc::Global;
+
+/// What is left to do of a command, once its class files are linked and verified.
+#[derive(Debug, Drop)]
+pub(crate) enum Work<'a> {
+    /// To write the files of the input into this folder, and print this line.
+    Write { output: &'a str, line: Vec<u8> },
+    /// To print this line.
+    Print { line: Vec<u8> },
+    /// To run these actions of the library, in at most so many steps, and print what the run shows.
+    Run { actions: ActionList, steps: u64 },
+}
+
+/// The work of a command of what was read for it. The script of a run is read for it.
+pub(crate) fn work_of<'a, H: Host>(
+    alloc: Global,
+    command: Command<'a>,
+    host: &mut H,
+    input: &Input,
+) -> Result<Work<'a>, ScriptStop>
+    ensures files { IsTrue H.tells → SameFiles (H.file host.old) (H.file host.new) }
+    ensures printed { IsTrue H.tells → H.printed host.new ≡ H.printed host.old }
+    ensures counts { CountsOnly HostCall.Read (H.faults host.old) (H.faults host.new) }
+    ensures work { IsTrue H.tells
+        → IfOk result (IsWork (command_view command.entry) (H.file host.old)
+        (length input.now.files.items) input.now.classes) }
+    ensures writes { IfOk result
+        (λ work. WritesFiles work → IsWriting (command_view command.entry)) }
+    ensures stop { IsTrue H.tells
+        → IfErr result (IsCommandStop (command_view command.entry) (H.file host.old)) }
+    ensures fault { IsErrOf result ScriptStop.Fault
+        → Rose (H.faults host.old HostCall.Read) (H.faults host.new HostCall.Read) }
+    ensures absent { (name : Bytes)
+        → IsErrOf result (ScriptStop.Absent name)
+        → IsTrue H.tells ⊎ Rose (H.faults host.old HostCall.Read) (H.faults host.new HostCall.Read) }
+{
+    let files = input.files.len();
+    let classes = input.classes.len();
+    let methods = methods(input.classes.as_slice());
+    match command {
+        Command::Optimise { output, .. } => {
+            let line = summary(alloc, files, classes, methods)?;
+            Ok(Work::Write { output, line })
+        }
+        Command::Verify { .. } => {
+            let line = verified(alloc, classes, methods)?;
+            Ok(Work::Print { line })
+        }
+        Command::Run { script, steps, .. } => {
+            let actions = read_actions(alloc, host, script)?;
+            Ok(Work::Run { actions, steps })
+        }
+    }
+}
+
+/// Does what is left of a command whose class files are linked and verified.
+pub(crate) fn carry_out<H: Host>(
+    alloc: Global,
+    host: &mut H,
+    tree: &Tree,
+    files: &[NamedFile],
+    work: &Work<'_>,
+) -> Result<(), Status>
+    ensures not_usage { ¬ IsErrOf result Status.Usage }
+    ensures not_absent { (name : Bytes) → ¬ IsErrOf result (Status.Absent name) }
+    ensures fault { (call : HostCall)
+        → IsErrOf result (Status.HostFault call)
+        → Rose (H.faults host.old call) (H.faults host.new call) }
+    ensures counts { (call : HostCall)
+        → NeverFalls (H.faults host.old call) (H.faults host.new call) }
+    ensures write_count { ¬ WritesFiles work.now
+        → H.faults host.new HostCall.Write ≡ H.faults host.old HostCall.Write }
+    ensures stop { (command : grammar_command) (words : List Word)
+        → Spells command words
+        → IsTrue H.tells
+        → AreReady command (H.file host.old) files.now tree.now work.now
+        → IsStop words (H.file host.old) (H.file host.new) (H.printed host.old) (H.printed host.new)
+        (ended result) }
+{
+    match work {
+        Work::Write { output, line } => write_out(alloc, host, output, files, line.as_slice()),
+        Work::Print { line } => finish(alloc, host, line.as_slice()),
+        Work::Run { actions, steps } => match run_text(alloc, tree, actions, *steps) {
+            Ok(text) => finish(alloc, host, text.as_slice()),
+            Err(NoMemory) => Err(Status::NoMemory),
+        },
+    }
+}
+
+/// What a run of these actions prints: its events and its end.
+fn run_text(
+    alloc: Global,
+    tree: &Tree,
+    actions: &ActionList,
+    steps: u64,
+) -> Result<ByteList, NoMemory>
+    ensures { IfOk result (IsShown tree.now actions.now steps) }
+{
+    a_tree_has_a_program(tree);
+    let shown = run(alloc, tree, actions, steps)?;
+    print_events(alloc, &shown)
+}
+
+/// How many methods class files have together.
+fn methods(classes: &[ClassFile]) -> u128
+    ensures { result ≡ method_count classes.now }
+{
+    let mut total = 0;
+    for class in classes {
+        total += class.methods.len() as u128;
+    }
+    total
+}
+
+/// Writes the files under a root and prints a line.
+fn write_out<H: Host>(
+    alloc: Global,
+    host: &mut H,
+    root: &str,
+    files: &[NamedFile],
+    line: &[u8],
+) -> Result<(), Status>
+    ensures not_usage { ¬ IsErrOf result Status.Usage }
+    ensures not_absent { (name : Bytes) → ¬ IsErrOf result (Status.Absent name) }
+    ensures fault { (call : HostCall)
+        → IsErrOf result (Status.HostFault call)
+        → Rose (H.faults host.old call) (H.faults host.new call) }
+    ensures counts { (call : HostCall)
+        → NeverFalls (H.faults host.old call) (H.faults host.new call) }
+    ensures left { IsTrue H.tells
+        → LeavesWritten root.now files.now line.now (H.file host.old) (H.file host.new)
+        (H.printed host.old) (H.printed host.new) (ending (ended result)) }
+{
+    match write_files(alloc, host, root, files) {
+        Ok(()) => finish(alloc, host, line),
+        Err(HostFail::Failed) => Err(Status::HostFault(HostCall::Write)),
+        Err(HostFail::NoMemory) => Err(Status::NoMemory),
+        Err(HostFail::Absent) => unreachable!(),
+    }
+}
+
+/// Prints the last line of a command that was done.
+fn finish<H: Host>(alloc: Global, host: &mut H, line: &[u8]) -> Result<(), Status>
+    ensures not_usage { ¬ IsErrOf result Status.Usage }
+    ensures not_absent { (name : Bytes) → ¬ IsErrOf result (Status.Absent name) }
+    ensures fault { (call : HostCall)
+        → IsErrOf result (Status.HostFault call)
+        → Rose (H.faults host.old call) (H.faults host.new call) }
+    ensures counts { CountsOnly HostCall.Print (H.faults host.old) (H.faults host.new) }
+    ensures left { IsTrue H.tells
+        → LeavesPrinted line.now (H.file host.old) (H.file host.new) (H.printed host.old)
+        (H.printed host.new) (ending (ended result)) }
+{
+    match host.print(alloc, line) {
+        Ok(()) => Ok(()),
+        Err(HostFail::Failed) => Err(Status::HostFault(HostCall::Print)),
+        Err(HostFail::NoMemory) => Err(Status::NoMemory),
+        Err(HostFail::Absent) => unreachable!(),
+    }
+}
+
