@@ -28,3 +28,14 @@ mod Casts
 mod ConstantObjects
 mod Starting
 mod BeginningSteps
+mod MethodsHere
+mod Callees
+mod Arguments
+mod Selected
+mod ReceiverTypes
+mod Calling
+mod LibraryClasses
+mod LookedUp
+mod ArgumentsHere
+mod StaticCalls
+mod InstanceCalls

@@ -24,3 +24,14 @@ pub fn a_step_of_a_beginning_stays_typed()
         → BeginsClass w.frames
         → StaysTyped P T w (step P w) }
 {}
+
+/// Draft.
+pub fn a_call_stays_typed()
+    ensures { (P : Program) (T : Typings) (w : World)
+        → TypedWorld P T w
+        → BeginsClass w.frames
+        → StaysTyped P T w (step P w) }
+{
+    member_link::a_look_up_finds_one_method();
+    member_link::a_found_method_is_above();
+}

@@ -1,0 +1,116 @@
+use Rattle.std.specs.Prelude.{◌≡◌, ◌≢◌, ◌⊎◌, refl, ℕ, Bool, true, false, List, [], ◌∷◌, length, take, drop, reverse, Option, Some, if◌then◌else◌}
+use Rattle.std.proofs.Common.{inl, inr, ap, sym, ◌∙◌, subst}
+use Rattle.class_model.specs.Descriptors.{parameters_of}
+use Rattle.class_model.specs.Members.{STATIC}
+use Rattle.class_model.specs.Names.{init}
+use Rattle.class_model.specs.declared.frame.Frame.{Frame}
+use Rattle.class_model.specs.declared.frame.VType.TheVariants as types
+use Rattle.class_model.specs.declared.header.Member.{Member}
+use Rattle.class_tree.specs.Headers.{Name}
+use Rattle.class_tree.specs.Subtype.{itself}
+use Rattle.machine_values.specs.Frames.{MethodState}
+use Rattle.machine_values.specs.Values.{have_kinds}
+use Rattle.machine_values.specs.declared.frame.RunFrame.{RunFrame}
+use Rattle.machine_values.specs.declared.object.Shape.{Shape}
+use Rattle.machine_values.specs.declared.value.Value.{Value}
+use Rattle.machine_values.specs.declared.value.Value.TheVariants as values
+use Rattle.member_link.specs.Assignability.{IsAssignable}
+use Rattle.member_link.specs.DeclaredMembers.{Declared, IsMethod}
+use Rattle.member_link.specs.Forms.{IsInstanceForm}
+use Rattle.member_link.specs.Machine.CallSteps.{run_call, on_receiver, is_polymorphic, with_receiver, virtual_on, if_conforms, call_virtual_work, interface_on, call_interface_work}
+use Rattle.member_link.specs.Machine.Completions.{Completion, raises}
+use Rattle.member_link.specs.Machine.Links.{reference_to}
+use Rattle.member_link.specs.Machine.Ops.{Op, call_virtual, call_interface}
+use Rattle.member_link.specs.Machine.Performing.{perform}
+use Rattle.member_link.specs.Machine.Programs.{Program, chosen, headers_in, method_of, has_flag}
+use Rattle.member_link.specs.Machine.Shapes.{class_of_shape, is_external, is_instance}
+use Rattle.member_link.specs.Machine.Stepping.{op_step}
+use Rattle.member_link.specs.Machine.Throwables.{null_pointer, incompatible_change}
+use Rattle.member_link.specs.Machine.Worlds.{World}
+use Rattle.member_link.specs.References.{Reference, IsNamedThere}
+use Rattle.member_link.specs.RowScope.{RowScope}
+use Rattle.member_link.specs.Rows.MemberRows.{argument_needs, instance_row}
+use Rattle.member_link.specs.Rows.Operands.{assignable_to, topmost}
+use Rattle.member_link.specs.Rows.Row.{Row, access_aside}
+use Rattle.member_link.specs.declared.selection.CallForm.{CallForm}
+use Rattle.member_link.specs.declared.selection.CallForm.TheVariants.{Virtual, Interface}
+use Rattle.typed_runs.proofs.Arguments.{AreArguments, arguments_kinds, BeginsWith, begins_instance}
+use Rattle.typed_runs.proofs.ArgumentsHere.{with_receiver_needs, Received, received, ObjectOf, shape_of, object_value}
+use Rattle.typed_runs.proofs.Assigned.{assigned, all_in_heap}
+use Rattle.typed_runs.proofs.Callees.{method_is}
+use Rattle.typed_runs.proofs.Calling.{Leaves, runs_goes, receiver_goes}
+use Rattle.typed_runs.proofs.Here.{Here, operands_here, worked}
+use Rattle.typed_runs.proofs.LookedUp.{LookUps, LookedUp, looked_up, linked_to, no_initialiser, same_desc}
+use Rattle.typed_runs.proofs.MethodsHere.{headers_here}
+use Rattle.typed_runs.proofs.Performing.{raises_goes}
+use Rattle.typed_runs.proofs.Raising.{raises_null, raises_change}
+use Rattle.typed_runs.proofs.ReceiverTypes.{shape_conforms_is, this_conforms}
+use Rattle.typed_runs.proofs.Selected.{selection}
+use Rattle.typed_runs.specs.Conforming.{ShapeConforms, by_class, to_below}
+use Rattle.typed_runs.specs.TypedFrames.{FitsCall}
+use Rattle.typed_runs.specs.TypedPrograms.{Typings, IsTypedProgram}
+use Rattle.typed_runs.specs.TypedWorlds.{StaysTyped}
+
+-- ---- the receiver
+
+-- an object conforms to its own class
+pub own_class : (P : Program) (T : Typings) → IsTypedProgram P T → (shape : Shape) → ShapeConforms P shape (class_of_shape P shape)
+own_class P T program shape = by_class (to_below ((program.links.below (class_of_shape P shape) (class_of_shape P shape)).1 (itself (class_of_shape P shape))))
+
+-- a method that is found is none that is static
+pub of_object : (P : Program) (m : Declared) → IsMethod (headers_in P) m → IsInstanceForm m → has_flag (method_of P (reference_to m)) STATIC ≡ false
+of_object P m declares form = ap (λ member. has_flag member STATIC) (method_is P m declares) ∙ form
+
+module _ {P : Program} {T : Typings} {w : World} {f : MethodState} {rest : List RunFrame} {s : RowScope} {frame : Frame} {place : ℕ} {numbered : ℕ → ℕ} {row : Row} {op : Op} {falls : Bool} {places : List ℕ} (h : Here P T w f rest s frame place numbered row op falls places) (stack : List Value) where
+  -- null raises, and an object is looked at
+  pub receiver_cases : {name : Name} (desc : List ℕ) (of_shape : Shape → Completion) (v : Value) (args : List Value) → (v ≡ values.Null) ⊎ ObjectOf P w.memory.heap name v → have_kinds (parameters_of desc) args ≡ true
+      → ((o : ObjectOf P w.memory.heap name v) → StaysTyped P T w (perform P w f (record f { stack = stack }) rest (of_shape o.object.shape)))
+      → StaysTyped P T w (perform P w f (record f { stack = stack }) rest (with_receiver P w.memory desc of_shape (v ∷ args)))
+  receiver_cases desc of_shape v args (inl e) kinds proved = rw e (rw kinds (raises_goes h null_pointer stack (raises_null P T h.typed.program)))
+  receiver_cases desc of_shape v args (inr o) kinds proved = rw o.is (rw kinds (rw o.is_there (proved o)))
+
+  -- the method that a selection from a class chooses, to which the object conforms
+  pub selected_goes : (laws : LookUps) (r : Reference) (l : LookedUp P IsInstanceForm r) {v : Value} (args : List Value) (o : ObjectOf P w.memory.heap r.class v) → Leaves P T w f frame row op stack (v ∷ args) → AreArguments P w.memory.heap r.desc args
+      → r.name ≢ init → ((m : Member) → m.desc ≡ r.desc → FitsCall m op) → (start : Name) (form : CallForm) → ShapeConforms P o.object.shape start
+      → StaysTyped P T w (perform P w f (record f { stack = stack }) rest (on_receiver P o.object.shape r (reference_to l.method) (P.links.select start (reference_to l.method) form) (v ∷ args)))
+  selected_goes laws r l {v = v} args o leaves are other call start form conforms = receiver_goes h stack (v ∷ args) leaves o.object.shape r (reference_to l.method) (P.links.select start (reference_to l.method) form) by where
+    by : is_external o.object.shape ≡ false → is_polymorphic P r ≡ false → (x : Reference) → P.links.select start (reference_to l.method) form ≡ chosen x → StaysTyped P T w (perform P w f (record f { stack = stack }) rest (run_call P x (v ∷ args)))
+    by folder single x e =
+        let desc : l.method.member.desc ≡ r.desc = same_desc h.typed.program laws l single in
+        let plain : l.method.member.name ≢ init = no_initialiser h.typed.program laws l other in
+        let c = selection P T h.typed.program start l.method form l.is.declares l.form plain x e in
+        let has_desc : c.method.member.desc ≡ r.desc = c.is.same_desc ∙ desc in
+        let begins : BeginsWith P w.memory.heap c.method (values.Ref o.reference ∷ args) =
+        begins_instance P w.memory.heap c.method o.reference o.object.shape args c.is.of_object (λ n. plain (sym c.is.same_name ∙ n)) (shape_of o)
+        (this_conforms P T h.typed.program r.class start l.method c.method o.conforms l.is.above l.is.declares conforms c.is) (subst (λ d. AreArguments P w.memory.heap d args) (sym has_desc) are) in
+        subst (λ y. StaysTyped P T w (perform P w f (record f { stack = stack }) rest (run_call P y (v ∷ args)))) (sym c.reference)
+        (runs_goes h stack (v ∷ args) leaves c.method (record {
+          declares = c.is.declares;
+          no_clinit = λ n. l.no_clinit (sym c.is.same_name ∙ n);
+          call = call c.method.member has_desc;
+          begins = subst (λ x. BeginsWith P w.memory.heap c.method (x ∷ args)) (sym o.is) begins;
+        }))
+
+  -- the object passes the test of the named class
+  pub conforming_goes : (r : Reference) (of_shape : Shape → Completion) {v : Value} (o : ObjectOf P w.memory.heap r.class v) → IsNamedThere (headers_in P) r.class → StaysTyped P T w (perform P w f (record f { stack = stack }) rest (of_shape o.object.shape))
+      → StaysTyped P T w (perform P w f (record f { stack = stack }) rest (if_conforms P r of_shape o.object.shape))
+  conforming_goes r of_shape o there proved =
+      rw (shape_conforms_is P T h.typed.program w.memory.heap o.object.shape o.object.values r.class (h.typed.memory.objects o.reference o.object o.is_there) there o.conforms) proved
+
+-- ---- calls of a method of the named class or interface
+
+module _ {P : Program} {T : Typings} {w : World} {f : MethodState} {rest : List RunFrame} {s : RowScope} {frame : Frame} {place : ℕ} {numbered : ℕ → ℕ} {op : Op} {r : Reference} {Further Access : Type 0}
+    (h : Here P T w f rest s frame place numbered (access_aside (instance_row frame r Further Access)) op true []) where
+  pub operands_received : Received P (T f.at).scope w.memory.heap s (assignable_to (types.Object r.class)) r.desc (topmost (length (assignable_to (types.Object r.class) ∷ argument_needs r.desc)) frame.stack)
+      (reverse (take (length (assignable_to (types.Object r.class) ∷ argument_needs r.desc)) f.stack))
+  operands_received = received P T h.typed.program s (headers_here h) (assignable_to (types.Object r.class)) r.desc _ h.holds.operands (operands_here h).values
+
+  pub object_received : (operands_received.receiver ≡ values.Null) ⊎ ObjectOf P w.memory.heap r.class operands_received.receiver
+  object_received =
+      object_value (assigned P T h.typed.program (subst (λ hs. IsAssignable hs operands_received.type (types.Object r.class)) (headers_here h) operands_received.fits) operands_received.conforms)
+
+  pub kinds_received : have_kinds (parameters_of r.desc) operands_received.args ≡ true
+  kinds_received = arguments_kinds (parameters_of r.desc) (operands_received.arguments s)
+
+  pub stack_under : List Value
+  stack_under = drop (length (assignable_to (types.Object r.class) ∷ argument_needs r.desc)) f.stack
