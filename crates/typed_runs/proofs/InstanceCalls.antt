@@ -1,4 +1,5 @@
-use Rattle.std.specs.Prelude.{◌≡◌, ◌≢◌, ◌⊎◌, refl, ℕ, Bool, true, false, List, [], ◌∷◌, length, take, drop, reverse, Option, Some, if◌then◌else◌}
+use Rattle.std.specs.Prelude.{◌≡◌, ◌≢◌, ◌⊎◌, ◌+◌, refl, ℕ, Bool, true, false, List, [], ◌∷◌, length, take, drop, reverse, Option, Some, if◌then◌else◌}
+use Rattle.std.specs.List.{AllByRecursion}
 use Rattle.std.proofs.Common.{inl, inr, ap, sym, ◌∙◌, subst}
 use Rattle.class_model.specs.Descriptors.{parameters_of}
 use Rattle.class_model.specs.Members.{STATIC}
@@ -24,8 +25,9 @@ use Rattle.member_link.specs.Machine.Ops.{Op, call_virtual, call_interface}
 use Rattle.member_link.specs.Machine.Performing.{perform}
 use Rattle.member_link.specs.Machine.Programs.{Program, chosen, headers_in, method_of, has_flag}
 use Rattle.member_link.specs.Machine.Shapes.{class_of_shape, is_external, is_instance}
-use Rattle.member_link.specs.Machine.Stepping.{op_step}
+use Rattle.member_link.specs.Machine.Stepping.{work_step, op_step}
 use Rattle.member_link.specs.Machine.Throwables.{null_pointer, incompatible_change}
+use Rattle.member_link.specs.Machine.Work.{arity, work}
 use Rattle.member_link.specs.Machine.Worlds.{World}
 use Rattle.member_link.specs.References.{Reference, IsNamedThere}
 use Rattle.member_link.specs.RowScope.{RowScope}
@@ -46,8 +48,8 @@ use Rattle.typed_runs.proofs.Performing.{raises_goes}
 use Rattle.typed_runs.proofs.Raising.{raises_null, raises_change}
 use Rattle.typed_runs.proofs.ReceiverTypes.{shape_conforms_is, this_conforms}
 use Rattle.typed_runs.proofs.Selected.{selection}
-use Rattle.typed_runs.specs.Conforming.{ShapeConforms, by_class, to_below}
-use Rattle.typed_runs.specs.TypedFrames.{FitsCall}
+use Rattle.typed_runs.specs.Conforming.{IsValueInHeap, ShapeConforms, by_class, to_below}
+use Rattle.typed_runs.specs.TypedFrames.{FitsCall, ShowsEvent}
 use Rattle.typed_runs.specs.TypedPrograms.{Typings, IsTypedProgram}
 use Rattle.typed_runs.specs.TypedWorlds.{StaysTyped}
 
@@ -99,18 +101,64 @@ module _ {P : Program} {T : Typings} {w : World} {f : MethodState} {rest : List 
 
 -- ---- calls of a method of the named class or interface
 
-module _ {P : Program} {T : Typings} {w : World} {f : MethodState} {rest : List RunFrame} {s : RowScope} {frame : Frame} {place : ℕ} {numbered : ℕ → ℕ} {op : Op} {r : Reference} {Further Access : Type 0}
-    (h : Here P T w f rest s frame place numbered (access_aside (instance_row frame r Further Access)) op true []) where
-  pub operands_received : Received P (T f.at).scope w.memory.heap s (assignable_to (types.Object r.class)) r.desc (topmost (length (assignable_to (types.Object r.class) ∷ argument_needs r.desc)) frame.stack)
+-- what such a call takes, and what it leaves
+pub record Operands (P : Program) (T : Typings) (w : World) (f : MethodState) (s : RowScope) (frame : Frame) (op : Op) (r : Reference) (Further : Type 0) : Type 0 where
+  pub taken : Received P (T f.at).scope w.memory.heap s (assignable_to (types.Object r.class)) r.desc (topmost (length (assignable_to (types.Object r.class) ∷ argument_needs r.desc)) frame.stack)
       (reverse (take (length (assignable_to (types.Object r.class) ∷ argument_needs r.desc)) f.stack))
-  operands_received = received P T h.typed.program s (headers_here h) (assignable_to (types.Object r.class)) r.desc _ h.holds.operands (operands_here h).values
+  pub object : (taken.receiver ≡ values.Null) ⊎ ObjectOf P w.memory.heap r.class taken.receiver
+  pub kinds : have_kinds (parameters_of r.desc) taken.args ≡ true
+  pub leaves : ShowsEvent op → Leaves P T w f frame (instance_row frame r Further (Unit {0})) op (drop (length (assignable_to (types.Object r.class) ∷ argument_needs r.desc)) f.stack) (taken.receiver ∷ taken.args)
 
-  pub object_received : (operands_received.receiver ≡ values.Null) ⊎ ObjectOf P w.memory.heap r.class operands_received.receiver
-  object_received =
-      object_value (assigned P T h.typed.program (subst (λ hs. IsAssignable hs operands_received.type (types.Object r.class)) (headers_here h) operands_received.fits) operands_received.conforms)
+module _ {P : Program} {T : Typings} {w : World} {f : MethodState} {rest : List RunFrame} {s : RowScope} {frame : Frame} {place : ℕ} {numbered : ℕ → ℕ} {op : Op} where
+  pub call_operands : (r : Reference) (Further : Type 0) → Here P T w f rest s frame place numbered (instance_row frame r Further (Unit {0})) op true [] → Operands P T w f s frame op r Further
+  call_operands r Further h =
+      let o = operands_here h in
+      let taken = received P T h.typed.program s (headers_here h) (assignable_to (types.Object r.class)) r.desc (topmost (length (assignable_to (types.Object r.class) ∷ argument_needs r.desc)) frame.stack) h.holds.operands o.values in
+      record {
+        taken = taken;
+        object = object_value (assigned P T h.typed.program (subst (λ hs. IsAssignable hs taken.type (types.Object r.class)) (headers_here h) taken.fits) taken.conforms);
+        kinds = arguments_kinds (parameters_of r.desc) (taken.arguments s);
+        leaves = λ shows. record { locals = h.locals; under = o.rest; shows = shows; in_heap = subst (λ vs. AllByRecursion (IsValueInHeap w.memory.heap) vs) taken.are (all_in_heap o.values) };
+      }
 
-  pub kinds_received : have_kinds (parameters_of r.desc) operands_received.args ≡ true
-  kinds_received = arguments_kinds (parameters_of r.desc) (operands_received.arguments s)
+  -- the work of a call on its receiver and arguments
+  pub call_worked : (r : Reference) (Further : Type 0) → Here P T w f rest s frame place numbered (instance_row frame r Further (Unit {0})) op true [] → (c : Operands P T w f s frame op r Further)
+      → arity op ≡ length (parameters_of r.desc) + 1
+      → StaysTyped P T w (perform P w f (record f { stack = drop (length (assignable_to (types.Object r.class) ∷ argument_needs r.desc)) f.stack }) rest (work P w.memory op (c.taken.receiver ∷ c.taken.args)))
+      → StaysTyped P T w (work_step P w f rest op)
+  call_worked r Further h c many proved =
+      worked h (length (assignable_to (types.Object r.class) ∷ argument_needs r.desc)) (many ∙ with_receiver_needs (assignable_to (types.Object r.class)) r.desc) (operands_here h).enough
+      (subst (λ vs. StaysTyped P T w (perform P w f (record f { stack = drop (length (assignable_to (types.Object r.class) ∷ argument_needs r.desc)) f.stack }) rest (work P w.memory op vs))) (sym c.taken.are) proved)
 
-  pub stack_under : List Value
-  stack_under = drop (length (assignable_to (types.Object r.class) ∷ argument_needs r.desc)) f.stack
+module _ {P : Program} {T : Typings} {w : World} {f : MethodState} {rest : List RunFrame} {s : RowScope} {frame : Frame} {place : ℕ} {numbered : ℕ → ℕ} (laws : LookUps) where
+  pub virtual_stays : (r : Reference) → IsNamedThere (headers_in P) r.class → Here P T w f rest s frame place numbered (instance_row frame r (Unit {0}) (Unit {0})) (call_virtual r) true [] → StaysTyped P T w (op_step P w f rest (call_virtual r))
+  virtual_stays r there h =
+      let l = looked_up P T h.typed.program laws IsInstanceForm r h.linked.0 in
+      let c = call_operands r (Unit {0}) h in
+      let stack : List Value = drop (length (assignable_to (types.Object r.class) ∷ argument_needs r.desc)) f.stack in
+      let vs : List Value = c.taken.receiver ∷ c.taken.args in
+      call_worked r (Unit {0}) h c refl
+      (subst (λ found. StaysTyped P T w (perform P w f (record f { stack = drop (length (assignable_to (types.Object r.class) ∷ argument_needs r.desc)) f.stack }) rest (call_virtual_work P w.memory r found (c.taken.receiver ∷ c.taken.args))))
+      (sym (linked_to h.typed.program laws l h.linked.1))
+      (rw (of_object P l.method l.is.declares l.form)
+      (receiver_cases h stack r.desc (if_conforms P r (virtual_on P r (reference_to l.method) vs)) c.taken.receiver c.taken.args c.object c.kinds
+      (λ o. conforming_goes h stack r (virtual_on P r (reference_to l.method) vs) o there
+      (selected_goes h stack laws r l c.taken.args o (c.leaves refl) c.taken.arguments h.linked.1 (λ m is. is) (class_of_shape P o.object.shape) Virtual (own_class P T h.typed.program o.object.shape))))))
+
+  pub interface_stays : (r : Reference) → Here P T w f rest s frame place numbered (instance_row frame r (Unit {0}) (Unit {0})) (call_interface r) true [] → StaysTyped P T w (op_step P w f rest (call_interface r))
+  interface_stays r h =
+      let l = looked_up P T h.typed.program laws IsInstanceForm r h.linked.0 in
+      let c = call_operands r (Unit {0}) h in
+      let stack : List Value = drop (length (assignable_to (types.Object r.class) ∷ argument_needs r.desc)) f.stack in
+      let vs : List Value = c.taken.receiver ∷ c.taken.args in
+      call_worked r (Unit {0}) h c refl
+      (subst (λ found. StaysTyped P T w (perform P w f (record f { stack = drop (length (assignable_to (types.Object r.class) ∷ argument_needs r.desc)) f.stack }) rest (call_interface_work P w.memory r found (c.taken.receiver ∷ c.taken.args))))
+      (sym (linked_to h.typed.program laws l h.linked.1))
+      (rw (of_object P l.method l.is.declares l.form)
+      (receiver_cases h stack r.desc (interface_on P r (reference_to l.method) vs) c.taken.receiver c.taken.args c.object c.kinds
+      (λ o. by stack vs (is_instance P o.object.shape r.class) (on_receiver P o.object.shape r (reference_to l.method) (P.links.select (class_of_shape P o.object.shape) (reference_to l.method) Interface) vs)
+      (selected_goes h stack laws r l c.taken.args o (c.leaves refl) c.taken.arguments h.linked.1 (λ m is. is) (class_of_shape P o.object.shape) Interface (own_class P T h.typed.program o.object.shape)))))) where
+        by : (stack vs : List Value) (b : Bool) (goes : Completion) → StaysTyped P T w (perform P w f (record f { stack = stack }) rest goes)
+            → StaysTyped P T w (perform P w f (record f { stack = stack }) rest (if b then goes else raises incompatible_change))
+        by stack vs true goes proved = proved
+        by stack vs false goes proved = raises_goes h incompatible_change stack (raises_change P T h.typed.program)
