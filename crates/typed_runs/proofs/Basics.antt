@@ -12,5 +12,9 @@ pub and_second : (a b : Bool) → (a && b) ≡ true → b ≡ true
 and_second true b is = is
 and_second false b is = cc
 
+pub and_false : (a b : Bool) → b ≡ false → (a && b) ≡ false
+and_false true b is = is
+and_false false b is = refl
+
 pub same_number : (a b : ℕ) → (a == b) ≡ true → a ≡ b
 same_number a b is = search arith

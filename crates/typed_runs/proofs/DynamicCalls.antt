@@ -1,4 +1,4 @@
-use Rattle.std.specs.Prelude.{◌≡◌, refl, ℕ, List, [], length, take, drop, reverse}
+use Rattle.std.specs.Prelude.{refl, ℕ, true, List, [], length, take, drop, reverse}
 use Rattle.class_model.specs.Descriptors.{parameters_of}
 use Rattle.class_model.specs.declared.frame.Frame.{Frame}
 use Rattle.class_tree.specs.Headers.{Name}

@@ -10,6 +10,7 @@ use Rattle.class_model.specs.declared.header.Member.{Member}
 use Rattle.class_tree.specs.Headers.{Name, Headers, class_named, IsThere}
 use Rattle.class_tree.specs.Laws.Above.{hierarchy_is_sound, class_decides, class_is_subtype, below_more}
 use Rattle.class_tree.specs.Subtype.{IsArray, IsDirectlyBelow, superclass, IsBelow, directly, IsSubtype, itself, below}
+use Rattle.class_tree.specs.Names.{method_handle}
 use Rattle.machine_values.specs.Heaps.{Heap, object_at}
 use Rattle.machine_values.specs.declared.object.Object.{Object}
 use Rattle.machine_values.specs.declared.object.Shape.{Shape}
@@ -27,7 +28,7 @@ use Rattle.member_link.specs.References.{Reference}
 use Rattle.member_link.specs.RowScope.{RowScope}
 use Rattle.member_link.specs.Rows.MemberRows.{MayInitialise, initialised_type}
 use Rattle.member_link.specs.Rows.Operands.{IsUninitialised}
-use Rattle.typed_runs.proofs.Basics.{some_of, same_number}
+use Rattle.typed_runs.proofs.Basics.{some_of, and_false, same_number}
 use Rattle.typed_runs.proofs.BeginningSteps.{of_map}
 use Rattle.typed_runs.proofs.Points.{of_chain}
 use Rattle.typed_runs.proofs.ReceiverTypes.{class_named_there, no_array_there}
@@ -65,10 +66,7 @@ own_method_class headers class name desc m is =
     ap (λ (x : Declared). x.class) (sym d.2)
 
 pub not_polymorphic : (P : Program) (r : Reference) → r.name ≡ init → is_polymorphic P r ≡ false
-not_polymorphic P r is = by (is_polymorphic P r) refl where
-  by : (b : Bool) → is_polymorphic P r ≡ b → is_polymorphic P r ≡ false
-  by false e = e
-  by true e = rw is at e
+not_polymorphic P r is = rw is (and_false (bytes_eq r.class method_handle) false refl)
 
 -- an object that may be initialised: the reference to it, and what becomes of the types around it
 pub record Uninitialised (P : Program) (s m : RowScope) (h : Heap) (r : Reference) (t : VType) (v : Value) : Type 0 where

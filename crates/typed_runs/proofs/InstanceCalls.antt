@@ -64,12 +64,16 @@ pub of_object : (P : Program) (m : Declared) → IsMethod (headers_in P) m → I
 of_object P m declares form = ap (λ member. has_flag member STATIC) (method_is P m declares) ∙ form
 
 module _ {P : Program} {T : Typings} {w : World} {f : MethodState} {rest : List RunFrame} {s : RowScope} {frame : Frame} {place : ℕ} {numbered : ℕ → ℕ} {row : Row} {op : Op} {falls : Bool} {places : List ℕ} (h : Here P T w f rest s frame place numbered row op falls places) (stack : List Value) where
+  pub object_goes : {name : Name} (desc : List ℕ) (of_shape : Shape → Completion) (v : Value) (args : List Value) (o : ObjectOf P w.memory.heap name v) → have_kinds (parameters_of desc) args ≡ true
+      → StaysTyped P T w (perform P w f (record f { stack = stack }) rest (of_shape o.object.shape)) → StaysTyped P T w (perform P w f (record f { stack = stack }) rest (with_receiver P w.memory desc of_shape (v ∷ args)))
+  object_goes desc of_shape v args o kinds proved = rw o.is (rw kinds (rw o.is_there proved))
+
   -- null raises, and an object is looked at
   pub receiver_cases : {name : Name} (desc : List ℕ) (of_shape : Shape → Completion) (v : Value) (args : List Value) → (v ≡ values.Null) ⊎ ObjectOf P w.memory.heap name v → have_kinds (parameters_of desc) args ≡ true
       → ((o : ObjectOf P w.memory.heap name v) → StaysTyped P T w (perform P w f (record f { stack = stack }) rest (of_shape o.object.shape)))
       → StaysTyped P T w (perform P w f (record f { stack = stack }) rest (with_receiver P w.memory desc of_shape (v ∷ args)))
   receiver_cases desc of_shape v args (inl e) kinds proved = rw e (rw kinds (raises_goes h null_pointer stack (raises_null P T h.typed.program)))
-  receiver_cases desc of_shape v args (inr o) kinds proved = rw o.is (rw kinds (rw o.is_there (proved o)))
+  receiver_cases desc of_shape v args (inr o) kinds proved = object_goes desc of_shape v args o kinds (proved o)
 
   -- the method that a selection from a class chooses, to which the object conforms
   pub selected_goes : (laws : LookUps) (r : Reference) (l : LookedUp P IsInstanceForm r) {v : Value} (args : List Value) (o : ObjectOf P w.memory.heap r.class v) → Leaves P T w f frame row op stack (v ∷ args) → AreArguments P w.memory.heap r.desc args

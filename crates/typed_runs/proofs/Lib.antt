@@ -39,3 +39,7 @@ mod LookedUp
 mod ArgumentsHere
 mod StaticCalls
 mod InstanceCalls
+mod SpecialCalls
+mod DynamicCalls
+mod Initialisers
+mod InitialiserCalls

@@ -11,7 +11,7 @@ use Rattle.class_tree.specs.Headers.{Name, class_named}
 use Rattle.class_tree.specs.Names.{object, is_interface}
 use Rattle.class_tree.specs.Subtype.{superclass, directly}
 use Rattle.machine_values.specs.Frames.{MethodState}
-use Rattle.machine_values.specs.Heaps.{object_at}
+use Rattle.machine_values.specs.Heaps.{Heap, object_at}
 use Rattle.machine_values.specs.declared.frame.RunFrame.{RunFrame}
 use Rattle.machine_values.specs.declared.object.Object.{Object}
 use Rattle.machine_values.specs.declared.value.Value.{Value}
@@ -36,7 +36,7 @@ use Rattle.member_link.specs.declared.selection.CallForm.TheVariants.{Special}
 use Rattle.typed_runs.proofs.Arguments.{not_init}
 use Rattle.typed_runs.proofs.ArgumentsHere.{with_receiver_needs, ObjectOf, object_value}
 use Rattle.typed_runs.proofs.Assigned.{assigned, shape_assigned}
-use Rattle.typed_runs.proofs.Basics.{some_of}
+use Rattle.typed_runs.proofs.Basics.{some_of, and_false}
 use Rattle.typed_runs.proofs.Here.{Here}
 use Rattle.typed_runs.proofs.InstanceCalls.{Operands, of_object, receiver_cases, selected_goes, conforming_goes, call_operands, call_worked}
 use Rattle.typed_runs.proofs.LookedUp.{LookUps, looked_up, linked_to, no_initialiser}
@@ -48,10 +48,13 @@ use Rattle.typed_runs.specs.TypedWorlds.{StaysTyped}
 
 -- ---- where the selection starts
 
+abbrev pub start_super : Name → Option Name → Name
+start_super named None = named
+start_super named (Some name) = name
+
 abbrev pub start_by : Name → Option Name → Bool → Name
+start_by named super true = start_super named super
 start_by named super false = named
-start_by named None true = named
-start_by named (Some name) true = name
 
 -- at the named class, or at the superclass of the current one
 pub starts_at : (links : Links) (s : RowScope) (named : Name) → (special_start links s named ≡ named) ⊎ (s.own.super_name ≡ Some (special_start links s named))
@@ -66,13 +69,7 @@ starts_at links s named = by (class_named s.headers named) refl where
 
   by : (o : Option Header) → class_named s.headers named ≡ o → (special_start links s named ≡ named) ⊎ (s.own.super_name ≡ Some (special_start links s named))
   by None e = inl (rw e refl)
-  by (Some header) e =
-      let is : special_start links s named ≡ start_by named s.own.super_name (not (is_interface header) && (links.below s.own.name named && not (bytes_eq s.own.name named))) =
-      rw e (same (not (is_interface header) && (links.below s.own.name named && not (bytes_eq s.own.name named))) s.own.super_name) in
-      subst (λ n. (n ≡ named) ⊎ (s.own.super_name ≡ Some n)) (sym is) (of_class (not (is_interface header) && (links.below s.own.name named && not (bytes_eq s.own.name named))))
-    where
-      same : (b : Bool) (o : Option Name) → _ ≡ start_by named o b
-      same b o = refl
+  by (Some header) e = rw e (of_class (not (is_interface header) && (links.below s.own.name named && not (bytes_eq s.own.name named))))
 
 -- an object conforms to the class where the selection starts, if it conforms to the named class and to the current one
 pub conforms_to_start : (P : Program) (T : Typings) → IsTypedProgram P T → (s : RowScope) (named : Name) (o : Object) → class_named (headers_in P) s.own.name ≡ Some s.own → ShapeConforms P o.shape named → ShapeConforms P o.shape s.own.name
@@ -85,11 +82,11 @@ conforms_to_start P T program s named o own c d = by (starts_at P.links s named)
 -- ---- the receiver
 
 -- two types of one object
-pub both_types : {P : Program} {T : Typings} {w : World} {one other : Name} {v : Value} (o : ObjectOf P w.memory.heap one v) → (v ≡ values.Null) ⊎ ObjectOf P w.memory.heap other v → ShapeConforms P o.object.shape other
+pub both_types : {P : Program} {h : Heap} {one other : Name} {v : Value} (o : ObjectOf P h one v) → (v ≡ values.Null) ⊎ ObjectOf P h other v → ShapeConforms P o.object.shape other
 both_types o (inl e) = let no : values.Ref o.reference ≡ values.Null = sym o.is ∙ e in cc
-both_types {P = P} {w = w} {other = other} o (inr p) =
+both_types {P = P} {h = h} {other = other} o (inr p) =
     let r : p.reference ≡ o.reference = reference_of (sym p.is ∙ o.is) in
-    let same : p.object ≡ o.object = some_of (sym p.is_there ∙ subst (λ n. object_at w.memory.heap n ≡ Some o.object) (sym r) o.is_there) in
+    let same : p.object ≡ o.object = some_of (sym p.is_there ∙ subst (λ n. object_at h n ≡ Some o.object) (sym r) o.is_there) in
     subst (λ (x : Object). ShapeConforms P x.shape other) same p.conforms where
       reference_of : values.Ref p.reference ≡ values.Ref o.reference → p.reference ≡ o.reference
       reference_of e = cc
@@ -97,10 +94,6 @@ both_types {P = P} {w = w} {other = other} o (inr p) =
 -- the lowest operand is the receiver
 pub lowest_receiver : (need : Need) (frame : Frame) (desc : List ℕ) (t : VType) (ts : List VType) → topmost (length (need ∷ argument_needs desc)) frame.stack ≡ t ∷ ts → receiver frame desc ≡ t
 lowest_receiver need frame desc t ts is = lowest_is (length (parameters_of desc) + 1) frame.stack t ts (subst (λ n. topmost n frame.stack ≡ t ∷ ts) (sym (with_receiver_needs need desc)) is)
-
-pub and_false : (a b : Bool) → b ≡ false → (a && b) ≡ false
-and_false true b is = is
-and_false false b is = refl
 
 pub not_named_init : (name : List ℕ) → name ≢ init → bytes_eq name init ≡ false
 not_named_init name other = by (bytes_eq name init) refl where
@@ -133,4 +126,4 @@ module _ {P : Program} {T : Typings} {w : World} {f : MethodState} {rest : List 
       (rw not_object
       (subst (λ x. StaysTyped P T w (perform P w f (record f { stack = drop (length (assignable_to (types.Object r.class) ∷ argument_needs r.desc)) f.stack }) rest (on_receiver P o.object.shape r (reference_to l.method) x (c.taken.receiver ∷ c.taken.args)))) (sym choice)
       (selected_goes h stack laws r l c.taken.args o (c.leaves refl) c.taken.arguments other (λ m is. is) from Special
-      (conforms_to_start P T h.typed.program s r.class o.object own o.conforms (both_types {T = T} {w = w} o of_current))))))))
+      (conforms_to_start P T h.typed.program s r.class o.object own o.conforms (both_types o of_current)))))))))
