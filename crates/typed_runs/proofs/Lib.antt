@@ -43,3 +43,5 @@ mod SpecialCalls
 mod DynamicCalls
 mod Initialisers
 mod InitialiserCalls
+mod OtherOperations
+mod OnCalls
