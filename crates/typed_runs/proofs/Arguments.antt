@@ -37,16 +37,20 @@ use Rattle.typed_runs.specs.TypedPrograms.{Typings, IsTypedProgram}
 abbrev pub AreArguments : Program → Heap → List ℕ → List Value → Type 0
 AreArguments P h desc vs = (s : RowScope) → AllConform P s h (map verification_type (parameters_of desc)) vs
 
-pub parameters_assigned : (P : Program) (T : Typings) → IsTypedProgram P T → {s : RowScope} {h : Heap} (r : RowScope) → r.headers ≡ headers_in P → (ps : List FieldType) (ts : List VType) {vs : List Value}
-    → AllFit r (map (λ param. assignable_to (verification_type param)) ps) ts → AllConform P s h ts vs → AllConform P s h (map verification_type ps) vs
+pub parameters_assigned : (P : Program) (T : Typings) → IsTypedProgram P T → {s : RowScope} {h : Heap} (r : RowScope)
+    → r.headers ≡ headers_in P → (ps : List FieldType) (ts : List VType) {vs : List Value}
+    → AllFit r (map (λ param. assignable_to (verification_type param)) ps) ts → AllConform P s h ts vs
+    → AllConform P s h (map verification_type ps) vs
 parameters_assigned P T program r same [] [] fit no_values = no_values
 parameters_assigned P T program r same (p ∷ ps) (t ∷ ts) fit (and_value c others) =
-    and_value (assigned P T program (subst (λ hs. IsAssignable hs t (verification_type p)) same fit.0) c) (parameters_assigned P T program r same ps ts fit.1 others)
+    and_value (assigned P T program (subst (λ hs. IsAssignable hs t (verification_type p)) same fit.0) c)
+    (parameters_assigned P T program r same ps ts fit.1 others)
 parameters_assigned P T program r same [] (t ∷ ts) fit all = absurd fit
 parameters_assigned P T program r same (p ∷ ps) [] fit all = absurd fit
 
 -- an argument conforms to its type in any code
-pub argument_anywhere : {P : Program} {s : RowScope} {h : Heap} {v : Value} (p : FieldType) → Conforms P s h (verification_type p) v → (r : RowScope) → Conforms P r h (verification_type p) v
+pub argument_anywhere : {P : Program} {s : RowScope} {h : Heap} {v : Value} (p : FieldType) → Conforms P s h (verification_type p) v
+    → (r : RowScope) → Conforms P r h (verification_type p) v
 argument_anywhere (field_types.Named name) null_object r = null_object
 argument_anywhere (field_types.Named name) (an_object shape is) r = an_object shape is
 argument_anywhere field_types.Byte an_int r = an_int
@@ -58,16 +62,20 @@ argument_anywhere field_types.Long a_long r = a_long
 argument_anywhere field_types.Float a_float r = a_float
 argument_anywhere field_types.Double a_double r = a_double
 
-pub arguments_anywhere : {P : Program} {s : RowScope} {h : Heap} (ps : List FieldType) {vs : List Value} → AllConform P s h (map verification_type ps) vs → (r : RowScope) → AllConform P r h (map verification_type ps) vs
+pub arguments_anywhere : {P : Program} {s : RowScope} {h : Heap} (ps : List FieldType) {vs : List Value}
+    → AllConform P s h (map verification_type ps) vs → (r : RowScope) → AllConform P r h (map verification_type ps) vs
 arguments_anywhere [] no_values r = no_values
 arguments_anywhere (p ∷ ps) (and_value c others) r = and_value (argument_anywhere p c r) (arguments_anywhere ps others r)
 
-pub arguments : (P : Program) (T : Typings) → IsTypedProgram P T → {s : RowScope} {h : Heap} (r : RowScope) → r.headers ≡ headers_in P → (desc : List ℕ) (ts : List VType) {vs : List Value}
+pub arguments : (P : Program) (T : Typings) → IsTypedProgram P T → {s : RowScope} {h : Heap} (r : RowScope) → r.headers ≡ headers_in P
+    → (desc : List ℕ) (ts : List VType) {vs : List Value}
     → AllFit r (argument_needs desc) ts → AllConform P s h ts vs → AreArguments P h desc vs
-arguments P T program r same desc ts fit all other = arguments_anywhere (parameters_of desc) (parameters_assigned P T program r same (parameters_of desc) ts fit all) other
+arguments P T program r same desc ts fit all other =
+    arguments_anywhere (parameters_of desc) (parameters_assigned P T program r same (parameters_of desc) ts fit all) other
 
 -- an argument is of the kind of its type
-pub argument_kind : {P : Program} {s : RowScope} {h : Heap} {v : Value} (p : FieldType) → Conforms P s h (verification_type p) v → has_kind (kind_of p) v ≡ true
+pub argument_kind : {P : Program} {s : RowScope} {h : Heap} {v : Value} (p : FieldType) → Conforms P s h (verification_type p) v
+    → has_kind (kind_of p) v ≡ true
 argument_kind (field_types.Named name) null_object = refl
 argument_kind (field_types.Named name) (an_object shape is) = refl
 argument_kind field_types.Byte an_int = refl
@@ -79,7 +87,8 @@ argument_kind field_types.Long a_long = refl
 argument_kind field_types.Float a_float = refl
 argument_kind field_types.Double a_double = refl
 
-pub arguments_kinds : {P : Program} {s : RowScope} {h : Heap} (ps : List FieldType) {vs : List Value} → AllConform P s h (map verification_type ps) vs → have_kinds ps vs ≡ true
+pub arguments_kinds : {P : Program} {s : RowScope} {h : Heap} (ps : List FieldType) {vs : List Value}
+    → AllConform P s h (map verification_type ps) vs → have_kinds ps vs ≡ true
 arguments_kinds [] no_values = refl
 arguments_kinds (p ∷ ps) (and_value c others) = rw (argument_kind p c) (arguments_kinds ps others)
 
@@ -105,7 +114,8 @@ pub parameter_types : (ps : List FieldType) → AllByRecursion IsArgumentType (m
 parameter_types [] = tt
 parameter_types (p ∷ ps) = (parameter_type p, parameter_types ps)
 
-pub argument_units : {P : Program} {s : RowScope} {h : Heap} {ts : List VType} {vs : List Value} → AllByRecursion IsArgumentType ts → AllConform P s h ts vs → UnitsConform P s h (units_of_entries ts) (units_of_values vs)
+pub argument_units : {P : Program} {s : RowScope} {h : Heap} {ts : List VType} {vs : List Value} → AllByRecursion IsArgumentType ts
+    → AllConform P s h ts vs → UnitsConform P s h (units_of_entries ts) (units_of_values vs)
 argument_units all no_values = no_units
 argument_units all (and_value (to_top is) others) = absurd all.0
 argument_units all (and_value an_int others) = and_unit (has_value an_int) (argument_units all.1 others)
@@ -115,14 +125,17 @@ argument_units all (and_value a_double others) = and_unit (has_value a_double) (
 argument_units all (and_value only_null others) = and_unit (has_value only_null) (argument_units all.1 others)
 argument_units all (and_value null_object others) = and_unit (has_value null_object) (argument_units all.1 others)
 argument_units all (and_value (an_object shape is) others) = and_unit (has_value (an_object shape is)) (argument_units all.1 others)
-argument_units all (and_value (of_new new shape class) others) = and_unit (has_value (of_new new shape class)) (argument_units all.1 others)
+argument_units all (and_value (of_new new shape class) others) =
+    and_unit (has_value (of_new new shape class)) (argument_units all.1 others)
 argument_units all (and_value (of_this shape below) others) = and_unit (has_value (of_this shape below)) (argument_units all.1 others)
 
-pub units_append : {P : Program} {s : RowScope} {h : Heap} {ts us : List VType} {vs ws : List (Option Value)} → UnitsConform P s h ts vs → UnitsConform P s h us ws → UnitsConform P s h (ts ++ us) (vs ++ ws)
+pub units_append : {P : Program} {s : RowScope} {h : Heap} {ts us : List VType} {vs ws : List (Option Value)} → UnitsConform P s h ts vs
+    → UnitsConform P s h us ws → UnitsConform P s h (ts ++ us) (vs ++ ws)
 units_append no_units more = more
 units_append (and_unit one others) more = and_unit one (units_append others more)
 
-pub filled_units : {P : Program} {s : RowScope} {h : Heap} {ts : List VType} {vs : List Value} (locals : ℕ) → AllByRecursion IsArgumentType ts → AllConform P s h ts vs
+pub filled_units : {P : Program} {s : RowScope} {h : Heap} {ts : List VType} {vs : List Value} (locals : ℕ)
+    → AllByRecursion IsArgumentType ts → AllConform P s h ts vs
     → UnitsConform P s h (filled locals ts) (units_of_values vs ++ replicate (locals - length (units_of_values vs)) None)
 filled_units {P = P} {s = s} {h = h} {ts = ts} {vs = vs} locals all conform =
     let units = argument_units all conform in
@@ -148,7 +161,8 @@ pub record BeginsWith (P : Program) (h : Heap) (m : Declared) (vs : List Value) 
   pub locals : (n : ℕ) → (entry_frame m.member.flags m.member.name (Some m.class) (parameters_of m.member.desc) n).locals ≡ filled n types
   pub conform : (s : RowScope) → s.own.name ≡ m.class → AllConform P s h types vs
 
-pub begins_static : (P : Program) (h : Heap) (m : Declared) (vs : List Value) → has m.member.flags STATIC ≡ true → AreArguments P h m.member.desc vs → BeginsWith P h m vs
+pub begins_static : (P : Program) (h : Heap) (m : Declared) (vs : List Value) → has m.member.flags STATIC ≡ true
+    → AreArguments P h m.member.desc vs → BeginsWith P h m vs
 begins_static P h m vs static are = record {
   types = map verification_type (parameters_of m.member.desc);
   of_arguments = parameter_types (parameters_of m.member.desc);
@@ -162,7 +176,8 @@ not_init name other = by (is_text init (Some name)) refl where
   by true e = absurd (other (sym ((bytes_eq-Decides init name).0 e)))
   by false e = e
 
-pub begins_instance : (P : Program) (h : Heap) (m : Declared) (r : ℕ) (shape : Shape) (vs : List Value) → has m.member.flags STATIC ≡ false → m.member.name ≢ init → HasShape h r shape → ShapeConforms P shape m.class
+pub begins_instance : (P : Program) (h : Heap) (m : Declared) (r : ℕ) (shape : Shape) (vs : List Value)
+    → has m.member.flags STATIC ≡ false → m.member.name ≢ init → HasShape h r shape → ShapeConforms P shape m.class
     → AreArguments P h m.member.desc vs → BeginsWith P h m (values.Ref r ∷ vs)
 begins_instance P h m r shape vs of_object other has_shape conforms are = record {
   types = types.Object m.class ∷ map verification_type (parameters_of m.member.desc);
@@ -172,11 +187,13 @@ begins_instance P h m r shape vs of_object other has_shape conforms are = record
 }
 
 -- an instance initialiser begins with an object that is not initialised
-pub begins_initialiser : (P : Program) (h : Heap) (m : Declared) (r class : ℕ) (vs : List Value) → has m.member.flags STATIC ≡ false → m.member.name ≡ init → HasShape h r (shapes.Folder class) → P.links.below (name_of_class P class) m.class ≡ true
+pub begins_initialiser : (P : Program) (h : Heap) (m : Declared) (r class : ℕ) (vs : List Value) → has m.member.flags STATIC ≡ false
+    → m.member.name ≡ init → HasShape h r (shapes.Folder class) → P.links.below (name_of_class P class) m.class ≡ true
     → AreArguments P h m.member.desc vs → BeginsWith P h m (values.Ref r ∷ vs)
 begins_initialiser P h m r class vs of_object is has_shape below are = record {
   types = types.UninitThis ∷ map verification_type (parameters_of m.member.desc);
   of_arguments = (tt, parameter_types (parameters_of m.member.desc));
   locals = λ n. rw of_object (rw ((bytes_eq-Decides init m.member.name).1 (sym is)) refl);
-  conform = λ s own. and_value (of_this has_shape (subst (λ name. P.links.below (name_of_class P class) name ≡ true) (sym own) below)) (are s);
+  conform = λ s own. and_value (of_this has_shape (subst (λ name. P.links.below (name_of_class P class) name ≡ true) (sym own) below))
+      (are s);
 }

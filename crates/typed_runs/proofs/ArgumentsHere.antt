@@ -1,4 +1,4 @@
-use Rattle.std.specs.Prelude.{◌≡◌, ◌⊎◌, ◌+◌, refl, ℕ, List, [], ◌∷◌, length, Some}
+use Rattle.std.specs.Prelude.{◌≡◌, ◌⊎◌, ◌+◌, refl, ℕ, List, [], ◌∷◌, length, drop, Some}
 use Rattle.std.specs.List.{AllByRecursion}
 use Rattle.std.proofs.Common.{arith, inl, inr, sym, subst}
 use Rattle.std.proofs.lemmas.List.{length-map}
@@ -18,6 +18,7 @@ use Rattle.machine_values.specs.declared.value.Value.TheVariants as values
 use Rattle.member_link.specs.Machine.Ops.{Op}
 use Rattle.member_link.specs.Machine.Programs.{Program, headers_in}
 use Rattle.member_link.specs.Machine.Worlds.{World}
+use Rattle.member_link.specs.References.{Reference}
 use Rattle.member_link.specs.RowScope.{RowScope}
 use Rattle.member_link.specs.Rows.MemberRows.{argument_needs}
 use Rattle.member_link.specs.Rows.Operands.{Need, AllFit, Fits, topmost}
@@ -32,8 +33,13 @@ as_many_needs desc = sym (length-map (parameters_of desc) _)
 pub with_receiver_needs : (need : Need) (desc : List ℕ) → length (parameters_of desc) + 1 ≡ length (need ∷ argument_needs desc)
 with_receiver_needs need desc = let e = as_many_needs desc in omega (arith, e)
 
+-- what is under the receiver and the arguments of a call
+abbrev pub stack_under : Need → Reference → MethodState → List Value
+stack_under need r f = drop (length (need ∷ argument_needs r.desc)) f.stack
+
 -- the operands of a call with a receiver
-pub record Received (P : Program) (s : RowScope) (h : Heap) (r : RowScope) (need : Need) (desc : List ℕ) (ts : List VType) (vs : List Value) : Type 0 where
+pub record Received (P : Program) (s : RowScope) (h : Heap) (r : RowScope) (need : Need) (desc : List ℕ) (ts : List VType)
+    (vs : List Value) : Type 0 where
   pub type : VType
   pub others : List VType
   pub are_types : ts ≡ type ∷ others
@@ -44,7 +50,8 @@ pub record Received (P : Program) (s : RowScope) (h : Heap) (r : RowScope) (need
   pub conforms : Conforms P s h type receiver
   pub arguments : AreArguments P h desc args
 
-pub received : (P : Program) (T : Typings) → IsTypedProgram P T → {s : RowScope} {h : Heap} (r : RowScope) → r.headers ≡ headers_in P → (need : Need) (desc : List ℕ) (ts : List VType) {vs : List Value}
+pub received : (P : Program) (T : Typings) → IsTypedProgram P T → {s : RowScope} {h : Heap} (r : RowScope) → r.headers ≡ headers_in P
+    → (need : Need) (desc : List ℕ) (ts : List VType) {vs : List Value}
     → AllFit r (need ∷ argument_needs desc) ts → AllConform P s h ts vs → Received P s h r need desc ts vs
 received P T program r same need desc (t ∷ ts) fit (and_value {value = v} {values = vs} c others) = record {
   type = t;
@@ -70,7 +77,15 @@ pub record ObjectOf (P : Program) (h : Heap) (name : Name) (v : Value) : Type 0 
 pub shape_of : {P : Program} {h : Heap} {name : Name} {v : Value} (o : ObjectOf P h name v) → HasShape h o.reference o.object.shape
 shape_of o = record { object = o.object; is_there = o.is_there; same = refl }
 
-pub object_value : {P : Program} {s : RowScope} {h : Heap} {name : Name} {v : Value} → Conforms P s h (types.Object name) v → (v ≡ values.Null) ⊎ ObjectOf P h name v
+pub object_value : {P : Program} {s : RowScope} {h : Heap} {name : Name} {v : Value} → Conforms P s h (types.Object name) v
+    → (v ≡ values.Null) ⊎ ObjectOf P h name v
 object_value null_object = inl refl
 object_value {P = P} {name = name} (an_object {reference = r} has c) =
-    inr (record { reference = r; is = refl; object = has.object; is_there = has.is_there; conforms = subst (λ shape. ShapeConforms P shape name) (sym has.same) c })
+    inr (record {
+      reference = r;
+      is = refl;
+      object = has.object;
+      is_there = has.is_there;
+      conforms =
+          subst (λ shape. ShapeConforms P shape name) (sym has.same) c;
+    })

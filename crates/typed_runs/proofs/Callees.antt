@@ -23,22 +23,26 @@ use Rattle.typed_runs.specs.TypedPrograms.{Typings, IsTypedProgram}
 -- ---- the first of a list
 
 -- what a search finds is the item at the number of the first that passes
-pub first_is : {A B : Type 0} (test : A → Bool) (view : A → B) (find : List A → Option B) → ((x : A) (xs : List A) → find (x ∷ xs) ≡ (if test x then Some (view x) else find xs))
+pub first_is : {A B : Type 0} (test : A → Bool) (view : A → B) (find : List A → Option B)
+    → ((x : A) (xs : List A) → find (x ∷ xs) ≡ (if test x then Some (view x) else find xs))
     → (xs : List A) (n : ℕ) (y : A) → number_of_first test xs ≡ Some n → slice_get xs n ≡ Some y → find xs ≡ Some (view y)
 first_is test view find step [] n y is there = cc
-first_is {A = A} {B = B} test view find step (x ∷ xs) n y is there = step x xs ∙ by (test x) refl (λ k e at. first_is test view find step xs k y e at) where
-  of_rest : (o : Option ℕ) → number_of_first test xs ≡ o → option_map suc o ≡ Some n → ((k : ℕ) → number_of_first test xs ≡ Some k → slice_get xs k ≡ Some y → find xs ≡ Some (view y)) → find xs ≡ Some (view y)
-  of_rest None e same next = cc
-  of_rest (Some k) e same next =
-      let number : suc k ≡ n = some_of same in
-      next k e (subst (λ j. slice_get (x ∷ xs) j ≡ Some y) (sym number) there)
+first_is {A = A} {B = B} test view find step (x ∷ xs) n y is there =
+    step x xs ∙ by (test x) refl (λ k e at. first_is test view find step xs k y e at) where
+      of_rest : (o : Option ℕ) → number_of_first test xs ≡ o → option_map suc o ≡ Some n
+          → ((k : ℕ) → number_of_first test xs ≡ Some k → slice_get xs k ≡ Some y → find xs ≡ Some (view y)) → find xs ≡ Some (view y)
+      of_rest None e same next = cc
+      of_rest (Some k) e same next =
+          let number : suc k ≡ n = some_of same in
+          next k e (subst (λ j. slice_get (x ∷ xs) j ≡ Some y) (sym number) there)
 
-  by : (b : Bool) → test x ≡ b → ((k : ℕ) → number_of_first test xs ≡ Some k → slice_get xs k ≡ Some y → find xs ≡ Some (view y)) → (if b then Some (view x) else find xs) ≡ Some (view y)
-  by true e next =
-      let number : zero ≡ n = some_of (rw e at is) in
-      let same : Some x ≡ Some y = subst (λ j. slice_get (x ∷ xs) j ≡ Some y) (sym number) there in
-      ap (option_map view) same
-  by false e next = of_rest (number_of_first test xs) refl (rw e at is) next
+      by : (b : Bool) → test x ≡ b → ((k : ℕ) → number_of_first test xs ≡ Some k → slice_get xs k ≡ Some y → find xs ≡ Some (view y))
+          → (if b then Some (view x) else find xs) ≡ Some (view y)
+      by true e next =
+          let number : zero ≡ n = some_of (rw e at is) in
+          let same : Some x ≡ Some y = subst (λ j. slice_get (x ∷ xs) j ≡ Some y) (sym number) there in
+          ap (option_map view) same
+      by false e next = of_rest (number_of_first test xs) refl (rw e at is) next
 
 pub first_member_is : (r : Reference) (ms : List Member) → first_member r ms ≡ declared r.name r.desc ms
 first_member_is r [] = refl
@@ -57,17 +61,22 @@ pub record Callee (P : Program) (m : Declared) (at : MethodAt) : Type 0 where
   pub member : method.member ≡ m.member
   pub class : name_of_class P at.class ≡ m.class
 
-pub callee_of : (P : Program) (T : Typings) → IsTypedProgram P T → (m : Declared) → IsMethod (headers_in P) m → (at : MethodAt) → place_of_method P (reference_to m) ≡ Some at → Callee P m at
+pub callee_of : (P : Program) (T : Typings) → IsTypedProgram P T → (m : Declared) → IsMethod (headers_in P) m → (at : MethodAt)
+    → place_of_method P (reference_to m) ≡ Some at → Callee P m at
 callee_of P T program m declares at is =
     let f = method_found P (reference_to m) at is in
     let header : named m.class (map (λ (class : RunClass). class.header) P.classes ++ P.library) ≡ Some f.class.header =
-    first_is (λ (class : RunClass). bytes_eq m.class class.header.name) (λ (class : RunClass). class.header) (λ classes. named m.class (map (λ (class : RunClass). class.header) classes ++ P.library)) (λ x xs. refl)
+    first_is (λ (class : RunClass). bytes_eq m.class class.header.name) (λ (class : RunClass). class.header)
+    (λ classes. named m.class (map (λ (class : RunClass). class.header) classes ++ P.library)) (λ x xs. refl)
     P.classes at.class f.class f.class_number f.is_class in
-    let same : f.class.header ≡ declares.header = same_class (headers_in P) m.class f.class.header declares.header header declares.found in
+    let same : f.class.header ≡ declares.header = same_class
+    (headers_in P) m.class f.class.header declares.header header declares.found in
     let own : declared m.member.name m.member.desc (map (λ (method : RunMethod). method.member) f.class.methods) ≡ Some f.method.member =
-    first_is (λ (method : RunMethod). member_of (reference_to m) method.member) (λ (method : RunMethod). method.member) (λ methods. declared m.member.name m.member.desc (map (λ (method : RunMethod). method.member) methods)) (λ x xs. refl)
+    first_is (λ (method : RunMethod). member_of (reference_to m) method.member) (λ (method : RunMethod). method.member)
+    (λ methods. declared m.member.name m.member.desc (map (λ (method : RunMethod). method.member) methods)) (λ x xs. refl)
     f.class.methods at.method f.method f.method_number f.is_method in
-    let methods : map (λ (method : RunMethod). method.member) f.class.methods ≡ declares.header.methods = (program.classes at.class f.class f.is_class).methods ∙ ap (λ (h : Header). h.methods) same in
+    let methods : map (λ (method : RunMethod). method.member) f.class.methods ≡ declares.header.methods =
+    (program.classes at.class f.class f.is_class).methods ∙ ap (λ (h : Header). h.methods) same in
     record {
       method = f.method;
       run = f.run;
@@ -81,18 +90,24 @@ pub suc_is : (o : Option ℕ) → option_map (λ place. place + 1) o ≡ option_
 suc_is None = refl
 suc_is (Some n) = let e : n + 1 ≡ suc n = omega arith in ap Some e
 
-pub first_place_is : (name : Name) (cs : List RunClass) → first_place (λ (header : Header). bytes_eq name header.name) (map (λ (class : RunClass). class.header) cs) ≡ number_of_first (λ (class : RunClass). bytes_eq name class.header.name) cs
+pub first_place_is : (name : Name) (cs : List RunClass)
+    → first_place (λ (header : Header). bytes_eq name header.name) (map (λ (class : RunClass). class.header) cs) ≡ number_of_first
+    (λ (class : RunClass). bytes_eq name class.header.name) cs
 first_place_is name [] = refl
 first_place_is name (c ∷ cs) =
-    ap (λ o. if bytes_eq name c.header.name then Some 0 else o) (ap (option_map (λ place. place + 1)) (first_place_is name cs) ∙ suc_is (number_of_first (λ (class : RunClass). bytes_eq name class.header.name) cs))
+    ap (λ o. if bytes_eq name c.header.name then Some 0 else o)
+    (ap (option_map (λ place. place + 1)) (first_place_is name cs) ∙ suc_is
+    (number_of_first (λ (class : RunClass). bytes_eq name class.header.name) cs))
 
 -- a class of the library has no number in the folder
-pub not_in_folder : (P : Program) (name : Name) (place : ℕ) → place_of (headers_in P) name ≡ Some (places.Library place) → folder_number P name ≡ None
+pub not_in_folder : (P : Program) (name : Name) (place : ℕ) → place_of (headers_in P) name ≡ Some (places.Library place)
+    → folder_number P name ≡ None
 not_in_folder P name place is = by (folder_number P name) refl where
   by : (n : Option ℕ) → folder_number P name ≡ n → folder_number P name ≡ None
   by None e = e
   by (Some n) e =
-      let first : first_place (λ (header : Header). bytes_eq name header.name) (map (λ (class : RunClass). class.header) P.classes) ≡ Some n = first_place_is name P.classes ∙ e in
+      let first : first_place (λ (header : Header). bytes_eq name header.name)
+      (map (λ (class : RunClass). class.header) P.classes) ≡ Some n = first_place_is name P.classes ∙ e in
       let other : Some (places.Folder n) ≡ Some (places.Library place) = rw first at is in
       cc
 
@@ -101,7 +116,8 @@ polymorphic_is P r is =
     let class : bytes_eq r.class method_handle ≡ true = (bytes_eq-Decides r.class method_handle).1 is.0 in
     let outside : folder_number P r.class ≡ None = not_in_folder P r.class is.2.0 is.2.1 in
     rw class (rw outside (by is.1)) where
-      by : (r.name ≡ codes "invoke") ⊎ (r.name ≡ codes "invokeExact") → ((bytes_eq r.name (codes "invoke") || bytes_eq r.name (codes "invokeExact")) && true) ≡ true
+      by : (r.name ≡ codes "invoke") ⊎ (r.name ≡ codes "invokeExact")
+          → ((bytes_eq r.name (codes "invoke") || bytes_eq r.name (codes "invokeExact")) && true) ≡ true
       by (inl e) = rw ((bytes_eq-Decides r.name (codes "invoke")).1 e) refl
       by (inr e) = rw ((bytes_eq-Decides r.name (codes "invokeExact")).1 e) (either (bytes_eq r.name (codes "invoke"))) where
         either : (b : Bool) → ((b || true) && true) ≡ true

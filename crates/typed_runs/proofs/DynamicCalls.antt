@@ -24,13 +24,18 @@ use Rattle.typed_runs.proofs.Performing.{asks_goes}
 use Rattle.typed_runs.specs.TypedPrograms.{Typings}
 use Rattle.typed_runs.specs.TypedWorlds.{StaysTyped}
 
-module _ {P : Program} {T : Typings} {w : World} {f : MethodState} {rest : List RunFrame} {s : RowScope} {frame : Frame} {place : ℕ} {numbered : ℕ → ℕ} where
+module _ {P : Program} {T : Typings} {w : World} {f : MethodState} {rest : List RunFrame} {s : RowScope} {frame : Frame} {place : ℕ}
+    {numbered : ℕ → ℕ} where
   pub dynamic_stays : (class : Name) (bootstrap : ℕ) (name desc : List ℕ)
-      → Here P T w f rest s frame place numbered (plain frame (argument_needs desc) (result_types (result_of desc))) (call_dynamic class bootstrap name desc) true []
+      → Here P T w f rest s frame place numbered (plain frame (argument_needs desc) (result_types (result_of desc)))
+      (call_dynamic class bootstrap name desc) true []
       → StaysTyped P T w (op_step P w f rest (call_dynamic class bootstrap name desc))
   dynamic_stays class bootstrap name desc h =
       let o = operands_here h in
       let vs : List Value = reverse (take (length (argument_needs desc)) f.stack) in
-      let are = arguments P T h.typed.program s (headers_here h) desc (topmost (length (argument_needs desc)) frame.stack) h.holds.operands o.values in
+      let are = arguments P T h.typed.program s (headers_here h) desc
+      (topmost (length (argument_needs desc)) frame.stack) h.holds.operands o.values in
       worked h (length (argument_needs desc)) (as_many_needs desc) o.enough
-      (rw (arguments_kinds (parameters_of desc) (are s)) (asks_goes h (asks_dynamic class bootstrap name desc vs) (drop (length (argument_needs desc)) f.stack) h.locals o.rest refl (all_in_heap o.values)))
+      (rw (arguments_kinds (parameters_of desc) (are s))
+      (asks_goes h (asks_dynamic class bootstrap name desc vs) (drop (length (argument_needs desc)) f.stack) h.locals o.rest refl
+      (all_in_heap o.values)))

@@ -31,26 +31,31 @@ use Rattle.member_link.specs.Rows.Operands.{IsUninitialised}
 use Rattle.typed_runs.proofs.Basics.{some_of, and_false, same_number}
 use Rattle.typed_runs.proofs.BeginningSteps.{of_map}
 use Rattle.typed_runs.proofs.Points.{of_chain}
-use Rattle.typed_runs.proofs.ReceiverTypes.{class_named_there, no_array_there}
+use Rattle.typed_runs.proofs.NamesThere.{class_named_there, no_array_there}
 use Rattle.typed_runs.specs.Conforming.{HasShape, Conforms, to_top, an_int, a_long, a_float, a_double, only_null, null_object, an_object, of_new, of_this, AllConform, no_values, and_value, UnitConforms, no_value, has_value, UnitsConform, no_units, and_unit, ShapeConforms, by_class, to_below, IsTypedMemory, HoldsShape}
 use Rattle.typed_runs.specs.TypedPrograms.{Typings, IsTypedProgram}
 
 -- ---- types that become others
 
-module _ {P : Program} {m : RowScope} {h : Heap} (F : VType → VType) (becomes : (t : VType) (v : Value) → Conforms P m h t v → Conforms P m h (F t) v) where
+module _ {P : Program} {m : RowScope} {h : Heap} (F : VType → VType)
+    (becomes : (t : VType) (v : Value) → Conforms P m h t v → Conforms P m h (F t) v) where
   pub all_become : {ts : List VType} {vs : List Value} → AllConform P m h ts vs → AllConform P m h (map F ts) vs
   all_become no_values = no_values
   all_become (and_value {type = t} {value = v} one others) = and_value (becomes t v one) (all_become others)
 
-  pub units_become : F types.Top ≡ types.Top → {ts : List VType} {us : List (Option Value)} → UnitsConform P m h ts us → UnitsConform P m h (map F ts) us
+  pub units_become : F types.Top ≡ types.Top → {ts : List VType} {us : List (Option Value)} → UnitsConform P m h ts us
+      → UnitsConform P m h (map F ts) us
   units_become top no_units = no_units
-  units_become top (and_unit no_value others) = and_unit (subst (λ t. UnitConforms P m h t None) (sym top) no_value) (units_become top others)
-  units_become top (and_unit {type = t} (has_value {value = v} one) others) = and_unit (has_value (becomes t v one)) (units_become top others)
+  units_become top (and_unit no_value others) = and_unit (subst (λ t. UnitConforms P m h t None) (sym top) no_value)
+      (units_become top others)
+  units_become top (and_unit {type = t} (has_value {value = v} one) others) =
+      and_unit (has_value (becomes t v one)) (units_become top others)
 
 -- ---- the object
 
 -- the method that a reference to an instance initialiser finds is one of the named class
-pub finds_own : {headers : Headers} {class : Name} {name desc : List ℕ} {o : Option Declared} → FindsMethod headers class name desc o → name ≡ init → o ≡ own_method headers class name desc
+pub finds_own : {headers : Headers} {class : Name} {name desc : List ℕ} {o : Option Declared} → FindsMethod headers class name desc o
+    → name ≡ init → o ≡ own_method headers class name desc
 finds_own (initialiser is) same = refl
 finds_own {name = name} (polymorphic p) same = absurd (by p.1) where
   by : (name ≡ codes "invoke") ⊎ (name ≡ codes "invokeExact") → ⊥
@@ -59,9 +64,11 @@ finds_own {name = name} (polymorphic p) same = absurd (by p.1) where
 finds_own (of_array found other is finds) same = absurd (other same)
 finds_own (of_class found other flat single finds) same = absurd (other same)
 
-pub own_method_class : (headers : Headers) (class : Name) (name desc : List ℕ) (m : Declared) → own_method headers class name desc ≡ Some m → m.class ≡ class
+pub own_method_class : (headers : Headers) (class : Name) (name desc : List ℕ) (m : Declared)
+    → own_method headers class name desc ≡ Some m → m.class ≡ class
 own_method_class headers class name desc m is =
-    let c = of_chain (λ (header : Header). option_map (declared_by class) (declared name desc header.methods)) (class_named headers class) m is in
+    let c = of_chain (λ (header : Header). option_map (declared_by class) (declared name desc header.methods))
+    (class_named headers class) m is in
     let d = of_map (declared_by class) (declared name desc c.0.methods) m c.2 in
     ap (λ (x : Declared). x.class) (sym d.2)
 
@@ -75,14 +82,16 @@ pub record Uninitialised (P : Program) (s m : RowScope) (h : Heap) (r : Referenc
   pub object : Object
   pub is_there : object_at h reference ≡ Some object
   pub conforms : ShapeConforms P object.shape r.class
-  pub of_folder : is_external object.shape ≡ false → (class : ℕ) × (object.shape ≡ shapes.Folder class) × (P.links.below (name_of_class P class) r.class ≡ true)
+  pub of_folder : is_external object.shape ≡ false
+      → (class : ℕ) × (object.shape ≡ shapes.Folder class) × (P.links.below (name_of_class P class) r.class ≡ true)
   pub top : initialised_type s r t types.Top ≡ types.Top
   pub becomes : (u : VType) (x : Value) → Conforms P m h u x → Conforms P m h (initialised_type s r t u) x
 
 module _ (P : Program) (T : Typings) (program : IsTypedProgram P T) (s m : RowScope) (memory : Heap) (r : Reference) where
   -- ---- of a new
 
-  pub new_becomes : (at : ℕ) → m.new_class at ≡ Some r.class → (u : VType) (x : Value) → Conforms P m memory u x → Conforms P m memory (initialised_type s r (types.Uninit at) u) x
+  pub new_becomes : (at : ℕ) → m.new_class at ≡ Some r.class → (u : VType) (x : Value) → Conforms P m memory u x
+      → Conforms P m memory (initialised_type s r (types.Uninit at) u) x
   new_becomes at new u x (to_top is) = to_top is
   new_becomes at new u x an_int = an_int
   new_becomes at new u x a_long = a_long
@@ -92,14 +101,18 @@ module _ (P : Program) (T : Typings) (program : IsTypedProgram P T) (s m : RowSc
   new_becomes at new u x null_object = null_object
   new_becomes at new u x (an_object shape is) = an_object shape is
   new_becomes at new u x (of_this shape up) = of_this shape up
-  new_becomes at new u x (of_new {at = other} {reference = reference} {name = name} {shape = shape} also has class) = by (other == at) refl where
-    by : (b : Bool) → (other == at) ≡ b → Conforms P m memory (if b then types.Object r.class else types.Uninit other) (values.Ref reference)
-    by false e = of_new also has class
-    by true e =
-        let one : name ≡ r.class = some_of (sym also ∙ ap m.new_class (same_number other at e) ∙ new) in
-        an_object has (by_class (to_below (subst (λ n. P.links.below n r.class ≡ true) (sym (class ∙ one)) ((program.links.below r.class r.class).1 (itself r.class)))))
+  new_becomes at new u x (of_new {at = other} {reference = reference} {name = name} {shape = shape} also has class) =
+      by (other == at) refl where
+        by : (b : Bool) → (other == at) ≡ b → Conforms P m memory (if b then types.Object r.class else types.Uninit other)
+            (values.Ref reference)
+        by false e = of_new also has class
+        by true e =
+            let one : name ≡ r.class = some_of (sym also ∙ ap m.new_class (same_number other at e) ∙ new) in
+            an_object has (by_class (to_below (subst (λ n. P.links.below n r.class ≡ true) (sym (class ∙ one))
+            ((program.links.below r.class r.class).1 (itself r.class)))))
 
-  pub of_new_object : (at reference : ℕ) (shape : Shape) → IsThere (headers_in P) r.class → HasShape memory reference shape → ((o : Object) → object_at memory reference ≡ Some o → HoldsShape P memory o.shape o.values) → class_of_shape P shape ≡ r.class
+  pub of_new_object : (at reference : ℕ) (shape : Shape) → IsThere (headers_in P) r.class → HasShape memory reference shape
+      → ((o : Object) → object_at memory reference ≡ Some o → HoldsShape P memory o.shape o.values) → class_of_shape P shape ≡ r.class
       → m.new_class at ≡ Some r.class → Uninitialised P s m memory r (types.Uninit at) (values.Ref reference)
   of_new_object at reference shape there has holds class new =
       let own : class_of_shape P has.object.shape ≡ r.class = ap (class_of_shape P) has.same ∙ class in
@@ -114,9 +127,11 @@ module _ (P : Program) (T : Typings) (program : IsTypedProgram P T) (s m : RowSc
         becomes = new_becomes at new;
       } where
         below_itself : (sh : Shape) → class_of_shape P sh ≡ r.class → P.links.below (class_of_shape P sh) r.class ≡ true
-        below_itself sh same = subst (λ n. P.links.below n r.class ≡ true) (sym same) ((program.links.below r.class r.class).1 (itself r.class))
+        below_itself sh same = subst (λ n. P.links.below n r.class ≡ true) (sym same)
+            ((program.links.below r.class r.class).1 (itself r.class))
 
-        folder : (sh : Shape) → has.object.shape ≡ sh → class_of_shape P sh ≡ r.class → is_external has.object.shape ≡ false → (k : ℕ) × (has.object.shape ≡ shapes.Folder k) × (P.links.below (name_of_class P k) r.class ≡ true)
+        folder : (sh : Shape) → has.object.shape ≡ sh → class_of_shape P sh ≡ r.class → is_external has.object.shape ≡ false
+            → (k : ℕ) × (has.object.shape ≡ shapes.Folder k) × (P.links.below (name_of_class P k) r.class ≡ true)
         folder (shapes.Folder k) e same inside = (k, e, below_itself (shapes.Folder k) same)
         folder (shapes.Array desc len) e same inside =
             let is = subst (λ sh. HoldsShape P memory sh has.object.values) e (holds has.object has.is_there) in
@@ -125,7 +140,8 @@ module _ (P : Program) (T : Typings) (program : IsTypedProgram P T) (s m : RowSc
 
   -- ---- of this
 
-  pub this_becomes : s.own.name ≡ m.own.name → (u : VType) (x : Value) → Conforms P m memory u x → Conforms P m memory (initialised_type s r types.UninitThis u) x
+  pub this_becomes : s.own.name ≡ m.own.name → (u : VType) (x : Value) → Conforms P m memory u x
+      → Conforms P m memory (initialised_type s r types.UninitThis u) x
   this_becomes own u x (to_top is) = to_top is
   this_becomes own u x an_int = an_int
   this_becomes own u x a_long = a_long
@@ -135,26 +151,35 @@ module _ (P : Program) (T : Typings) (program : IsTypedProgram P T) (s m : RowSc
   this_becomes own u x null_object = null_object
   this_becomes own u x (an_object shape is) = an_object shape is
   this_becomes own u x (of_new also has class) = of_new also has class
-  this_becomes own u x (of_this {class = k} has up) = an_object has (by_class (to_below (subst (λ n. P.links.below (name_of_class P k) n ≡ true) (sym own) up)))
+  this_becomes own u x (of_this {class = k} has up) =
+      an_object has (by_class (to_below (subst (λ n. P.links.below (name_of_class P k) n ≡ true) (sym own) up)))
 
   -- below what is directly above
-  pub over : {low middle high : Name} → ¬ IsArray low → IsSubtype (headers_in P) low middle → IsDirectlyBelow (headers_in P) middle high → IsSubtype (headers_in P) low high
-  over {low = low} {middle = middle} {high = high} flat sub step = by ((class_decides (headers_in P) (hierarchy_is_sound (headers_in P) program.hierarchy) program.hierarchy.no_array low middle flat).0 sub) where
-    by : IsAtOrBelow (headers_in P) low middle → IsSubtype (headers_in P) low high
-    by (inl e) = subst (λ n. IsSubtype (headers_in P) n high) (sym e) (below middle high high step (itself high))
-    by (inr up) = class_is_subtype (headers_in P) (hierarchy_is_sound (headers_in P) program.hierarchy) program.hierarchy.no_array (below_more up (directly middle high step))
+  pub over : {low middle high : Name} → ¬ IsArray low → IsSubtype (headers_in P) low middle → IsDirectlyBelow (headers_in P) middle high
+      → IsSubtype (headers_in P) low high
+  over {low = low} {middle = middle} {high = high} flat sub step =
+      by ((class_decides (headers_in P) (hierarchy_is_sound
+      (headers_in P) program.hierarchy) program.hierarchy.no_array low middle flat).0 sub) where
+        by : IsAtOrBelow (headers_in P) low middle → IsSubtype (headers_in P) low high
+        by (inl e) = subst (λ n. IsSubtype (headers_in P) n high) (sym e) (below middle high high step (itself high))
+        by (inr up) = class_is_subtype (headers_in P) (hierarchy_is_sound (headers_in P) program.hierarchy) program.hierarchy.no_array
+            (below_more up (directly middle high step))
 
-  pub this_below : (k : ℕ) → IsThere (headers_in P) (name_of_class P k) → P.links.below (name_of_class P k) m.own.name ≡ true → s.own.name ≡ m.own.name → class_named (headers_in P) s.own.name ≡ Some s.own → MayInitialise s r types.UninitThis
+  pub this_below : (k : ℕ) → IsThere (headers_in P) (name_of_class P k) → P.links.below (name_of_class P k) m.own.name ≡ true
+      → s.own.name ≡ m.own.name → class_named (headers_in P) s.own.name ≡ Some s.own → MayInitialise s r types.UninitThis
       → P.links.below (name_of_class P k) r.class ≡ true
   this_below k there up own header may = by may where
     to_own : IsSubtype (headers_in P) (name_of_class P k) s.own.name
     to_own = (program.links.below (name_of_class P k) s.own.name).0 (subst (λ n. P.links.below (name_of_class P k) n ≡ true) (sym own) up)
 
     by : (r.class ≡ s.own.name) ⊎ (s.own.super_name ≡ Some r.class) → P.links.below (name_of_class P k) r.class ≡ true
-    by (inl e) = (program.links.below (name_of_class P k) r.class).1 (subst (λ n. IsSubtype (headers_in P) (name_of_class P k) n) (sym e) to_own)
-    by (inr e) = (program.links.below (name_of_class P k) r.class).1 (over (no_array_there P T program (name_of_class P k) there) to_own (superclass s.own.name r.class s.own header e))
+    by (inl e) = (program.links.below (name_of_class P k) r.class).1
+        (subst (λ n. IsSubtype (headers_in P) (name_of_class P k) n) (sym e) to_own)
+    by (inr e) = (program.links.below (name_of_class P k) r.class).1
+        (over (no_array_there P T program (name_of_class P k) there) to_own (superclass s.own.name r.class s.own header e))
 
-  pub of_this_object : (reference k : ℕ) → HasShape memory reference (shapes.Folder k) → P.links.below (name_of_class P k) r.class ≡ true → s.own.name ≡ m.own.name → Uninitialised P s m memory r types.UninitThis (values.Ref reference)
+  pub of_this_object : (reference k : ℕ) → HasShape memory reference (shapes.Folder k) → P.links.below (name_of_class P k) r.class ≡ true
+      → s.own.name ≡ m.own.name → Uninitialised P s m memory r types.UninitThis (values.Ref reference)
   of_this_object reference k has up own = record {
     reference = reference;
     is = refl;
@@ -168,15 +193,20 @@ module _ (P : Program) (T : Typings) (program : IsTypedProgram P T) (s m : RowSc
 
   -- ---- the receiver of a call of an instance initialiser
 
-  pub uninitialised_object : (t : VType) (v : Value) → IsUninitialised t → MayInitialise s r t → Conforms P m memory t v → ((at : ℕ) → s.new_class at ≡ m.new_class at) → (t ≡ types.UninitThis → s.own.name ≡ m.own.name) → class_named (headers_in P) s.own.name ≡ Some s.own
-      → IsThere (headers_in P) r.class → ((n : ℕ) (o : Object) → object_at memory n ≡ Some o → HoldsShape P memory o.shape o.values) → Uninitialised P s m memory r t v
-  uninitialised_object t v is may (of_new {at = at} {reference = reference} {name = name} {shape = shape} new has class) news own header there holds =
+  pub uninitialised_object : (t : VType) (v : Value) → IsUninitialised t → MayInitialise s r t → Conforms P m memory t v
+      → ((at : ℕ) → s.new_class at ≡ m.new_class at) → (t ≡ types.UninitThis → s.own.name ≡ m.own.name)
+      → class_named (headers_in P) s.own.name ≡ Some s.own
+      → IsThere (headers_in P) r.class → ((n : ℕ) (o : Object) → object_at memory n ≡ Some o → HoldsShape P memory o.shape o.values)
+      → Uninitialised P s m memory r t v
+  uninitialised_object t v is may (of_new {at = at} {reference = reference} {name = name} {shape =
+      shape} new has class) news own header there holds =
       let new_is : m.new_class at ≡ Some r.class = sym (news at) ∙ may in
       let one : name ≡ r.class = some_of (sym new ∙ new_is) in
       of_new_object at reference shape there has (holds reference) (class ∙ one) new_is
   uninitialised_object t v is may (of_this {reference = reference} {class = k} has up) news own header there holds =
       let in_folder = subst (λ sh. HoldsShape P memory sh has.object.values) has.same (holds reference has.object has.is_there) in
-      of_this_object reference k has (this_below k (class_named_there P k in_folder.found in_folder.is_class) up (own refl) header may) (own refl)
+      of_this_object reference k has (this_below k (class_named_there P k in_folder.found in_folder.is_class) up (own refl) header may)
+      (own refl)
   uninitialised_object t v is may (to_top x) news own header there holds = absurd is
   uninitialised_object t v is may an_int news own header there holds = absurd is
   uninitialised_object t v is may a_long news own header there holds = absurd is

@@ -32,7 +32,9 @@ mod MethodsHere
 mod Callees
 mod Arguments
 mod Selected
-mod ReceiverTypes
+mod NamesThere
+mod ReceiverTests
+mod ThisTypes
 mod Calling
 mod LibraryClasses
 mod LookedUp

@@ -18,7 +18,8 @@ use Rattle.member_link.specs.References.{Reference}
 use Rattle.typed_runs.proofs.Basics.{and_first, and_second}
 use Rattle.typed_runs.specs.TypedPrograms.{Typings, IsTypedProgram}
 
-pub one_of_names : (P : Name → Type 0) (names : List Name) (name : Name) → AllByRecursion P names → list_any (bytes_eq name) names ≡ true → P name
+pub one_of_names : (P : Name → Type 0) (names : List Name) (name : Name) → AllByRecursion P names → list_any (bytes_eq name) names ≡ true
+    → P name
 one_of_names P [] name all is = cc
 one_of_names P (first ∷ names) name all is = by (bytes_eq name first) refl (λ e. one_of_names P names name all.1 e) where
   by : (b : Bool) → bytes_eq name first ≡ b → (list_any (bytes_eq name) names ≡ true → P name) → P name
@@ -27,7 +28,8 @@ one_of_names P (first ∷ names) name all is = by (bytes_eq name first) refl (λ
 
 module _ (P : Program) (T : Typings) (program : IsTypedProgram P T) where
   -- what is directly above a class of the library is of the library
-  pub super_of : (Q : Name → Type 0) (header : Header) (name : Name) → AllByRecursion Q (supers header) → header.super_name ≡ Some name → Q name
+  pub super_of : (Q : Name → Type 0) (header : Header) (name : Name) → AllByRecursion Q (supers header) → header.super_name ≡ Some name
+      → Q name
   super_of Q header name all is = by header.super_name all is where
     by : (o : Option Name) → AllByRecursion Q (supers (record header { super_name = o })) → o ≡ Some name → Q name
     by None all e = cc
@@ -39,15 +41,21 @@ module _ (P : Program) (T : Typings) (program : IsTypedProgram P T) where
     by None all = all
     by (Some above) all = all.1
 
-  pub directly_outside : {low high : Name} → IsDirectlyBelow (headers_in P) low high → folder_number P low ≡ None → folder_number P high ≡ None
-  directly_outside (superclass low high header is some) outside = super_of (λ n. folder_number P n ≡ None) header high (program.base.leans_on_itself low header is outside) some
+  pub directly_outside : {low high : Name} → IsDirectlyBelow (headers_in P) low high → folder_number P low ≡ None
+      → folder_number P high ≡ None
+  directly_outside (superclass low high header is some) outside =
+      super_of (λ n. folder_number P n ≡ None) header high (program.base.leans_on_itself low header is outside) some
   directly_outside (interface low high header is one) outside =
-      one_of_names (λ n. folder_number P n ≡ None) header.interfaces high (interface_of (λ n. folder_number P n ≡ None) header (program.base.leans_on_itself low header is outside)) one
+      one_of_names (λ n. folder_number P n ≡ None) header.interfaces high
+      (interface_of (λ n. folder_number P n ≡ None) header (program.base.leans_on_itself low header is outside)) one
 
-  pub above_outside : {low high : Name} → IsSubtype (headers_in P) low high → ¬ IsArray low → folder_number P low ≡ None → folder_number P high ≡ None
+  pub above_outside : {low high : Name} → IsSubtype (headers_in P) low high → ¬ IsArray low → folder_number P low ≡ None
+      → folder_number P high ≡ None
   above_outside (itself name) flat outside = outside
   above_outside (below low middle high step rest) flat outside =
-      above_outside rest (there_is_no_array (headers_in P) (hierarchy_is_sound (headers_in P) program.hierarchy) program.hierarchy.no_array middle (directly_there (headers_in P) (hierarchy_is_sound (headers_in P) program.hierarchy) step)) (directly_outside step outside)
+      above_outside rest (there_is_no_array (headers_in P)
+      (hierarchy_is_sound (headers_in P) program.hierarchy) program.hierarchy.no_array middle
+      (directly_there (headers_in P) (hierarchy_is_sound (headers_in P) program.hierarchy) step)) (directly_outside step outside)
   above_outside (of_arrays low high is above) flat outside = absurd (flat is)
   above_outside (components low high one other is also sub) flat outside = absurd (flat (is_array_of is))
 
@@ -55,7 +63,8 @@ module _ (P : Program) (T : Typings) (program : IsTypedProgram P T) where
   no_array_handle is = let e : 106 ≡ 91 = ap (λ xs. get_or xs 0 0) is.1 in absurd (omega (arith, e))
 
   -- a signature polymorphic method is none of the folder
-  pub polymorphic_outside : (r : Reference) (m : Declared) → is_polymorphic P r ≡ true → IsSubtype (headers_in P) r.class m.class → (desc : List ℕ) → place_of_method P (record (reference_to m) { desc = desc }) ≡ None
+  pub polymorphic_outside : (r : Reference) (m : Declared) → is_polymorphic P r ≡ true → IsSubtype (headers_in P) r.class m.class
+      → (desc : List ℕ) → place_of_method P (record (reference_to m) { desc = desc }) ≡ None
   polymorphic_outside r m is above desc =
       let class : r.class ≡ method_handle = (bytes_eq-Decides r.class method_handle).0 (and_first _ _ is) in
       let outside : folder_number P r.class ≡ None = none (folder_number P r.class) (and_second _ _ (and_second _ _ is)) in

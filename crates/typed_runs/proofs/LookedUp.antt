@@ -16,8 +16,10 @@ use Rattle.typed_runs.specs.TypedPrograms.{Typings, IsTypedProgram}
 
 -- the laws of look-up
 pub record LookUps : Type 0 where
-  pub finds_one : (headers : Headers) (class : Name) (name desc : List ℕ) (one other : Option Declared) → FindsMethod headers class name desc one → FindsMethod headers class name desc other → one ≡ other
-  pub finds_above : (headers : Headers) (class : Name) (name desc : List ℕ) (method : Declared) → IsHierarchy headers → FindsMethod headers class name desc (Some method) → IsMethodAbove headers class name desc method
+  pub finds_one : (headers : Headers) (class : Name) (name desc : List ℕ) (one other : Option Declared)
+      → FindsMethod headers class name desc one → FindsMethod headers class name desc other → one ≡ other
+  pub finds_above : (headers : Headers) (class : Name) (name desc : List ℕ) (method : Declared) → IsHierarchy headers
+      → FindsMethod headers class name desc (Some method) → IsMethodAbove headers class name desc method
 
 -- the method that a reference names
 pub record LookedUp (P : Program) (Form : Declared → Type 0) (r : Reference) : Type 0 where
@@ -27,17 +29,27 @@ pub record LookedUp (P : Program) (Form : Declared → Type 0) (r : Reference) :
   pub form : Form method
   pub no_clinit : method.member.name ≢ clinit
 
-pub looked_up : (P : Program) (T : Typings) → IsTypedProgram P T → LookUps → (Form : Declared → Type 0) (r : Reference) → HasMethod (headers_in P) Form r → LookedUp P Form r
+pub looked_up : (P : Program) (T : Typings) → IsTypedProgram P T → LookUps → (Form : Declared → Type 0) (r : Reference)
+    → HasMethod (headers_in P) Form r → LookedUp P Form r
 looked_up P T program laws Form r has =
     let above = laws.finds_above (headers_in P) r.class r.name r.desc has.method program.hierarchy has.finds in
-    record { method = has.method; finds = has.finds; is = above; form = has.form; no_clinit = λ e. has.no_clinit (sym above.same_name ∙ e) }
+    record {
+      method = has.method;
+      finds = has.finds;
+      is = above;
+      form = has.form;
+      no_clinit =
+          λ e. has.no_clinit (sym above.same_name ∙ e);
+    }
 
-module _ {P : Program} {T : Typings} (program : IsTypedProgram P T) (laws : LookUps) {Form : Declared → Type 0} {r : Reference} (l : LookedUp P Form r) where
+module _ {P : Program} {T : Typings} (program : IsTypedProgram P T) (laws : LookUps) {Form : Declared → Type 0} {r : Reference}
+    (l : LookedUp P Form r) where
   -- the links answer it, but for an instance initialiser
   pub linked_to : r.name ≢ init → P.links.method r ≡ Some (reference_to l.method)
   linked_to other =
       let link = program.links.method r other in
-      link.same ∙ ap (option_map reference_to) (laws.finds_one (headers_in P) r.class r.name r.desc link.found (Some l.method) link.finds l.finds)
+      link.same ∙ ap (option_map reference_to) (laws.finds_one (headers_in P) r.class r.name r.desc link.found
+      (Some l.method) link.finds l.finds)
 
   pub no_initialiser : r.name ≢ init → l.method.member.name ≢ init
   no_initialiser other e = other (sym l.is.same_name ∙ e)

@@ -5,5 +5,7 @@
 mod steps;
 mod worlds;
 
-pub use steps::{a_call_stays_typed, a_step_of_a_beginning_stays_typed, an_instruction_on_operands_stays_typed};
+pub use steps::{
+    a_call_stays_typed, a_step_of_a_beginning_stays_typed, an_instruction_on_operands_stays_typed,
+};
 pub use worlds::a_run_starts_typed;

@@ -1,1 +1,0 @@
-cd /work/h/t-calls/crates/typed_runs; export RT_JOBS=1; (time rt check --jobs 1 --only a_call_stays_typed) > /tmp/t-calls.log 2>&1; grep -v "^library\|^statements\|^rt: \|^logic" /tmp/t-calls.log | cut -c1-${1:-1000}
