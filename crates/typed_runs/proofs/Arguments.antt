@@ -1,6 +1,6 @@
-use Rattle.std.specs.Prelude.{◌≡◌, ◌≢◌, ◌-◌, refl, ℕ, zero, suc, Bool, true, false, List, [], ◌∷◌, ◌++◌, map, length, replicate, Option, Some, None}
+use Rattle.std.specs.Prelude.{◌≡◌, ◌≢◌, ◌-◌, refl, ℕ, Bool, true, false, List, [], ◌∷◌, ◌++◌, map, length, replicate, Option, Some, None}
 use Rattle.std.specs.List.{AllByRecursion}
-use Rattle.std.proofs.Common.{ap, sym, ◌∙◌, subst}
+use Rattle.std.proofs.Common.{sym, subst}
 use Rattle.std.proofs.lemmas.Slice.Eq.{bytes_eq-Decides}
 use Rattle.class_model.specs.Code.{entry_frame, verification_type}
 use Rattle.class_model.specs.Descriptors.{kind_of, parameters_of}
@@ -11,7 +11,6 @@ use Rattle.class_model.specs.declared.descriptor.FieldType.{FieldType}
 use Rattle.class_model.specs.declared.descriptor.FieldType.TheVariants as field_types
 use Rattle.class_model.specs.declared.frame.VType.{VType}
 use Rattle.class_model.specs.declared.frame.VType.TheVariants as types
-use Rattle.class_tree.specs.Headers.{Name}
 use Rattle.machine_values.specs.Heaps.{Heap}
 use Rattle.machine_values.specs.Values.{has_kind, have_kinds, units_of_values}
 use Rattle.machine_values.specs.declared.object.Shape.{Shape}
@@ -27,7 +26,7 @@ use Rattle.member_link.specs.Rows.Operands.{AllFit, assignable_to}
 use Rattle.typed_runs.proofs.Assigned.{assigned}
 use Rattle.typed_runs.proofs.BeginningSteps.{blank_units, blank_paired}
 use Rattle.typed_runs.proofs.Units.{as_many_units}
-use Rattle.typed_runs.specs.Conforming.{HasShape, Conforms, to_top, an_int, a_long, a_float, a_double, only_null, null_object, an_object, of_new, of_this, AllConform, no_values, and_value, UnitConforms, no_value, has_value, UnitsConform, no_units, and_unit, ShapeConforms}
+use Rattle.typed_runs.specs.Conforming.{HasShape, Conforms, to_top, an_int, a_long, a_float, a_double, only_null, null_object, an_object, of_new, of_this, AllConform, no_values, and_value, no_value, has_value, UnitsConform, no_units, and_unit, ShapeConforms}
 use Rattle.typed_runs.specs.TypedFrames.{ArePaired}
 use Rattle.typed_runs.specs.TypedPrograms.{Typings, IsTypedProgram}
 

@@ -1,27 +1,20 @@
 use Rattle.std.specs.Prelude.{◌≡◌, ◌⊎◌, ◌+◌, refl, ℕ, List, [], ◌∷◌, length, drop, Some}
-use Rattle.std.specs.List.{AllByRecursion}
 use Rattle.std.proofs.Common.{arith, inl, inr, sym, subst}
 use Rattle.std.proofs.lemmas.List.{length-map}
-use Rattle.class_model.specs.Code.{verification_type}
 use Rattle.class_model.specs.Descriptors.{parameters_of}
-use Rattle.class_model.specs.declared.descriptor.FieldType.{FieldType}
-use Rattle.class_model.specs.declared.frame.Frame.{Frame}
 use Rattle.class_model.specs.declared.frame.VType.{VType}
 use Rattle.class_model.specs.declared.frame.VType.TheVariants as types
 use Rattle.class_tree.specs.Headers.{Name}
 use Rattle.machine_values.specs.Frames.{MethodState}
 use Rattle.machine_values.specs.Heaps.{Heap, object_at}
-use Rattle.machine_values.specs.declared.frame.RunFrame.{RunFrame}
 use Rattle.machine_values.specs.declared.object.Object.{Object}
 use Rattle.machine_values.specs.declared.value.Value.{Value}
 use Rattle.machine_values.specs.declared.value.Value.TheVariants as values
-use Rattle.member_link.specs.Machine.Ops.{Op}
 use Rattle.member_link.specs.Machine.Programs.{Program, headers_in}
-use Rattle.member_link.specs.Machine.Worlds.{World}
 use Rattle.member_link.specs.References.{Reference}
 use Rattle.member_link.specs.RowScope.{RowScope}
 use Rattle.member_link.specs.Rows.MemberRows.{argument_needs}
-use Rattle.member_link.specs.Rows.Operands.{Need, AllFit, Fits, topmost}
+use Rattle.member_link.specs.Rows.Operands.{Need, AllFit, Fits}
 use Rattle.typed_runs.proofs.Arguments.{AreArguments, arguments}
 use Rattle.typed_runs.specs.Conforming.{HasShape, ShapeConforms, Conforms, null_object, an_object, AllConform, and_value}
 use Rattle.typed_runs.specs.TypedPrograms.{Typings, IsTypedProgram}

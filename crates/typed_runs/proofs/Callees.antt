@@ -1,4 +1,4 @@
-use Rattle.std.specs.Prelude.{◌≡◌, ◌⊎◌, ◌&&◌, ◌||◌, ◌+◌, not, refl, ℕ, zero, suc, Bool, true, false, List, [], ◌∷◌, ◌++◌, map, slice_get, bytes_eq, codes, Option, Some, None, is_some, option_map, option_and_then, if◌then◌else◌}
+use Rattle.std.specs.Prelude.{◌≡◌, ◌⊎◌, ◌&&◌, ◌||◌, ◌+◌, refl, ℕ, zero, suc, Bool, true, false, List, [], ◌∷◌, ◌++◌, map, slice_get, bytes_eq, codes, Option, Some, None, option_map, if◌then◌else◌}
 use Rattle.std.proofs.Common.{arith, inl, inr, ap, sym, ◌∙◌, subst}
 use Rattle.std.proofs.lemmas.Slice.Eq.{bytes_eq-Decides}
 use Rattle.class_model.specs.declared.class_file.MethodAt.{MethodAt}
@@ -8,7 +8,6 @@ use Rattle.class_tree.specs.Headers.{Name, named}
 use Rattle.class_tree.specs.Laws.Headers.{same_class, own_name}
 use Rattle.class_tree.specs.Names.{method_handle}
 use Rattle.class_tree.specs.Order.{first_place, place_of}
-use Rattle.class_tree.specs.declared.place.Place.{Place}
 use Rattle.class_tree.specs.declared.place.Place.TheVariants as places
 use Rattle.member_link.specs.DeclaredMembers.{Declared, IsMethod, declared}
 use Rattle.member_link.specs.Machine.CallSteps.{is_polymorphic}

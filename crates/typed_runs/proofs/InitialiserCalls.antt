@@ -1,4 +1,4 @@
-use Rattle.std.specs.Prelude.{◌≡◌, ◌≢◌, ◌⊎◌, ◌-◌, refl, ℕ, zero, suc, Bool, true, false, List, [], ◌∷◌, map, length, take, drop, reverse, bytes_eq, Option, Some, None, is_some, if◌then◌else◌}
+use Rattle.std.specs.Prelude.{◌≡◌, ◌≢◌, ◌⊎◌, ◌-◌, refl, ℕ, zero, suc, Bool, true, false, List, [], ◌∷◌, map, length, drop, reverse, bytes_eq, Some, None, if◌then◌else◌}
 use Rattle.std.specs.List.{AllByRecursion}
 use Rattle.std.proofs.Common.{inl, inr, ap, sym, ◌∙◌, subst}
 use Rattle.std.proofs.lemmas.Slice.Eq.{bytes_eq-Decides}
@@ -8,21 +8,18 @@ use Rattle.class_model.specs.Names.{init}
 use Rattle.class_model.specs.declared.frame.Frame.{Frame}
 use Rattle.class_model.specs.declared.frame.VType.{VType}
 use Rattle.class_model.specs.declared.frame.VType.TheVariants as types
-use Rattle.class_model.specs.declared.header.Header.{Header}
 use Rattle.class_tree.specs.Headers.{Name, class_named, IsThere}
 use Rattle.machine_values.specs.Frames.{MethodState}
-use Rattle.machine_values.specs.Values.{have_kinds}
 use Rattle.machine_values.specs.declared.frame.RunFrame.{RunFrame}
 use Rattle.machine_values.specs.declared.object.Shape.TheVariants as shapes
 use Rattle.machine_values.specs.declared.value.Value.{Value}
 use Rattle.machine_values.specs.declared.value.Value.TheVariants as values
-use Rattle.member_link.specs.DeclaredMembers.{Declared, IsMethod}
+use Rattle.member_link.specs.DeclaredMembers.{Declared}
 use Rattle.member_link.specs.Forms.{IsInstanceForm}
 use Rattle.member_link.specs.Machine.CallSteps.{run_call, on_receiver, is_polymorphic, if_conforms, is_object_init, found_special, special_choice, special_on, call_found_special, call_special_work}
 use Rattle.member_link.specs.Machine.Completions.{gives}
 use Rattle.member_link.specs.Machine.Links.{reference_to}
 use Rattle.member_link.specs.Machine.Ops.{call_special}
-use Rattle.member_link.specs.Machine.Performing.{perform}
 use Rattle.member_link.specs.Machine.Programs.{Program, Chosen, chosen, abstract_method, headers_in, name_of_class, method_of, has_flag}
 use Rattle.member_link.specs.Machine.Shapes.{is_external}
 use Rattle.member_link.specs.Machine.Stepping.{op_step}
@@ -36,7 +33,6 @@ use Rattle.member_link.specs.Signatures.{result_of}
 use Rattle.typed_runs.proofs.Arguments.{AreArguments, arguments_kinds, BeginsWith, begins_initialiser}
 use Rattle.typed_runs.proofs.ArgumentsHere.{stack_under, with_receiver_needs, received, ObjectOf}
 use Rattle.typed_runs.proofs.Assigned.{all_in_heap}
-use Rattle.typed_runs.proofs.Basics.{some_of}
 use Rattle.typed_runs.proofs.Callees.{method_is}
 use Rattle.typed_runs.proofs.Calling.{StaysAfter, Leaves, runs_goes, receiver_goes}
 use Rattle.typed_runs.proofs.Here.{Here, operands_here, worked, gives_goes}

@@ -1,15 +1,13 @@
-use Rattle.std.specs.Prelude.{◌≡◌, ◌≢◌, ◌⊎◌, ◌==◌, ◌&&◌, ◌+◌, refl, ℕ, zero, suc, Bool, true, false, List, [], ◌∷◌, map, length, take, drop, reverse, bytes_eq, codes, Option, Some, None, option_map, option_and_then, if◌then◌else◌}
-use Rattle.std.specs.List.{AllByRecursion}
+use Rattle.std.specs.Prelude.{◌≡◌, ◌⊎◌, ◌==◌, refl, ℕ, Bool, true, false, List, map, bytes_eq, codes, Option, Some, None, option_map, if◌then◌else◌}
 use Rattle.std.proofs.Common.{inl, inr, ap, sym, ◌∙◌, subst}
 use Rattle.std.proofs.lemmas.Slice.Eq.{bytes_eq-Decides}
 use Rattle.class_model.specs.Names.{init}
 use Rattle.class_model.specs.declared.frame.VType.{VType}
 use Rattle.class_model.specs.declared.frame.VType.TheVariants as types
 use Rattle.class_model.specs.declared.header.Header.{Header}
-use Rattle.class_model.specs.declared.header.Member.{Member}
 use Rattle.class_tree.specs.Headers.{Name, Headers, class_named, IsThere}
 use Rattle.class_tree.specs.Laws.Above.{hierarchy_is_sound, class_decides, class_is_subtype, below_more}
-use Rattle.class_tree.specs.Subtype.{IsArray, IsDirectlyBelow, superclass, IsBelow, directly, IsSubtype, itself, below}
+use Rattle.class_tree.specs.Subtype.{IsArray, IsDirectlyBelow, superclass, directly, IsSubtype, itself, below}
 use Rattle.class_tree.specs.Names.{method_handle}
 use Rattle.machine_values.specs.Heaps.{Heap, object_at}
 use Rattle.machine_values.specs.declared.object.Object.{Object}
@@ -20,10 +18,9 @@ use Rattle.machine_values.specs.declared.value.Value.TheVariants as values
 use Rattle.member_link.specs.Access.{IsAtOrBelow}
 use Rattle.member_link.specs.DeclaredMembers.{Declared, declared_by, declared, own_method}
 use Rattle.member_link.specs.Machine.CallSteps.{is_polymorphic}
-use Rattle.member_link.specs.Machine.Links.{reference_to}
-use Rattle.member_link.specs.Machine.Programs.{Program, headers_in, folder_number, name_of_class}
+use Rattle.member_link.specs.Machine.Programs.{Program, headers_in, name_of_class}
 use Rattle.member_link.specs.Machine.Shapes.{class_of_shape, is_external}
-use Rattle.member_link.specs.Methods.{FindsMethod, initialiser, polymorphic, of_array, of_class, IsPolymorphic}
+use Rattle.member_link.specs.Methods.{FindsMethod, initialiser, polymorphic, of_array, of_class}
 use Rattle.member_link.specs.References.{Reference}
 use Rattle.member_link.specs.RowScope.{RowScope}
 use Rattle.member_link.specs.Rows.MemberRows.{MayInitialise, initialised_type}
@@ -32,7 +29,7 @@ use Rattle.typed_runs.proofs.Basics.{some_of, and_false, same_number}
 use Rattle.typed_runs.proofs.BeginningSteps.{of_map}
 use Rattle.typed_runs.proofs.Points.{of_chain}
 use Rattle.typed_runs.proofs.NamesThere.{class_named_there, no_array_there}
-use Rattle.typed_runs.specs.Conforming.{HasShape, Conforms, to_top, an_int, a_long, a_float, a_double, only_null, null_object, an_object, of_new, of_this, AllConform, no_values, and_value, UnitConforms, no_value, has_value, UnitsConform, no_units, and_unit, ShapeConforms, by_class, to_below, IsTypedMemory, HoldsShape}
+use Rattle.typed_runs.specs.Conforming.{HasShape, Conforms, to_top, an_int, a_long, a_float, a_double, only_null, null_object, an_object, of_new, of_this, AllConform, no_values, and_value, UnitConforms, no_value, has_value, UnitsConform, no_units, and_unit, ShapeConforms, by_class, to_below, HoldsShape}
 use Rattle.typed_runs.specs.TypedPrograms.{Typings, IsTypedProgram}
 
 -- ---- types that become others

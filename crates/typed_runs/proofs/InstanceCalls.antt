@@ -1,4 +1,4 @@
-use Rattle.std.specs.Prelude.{◌≡◌, ◌≢◌, ◌⊎◌, ◌+◌, refl, ℕ, Bool, true, false, List, [], ◌∷◌, length, take, drop, reverse, Option, Some, if◌then◌else◌}
+use Rattle.std.specs.Prelude.{◌≡◌, ◌≢◌, ◌⊎◌, ◌+◌, refl, ℕ, Bool, true, false, List, [], ◌∷◌, length, take, reverse, if◌then◌else◌}
 use Rattle.std.specs.List.{AllByRecursion}
 use Rattle.std.proofs.Common.{inl, inr, ap, sym, ◌∙◌, subst}
 use Rattle.class_model.specs.Descriptors.{parameters_of}
@@ -22,7 +22,6 @@ use Rattle.member_link.specs.Machine.CallSteps.{run_call, on_receiver, is_polymo
 use Rattle.member_link.specs.Machine.Completions.{Completion, raises}
 use Rattle.member_link.specs.Machine.Links.{reference_to}
 use Rattle.member_link.specs.Machine.Ops.{Op, call_virtual, call_interface}
-use Rattle.member_link.specs.Machine.Performing.{perform}
 use Rattle.member_link.specs.Machine.Programs.{Program, chosen, headers_in, method_of, has_flag}
 use Rattle.member_link.specs.Machine.Shapes.{class_of_shape, is_external, is_instance}
 use Rattle.member_link.specs.Machine.Stepping.{work_step, op_step}
@@ -33,7 +32,7 @@ use Rattle.member_link.specs.References.{Reference, IsNamedThere}
 use Rattle.member_link.specs.RowScope.{RowScope}
 use Rattle.member_link.specs.Rows.MemberRows.{argument_needs, instance_row}
 use Rattle.member_link.specs.Rows.Operands.{assignable_to, topmost}
-use Rattle.member_link.specs.Rows.Row.{Row, access_aside}
+use Rattle.member_link.specs.Rows.Row.{Row}
 use Rattle.member_link.specs.declared.selection.CallForm.{CallForm}
 use Rattle.member_link.specs.declared.selection.CallForm.TheVariants.{Virtual, Interface}
 use Rattle.typed_runs.proofs.Arguments.{AreArguments, arguments_kinds, BeginsWith, begins_instance}

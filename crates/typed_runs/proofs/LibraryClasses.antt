@@ -1,10 +1,9 @@
-use Rattle.std.specs.Prelude.{◌≡◌, ◌&&◌, ◌||◌, not, refl, ℕ, Bool, true, false, List, [], ◌∷◌, bytes_eq, codes, get_or, Option, Some, None, is_some, option_and_then}
+use Rattle.std.specs.Prelude.{◌≡◌, not, refl, ℕ, Bool, true, false, List, [], ◌∷◌, bytes_eq, get_or, Option, Some, None, is_some}
 use Rattle.std.specs.List.{AllByRecursion, list_any}
-use Rattle.std.proofs.Common.{arith, ap, sym, ◌∙◌, subst}
+use Rattle.std.proofs.Common.{arith, ap, sym, subst}
 use Rattle.std.proofs.lemmas.Slice.Eq.{bytes_eq-Decides}
-use Rattle.class_model.specs.declared.class_file.MethodAt.{MethodAt}
 use Rattle.class_model.specs.declared.header.Header.{Header}
-use Rattle.class_tree.specs.Headers.{Name, class_named}
+use Rattle.class_tree.specs.Headers.{Name}
 use Rattle.class_tree.specs.Laws.Above.{hierarchy_is_sound, there_is_no_array, directly_there}
 use Rattle.class_tree.specs.Laws.Arrays.{is_array_of}
 use Rattle.class_tree.specs.Names.{method_handle}

@@ -1,9 +1,9 @@
-use Rattle.std.specs.Prelude.{◌≡◌, ◌≢◌, ◌⊎◌, refl, ℕ, Bool, true, false, List, Option, Some, None, option_map, if◌then◌else◌}
-use Rattle.std.proofs.Common.{inl, inr, ap, sym, ◌∙◌, subst}
+use Rattle.std.specs.Prelude.{◌≡◌, ◌≢◌, ◌⊎◌, ℕ, true, false, List, Option, Some, option_map}
+use Rattle.std.proofs.Common.{inl, inr, ap, sym, ◌∙◌}
 use Rattle.class_model.specs.Names.{clinit, init}
 use Rattle.class_tree.specs.Headers.{Name, Headers}
 use Rattle.class_tree.specs.Hierarchy.{IsHierarchy}
-use Rattle.member_link.specs.DeclaredMembers.{Declared, IsMethod}
+use Rattle.member_link.specs.DeclaredMembers.{Declared}
 use Rattle.member_link.specs.FoundAbove.{IsMethodAbove}
 use Rattle.member_link.specs.Machine.CallSteps.{is_polymorphic}
 use Rattle.member_link.specs.Machine.Links.{reference_to}

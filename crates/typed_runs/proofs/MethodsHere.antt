@@ -1,4 +1,4 @@
-use Rattle.std.specs.Prelude.{◌≡◌, ℕ, Bool, List, Option, Some, slice_get}
+use Rattle.std.specs.Prelude.{◌≡◌, ℕ, Bool, List, Some, slice_get}
 use Rattle.std.proofs.Common.{◌∙◌}
 use Rattle.class_model.specs.declared.frame.Frame.{Frame}
 use Rattle.machine_values.specs.Frames.{MethodState}

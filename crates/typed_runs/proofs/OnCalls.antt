@@ -12,9 +12,9 @@ use Rattle.class_model.specs.declared.pool.Const.TheVariants as consts
 use Rattle.machine_values.specs.Frames.{MethodState}
 use Rattle.machine_values.specs.declared.frame.RunFrame.{RunFrame}
 use Rattle.machine_values.specs.declared.frame.RunFrame.TheVariants as frames
-use Rattle.member_link.specs.Bodies.{CodeItem, item_instr, item_null_test, item_row, item_targets, item_falls_through}
+use Rattle.member_link.specs.Bodies.{CodeItem, item_instr, item_row, item_targets, item_falls_through}
 use Rattle.member_link.specs.Machine.Codes.{item_op, or_meaningless, call_op, dynamic_op, special_start, initialises}
-use Rattle.member_link.specs.Machine.Ops.{Op, meaningless, get_static, put_static, get_field, put_field, call_static, call_virtual, call_interface, call_special, call_dynamic, new_object, new_array, new_arrays, load_element, store_element, check_cast, instance_of, jump_by_int, jump_by_ints, jump_by_references, jump_by_null}
+use Rattle.member_link.specs.Machine.Ops.{meaningless, get_static, put_static, get_field, put_field, call_special, new_object, new_array, new_arrays, load_element, store_element, check_cast, instance_of, jump_by_int, jump_by_ints, jump_by_references, jump_by_null}
 use Rattle.member_link.specs.Machine.Programs.{Program}
 use Rattle.member_link.specs.Machine.Stepping.{op_step, point_step, frames_step, is_library_turn, step}
 use Rattle.member_link.specs.Machine.Worlds.{World}

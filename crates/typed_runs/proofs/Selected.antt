@@ -1,4 +1,4 @@
-use Rattle.std.specs.Prelude.{◌≡◌, ◌≢◌, ◌⊎◌, ◌&&◌, not, refl, ℕ, Bool, true, false, List, [], ◌∷◌, Option, Some, None, IsTrue, if◌then◌else◌}
+use Rattle.std.specs.Prelude.{◌≡◌, ◌≢◌, ◌⊎◌, ◌&&◌, not, refl, ℕ, Bool, true, false, List, [], ◌∷◌, Option, Some, if◌then◌else◌}
 use Rattle.std.proofs.Common.{inl, inr, ap, sym, ◌∙◌, subst}
 use Rattle.std.proofs.lemmas.Slice.Eq.{bytes_eq-Decides}
 use Rattle.class_model.specs.Members.{has, PRIVATE, STATIC, ABSTRACT, PUBLIC}
@@ -8,13 +8,12 @@ use Rattle.class_tree.specs.Headers.{Name, Headers}
 use Rattle.class_tree.specs.Names.{is_member}
 use Rattle.class_tree.specs.Subtype.{IsDirectlyBelow, superclass, IsBelow, directly, onwards}
 use Rattle.member_link.specs.Access.{IsAtOrBelow}
-use Rattle.member_link.specs.DeclaredMembers.{Declared, declared_by, IsMethod, declared, own_method, is_inherited}
-use Rattle.member_link.specs.Defaults.{IsDefault}
-use Rattle.member_link.specs.Machine.Links.{AreLinksOf, reference_to, chosen_by, IsChoiceLink, IsSelection}
+use Rattle.member_link.specs.DeclaredMembers.{Declared, declared_by, IsMethod, declared, own_method}
+use Rattle.member_link.specs.Machine.Links.{reference_to, chosen_by, IsChoiceLink, IsSelection}
 use Rattle.member_link.specs.Machine.Programs.{Program, Chosen, chosen, headers_in}
 use Rattle.member_link.specs.Overriding.{MayOverride, Overrides, overrides_open, overrides_in_package, overrides_through}
 use Rattle.member_link.specs.References.{Reference}
-use Rattle.member_link.specs.Selection.{Choice, chosen_method, abstract_choice, several_defaults, choice_not_public, choice_of, public_choice_of, ChoosesDefault, the_one, no_default, two_defaults, Chooses, first_upwards, by_default, start_of, IsOrOverrides, CountsForSpecial, Selects, of_private, of_virtual, of_interface, of_initialiser, of_special}
+use Rattle.member_link.specs.Selection.{Choice, chosen_method, abstract_choice, several_defaults, choice_not_public, choice_of, public_choice_of, ChoosesDefault, the_one, no_default, two_defaults, Chooses, first_upwards, by_default, start_of, IsOrOverrides, Selects, of_private, of_virtual, of_interface, of_initialiser, of_special}
 use Rattle.member_link.specs.Upwards.{FirstUpwards, in_itself, in_superclass, in_no_superclass, in_absent_class}
 use Rattle.member_link.specs.declared.selection.CallForm.{CallForm}
 use Rattle.typed_runs.proofs.Basics.{and_first, and_second, some_of}

@@ -1,4 +1,4 @@
-use Rattle.std.specs.Prelude.{◌≡◌, ◌≢◌, ◌⊎◌, ◌&&◌, ◌+◌, not, refl, ℕ, Bool, true, false, List, [], ◌∷◌, length, take, drop, reverse, bytes_eq, Option, Some, None, if◌then◌else◌}
+use Rattle.std.specs.Prelude.{◌≡◌, ◌≢◌, ◌⊎◌, ◌&&◌, ◌+◌, not, refl, ℕ, Bool, true, false, List, [], ◌∷◌, length, bytes_eq, Option, Some, None}
 use Rattle.std.proofs.Common.{inl, inr, ap, sym, ◌∙◌, subst}
 use Rattle.std.proofs.lemmas.Slice.Eq.{bytes_eq-Decides}
 use Rattle.class_model.specs.Descriptors.{parameters_of}
@@ -20,10 +20,8 @@ use Rattle.member_link.specs.Assignability.{IsAssignable, to_class_above}
 use Rattle.member_link.specs.Forms.{IsInstanceForm}
 use Rattle.member_link.specs.Machine.CallSteps.{on_receiver, if_conforms, is_object_init, found_special, special_choice, special_on, call_found_special}
 use Rattle.member_link.specs.Machine.Codes.{special_start}
-use Rattle.member_link.specs.Machine.Completions.{gives}
 use Rattle.member_link.specs.Machine.Links.{reference_to}
 use Rattle.member_link.specs.Machine.Ops.{call_special}
-use Rattle.member_link.specs.Machine.Performing.{perform}
 use Rattle.member_link.specs.Machine.Programs.{Program, Links, headers_in}
 use Rattle.member_link.specs.Machine.Stepping.{op_step}
 use Rattle.member_link.specs.Machine.Worlds.{World}
@@ -33,17 +31,16 @@ use Rattle.member_link.specs.Rows.MemberRows.{argument_needs, receiver, special_
 use Rattle.member_link.specs.Rows.Operands.{Need, assignable_to, topmost}
 use Rattle.member_link.specs.Rows.Row.{access_aside}
 use Rattle.member_link.specs.declared.selection.CallForm.TheVariants.{Special}
-use Rattle.typed_runs.proofs.Arguments.{not_init}
 use Rattle.typed_runs.proofs.ArgumentsHere.{stack_under, with_receiver_needs, ObjectOf, object_value}
 use Rattle.typed_runs.proofs.Assigned.{assigned, shape_assigned}
 use Rattle.typed_runs.proofs.Basics.{some_of, and_false}
 use Rattle.typed_runs.proofs.Calling.{StaysAfter}
 use Rattle.typed_runs.proofs.Here.{Here}
-use Rattle.typed_runs.proofs.InstanceCalls.{Operands, of_object, receiver_cases, selected_goes, conforming_goes, call_operands, call_worked}
+use Rattle.typed_runs.proofs.InstanceCalls.{of_object, receiver_cases, selected_goes, conforming_goes, call_operands, call_worked}
 use Rattle.typed_runs.proofs.LookedUp.{LookUps, looked_up, linked_to, no_initialiser}
 use Rattle.typed_runs.proofs.MethodsHere.{headers_here}
 use Rattle.typed_runs.proofs.Stacks.{lowest_is}
-use Rattle.typed_runs.specs.Conforming.{ShapeConforms, Conforms}
+use Rattle.typed_runs.specs.Conforming.{ShapeConforms}
 use Rattle.typed_runs.specs.TypedPrograms.{Typings, IsTypedProgram}
 use Rattle.typed_runs.specs.TypedWorlds.{StaysTyped}
 

@@ -1,22 +1,13 @@
-use Rattle.std.specs.Prelude.{◌≡◌, ◌≢◌, ◌&&◌, refl, ℕ, Bool, true, false, List, [], ◌∷◌, length, take, drop, reverse, Option, Some, None, if◌then◌else◌}
-use Rattle.std.specs.List.{AllByRecursion}
+use Rattle.std.specs.Prelude.{◌≡◌, refl, ℕ, Bool, true, false, List, [], ◌∷◌, length, take, drop, reverse, Option, Some, None, if◌then◌else◌}
 use Rattle.std.proofs.Common.{ap, sym, ◌∙◌, subst}
-use Rattle.std.proofs.lemmas.Slice.Eq.{bytes_eq-Decides}
 use Rattle.class_model.specs.Descriptors.{parameters_of}
-use Rattle.class_model.specs.Members.{has, STATIC}
-use Rattle.class_model.specs.Names.{init}
+use Rattle.class_model.specs.Members.{STATIC}
 use Rattle.class_model.specs.declared.frame.Frame.{Frame}
-use Rattle.class_model.specs.declared.header.Header.{Header}
-use Rattle.class_tree.specs.Headers.{Name, class_named}
-use Rattle.class_tree.specs.Names.{method_handle}
-use Rattle.class_tree.specs.Steps.{supers}
-use Rattle.class_tree.specs.Subtype.{IsArray, IsDirectlyBelow, superclass, interface, IsSubtype, itself, below, of_arrays, components}
+use Rattle.class_tree.specs.Headers.{Name}
 use Rattle.machine_values.specs.Frames.{MethodState}
-use Rattle.machine_values.specs.Values.{have_kinds}
 use Rattle.machine_values.specs.declared.frame.RunFrame.{RunFrame}
 use Rattle.machine_values.specs.declared.frame.RunFrame.TheVariants as frames
 use Rattle.machine_values.specs.declared.value.Value.{Value}
-use Rattle.member_link.specs.DeclaredMembers.{Declared}
 use Rattle.member_link.specs.Forms.{IsStaticForm}
 use Rattle.member_link.specs.Machine.CallSteps.{run_call, as_asked, is_polymorphic, call_static_work}
 use Rattle.member_link.specs.Machine.Completions.{Completion, begins}
@@ -24,7 +15,7 @@ use Rattle.member_link.specs.Machine.FieldSteps.{begun_first}
 use Rattle.member_link.specs.Machine.Links.{reference_to}
 use Rattle.member_link.specs.Machine.Ops.{call_static}
 use Rattle.member_link.specs.Machine.Performing.{perform}
-use Rattle.member_link.specs.Machine.Programs.{Program, headers_in, folder_number, method_of, has_flag}
+use Rattle.member_link.specs.Machine.Programs.{Program, folder_number, method_of, has_flag}
 use Rattle.member_link.specs.Machine.Stepping.{op_step}
 use Rattle.member_link.specs.Machine.Worlds.{World, is_begun}
 use Rattle.member_link.specs.References.{Reference}
@@ -36,14 +27,13 @@ use Rattle.typed_runs.proofs.ArgumentsHere.{as_many_needs}
 use Rattle.typed_runs.proofs.Assigned.{all_in_heap}
 use Rattle.typed_runs.proofs.BeginningSteps.{class_there, begun_on_stays}
 use Rattle.typed_runs.proofs.Callees.{method_is}
-use Rattle.typed_runs.proofs.Calling.{StaysAfter, Leaves, Fits, asks_call_goes, runs_goes}
+use Rattle.typed_runs.proofs.Calling.{StaysAfter, Leaves, asks_call_goes, runs_goes}
 use Rattle.typed_runs.proofs.Here.{Here, operands_here, worked}
 use Rattle.typed_runs.proofs.LookedUp.{LookUps, LookedUp, looked_up, linked_to, same_desc}
 use Rattle.typed_runs.proofs.MethodsHere.{headers_here}
 use Rattle.typed_runs.proofs.LibraryClasses.{polymorphic_outside}
 use Rattle.typed_runs.specs.TypedFrames.{Does, upon}
-use Rattle.typed_runs.specs.TypedPoints.{HasMethod}
-use Rattle.typed_runs.specs.TypedPrograms.{Typings, IsTypedProgram}
+use Rattle.typed_runs.specs.TypedPrograms.{Typings}
 use Rattle.typed_runs.specs.TypedWorlds.{StaysTyped}
 
 module _ {P : Program} {T : Typings} {w : World} {f : MethodState} {rest : List RunFrame} {s : RowScope} {frame : Frame} {place : ℕ}

@@ -1,34 +1,22 @@
-use Rattle.std.specs.Prelude.{◌≡◌, ◌⊎◌, ◌==◌, ◌||◌, ◌&&◌, ◌+◌, ◌-◌, refl, ℕ, zero, suc, Bool, true, false, List, [], ◌∷◌, ◌++◌, map, length, take, drop, slice_get, bytes_eq, Option, Some, None, IfSome, IsSome, IsTrue, if◌then◌else◌}
-use Rattle.std.specs.List.{AllByRecursion, list_any}
-use Rattle.std.proofs.Common.{arith, inl, inr, ap, sym, ◌∙◌, subst}
-use Rattle.std.proofs.lemmas.Slice.Eq.{bytes_eq-Decides}
-use Rattle.class_model.specs.Characters.{class_letter, left_bracket}
-use Rattle.class_model.specs.Descriptors.{brackets}
-use Rattle.class_model.specs.Laws.Lists.{at_index}
-use Rattle.class_model.specs.declared.header.Header.{Header}
-use Rattle.class_tree.specs.Headers.{Name, named, class_named, IsThere}
-use Rattle.class_tree.specs.Laws.Above.{hierarchy_is_sound, hierarchy_is_rooted, there_is_no_array, class_is_subtype, class_decides, nothing_above_object}
+use Rattle.std.specs.Prelude.{◌≡◌, ◌⊎◌, ◌==◌, refl, Bool, true, false, [], ◌∷◌, if◌then◌else◌}
+use Rattle.std.proofs.Common.{inl, inr, ap, sym, subst}
+use Rattle.class_model.specs.Characters.{left_bracket}
+use Rattle.class_tree.specs.Headers.{Name, named}
+use Rattle.class_tree.specs.Laws.Above.{hierarchy_is_sound, hierarchy_is_rooted, class_decides, nothing_above_object}
 use Rattle.class_tree.specs.Laws.Arrays.{is_array_of, not_directly_below}
-use Rattle.class_tree.specs.Names.{object, is_interface}
+use Rattle.class_tree.specs.Names.{object}
 use Rattle.class_tree.specs.Subtype.{IsArray, IsSubtype, itself, below, of_arrays, components}
-use Rattle.machine_values.specs.Heaps.{Heap}
-use Rattle.machine_values.specs.Values.{component_text}
 use Rattle.machine_values.specs.declared.object.Shape.{Shape}
-use Rattle.machine_values.specs.declared.object.Shape.TheVariants as shapes
-use Rattle.machine_values.specs.declared.value.Value.{Value}
 use Rattle.member_link.specs.Access.{IsAtOrBelow}
 use Rattle.member_link.specs.Assignability.{IsNameAssignable, to_itself, to_class_above, from_array}
 use Rattle.member_link.specs.DeclaredMembers.{Declared, IsMethod}
-use Rattle.member_link.specs.Machine.Programs.{Program, RunClass, headers_in, name_of_class, is_interface_named}
-use Rattle.member_link.specs.Machine.Shapes.{class_of_shape, is_instance, class_in, class_conforms, component_named, both_conform, components_conform, shape_conforms}
-use Rattle.member_link.specs.References.{IsNamedThere, element_class}
+use Rattle.member_link.specs.Machine.Programs.{Program, headers_in}
 use Rattle.member_link.specs.Selection.{start_of}
 use Rattle.typed_runs.proofs.Assigned.{shape_assigned}
-use Rattle.typed_runs.proofs.AssignedNames.{array_of_text}
-use Rattle.typed_runs.proofs.Basics.{some_of, same_number}
+use Rattle.typed_runs.proofs.Basics.{same_number}
 use Rattle.typed_runs.proofs.NamesThere.{no_array_there, declared_there}
 use Rattle.typed_runs.proofs.Selected.{IsSelected}
-use Rattle.typed_runs.specs.Conforming.{NameConforms, to_below, to_interface, to_object, of_components, ShapeConforms, by_class, by_interface, HoldsShape}
+use Rattle.typed_runs.specs.Conforming.{to_object, ShapeConforms, by_class}
 use Rattle.typed_runs.specs.TypedPrograms.{Typings, IsTypedProgram}
 
 module _ (P : Program) (T : Typings) (program : IsTypedProgram P T) where
