@@ -102,7 +102,7 @@ pub record Leaves (P : Program) (T : Typings) (w : World) (f : MethodState) (fra
   pub in_heap : AllByRecursion (IsValueInHeap w.memory.heap) vs
 
 -- a declared method that fits an operation
-pub record Fits (P : Program) (h : Heap) (op : Op) (m : Declared) (vs : List Value) : Type 0 where
+pub record IsCallee (P : Program) (h : Heap) (op : Op) (m : Declared) (vs : List Value) : Type 0 where
   pub declares : IsMethod (headers_in P) m
   pub no_clinit : m.member.name ≢ clinit
   pub call : FitsCall m.member op
@@ -151,7 +151,7 @@ module _ {P : Program} {T : Typings} {w : World} {f : MethodState} {rest : List 
   asks_call_goes r = asks_goes h (asks_call r vs) stack l.locals l.under l.shows l.in_heap
 
   pub calls_goes : (d : Declared) (at : MethodAt) (c : Callee P d at) (code : Code) → code_run c.method ≡ Some code
-      → Fits P w.memory.heap op d vs → StaysAfter P T w f rest stack (calls at vs)
+      → IsCallee P w.memory.heap op d vs → StaysAfter P T w f rest stack (calls at vs)
   calls_goes d at c code run fits =
       let k = locked_typed P T h.typed.program w.memory (name_of_class P at.class)
       (locking_of (run_method P at)) vs h.typed.memory l.in_heap in
@@ -167,7 +167,7 @@ module _ {P : Program} {T : Typings} {w : World} {f : MethodState} {rest : List 
       (upon waits (frames_kept k.keep h.below))))
 
   -- a declared method gets a frame, or the library is asked
-  pub runs_goes : (d : Declared) → Fits P w.memory.heap op d vs → StaysAfter P T w f rest stack (run_call P (reference_to d) vs)
+  pub runs_goes : (d : Declared) → IsCallee P w.memory.heap op d vs → StaysAfter P T w f rest stack (run_call P (reference_to d) vs)
   runs_goes d fits = by (place_of_method P (reference_to d)) refl where
     of_code : (at : MethodAt) (c : Callee P d at) (code : Option Code) → code_run c.method ≡ code
         → StaysAfter P T w f rest stack (if is_some (code_at P at) then calls at vs else asks (asks_call (reference_to d) vs))

@@ -149,7 +149,6 @@ module _ {P : Program} {T : Typings} {w : World} {f : MethodState} {rest : List 
       let l = looked_up P T h.typed.program laws IsInstanceForm r h.linked in
       let own = own_initialiser P T h.typed.program laws r is l in
       let o = operands_here h in
-      let n : ℕ = length (uninitialised ∷ argument_needs r.desc) in
       let c = received P T h.typed.program s (headers_here h) uninitialised r.desc
       (topmost (length (uninitialised ∷ argument_needs r.desc)) frame.stack) h.holds.operands o.values in
       let low : receiver frame r.desc ≡ c.type = lowest_receiver uninitialised frame r.desc c.type c.others c.are_types in

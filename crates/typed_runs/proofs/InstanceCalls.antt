@@ -124,7 +124,7 @@ module _ {P : Program} {T : Typings} {w : World} {f : MethodState} {rest : List 
 -- ---- calls of a method of the named class or interface
 
 -- what such a call takes, and what it leaves
-pub record Operands (P : Program) (T : Typings) (w : World) (f : MethodState) (s : RowScope) (frame : Frame) (op : Op) (r : Reference)
+pub record CallOperands (P : Program) (T : Typings) (w : World) (f : MethodState) (s : RowScope) (frame : Frame) (op : Op) (r : Reference)
     (Further : Type 0) : Type 0 where
   pub taken : Received P (T f.at).scope w.memory.heap s (assignable_to (types.Object r.class)) r.desc
       (topmost (length (assignable_to (types.Object r.class) ∷ argument_needs r.desc)) frame.stack)
@@ -138,7 +138,7 @@ module _ {P : Program} {T : Typings} {w : World} {f : MethodState} {rest : List 
     {numbered : ℕ → ℕ} {op : Op} where
   pub call_operands : (r : Reference) (Further : Type 0)
       → Here P T w f rest s frame place numbered (instance_row frame r Further (Unit {0})) op true []
-      → Operands P T w f s frame op r Further
+      → CallOperands P T w f s frame op r Further
   call_operands r Further h =
       let o = operands_here h in
       let taken = received P T h.typed.program s (headers_here h) (assignable_to (types.Object r.class)) r.desc
@@ -160,7 +160,7 @@ module _ {P : Program} {T : Typings} {w : World} {f : MethodState} {rest : List 
   -- the work of a call on its receiver and arguments
   pub call_worked : (r : Reference) (Further : Type 0)
       → Here P T w f rest s frame place numbered (instance_row frame r Further (Unit {0})) op true []
-      → (c : Operands P T w f s frame op r Further)
+      → (c : CallOperands P T w f s frame op r Further)
       → arity op ≡ length (parameters_of r.desc) + 1
       → StaysAfter P T w f rest (stack_under (assignable_to (types.Object r.class)) r f)
       (work P w.memory op (c.taken.receiver ∷ c.taken.args))

@@ -76,7 +76,6 @@ module _ {P : Program} {T : Typings} {w : World} {f : MethodState} {rest : List 
       → StaysTyped P T w (op_step P w f rest (call_static r))
   static_stays r h =
       let l = looked_up P T h.typed.program laws IsStaticForm r h.linked.0 in
-      let n : ℕ = length (argument_needs r.desc) in
       let o = operands_here h in
       let vs : List Value = reverse (take (length (argument_needs r.desc)) f.stack) in
       let are : AreArguments P w.memory.heap r.desc vs =
