@@ -1,12 +1,9 @@
 use Rattle.std.specs.Prelude.{◌≡◌, ◌&&◌, refl, ℕ, Bool, true, false, List, [], ◌∷◌, map, length, drop, take, reverse, Option, Some, None}
-use Rattle.std.specs.List.{AllByRecursion}
 use Rattle.std.proofs.Common.{ap, sym, ◌∙◌}
 use Rattle.std.proofs.lemmas.List.{length-map}
 use Rattle.class_model.specs.declared.descriptor.Kind.{Kind}
 use Rattle.class_model.specs.declared.frame.Frame.{Frame}
-use Rattle.class_model.specs.declared.frame.VType.{VType}
 use Rattle.machine_values.specs.Frames.{MethodState}
-use Rattle.machine_values.specs.Heaps.{Heap}
 use Rattle.machine_values.specs.Values.{has_kind}
 use Rattle.machine_values.specs.declared.frame.RunFrame.{RunFrame}
 use Rattle.machine_values.specs.declared.value.Value.{Value}
@@ -25,7 +22,6 @@ use Rattle.typed_runs.proofs.Assigned.{all_in_heap}
 use Rattle.typed_runs.proofs.Taken.{takes_nothing}
 use Rattle.typed_runs.proofs.Here.{Here, operands_here, worked}
 use Rattle.typed_runs.proofs.Performing.{asks_goes}
-use Rattle.typed_runs.specs.Conforming.{AllConform, no_values, and_value, IsValueInHeap}
 use Rattle.typed_runs.specs.TypedFrames.{ShowsEvent}
 use Rattle.typed_runs.specs.TypedPrograms.{Typings}
 use Rattle.typed_runs.specs.TypedWorlds.{StaysTyped}
