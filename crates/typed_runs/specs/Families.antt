@@ -2,7 +2,7 @@
 use Rattle.std.specs.Prelude.{List, ◌∷◌, IfSome}
 use Rattle.machine_values.specs.declared.frame.RunFrame.{RunFrame}
 use Rattle.machine_values.specs.declared.frame.RunFrame.TheVariants.{Beginning, Method}
-use Rattle.member_link.specs.Machine.Ops.{Op, no_operation, push_value, push_constant, load_local, store_local, increment_local, shuffle_stack, pure_arithmetic, jump_by_int, jump_by_ints, jump_by_references, jump_by_null, jump_to, table_switch, lookup_switch, division, float_arithmetic, test_local, check_cast, instance_of, enter_monitor, leave_monitor, new_object, new_array, new_arrays, load_element, store_element, array_length, get_static, put_static, get_field, put_field, return_nothing, return_value, throw_reference}
+use Rattle.member_link.specs.Machine.Ops.{Op, no_operation, push_value, push_constant, load_local, store_local, increment_local, shuffle_stack, pure_arithmetic, jump_by_int, jump_by_ints, jump_by_references, jump_by_null, jump_to, table_switch, lookup_switch, division, float_arithmetic, test_local, check_cast, instance_of, enter_monitor, leave_monitor, new_object, new_array, new_arrays, load_element, store_element, array_length, get_static, put_static, get_field, put_field, return_nothing, return_value, throw_reference, call_static, call_virtual, call_interface, call_special, call_dynamic}
 use Rattle.member_link.specs.Machine.Programs.{Program, point_at}
 
 -- what a family says of an operation holds of the one at which the top frame stands
@@ -75,3 +75,12 @@ EndsMethod op = ⊥
 abbrev pub ThrowsReference : Op → Type 0
 ThrowsReference throw_reference = Unit {0}
 ThrowsReference op = ⊥
+
+-- it calls a method
+abbrev pub Calls : Op → Type 0
+Calls (call_static r) = Unit {0}
+Calls (call_virtual r) = Unit {0}
+Calls (call_interface r) = Unit {0}
+Calls (call_special r from) = Unit {0}
+Calls (call_dynamic class bootstrap name desc) = Unit {0}
+Calls op = ⊥

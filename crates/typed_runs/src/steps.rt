@@ -2,7 +2,7 @@
 ghost use Rattle.member_link.specs.Machine.Programs.{Program};
 ghost use Rattle.member_link.specs.Machine.Stepping.{step};
 ghost use Rattle.member_link.specs.Machine.Worlds.{World};
-ghost use Rattle.typed_runs.specs.Families.{BeginsClass, EndsMethod, MakesObject, NamesField, NextIs, ThrowsReference, WorksOnArrays, WorksOnOperands};
+ghost use Rattle.typed_runs.specs.Families.{BeginsClass, Calls, EndsMethod, MakesObject, NamesField, NextIs, ThrowsReference, WorksOnArrays, WorksOnOperands};
 ghost use Rattle.typed_runs.specs.TypedPrograms.{Typings};
 ghost use Rattle.typed_runs.specs.TypedWorlds.{TypedWorld, StaysTyped};
 
@@ -71,3 +71,16 @@ pub fn a_throw_stays_typed()
         → NextIs ThrowsReference P w.frames
         → StaysTyped P T w (step P w) }
 {}
+
+/// So does a call. A method of the folder with code gets a frame, with its monitor entered if it is synchronized, and the caller waits; for
+/// another one the library is asked. It may begin a class, and raise: for a null receiver, and where a selection finds no method that it
+/// may run.
+pub fn a_call_stays_typed()
+    ensures { (P : Program) (T : Typings) (w : World)
+        → TypedWorld P T w
+        → NextIs Calls P w.frames
+        → StaysTyped P T w (step P w) }
+{
+    member_link::a_look_up_finds_one_method();
+    member_link::a_found_method_is_above();
+}
