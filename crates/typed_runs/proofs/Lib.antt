@@ -18,6 +18,7 @@ mod ConstantObjects
 mod Constants
 mod Divisions
 mod DynamicCalls
+mod EachStep
 mod ElementLoads
 mod ElementStores
 mod ElementTypes

@@ -1,4 +1,4 @@
-use Rattle.std.specs.Prelude.{◌≡◌, ◌+◌, ◌==◌, ◌&&◌, refl, ℕ, Bool, true, false, List, [], ◌∷◌, nat_le, bytes_eq, Option, Some, None, option_map, if◌then◌else◌}
+use Rattle.std.specs.Prelude.{◌≡◌, ◌+◌, ◌==◌, ◌&&◌, refl, ℕ, Bool, true, false, List, [], ◌∷◌, nat_le, bytes_eq, Option, Some, None, option_map, IfSome, if◌then◌else◌}
 use Rattle.std.proofs.Common.{sym, ◌∙◌, subst}
 use Rattle.std.proofs.lemmas.Slice.Eq.{bytes_eq-Decides}
 use Rattle.class_model.specs.Names.{init}
@@ -15,7 +15,7 @@ use Rattle.machine_values.specs.declared.frame.RunFrame.TheVariants as frames
 use Rattle.member_link.specs.Bodies.{CodeItem, item_instr, item_row, item_targets, item_falls_through}
 use Rattle.member_link.specs.Machine.Codes.{item_op, or_meaningless, call_op, dynamic_op, special_start, initialises}
 use Rattle.member_link.specs.Machine.Ops.{meaningless, get_static, put_static, get_field, put_field, call_special, new_object, new_array, new_arrays, load_element, store_element, check_cast, instance_of, jump_by_int, jump_by_ints, jump_by_references, jump_by_null}
-use Rattle.member_link.specs.Machine.Programs.{Program}
+use Rattle.member_link.specs.Machine.Programs.{Program, Point}
 use Rattle.member_link.specs.Machine.Stepping.{op_step, point_step, frames_step, is_library_turn, step}
 use Rattle.member_link.specs.Machine.Worlds.{World}
 use Rattle.member_link.specs.References.{Reference}

@@ -84,3 +84,19 @@ pub fn a_call_stays_typed()
     member_link::a_look_up_finds_one_method();
     member_link::a_found_method_is_above();
 }
+
+/// So does each step: a step of a typed world leaves a typed world, and is not stuck.
+pub fn a_step_stays_typed()
+    ensures { (P : Program) (T : Typings) (w : World)
+        → TypedWorld P T w
+        → StaysTyped P T w (step P w) }
+{
+    an_instruction_on_operands_stays_typed();
+    an_instruction_on_arrays_stays_typed();
+    a_new_object_stays_typed();
+    an_instruction_on_fields_stays_typed();
+    a_call_stays_typed();
+    a_return_stays_typed();
+    a_throw_stays_typed();
+    a_step_of_a_beginning_stays_typed();
+}
