@@ -3,6 +3,7 @@ pub mod NamesInOrder
 pub mod Copying
 pub mod Outcomes
 pub mod Stopping
+pub mod ScriptStops
 pub mod MemberLines
 pub mod CallCounts
 pub mod FolderReads

@@ -1,5 +1,5 @@
 //! Reading the input and the library.
-ghost use Rattle.std.specs.Prelude.{◌≡◌, ◌⊎◌, Some, IsTrue, IsSome, IfSome, IfOk, IfErr, IsErrOf};
+ghost use Rattle.std.specs.Prelude.{◌≡◌, ◌⊎◌, Some, None, IsTrue, IsSome, IfSome, IfOk, IfErr, IsErrOf};
 ghost use Rattle.std.specs.List.{AllByRecursion};
 ghost use Rattle.host_tree.specs.declared.call.HostCall.{HostCall};
 ghost use Rattle.host_tree.specs.Host.{Folder, SameFiles};
@@ -234,11 +234,37 @@ fn read_bytes<H: Host>(
         (IsCallStop HostCall.Read
         (Rose (H.faults host.old HostCall.Read) (H.faults host.new HostCall.Read))) }
 {
+    match read_whole(alloc, host, root, name) {
+        Ok(bytes) => Ok(bytes),
+        Err(HostFail::NoMemory) => Err(ReadStop::NoMemory),
+        Err(HostFail::Failed | HostFail::Absent) => Err(ReadStop::Fault(HostCall::Read)),
+    }
+}
+
+/// All bytes of a file.
+pub(crate) fn read_whole<H: Host>(
+    alloc: Global,
+    host: &mut H,
+    root: &str,
+    name: &str,
+) -> Result<ByteList, HostFail>
+    ensures files { IsTrue H.tells → SameFiles (H.file host.old) (H.file host.new) }
+    ensures printed { IsTrue H.tells → H.printed host.new ≡ H.printed host.old }
+    ensures counts { CountsOnly HostCall.Read (H.faults host.old) (H.faults host.new) }
+    ensures bytes { IsTrue H.tells
+        → IfOk result (λ bytes. H.file host.old root.now name.now ≡ Some bytes) }
+    ensures failed { IsErrOf result HostFail.Failed
+        → Rose (H.faults host.old HostCall.Read) (H.faults host.new HostCall.Read) }
+    ensures absent { IsTrue H.tells
+        → IsErrOf result HostFail.Absent
+        → H.file host.old root.now name.now ≡ None }
+    ensures absent_untold { IsErrOf result HostFail.Absent
+        → IsTrue H.tells ⊎ Rose (H.faults host.old HostCall.Read) (H.faults host.new HostCall.Read) }
+{
     match host.read(alloc, root, name, u64::MAX) {
         // A vector holds fewer than 2^63 bytes, so these are all.
         Ok(bytes) => Ok(ByteList::from_vec(bytes.into_vec())),
-        Err(HostFail::NoMemory) => Err(ReadStop::NoMemory),
-        Err(HostFail::Failed | HostFail::Absent) => Err(ReadStop::Fault(HostCall::Read)),
+        Err(fail) => Err(fail),
     }
 }
 

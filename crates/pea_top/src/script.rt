@@ -6,6 +6,7 @@ ghost use Rattle.host_tree.specs.Counts.{Rose, CountsOnly};
 ghost use Rattle.pea_top.specs.Inner.Scripts.{IsScriptOrWhy, IsScriptStop, script_status};
 ghost use Rattle.pea_top.specs.declared.script.ScriptStop.TheVariants.{NoMemory as no_memory};
 
+use crate::reading::read_whole;
 use crate::status::Status;
 use class_model::{ByteList, NoMemory};
 use host_tree::{FileName, Host, HostCall, HostFail};
@@ -79,9 +80,8 @@ fn read_file<H: Host>(alloc: Global, host: &mut H, name: &str) -> Result<ByteLis
         → IsErrOf result (ScriptStop.Absent missing)
         → IsTrue H.tells ⊎ Rose (H.faults host.old HostCall.Read) (H.faults host.new HostCall.Read) }
 {
-    match host.read(alloc, "", name, u64::MAX) {
-        // A vector holds fewer than 2^63 bytes, so these are all.
-        Ok(bytes) => Ok(ByteList::from_vec(bytes.into_vec())),
+    match read_whole(alloc, host, "", name) {
+        Ok(bytes) => Ok(bytes),
         Err(HostFail::Failed) => Err(ScriptStop::Fault),
         Err(HostFail::Absent) => Err(absent(alloc, name)),
         Err(HostFail::NoMemory) => Err(ScriptStop::NoMemory),

@@ -44,9 +44,13 @@ pub enum Status {
         rule: TypeRule,
     },
     /// This line of the script, counted from 1, is the first one outside the grammar of scripts.
-    BadScript { line: u64 },
+    BadScript {
+        line: u64,
+    },
     /// The root without a name does not hold this script.
-    Absent { name: FileName },
+    Absent {
+        name: FileName,
+    },
     /// A call of the host failed.
     HostFault(HostCall),
     /// Memory ran out.

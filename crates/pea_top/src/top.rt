@@ -172,7 +172,7 @@ fn decide<H: Host>(
         (ended result) }
 {
     match work_of(alloc, command, host, &input) {
-        Ok(work) => resolve(alloc, host, input, &work),
+        Ok(work) => link_input(alloc, host, input, &work),
         Err(stop) => {
             explain_script(alloc, host, &stop);
             Err(script_status(stop))
@@ -181,7 +181,7 @@ fn decide<H: Host>(
 }
 
 /// Links what was read for a command, and goes on with the hierarchy.
-fn resolve<H: Host>(
+fn link_input<H: Host>(
     alloc: Global,
     host: &mut H,
     input: Input,

@@ -185,4 +185,3 @@ fn finish<H: Host>(alloc: Global, host: &mut H, line: &[u8]) -> Result<(), Statu
         Err(HostFail::Absent) => unreachable!(),
     }
 }
-

@@ -11,7 +11,7 @@ pub returns-in-Ok-clause-stop : goal.returns-in-Ok-clause-stop
 returns-in-Ok-clause-stop g c = λ words spelled tells.
     let same = c.in-Ok.ensures.files tells in
     let prepared = said_of_same (λ (files : Files). IsPrepared (command_view c.args.command) files c.args.input.files.items c.args.input.classes c.args.input.headers c.in-Ok.work) same (record { input = c.requires.read tells; is_work = c.in-Ok.ensures.work tells }) in
-    stop_behind words _ _ _ _ _ _ _ same (c.in-Ok.ensures.printed tells) (c.resolve.ensures.stop (command_view c.args.command) words spelled tells prepared)
+    stop_behind words _ _ _ _ _ _ _ same (c.in-Ok.ensures.printed tells) (c.link_input.ensures.stop (command_view c.args.command) words spelled tells prepared)
 
 -- or it was not made
 pub returns-in-Err-clause-stop : goal.returns-in-Err-clause-stop

@@ -1,7 +1,7 @@
 -- what was read is linked, or cannot be
 use Rattle.pea_top.proofs.Outcomes.{input_read, prepared_script}
 use Rattle.pea_top.proofs.Stopping.{stop_linking}
-use Rattle.pea_top.proofs.top.resolve.Goals as goal
+use Rattle.pea_top.proofs.top.link_input.Goals as goal
 
 pub returns-in-Ok-clause-stop : goal.returns-in-Ok-clause-stop
 returns-in-Ok-clause-stop g c = λ command words spelled tells prepared.

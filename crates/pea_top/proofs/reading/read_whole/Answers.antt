@@ -1,6 +1,6 @@
 use Rattle.std.proofs.Common.{◌<◌, ◌^◌, ◌-◌, length, arith}
 use Rattle.pea_top.proofs.FolderReads.{whole_from_read}
-use Rattle.pea_top.proofs.reading.read_bytes.Goals as goal
+use Rattle.pea_top.proofs.reading.read_whole.Goals as goal
 
 pub returns-in-Ok-clause-bytes : goal.returns-in-Ok-clause-bytes
 returns-in-Ok-clause-bytes g c = λ told.
