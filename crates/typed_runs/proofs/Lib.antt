@@ -28,3 +28,14 @@ mod Casts
 mod ConstantObjects
 mod Starting
 mod BeginningSteps
+mod Given
+mod Entering
+mod Locking
+mod Entered
+mod Blanks
+mod Awaited
+mod LibraryFrames
+mod LibraryCalls
+mod LibraryAnswers
+mod LibraryObjects
+mod LibraryActions

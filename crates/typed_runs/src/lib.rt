@@ -2,8 +2,10 @@
 //! whose contracts say what always holds.
 #![tactic(auto)]
 
+mod actions;
 mod steps;
 mod worlds;
 
+pub use actions::an_action_stays_typed;
 pub use steps::{a_step_of_a_beginning_stays_typed, an_instruction_on_operands_stays_typed};
 pub use worlds::a_run_starts_typed;
