@@ -2,7 +2,7 @@ use Rattle.std.specs.Prelude.{◌≡◌, ◌&&◌, ◌==◌, refl, ℕ, Bool, tr
 use Rattle.std.specs.List.{AllByRecursion, list_any}
 use Rattle.std.proofs.Common.{ap, sym, ◌∙◌, subst}
 use Rattle.class_model.specs.Code.{verification_type}
-use Rattle.class_model.specs.Descriptors.{kind_of, type_of}
+use Rattle.class_model.specs.Descriptors.{kind_of}
 use Rattle.class_model.specs.Names.{init}
 use Rattle.class_model.specs.Pool.{Constants, constant_at}
 use Rattle.class_model.specs.PoolChecks.{utf8_at, class_at, name_at, descriptor_at}
@@ -13,7 +13,6 @@ use Rattle.class_model.specs.declared.instr.Instr.TheVariants as instrs
 use Rattle.class_model.specs.declared.opcodes.TheConstants.{IALOAD, SALOAD, IASTORE, SASTORE, IFEQ, IFLE, IF_ICMPEQ, IF_ICMPLE, IF_ACMPEQ, IF_ACMPNE, IFNULL, IFNONNULL, INVOKEVIRTUAL, INVOKESPECIAL, INVOKESTATIC, INVOKEINTERFACE}
 use Rattle.class_model.specs.declared.pool.Const.{Const}
 use Rattle.class_model.specs.declared.pool.Const.TheVariants as consts
-use Rattle.class_tree.specs.Headers.{Name}
 use Rattle.machine_values.specs.declared.object.Constant.TheVariants as objects
 use Rattle.member_link.specs.Bodies.{CodeItem, item_instr, item_null_test, item_row, item_falls_through}
 use Rattle.member_link.specs.Machine.Acting.{Pending, pending_of, type_of_kind}
@@ -25,7 +24,7 @@ use Rattle.member_link.specs.RowScope.{RowScope}
 use Rattle.member_link.specs.Rows.ArithmeticRows as arithmetic
 use Rattle.member_link.specs.Rows.ArithmeticRows.{Operation, float_operations, operation_in, operation_row}
 use Rattle.member_link.specs.Rows.ArrayRows.{primitive_array, array_of}
-use Rattle.member_link.specs.Rows.MemberRows.{argument_needs, result_types, get_static_row, put_static_row, get_field_row, put_field_row, call_row, dynamic_row, static_row, special_row, init_row, instance_row}
+use Rattle.member_link.specs.Rows.MemberRows.{argument_needs, result_types, get_static_row, put_static_row, get_field_row, put_field_row, call_row, dynamic_row, static_row, special_row, init_row}
 use Rattle.member_link.specs.Rows.Row.{Row, plain, no_row, either}
 use Rattle.member_link.specs.Signatures.{reference_of, result_of}
 use Rattle.typed_runs.proofs.Basics.{some_of}

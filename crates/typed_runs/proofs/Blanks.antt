@@ -1,6 +1,6 @@
-use Rattle.std.specs.Prelude.{◌≡◌, refl, ℕ, zero, suc, List, [], ◌∷◌, ◌++◌, length, map, replicate, reverse, slice_get, Some}
+use Rattle.std.specs.Prelude.{◌≡◌, refl, ℕ, zero, suc, List, [], ◌∷◌, ◌++◌, map, replicate, reverse, slice_get, Some}
 use Rattle.std.specs.List.{AllByRecursion, flat_map}
-use Rattle.std.proofs.Common.{ap, sym, ◌∙◌, subst}
+use Rattle.std.proofs.Common.{sym, subst}
 use Rattle.std.proofs.lemmas.List.{length-replicate, map-append}
 use Rattle.class_model.specs.Descriptors.{kind_of, type_of}
 use Rattle.class_model.specs.declared.descriptor.FieldType.{FieldType}
@@ -13,7 +13,7 @@ use Rattle.machine_values.specs.Heaps.{Heap}
 use Rattle.machine_values.specs.Values.{blank_of_kind, blank_value, blank_values, component_text}
 use Rattle.machine_values.specs.declared.object.Shape.TheVariants as shapes
 use Rattle.machine_values.specs.declared.value.Value.{Value}
-use Rattle.member_link.specs.Machine.Layouts.{own_slots, slots_of}
+use Rattle.member_link.specs.Machine.Layouts.{own_slots}
 use Rattle.member_link.specs.Machine.Programs.{Program, RunClass, headers_in, name_of_class}
 use Rattle.member_link.specs.References.{Reference, IsNamedThere}
 use Rattle.typed_runs.specs.Conforming.{to_none, FieldConforms, FitsDescriptor, FitSlots, HoldsShape}

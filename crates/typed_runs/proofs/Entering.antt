@@ -2,7 +2,6 @@ use Rattle.std.specs.Prelude.{◌≡◌, ◌≢◌, ◌-◌, refl, ℕ, true, fa
 use Rattle.std.specs.List.{AllByRecursion}
 use Rattle.std.proofs.Common.{ap, sym, ◌∙◌, subst}
 use Rattle.class_model.specs.Code.{entry_frame, verification_type}
-use Rattle.class_model.specs.Descriptors.{parameters_of}
 use Rattle.class_model.specs.Frames.{filled, units_of_entries}
 use Rattle.class_model.specs.Members.{has, STATIC}
 use Rattle.class_model.specs.Names.{init}
@@ -24,7 +23,7 @@ use Rattle.member_link.specs.RowScope.{RowScope}
 use Rattle.typed_runs.proofs.BeginningSteps.{blank_units, blank_paired}
 use Rattle.typed_runs.proofs.Points.{does_first}
 use Rattle.typed_runs.proofs.Units.{as_many_units}
-use Rattle.typed_runs.specs.Conforming.{IsInHeap, Conforms, to_top, an_int, a_long, a_float, a_double, only_null, null_object, an_object, of_new, of_this, AllConform, no_values, and_value, UnitsConform, no_units, and_unit, no_value, has_value}
+use Rattle.typed_runs.specs.Conforming.{IsInHeap, to_top, an_int, a_long, a_float, a_double, only_null, null_object, an_object, of_new, of_this, AllConform, no_values, and_value, UnitsConform, no_units, and_unit, no_value, has_value}
 use Rattle.typed_runs.specs.TypedFrames.{ArePaired, Does}
 use Rattle.typed_runs.specs.TypedPrograms.{Typings, IsTypedProgram, IsTypedMethod, entry}
 

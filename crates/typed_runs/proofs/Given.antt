@@ -1,5 +1,5 @@
 use Rattle.std.specs.Prelude.{◌≡◌, ◌==◌, ◌&&◌, ◌||◌, refl, ℕ, Bool, true, false, List, [], ◌∷◌, map, Option, Some, None}
-use Rattle.std.proofs.Common.{ap, sym, ◌∙◌, subst}
+use Rattle.std.proofs.Common.{ap, ◌∙◌}
 use Rattle.class_model.specs.Characters.{left_bracket}
 use Rattle.class_model.specs.Code.{verification_type}
 use Rattle.class_model.specs.declared.descriptor.FieldType.{FieldType}
@@ -14,10 +14,10 @@ use Rattle.machine_values.specs.declared.value.Value.{Value}
 use Rattle.machine_values.specs.declared.value.Value.TheVariants as values
 use Rattle.member_link.specs.Machine.Acting.{all_conform}
 use Rattle.member_link.specs.Machine.Programs.{Program, is_interface_named}
-use Rattle.member_link.specs.Machine.Shapes.{component_named, class_conforms, both_conform, components_conform, shape_conforms, is_instance, value_conforms}
+use Rattle.member_link.specs.Machine.Shapes.{component_named, class_conforms, both_conform, components_conform, shape_conforms, value_conforms}
 use Rattle.member_link.specs.Machine.Worlds.{World}
 use Rattle.member_link.specs.RowScope.{RowScope}
-use Rattle.typed_runs.proofs.Basics.{and_first, and_second, same_number}
+use Rattle.typed_runs.proofs.Basics.{and_first, and_second}
 use Rattle.typed_runs.proofs.Unwinding.{instance_conforms}
 use Rattle.typed_runs.specs.Conforming.{NameConforms, to_below, to_interface, of_components, ShapeConforms, by_class, Conforms, an_int, a_long, a_float, a_double, null_object, an_object, AllConform, no_values, and_value, RefersTo, to_none, to_one, FieldConforms}
 

@@ -1,7 +1,7 @@
-use Rattle.std.specs.Prelude.{◌≡◌, ◌+◌, refl, Bool, true, false, slice_get, if◌then◌else◌}
+use Rattle.std.specs.Prelude.{◌≡◌, ◌+◌, Bool, true, false, slice_get, if◌then◌else◌}
 use Rattle.machine_values.specs.declared.action.Action.{Action}
 use Rattle.machine_values.specs.declared.action.Action.TheVariants as actions
-use Rattle.member_link.specs.Machine.Acting.{fault, acted, is_fault, unless_fault, act, known_object, given_value}
+use Rattle.member_link.specs.Machine.Acting.{fault, acted, is_fault, act, known_object, given_value}
 use Rattle.member_link.specs.Machine.Programs.{Program}
 use Rattle.member_link.specs.Machine.Stepping.{is_library_turn}
 use Rattle.member_link.specs.Machine.Worlds.{World}

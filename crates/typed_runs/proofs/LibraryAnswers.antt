@@ -2,7 +2,6 @@ use Rattle.std.specs.Prelude.{◌≡◌, ◌&&◌, ◌+◌, ◌++◌, refl, ℕ,
 use Rattle.std.proofs.Common.{ap, sym, ◌∙◌, subst}
 use Rattle.class_model.specs.declared.descriptor.FieldType.{FieldType}
 use Rattle.class_model.specs.declared.frame.Frame.{Frame}
-use Rattle.class_model.specs.declared.frame.VType.{VType}
 use Rattle.machine_values.specs.Frames.{MethodState}
 use Rattle.machine_values.specs.Heaps.{Heap, object_at}
 use Rattle.machine_values.specs.Values.{narrowed}
@@ -20,7 +19,7 @@ use Rattle.member_link.specs.Machine.Worlds.{World}
 use Rattle.member_link.specs.Rows.MemberRows.{result_types}
 use Rattle.member_link.specs.Rows.Row.{Row, row_frame, stack_behind}
 use Rattle.typed_runs.proofs.Awaited.{AnsweredBy, item_answers}
-use Rattle.typed_runs.proofs.Basics.{and_first, and_second, some_of}
+use Rattle.typed_runs.proofs.Basics.{and_second, some_of}
 use Rattle.typed_runs.proofs.BeginningSteps.{of_map}
 use Rattle.typed_runs.proofs.Given.{narrowed_conforms}
 use Rattle.typed_runs.proofs.Here.{stays, pushed}

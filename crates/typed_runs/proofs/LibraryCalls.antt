@@ -8,16 +8,13 @@ use Rattle.class_model.specs.Members.{has, STATIC}
 use Rattle.class_model.specs.Names.{clinit, init}
 use Rattle.class_model.specs.declared.class_file.MethodAt.{MethodAt}
 use Rattle.class_model.specs.declared.descriptor.FieldType.TheVariants as field_types
-use Rattle.class_model.specs.declared.frame.VType.{VType}
 use Rattle.class_model.specs.declared.frame.VType.TheVariants as types
 use Rattle.class_tree.specs.Headers.{Name}
 use Rattle.class_tree.specs.Layouts.{instance_fields}
 use Rattle.class_tree.specs.Subtype.{itself}
-use Rattle.machine_values.specs.Heaps.{Heap, Made}
+use Rattle.machine_values.specs.Heaps.{Made}
 use Rattle.machine_values.specs.Values.{blank_values}
 use Rattle.machine_values.specs.declared.action.Given.{Given}
-use Rattle.machine_values.specs.declared.frame.RunFrame.{RunFrame}
-use Rattle.machine_values.specs.declared.frame.RunFrame.TheVariants as frames
 use Rattle.machine_values.specs.declared.object.Shape.TheVariants as shapes
 use Rattle.machine_values.specs.declared.value.Value.{Value}
 use Rattle.machine_values.specs.declared.value.Value.TheVariants as values
@@ -28,10 +25,10 @@ use Rattle.member_link.specs.Machine.Programs.{Program, RunClass, RunMethod, Cod
 use Rattle.member_link.specs.Machine.Shapes.{value_conforms}
 use Rattle.member_link.specs.Machine.Stepping.{is_library_turn}
 use Rattle.member_link.specs.Machine.Throwables.{null_pointer}
-use Rattle.member_link.specs.Machine.Worlds.{World, Memory, with_heap}
+use Rattle.member_link.specs.Machine.Worlds.{World, with_heap}
 use Rattle.member_link.specs.References.{Reference}
 use Rattle.typed_runs.proofs.Basics.{and_first, and_second, some_of}
-use Rattle.typed_runs.proofs.BeginningSteps.{MethodFound, first_found, class_there, method_found, flags_of, of_map}
+use Rattle.typed_runs.proofs.BeginningSteps.{MethodFound, first_found, method_found, flags_of, of_map}
 use Rattle.typed_runs.proofs.Blanks.{blank_object_holds}
 use Rattle.typed_runs.proofs.Entered.{stays_through, called_stays, beginning_if_stays}
 use Rattle.typed_runs.proofs.Entering.{fields_are_no_top, static_entry, instance_entry, initialiser_entry}

@@ -3,15 +3,15 @@ use Rattle.std.specs.List.{AllByRecursion, list_any}
 use Rattle.std.proofs.Common.{ap, sym, ◌∙◌, subst}
 use Rattle.std.proofs.lemmas.List.{length-set}
 use Rattle.class_model.specs.Characters.{left_bracket}
-use Rattle.class_model.specs.Descriptors.{kind_of, type_of}
-use Rattle.class_model.specs.Laws.Lists.{at_index, AllByRecursion-weaker}
+use Rattle.class_model.specs.Descriptors.{type_of}
+use Rattle.class_model.specs.Laws.Lists.{at_index}
 use Rattle.class_model.specs.declared.descriptor.FieldType.{FieldType}
 use Rattle.class_model.specs.declared.descriptor.FieldType.TheVariants as field_types
 use Rattle.class_model.specs.declared.header.Header.{Header}
 use Rattle.class_tree.specs.Headers.{Name, class_named}
 use Rattle.class_tree.specs.Subtype.{IsArray}
-use Rattle.machine_values.specs.Heaps.{Heap, Made, object_at, with_object, with_value, allocated}
-use Rattle.machine_values.specs.Values.{blank_value, component_text, narrowed}
+use Rattle.machine_values.specs.Heaps.{Heap, object_at, with_object, with_value, allocated}
+use Rattle.machine_values.specs.Values.{component_text, narrowed}
 use Rattle.machine_values.specs.declared.object.Object.{Object}
 use Rattle.machine_values.specs.declared.object.Shape.{Shape}
 use Rattle.machine_values.specs.declared.object.Shape.TheVariants as shapes
@@ -21,7 +21,7 @@ use Rattle.member_link.specs.Machine.Acting.{fault, known_object, got_of_value, 
 use Rattle.member_link.specs.Machine.ArraySteps.{most_elements, blank_array, index_in}
 use Rattle.member_link.specs.Machine.Programs.{Program, headers_in, header_named, folder_number, is_interface_named}
 use Rattle.member_link.specs.Machine.Shapes.{value_conforms}
-use Rattle.member_link.specs.Machine.Showing.{shows_got, shows_length, shows_made}
+use Rattle.member_link.specs.Machine.Showing.{shows_got}
 use Rattle.member_link.specs.Machine.Worlds.{World, Memory, with_heap}
 use Rattle.member_link.specs.References.{IsNamedThere}
 use Rattle.typed_runs.proofs.Basics.{and_first, and_second, same_number}
@@ -33,7 +33,7 @@ use Rattle.typed_runs.proofs.LibraryFrames.{fault_stays}
 use Rattle.typed_runs.proofs.Memories.{made_keeps, made_shape, made_typed, object_keeps, object_typed}
 use Rattle.typed_runs.proofs.Points.{of_chain}
 use Rattle.typed_runs.proofs.Shown.{value_known, reference_known, showing_stays}
-use Rattle.typed_runs.specs.Conforming.{IsInHeap, IsValueInHeap, RefersTo, to_none, to_one, FieldConforms, FitsDescriptor, IsArrayObject, IsLibraryObject, HoldsShape, IsTypedMemory}
+use Rattle.typed_runs.specs.Conforming.{IsValueInHeap, to_one, FieldConforms, FitsDescriptor, IsArrayObject, IsLibraryObject, HoldsShape, IsTypedMemory}
 use Rattle.typed_runs.specs.TypedPrograms.{Typings}
 use Rattle.typed_runs.specs.TypedWorlds.{TypedWorld, StaysTyped}
 
