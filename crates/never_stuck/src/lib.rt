@@ -1,0 +1,4 @@
+//! What follows for runs where a folder verifies: functions that do nothing, whose contracts say what always holds.
+#![tactic(auto)]
+
+mod programs;
