@@ -1,3 +1,11 @@
 mod Folders
 mod Bases
 mod FileClasses
+mod PlacedFrames
+mod TypedCode
+mod TypedMethods
+mod LinkedOps
+mod SomeDimensions
+mod LinkedInstrs
+mod VerifiedPrograms
+mod PoolNames

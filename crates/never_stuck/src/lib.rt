@@ -2,3 +2,5 @@
 #![tactic(auto)]
 
 mod programs;
+
+pub use programs::a_verified_folder_is_a_typed_program;
