@@ -1,11 +1,11 @@
-use Rattle.std.specs.Prelude.{◌≡◌, ◌≤◌, ◌<◌, refl, ℕ, zero, suc, Bool, true, false, List, [], ◌∷◌, ◌++◌, map, length, bytes_eq, count_by, codes, Option, Some, None, IsSome, IsTrue, IfSome}
+use Rattle.std.specs.Prelude.{◌≡◌, ◌<◌, refl, Bool, true, false, List, [], ◌∷◌, ◌++◌, length, bytes_eq, codes, Option, Some, None, IsSome, IsTrue, IfSome}
 use Rattle.std.specs.List.{AllByRecursion}
-use Rattle.std.proofs.Common.{arith, ap, sym, ◌∙◌, subst}
+use Rattle.std.proofs.Common.{arith, sym, subst}
 use Rattle.class_model.specs.Checks.{Check, AllHold, asked_each}
 use Rattle.class_model.specs.Laws.Checks.{first_holds, others_hold}
 use Rattle.class_model.specs.declared.class_file.ClassFile.{ClassFile}
 use Rattle.class_model.specs.declared.header.Header.{Header}
-use Rattle.class_tree.specs.Headers.{Name, Classes, Headers, headers_of, all_headers, named, class_named, IsThere}
+use Rattle.class_tree.specs.Headers.{Name, Classes, Headers, headers_of, named, class_named}
 use Rattle.class_tree.specs.Hierarchy.{IsHierarchy}
 use Rattle.class_tree.specs.Laws.Above.{hierarchy_is_sound, class_is_subtype}
 use Rattle.class_tree.specs.Names.{object, cloneable, serializable, throwable, method_handle, method_type, machine_throwables, base_names, is_interface}

@@ -1,4 +1,4 @@
-use Rattle.std.specs.Prelude.{◌≡◌, ◌&&◌, ◌||◌, ◌+◌, not, refl, ℕ, zero, suc, ℤ, nat_lt, Bool, true, false, List, [], ◌∷◌, ◌++◌, map, length, bytes_eq, codes, slice_get, Option, Some, None, IsSome, IsTrue, IfSome, option_map, if◌then◌else◌}
+use Rattle.std.specs.Prelude.{◌≡◌, ◌&&◌, ◌||◌, ◌+◌, not, refl, ℕ, suc, ℤ, nat_lt, Bool, true, false, List, [], ◌∷◌, ◌++◌, map, length, bytes_eq, codes, slice_get, Option, Some, None, IsSome, IsTrue, IfSome, option_map, if◌then◌else◌}
 use Rattle.std.specs.List.{AllByRecursion, list_any}
 use Rattle.std.proofs.Common.{arith, ap, sym, ◌∙◌, subst}
 use Rattle.std.proofs.lemmas.Option.{slice_get-map}
@@ -6,10 +6,10 @@ use Rattle.std.proofs.lemmas.Slice.Eq.{bytes_eq-Decides}
 use Rattle.class_model.specs.Checks.{AllHold}
 use Rattle.class_model.specs.ClassOf.{fields_checks, methods_checks, entered, entered_method}
 use Rattle.class_model.specs.Descriptors.{type_of}
-use Rattle.class_model.specs.Header.{field_member, method_member, header_of}
+use Rattle.class_model.specs.Header.{field_member, method_member}
 use Rattle.class_model.specs.Laws.Checks.{first_holds, others_hold}
 use Rattle.class_model.specs.Laws.ClassFiles.{PartsHold, parts_hold}
-use Rattle.class_model.specs.Members.{Signature, has, STATIC, NATIVE, INTERFACE, ABSTRACT, one_visibility, fits_field, constant_value, IsConstantOf, is_text, is_named, has_named, raw_content, attrs_checks, field_attr_checks, field_signature, field_checks}
+use Rattle.class_model.specs.Members.{Signature, has, STATIC, NATIVE, INTERFACE, ABSTRACT, one_visibility, constant_value, IsConstantOf, is_text, is_named, has_named, raw_content, attrs_checks, field_attr_checks, field_signature, field_checks}
 use Rattle.class_model.specs.Methods.{Home, home_of, fits_method, method_signature, method_checks, code}
 use Rattle.class_model.specs.Names.{clinit, init}
 use Rattle.class_model.specs.Pool.{Constants, constant_at}
@@ -20,12 +20,10 @@ use Rattle.class_model.specs.declared.class_file.Attr.{Attr}
 use Rattle.class_model.specs.declared.class_file.ClassFile.{ClassFile}
 use Rattle.class_model.specs.declared.class_file.Field.{Field}
 use Rattle.class_model.specs.declared.class_file.Method.{Method}
-use Rattle.class_model.specs.declared.header.Header.{Header}
 use Rattle.class_model.specs.declared.header.Member.{Member}
 use Rattle.class_model.specs.declared.pool.Const.{Const}
 use Rattle.class_model.specs.declared.pool.Const.TheVariants as consts
 use Rattle.class_tree.specs.Headers.{Classes, Headers, headers_of, IsClassFile}
-use Rattle.class_tree.specs.Names.{is_interface}
 use Rattle.class_tree.specs.Trees.{IsTree}
 use Rattle.class_model.specs.Laws.Lists.{at_index}
 use Rattle.machine_step.specs.Programs.{IsProgram}

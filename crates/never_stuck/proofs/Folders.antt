@@ -1,14 +1,13 @@
-use Rattle.std.specs.Prelude.{◌≡◌, ◌<◌, ◌≤◌, ◌+◌, refl, ℕ, zero, suc, Bool, true, false, List, [], ◌∷◌, ◌++◌, map, bytes_eq, cond, count_by, slice_get, Option, Some, None, IsSome, option_map, if◌then◌else◌}
-use Rattle.std.specs.List.{AllByRecursion}
+use Rattle.std.specs.Prelude.{◌≡◌, ◌≤◌, ◌+◌, refl, ℕ, zero, suc, Bool, true, false, List, [], ◌∷◌, ◌++◌, map, bytes_eq, cond, count_by, slice_get, Option, Some, None, IsSome, option_map}
 use Rattle.std.proofs.Common.{arith, ap, sym, ◌∙◌, subst}
 use Rattle.std.proofs.lemmas.List.Recursion.{is_count_by}
 use Rattle.std.proofs.lemmas.Option.{slice_get-map}
 use Rattle.class_model.specs.Header.{header_of}
 use Rattle.class_model.specs.declared.class_file.ClassFile.{ClassFile}
 use Rattle.class_model.specs.declared.header.Header.{Header}
-use Rattle.class_tree.specs.Headers.{Name, Classes, Headers, headers_of, all_headers, named, class_named}
+use Rattle.class_tree.specs.Headers.{Name, Classes, Headers, headers_of, named}
 use Rattle.machine_step.specs.Programs.{IsProgram}
-use Rattle.member_link.specs.Machine.Classes.{program_of, run_class_of}
+use Rattle.member_link.specs.Machine.Classes.{run_class_of}
 use Rattle.member_link.specs.Machine.Links.{AreLinksOf}
 use Rattle.member_link.specs.Machine.Programs.{Program, RunClass, Links, headers_in, number_of_first, folder_number}
 

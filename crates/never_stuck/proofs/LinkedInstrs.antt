@@ -1,14 +1,14 @@
-use Rattle.std.specs.Prelude.{◌≡◌, ◌==◌, ◌<◌, ◌&&◌, ◌||◌, refl, ℕ, zero, suc, nat_le, Bool, true, false, List, [], ◌∷◌, ◌++◌, slice_get, Option, Some, None, Result, Ok, Err, IfSome, if◌then◌else◌}
+use Rattle.std.specs.Prelude.{◌≡◌, ◌==◌, ◌<◌, ◌&&◌, refl, ℕ, zero, suc, nat_le, Bool, true, false, List, [], ◌∷◌, slice_get, Option, Some, None, Result, Ok, Err, IfSome, if◌then◌else◌}
 use Rattle.std.specs.List.{AllByRecursion, list_any}
 use Rattle.std.proofs.Common.{inl, inr, ap, sym, ◌∙◌, subst}
 use Rattle.std.proofs.lemmas.Option.{slice_get-map}
 use Rattle.class_model.specs.Checks.{AllHold, Fault}
-use Rattle.class_model.specs.ClassOf.{ClassOf, entered}
+use Rattle.class_model.specs.ClassOf.{ClassOf}
 use Rattle.class_model.specs.Characters.{left_bracket}
 use Rattle.class_model.specs.Code.{OperandFits, IsDynamicConstant}
 use Rattle.class_model.specs.Descriptors.{named_text}
 use Rattle.class_model.specs.Header.{header_of, method_member}
-use Rattle.class_model.specs.Instructions.{decoded, instrs_at}
+use Rattle.class_model.specs.Instructions.{decoded}
 use Rattle.class_model.specs.Laws.Checks.{others_hold}
 use Rattle.class_model.specs.Laws.ClassFiles.{parts_hold}
 use Rattle.class_model.specs.Laws.Codes.{code_has}
@@ -31,7 +31,7 @@ use Rattle.class_model.specs.declared.instr.Placed.{Placed}
 use Rattle.class_model.specs.declared.opcodes.TheConstants.{IALOAD, SALOAD, IASTORE, SASTORE, IFEQ, IFLE, IF_ICMPEQ, IF_ICMPLE, IF_ACMPEQ, IF_ACMPNE, IFNULL, IFNONNULL}
 use Rattle.class_model.specs.declared.pool.Const.{Const}
 use Rattle.class_model.specs.declared.pool.Const.TheVariants as consts
-use Rattle.class_tree.specs.Headers.{Name, Classes, IsThere, IsClassFile, headers_of, class_named, named}
+use Rattle.class_tree.specs.Headers.{Name, Classes, IsThere, IsClassFile, headers_of, named}
 use Rattle.class_tree.specs.Hierarchy.{IsHierarchy}
 use Rattle.class_tree.specs.Names.{method_handle, method_type}
 use Rattle.class_tree.specs.Steps.{has_constant, is_method_handle, is_method_type, needed_class_checks}
@@ -44,7 +44,7 @@ use Rattle.member_link.specs.BodyTyping.{RowHolds}
 use Rattle.member_link.specs.Declarations.{Site, asked, site_of}
 use Rattle.member_link.specs.Forms.{IsStaticForm, IsInstanceForm, IsInstantiable}
 use Rattle.member_link.specs.Linked.{IsLinked}
-use Rattle.member_link.specs.LinkedPlaces.{CodeAt, use_scope, IsLinkedByPlace}
+use Rattle.member_link.specs.LinkedPlaces.{IsLinkedByPlace}
 use Rattle.member_link.specs.Machine.Classes.{program_of}
 use Rattle.member_link.specs.Machine.Codes.{number_at, code_points, item_op, instr_op, dynamic_op, initialises}
 use Rattle.member_link.specs.Machine.Ops.{jump_by_int, jump_by_ints, jump_by_references, jump_by_null, load_element, store_element, get_static, put_static, get_field, put_field, new_object, new_array, new_arrays, check_cast, instance_of}
@@ -63,7 +63,7 @@ use Rattle.never_stuck.proofs.Folders.{some_of, headers_are, outside_folder}
 use Rattle.never_stuck.proofs.LinkedOps.{ReferenceLaws, Around, jump_known, load_known, store_known, no_row_holds, primitive_named, array_there, tested, found, return_linked, constant_linked, field_there, call_linked, class_linked, class_there}
 use Rattle.never_stuck.proofs.PlacedFrames.{Ascend, same_place, other_place}
 use Rattle.never_stuck.proofs.PoolNames.{constant_holds, class_text, member_text}
-use Rattle.never_stuck.proofs.SomeDimensions.{SomeIn, AllSome, ListSome, instrs_some}
+use Rattle.never_stuck.proofs.SomeDimensions.{SomeIn, ListSome, instrs_some}
 use Rattle.never_stuck.proofs.TypedMethods.{scope_with}
 use Rattle.never_stuck.specs.PlainFolders.{IsPlainFolder}
 use Rattle.typed_runs.specs.TypedPoints.{IsOfLibrary, IsLinkedOp}

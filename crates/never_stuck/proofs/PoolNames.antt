@@ -1,5 +1,5 @@
-use Rattle.std.specs.Prelude.{◌≡◌, ◌+◌, refl, ℕ, zero, suc, List, [], ◌∷◌, ◌++◌, length, slice_get, Option, Some, None, IsSome, option_and_then}
-use Rattle.std.proofs.Common.{ap, sym, ◌∙◌, subst}
+use Rattle.std.specs.Prelude.{◌≡◌, ◌+◌, refl, ℕ, zero, suc, List, [], ◌∷◌, length, slice_get, Option, Some, None, IsSome}
+use Rattle.std.proofs.Common.{ap, ◌∙◌, subst}
 use Rattle.class_model.specs.Checks.{AllHold}
 use Rattle.class_model.specs.Laws.Checks.{first_holds, others_hold}
 use Rattle.class_model.specs.Pool.{Constants, constant_at}

@@ -1,30 +1,14 @@
-use Rattle.std.specs.Prelude.{◌≡◌, ◌≤◌, ◌+◌, ◌&&◌, ◌==◌, nat_le, nat_lt, refl, IfSome, ℕ, ℤ, zero, suc, Bool, true, false, List, [], ◌∷◌, length, take, drop, map, slice_get, Option, Some, None, Result, Ok, Err, option_map, option_and_then, if◌then◌else◌}
-use Rattle.std.specs.Int.{w16, from_be_bytes}
+use Rattle.std.specs.Prelude.{◌≡◌, ◌≤◌, ◌+◌, ◌&&◌, ◌==◌, nat_le, nat_lt, refl, IfSome, ℕ, ℤ, zero, suc, Bool, true, false, List, [], ◌∷◌, length, drop, Option, Some, None, Result, Ok, Err, if◌then◌else◌}
 use Rattle.std.specs.List.{AllByRecursion}
-use Rattle.std.proofs.Common.{arith, sym, subst}
-use Rattle.std.proofs.lemmas.List.Elements.{recursion_from_All}
-use Rattle.std.proofs.lemmas.Option.{slice_get-map}
+use Rattle.std.proofs.Common.{arith}
 use Rattle.class_model.specs.Checks.{Fault, fault, ◌>>=◌}
 use Rattle.class_model.specs.declared.fault.FileRule.TheVariants as rules
-use Rattle.class_model.specs.declared.opcodes.TheConstants.{IALOAD, SALOAD, IASTORE, SASTORE, IFEQ, IFLE, IF_ICMPEQ, IF_ICMPLE, IF_ACMPEQ, IF_ACMPNE, IFNULL, IFNONNULL, IINC}
-use Rattle.class_model.specs.Cutting.{IsBytes}
-use Rattle.class_model.specs.Laws.Cuts.{IsBytes-drop}
-use Rattle.class_model.specs.Laws.Lists.{AllByRecursion-weaker, at_index}
-use Rattle.class_model.specs.Instructions.{Read, Operands, Alone, U1, U2, S1, S2, U1S1, ArrayCode, Dimensions, U2U1Zero, U2ZeroZero, Jump2, Jump4, TableSwitch, LookupSwitch, Wide, rows, wide_rows, operands_in, with_operands, wide_operands, table_switch_at, lookup_switch_at, sized, sized_if, is_array_code, has_dimensions, target_of, instr_at, instrs_at, decoded, u1_in, u2_in, s1_in, s2_in, s4_in}
-use Rattle.class_model.specs.Members.{has, NATIVE}
-use Rattle.class_model.specs.MethodCode.{code_of}
-use Rattle.class_model.specs.Pool.{Constants, constant_at}
-use Rattle.class_model.specs.PoolChecks.{class_at}
+use Rattle.class_model.specs.declared.opcodes.TheConstants.{IINC}
+use Rattle.class_model.specs.Instructions.{Read, Operands, Alone, U1, U2, S1, S2, U1S1, ArrayCode, Dimensions, U2U1Zero, U2ZeroZero, Jump2, Jump4, TableSwitch, LookupSwitch, Wide, rows, wide_rows, operands_in, with_operands, wide_operands, table_switch_at, lookup_switch_at, sized, sized_if, is_array_code, has_dimensions, target_of, instr_at, instrs_at, u1_in, u2_in, s1_in, s2_in, s4_in}
 use Rattle.class_model.specs.Tables.{Row}
-use Rattle.class_model.specs.declared.class_file.ClassFile.{ClassFile}
-use Rattle.class_model.specs.declared.class_file.CodePart.{CodePart}
-use Rattle.class_model.specs.declared.class_file.Method.{Method}
-use Rattle.class_model.specs.declared.descriptor.FieldType.{FieldType}
-use Rattle.class_model.specs.declared.descriptor.Kind.{Kind}
 use Rattle.class_model.specs.declared.instr.Instr.{Instr}
 use Rattle.class_model.specs.declared.instr.Instr.TheVariants as instrs
 use Rattle.class_model.specs.declared.instr.Placed.{Placed}
-use Rattle.class_model.specs.declared.pool.Const.{Const}
 
 -- ---- instructions
 

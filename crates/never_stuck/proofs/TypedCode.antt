@@ -1,37 +1,27 @@
-use Rattle.std.specs.Prelude.{◌≡◌, ◌+◌, ◌<◌, ◌≤◌, ◌==◌, refl, ℕ, zero, suc, Bool, true, false, List, [], ◌∷◌, ◌++◌, map, length, slice_get, Option, Some, None, IsSome, IsTrue, IfSome, option_map, if◌then◌else◌}
-use Rattle.std.specs.List.{AllByRecursion, flat_map, list_any}
+use Rattle.std.specs.Prelude.{◌≡◌, ◌+◌, ◌<◌, ◌≤◌, ◌==◌, refl, ℕ, suc, Bool, true, false, List, [], ◌∷◌, ◌++◌, map, length, slice_get, Option, Some, None, IfSome, option_map}
+use Rattle.std.specs.List.{AllByRecursion}
 use Rattle.std.proofs.Common.{arith, inl, ap, sym, ◌∙◌, subst}
 use Rattle.std.proofs.lemmas.List.{length-map}
-use Rattle.std.proofs.lemmas.Option.{slice_get-map, slice_get_within, slice_get-get_or}
-use Rattle.class_model.specs.Checks.{AllHold}
-use Rattle.class_model.specs.Code.{entry_frame}
-use Rattle.class_model.specs.Descriptors.{parameters_of}
-use Rattle.class_model.specs.Header.{header_of, method_member}
+use Rattle.std.proofs.lemmas.Option.{slice_get-map, slice_get_within}
 use Rattle.class_model.specs.Laws.Lists.{AllByRecursion-weaker, at_index, none_behind}
-use Rattle.class_model.specs.Pool.{Constants}
-use Rattle.class_model.specs.PoolChecks.{utf8_at, class_at, text_or_empty}
-use Rattle.class_model.specs.declared.class_file.ClassFile.{ClassFile}
-use Rattle.class_model.specs.declared.class_file.CodePart.{CodePart}
+use Rattle.class_model.specs.PoolChecks.{class_at}
 use Rattle.class_model.specs.declared.class_file.Handler.{Handler}
-use Rattle.class_model.specs.declared.class_file.Method.{Method}
-use Rattle.class_model.specs.declared.class_file.MethodAt.{MethodAt}
 use Rattle.class_model.specs.declared.frame.Frame.{Frame}
 use Rattle.class_model.specs.declared.frame.VType.{VType}
 use Rattle.class_model.specs.declared.instr.Placed.{Placed}
-use Rattle.class_tree.specs.Headers.{Name, Classes, Headers, headers_of}
+use Rattle.class_tree.specs.Headers.{Name, Headers}
 use Rattle.class_tree.specs.Names.{throwable}
 use Rattle.member_link.specs.Assignability.{to_same}
-use Rattle.member_link.specs.Bodies.{Body, BodyPoint, item_instr, item_row, item_targets, item_falls_through, catch_frame, flows_on, frame_behind, point_row}
-use Rattle.member_link.specs.BodyTyping.{RowHolds, AreInOrder, GoesInto, GoesToStated, HasFrames, PointFits, frame_at, frame_among}
-use Rattle.member_link.specs.Machine.Classes.{program_of, run_class_of}
+use Rattle.member_link.specs.Bodies.{BodyPoint, item_instr, item_targets, catch_frame, flows_on, frame_behind}
+use Rattle.member_link.specs.BodyTyping.{RowHolds, AreInOrder, GoesInto, GoesToStated, HasFrames, PointFits, frame_at}
 use Rattle.member_link.specs.Machine.Codes.{CodePoint, number_at, item_op, catch_in, catches_at, code_points, covers, method_code}
-use Rattle.member_link.specs.Machine.Programs.{Program, Catch, Point, Links, headers_in, name_of_class, number_of_first}
+use Rattle.member_link.specs.Machine.Programs.{Program, Catch, Point, Links, number_of_first}
 use Rattle.member_link.specs.Rows.Assigning.{IsFrameAssignableIn}
 use Rattle.member_link.specs.Rows.FrameAssignability.{AreAssignable}
-use Rattle.member_link.specs.Rows.Row.{access_aside, row_frame}
+use Rattle.member_link.specs.Rows.Row.{access_aside}
 use Rattle.member_link.specs.Rows.Table.{row_of}
 use Rattle.member_link.specs.Scope.{Scope, instructions, row_scope}
-use Rattle.never_stuck.proofs.Folders.{some_of, folder_headers}
+use Rattle.never_stuck.proofs.Folders.{some_of}
 use Rattle.never_stuck.proofs.PlacedFrames.{Ascend, ascend, code_point, number_found, FrameThere, frame_there, frame_placed}
 use Rattle.type_rules.specs.Checks.{IsTypedAt, MayFlowIn, frame_before}
 use Rattle.type_rules.specs.Handlers as handlers
@@ -39,7 +29,6 @@ use Rattle.type_rules.specs.MethodBodies.{body_of, point_of}
 use Rattle.type_rules.specs.Stated.{stated_at}
 use Rattle.type_rules.specs.Typed.{flows_into}
 use Rattle.typed_runs.specs.TypedPoints.{Typing, LeadsTo, LeadsToHandler, IsLinkedOp, TypedPoint}
-use Rattle.typed_runs.specs.TypedPrograms.{IsTypedMethod, entry}
 
 -- what the laws of typing say of a method's code
 pub record IsTypedCode (s : Scope) (frames : List Frame) : Type 0 where

@@ -1,4 +1,4 @@
-use Rattle.std.specs.Prelude.{◌≡◌, refl, ℕ, List, ◌∷◌, map, slice_get, Option, Some, None, IsSome}
+use Rattle.std.specs.Prelude.{◌≡◌, refl, ℕ, List, slice_get, Option, Some}
 use Rattle.std.proofs.Common.{ap, sym, ◌∙◌, subst}
 use Rattle.class_model.specs.Code.{entry_frame}
 use Rattle.class_model.specs.Descriptors.{parameters_of}
@@ -14,12 +14,12 @@ use Rattle.class_model.specs.declared.instr.Placed.{Placed}
 use Rattle.class_tree.specs.Headers.{Name, Classes, Headers, headers_of}
 use Rattle.member_link.specs.Machine.Classes.{program_of, run_class_of}
 use Rattle.member_link.specs.Machine.Codes.{method_code}
-use Rattle.member_link.specs.Machine.Programs.{Program, Links, headers_in, name_of_class}
+use Rattle.member_link.specs.Machine.Programs.{Program, Links, name_of_class}
 use Rattle.member_link.specs.Scope.{Scope, instructions, row_scope}
 use Rattle.never_stuck.proofs.Folders.{folder_headers}
 use Rattle.never_stuck.proofs.TypedCode.{IsTypedCode, IsLinkedInstr, point_typed, entry_lead, as_many_points}
 use Rattle.type_rules.specs.MethodBodies.{body_of}
-use Rattle.typed_runs.specs.TypedPoints.{Typing, LeadsTo}
+use Rattle.typed_runs.specs.TypedPoints.{LeadsTo}
 use Rattle.typed_runs.specs.TypedPrograms.{IsTypedMethod, entry}
 
 abbrev pub scope_with : Classes → ClassFile → Method → CodePart → Scope

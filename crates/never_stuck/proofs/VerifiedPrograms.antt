@@ -1,9 +1,9 @@
-use Rattle.std.specs.Prelude.{◌≡◌, ◌↔◌, refl, ℕ, Bool, true, false, List, [], ◌∷◌, map, length, slice_get, Option, Some, None, IsSome, option_map, option_and_then, if◌then◌else◌}
+use Rattle.std.specs.Prelude.{◌≡◌, refl, ℕ, Bool, true, false, List, [], length, slice_get, Option, Some, None, IsSome, option_map, option_and_then, if◌then◌else◌}
 use Rattle.std.specs.List.{AllByRecursion}
 use Rattle.std.proofs.Common.{ap, sym, ◌∙◌, subst}
 use Rattle.std.proofs.lemmas.Option.{slice_get-map}
 use Rattle.class_model.specs.ClassOf.{entered}
-use Rattle.class_model.specs.Header.{method_member, header_of}
+use Rattle.class_model.specs.Header.{method_member}
 use Rattle.class_model.specs.Laws.ClassFiles.{parts_hold}
 use Rattle.class_model.specs.Laws.Lists.{at_index}
 use Rattle.class_model.specs.Members.{has, NATIVE}
@@ -14,8 +14,7 @@ use Rattle.class_model.specs.declared.class_file.CodePart.{CodePart}
 use Rattle.class_model.specs.declared.class_file.Method.{Method}
 use Rattle.class_model.specs.declared.class_file.MethodAt.{MethodAt}
 use Rattle.class_model.specs.declared.frame.Frame.{Frame}
-use Rattle.class_model.specs.declared.instr.Placed.{Placed}
-use Rattle.class_tree.specs.Headers.{Name, Classes, Headers, headers_of, IsClassFile}
+use Rattle.class_tree.specs.Headers.{Name, Classes, headers_of, IsClassFile}
 use Rattle.class_tree.specs.Hierarchy.{IsHierarchy}
 use Rattle.machine_step.specs.Programs.{IsProgram}
 use Rattle.member_link.specs.Bodies.{Body, BodyPoint}
@@ -23,12 +22,11 @@ use Rattle.member_link.specs.BodyTyping.{AreInOrder, GoesToStated, HasFrames, St
 use Rattle.member_link.specs.Machine.Classes.{program_of, run_class_of, run_method_of}
 use Rattle.member_link.specs.Machine.Codes.{method_code}
 use Rattle.member_link.specs.Machine.Links.{AreLinksOf}
-use Rattle.member_link.specs.Machine.Programs.{Program, Links, Code, RunClass, RunMethod, headers_in, run_method, code_run}
-use Rattle.member_link.specs.RowScope.{RowScope}
-use Rattle.member_link.specs.Scope.{Scope, scope_of, scope_at, instructions, row_scope}
+use Rattle.member_link.specs.Machine.Programs.{Program, Code, RunClass, RunMethod, run_method, code_run}
+use Rattle.member_link.specs.Scope.{Scope, scope_at, instructions, row_scope}
 use Rattle.never_stuck.proofs.Bases.{has_base}
 use Rattle.never_stuck.proofs.FileClasses.{class_typed}
-use Rattle.never_stuck.proofs.Folders.{some_of, headers_are, links_are, class_at as run_class_at}
+use Rattle.never_stuck.proofs.Folders.{some_of, headers_are, links_are}
 use Rattle.never_stuck.proofs.LinkedInstrs.{LinkLaws, linked_instr}
 use Rattle.never_stuck.proofs.PlacedFrames.{ascend}
 use Rattle.never_stuck.proofs.TypedCode.{IsTypedCode}
