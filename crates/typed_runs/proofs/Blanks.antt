@@ -36,7 +36,8 @@ blank_fits P h desc = blank_type P h (type_of desc)
 
 -- ---- the fields of a new object
 
-pub slots_append : (P : Program) (h : Heap) (ss ts : List Reference) (vs ws : List Value) → FitSlots P h ss vs → FitSlots P h ts ws → FitSlots P h (ss ++ ts) (vs ++ ws)
+pub slots_append : (P : Program) (h : Heap) (ss ts : List Reference) (vs ws : List Value) → FitSlots P h ss vs → FitSlots P h ts ws
+    → FitSlots P h (ss ++ ts) (vs ++ ws)
 slots_append P h [] ts [] ws fit more = more
 slots_append P h [] ts (v ∷ vs) ws fit more = absurd fit
 slots_append P h (s ∷ ss) ts [] ws fit more = absurd fit
@@ -47,16 +48,24 @@ pub own_blank : (P : Program) (h : Heap) (class : Name) (fields : List Member)
 own_blank P h class [] = tt
 own_blank P h class (field ∷ fields) = (blank_fits P h field.desc, own_blank P h class fields)
 
-pub all_blank : (P : Program) (h : Heap) (classes : List Name) → FitSlots P h (flat_map (own_slots P) classes) (blank_values (flat_map (own_fields (headers_in P)) classes))
+pub all_blank : (P : Program) (h : Heap) (classes : List Name)
+    → FitSlots P h (flat_map (own_slots P) classes) (blank_values (flat_map (own_fields (headers_in P)) classes))
 all_blank P h [] = tt
 all_blank P h (class ∷ classes) =
     subst (λ vs. FitSlots P h (flat_map (own_slots P) (class ∷ classes)) vs)
-    (sym (map-append (λ (field : Member). blank_value field.desc) (own_fields (headers_in P) class) (flat_map (own_fields (headers_in P)) classes)))
-    (slots_append P h (own_slots P class) (flat_map (own_slots P) classes) _ _ (own_blank P h class (own_fields (headers_in P) class)) (all_blank P h classes))
+    (sym (map-append (λ (field : Member). blank_value field.desc) (own_fields (headers_in P) class)
+    (flat_map (own_fields (headers_in P)) classes)))
+    (slots_append P h (own_slots P class) (flat_map (own_slots P) classes) _ _ (own_blank P h class (own_fields (headers_in P) class))
+    (all_blank P h classes))
 
 pub blank_object_holds : (P : Program) (h : Heap) (class : ℕ) (found : RunClass) → slice_get P.classes class ≡ Some found
     → HoldsShape P h (shapes.Folder class) (blank_values (instance_fields (headers_in P) (name_of_class P class)))
-blank_object_holds P h class found is = record { found = found; is_class = is; fields = all_blank P h (reverse (superclasses (headers_in P) (name_of_class P class))) }
+blank_object_holds P h class found is = record {
+  found = found;
+  is_class = is;
+  fields = all_blank P h
+      (reverse (superclasses (headers_in P) (name_of_class P class)));
+}
 
 -- ---- the elements of a new array
 
@@ -70,5 +79,6 @@ blank_array_holds P h desc count is named = record {
   is_array = is;
   element_there = named;
   as_long = length-replicate count (blank_value (component_text desc));
-  elements = all_alike (FitsDescriptor P h (component_text desc)) count (blank_value (component_text desc)) (blank_fits P h (component_text desc));
+  elements = all_alike (FitsDescriptor P h (component_text desc)) count (blank_value (component_text desc))
+      (blank_fits P h (component_text desc));
 }

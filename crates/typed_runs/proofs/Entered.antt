@@ -31,19 +31,26 @@ pub stays_through : {P : Program} {T : Typings} {u v w : World} → StaysTyped P
 stays_through one other = record { typed = other.typed; not_stuck = λ no. other.not_stuck (one.not_stuck no) }
 
 -- A method with code is called on top of frames of which the first one awaits it.
-pub called_stays : (P : Program) (T : Typings) (w : World) → TypedWorld P T w → (at : MethodAt) (method : RunMethod) (code : Code) → run_method P at ≡ Some method → code_run method ≡ Some code
-    → is_initialiser method ≡ false → (ts : List VType) (vs : List Value) → (entry P at method.member code).locals ≡ filled code.locals ts → NoTop ts → AllConform P (T at).scope w.memory.heap ts vs
-    → (rest : List RunFrame) → FramesConform P T w.memory.heap (called_method method.member) rest → StaysTyped P T w (called P w at vs rest)
+pub called_stays : (P : Program) (T : Typings) (w : World) → TypedWorld P T w → (at : MethodAt) (method : RunMethod) (code : Code)
+    → run_method P at ≡ Some method → code_run method ≡ Some code
+    → is_initialiser method ≡ false → (ts : List VType) (vs : List Value) → (entry P at method.member code).locals ≡ filled code.locals ts
+    → NoTop ts → AllConform P (T at).scope w.memory.heap ts vs
+    → (rest : List RunFrame) → FramesConform P T w.memory.heap (called_method method.member) rest
+    → StaysTyped P T w (called P w at vs rest)
 called_stays P T w typed at method code run is plain ts vs begins apart all rest below =
-    let l : LockedTyped P w.memory (locked P w.memory at vs) = locked_typed P T typed.program w.memory (name_of_class P at.class) (locking_of (run_method P at)) vs typed.memory (all_in_heap all) in
+    let l : LockedTyped P w.memory (locked P w.memory at vs) = locked_typed P T typed.program w.memory (name_of_class P at.class)
+    (locking_of (run_method P at)) vs typed.memory (all_in_heap all) in
     let held : Option ℕ = (locked P w.memory at vs).held in
-    let above : above_of P (frames.Method (frame_with P at (units_of_values vs) held)) ≡ called_method method.member = ap above_method run ∙ (rw plain refl) in
-    let does = enters P T (locked P w.memory at vs).memory typed.program at method code run is held l.held ts vs begins apart (all_kept l.keep all) in
+    let above : above_of P (frames.Method (frame_with P at (units_of_values vs) held)) ≡ called_method method.member = ap above_method run
+    ∙ (rw plain refl) in
+    let does = enters P T (locked P w.memory at vs).memory typed.program at method code run is held l.held ts vs begins apart
+    (all_kept l.keep all) in
     stays P T w (locked P w.memory at vs).memory (frames.Method (frame_with P at (units_of_values vs) held) ∷ rest) typed l.keep l.typed
     (upon does (subst (λ a. FramesConform P T (locked P w.memory at vs).memory.heap a rest) (sym above) (frames_kept l.keep below)))
 
 -- the class of a method may be begun on top
-pub beginning_if_stays : (P : Program) (T : Typings) (w : World) (class : Name) → TypedWorld P T w → StaysTyped P T w (beginning_if P class w)
+pub beginning_if_stays : (P : Program) (T : Typings) (w : World) (class : Name) → TypedWorld P T w
+    → StaysTyped P T w (beginning_if P class w)
 beginning_if_stays P T w class typed = by (folder_number P class) refl where
   by_begun : (n : ℕ) (b : Bool) → folder_number P class ≡ Some n → StaysTyped P T w (if b then w else begun_on P n w w.frames)
   by_begun n true e = stays_same P T w typed

@@ -49,12 +49,14 @@ fields_are_no_top (t ∷ ts) = (field_is_no_top t, fields_are_no_top ts)
 
 -- ---- local units
 
-pub units_append : {P : Program} {s : RowScope} {h : Heap} {ts us : List VType} {vs ws : List (Option Value)} → UnitsConform P s h ts vs → UnitsConform P s h us ws → UnitsConform P s h (ts ++ us) (vs ++ ws)
+pub units_append : {P : Program} {s : RowScope} {h : Heap} {ts us : List VType} {vs ws : List (Option Value)} → UnitsConform P s h ts vs
+    → UnitsConform P s h us ws → UnitsConform P s h (ts ++ us) (vs ++ ws)
 units_append no_units more = more
 units_append (and_unit one others) more = and_unit one (units_append others more)
 
 -- values in local units
-pub value_units : {P : Program} {s : RowScope} {h : Heap} {ts : List VType} {vs : List Value} → NoTop ts → AllConform P s h ts vs → UnitsConform P s h (units_of_entries ts) (units_of_values vs)
+pub value_units : {P : Program} {s : RowScope} {h : Heap} {ts : List VType} {vs : List Value} → NoTop ts → AllConform P s h ts vs
+    → UnitsConform P s h (units_of_entries ts) (units_of_values vs)
 value_units apart no_values = no_units
 value_units apart (and_value (to_top is) others) = absurd (apart.0 refl)
 value_units apart (and_value an_int others) = and_unit (has_value an_int) (value_units apart.1 others)
@@ -80,7 +82,8 @@ values_paired (values.Ref r ∷ vs) rest is = (λ wide. cc, values_paired vs res
 abbrev pub begun_units : ℕ → List Value → List (Option Value)
 begun_units max vs = units_of_values vs ++ replicate (max - length (units_of_values vs)) None
 
-pub begun_conform : {P : Program} {s : RowScope} {h : Heap} (max : ℕ) {ts : List VType} {vs : List Value} → NoTop ts → AllConform P s h ts vs → UnitsConform P s h (filled max ts) (begun_units max vs)
+pub begun_conform : {P : Program} {s : RowScope} {h : Heap} (max : ℕ) {ts : List VType} {vs : List Value} → NoTop ts
+    → AllConform P s h ts vs → UnitsConform P s h (filled max ts) (begun_units max vs)
 begun_conform {P = P} {s = s} {h = h} max {ts = ts} {vs = vs} apart all =
     let units : UnitsConform P s h (units_of_entries ts) (units_of_values vs) = value_units apart all in
     subst (λ n. UnitsConform P s h (filled max ts) (units_of_values vs ++ replicate (max - n) None)) (as_many_units units)
@@ -92,7 +95,8 @@ pub static_entry : (flags : ℕ) (name : List ℕ) (class : Name) (params : List
     → (entry_frame flags name (Some class) params max).locals ≡ filled max (map verification_type params)
 static_entry flags name class params max is = rw is refl
 
-pub instance_entry : (flags : ℕ) (name : List ℕ) (class : Name) (params : List FieldType) (max : ℕ) → has flags STATIC ≡ false → bytes_eq init name ≡ false
+pub instance_entry : (flags : ℕ) (name : List ℕ) (class : Name) (params : List FieldType) (max : ℕ) → has flags STATIC ≡ false
+    → bytes_eq init name ≡ false
     → (entry_frame flags name (Some class) params max).locals ≡ filled max (types.Object class ∷ map verification_type params)
 instance_entry flags name class params max is other = rw is (rw other refl)
 
@@ -101,8 +105,10 @@ pub initialiser_entry : (flags : ℕ) (class : Name) (params : List FieldType) (
 initialiser_entry flags class params max is = rw is refl
 
 -- A new frame of a method does the first instruction, if these values conform to the types that its locals begin with.
-pub enters : (P : Program) (T : Typings) (m : Memory) → IsTypedProgram P T → (at : MethodAt) (method : RunMethod) (code : Code) → run_method P at ≡ Some method → code_run method ≡ Some code
-    → (held : Option ℕ) → IfSome held (IsInHeap m.heap) → (ts : List VType) (vs : List Value) → (entry P at method.member code).locals ≡ filled code.locals ts → NoTop ts
+pub enters : (P : Program) (T : Typings) (m : Memory) → IsTypedProgram P T → (at : MethodAt) (method : RunMethod) (code : Code)
+    → run_method P at ≡ Some method → code_run method ≡ Some code
+    → (held : Option ℕ) → IfSome held (IsInHeap m.heap) → (ts : List VType) (vs : List Value)
+    → (entry P at method.member code).locals ≡ filled code.locals ts → NoTop ts
     → AllConform P (T at).scope m.heap ts vs → Does P T m.heap (frame_with P at (units_of_values vs) held)
 enters P T m program at method code run is held held_there ts vs begins apart all =
     let is_code : code_at P at ≡ Some code = ap (λ o. option_and_then code_run o) run ∙ is in
@@ -111,6 +117,8 @@ enters P T m program at method code run is held held_there ts vs begins apart al
     let same : frame_with P at (units_of_values vs) held ≡ new = rw is_code refl in
     let does : Does P T m.heap new =
     does_first P T m program new code is_code held_there (entry P at method.member code) typed.entry_leads
-    (values_paired vs (replicate (code.locals - length (units_of_values vs)) None) (blank_paired (code.locals - length (units_of_values vs))))
-    (subst (λ us. UnitsConform P (T at).scope m.heap us (begun_units code.locals vs)) (sym begins) (begun_conform code.locals apart all)) no_values in
+    (values_paired vs (replicate (code.locals - length (units_of_values vs)) None)
+    (blank_paired (code.locals - length (units_of_values vs))))
+    (subst (λ us. UnitsConform P (T at).scope m.heap us (begun_units code.locals vs)) (sym begins) (begun_conform code.locals apart all))
+    no_values in
     subst (λ (g : MethodState). Does P T m.heap g) (sym same) does

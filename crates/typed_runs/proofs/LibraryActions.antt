@@ -14,13 +14,15 @@ use Rattle.typed_runs.specs.Families.{NamesElement}
 use Rattle.typed_runs.specs.TypedPrograms.{Typings}
 use Rattle.typed_runs.specs.TypedWorlds.{TypedWorld, StaysTyped}
 
-pub acted_stays : (P : Program) (T : Typings) (w : World) (action : Action) → TypedWorld P T w → is_library_turn w.frames ≡ true → NamesElement P action → StaysTyped P T w (acted P action w)
+pub acted_stays : (P : Program) (T : Typings) (w : World) (action : Action) → TypedWorld P T w → is_library_turn w.frames ≡ true
+    → NamesElement P action → StaysTyped P T w (acted P action w)
 acted_stays P T w (actions.Call class name desc values) typed turn named = call_stays P T w typed turn class name desc values
 acted_stays P T w (actions.Construct class desc values) typed turn named = construct_stays P T w typed turn class desc values
 acted_stays P T w (actions.Return value) typed turn named = return_stays P T w typed value
 acted_stays P T w (actions.Throw number) typed turn named = throw_stays P T w typed (slice_get w.known number)
 acted_stays P T w (actions.ArrayGet number index) typed turn named = get_stays P T w typed (slice_get w.known number) index
-acted_stays P T w (actions.ArraySet number index value) typed turn named = set_stays P T w typed (slice_get w.known number) index (given_value w.known value)
+acted_stays P T w (actions.ArraySet number index value) typed turn named = set_stays P T w typed (slice_get w.known number) index
+    (given_value w.known value)
 acted_stays P T w (actions.ArrayLength number) typed turn named = length_stays P T w typed (known_object w (slice_get w.known number))
 acted_stays P T w (actions.NewArray desc count) typed turn named = new_array_stays P T w typed desc count named
 acted_stays P T w (actions.NewExternal class also) typed turn named = new_external_stays P T w typed class also
@@ -29,7 +31,8 @@ acted_stays P T w actions.Stop typed turn named = record {
   not_stuck = λ before after. cc;
 }
 
-pub act_stays : (P : Program) (T : Typings) (w : World) (action : Action) → TypedWorld P T w → is_library_turn w.frames ≡ true → NamesElement P action → StaysTyped P T w (act P action w)
+pub act_stays : (P : Program) (T : Typings) (w : World) (action : Action) → TypedWorld P T w → is_library_turn w.frames ≡ true
+    → NamesElement P action → StaysTyped P T w (act P action w)
 act_stays P T w action typed turn named = by (is_fault (acted P action v).halt) where
   v : World
   v = record w { steps = w.steps + 1 }

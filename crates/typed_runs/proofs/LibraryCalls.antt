@@ -57,12 +57,17 @@ no_angle name other plain angle same = let no : true ≡ false = sym angle ∙ (
 
 -- ---- the class of a method that is found
 
-pub class_of_place : (P : Program) (r : Reference) (at : MethodAt) → place_of_method P r ≡ Some at → folder_number P r.class ≡ Some at.class
+pub class_of_place : (P : Program) (r : Reference) (at : MethodAt) → place_of_method P r ≡ Some at
+    → folder_number P r.class ≡ Some at.class
 class_of_place P r at is =
-    let c = of_chain (λ (number : ℕ). option_and_then (λ (class : RunClass). option_map (λ (method : ℕ). record { class = number; method = method }) (number_of_first (λ (m : RunMethod). member_of r m.member) class.methods)) (slice_get P.classes number))
+    let c = of_chain (λ (number : ℕ). option_and_then (λ (class : RunClass). option_map
+    (λ (method : ℕ). record { class = number; method = method }) (number_of_first (λ (m : RunMethod). member_of r m.member)
+    class.methods)) (slice_get P.classes number))
     (folder_number P r.class) at is in
-    let d = of_chain (λ (class : RunClass). option_map (λ (method : ℕ). record { class = c.0; method = method }) (number_of_first (λ (m : RunMethod). member_of r m.member) class.methods)) (slice_get P.classes c.0) at c.2 in
-    let m = of_map (λ (method : ℕ). record { class = c.0; method = method }) (number_of_first (λ (m : RunMethod). member_of r m.member) d.0.methods) at d.2 in
+    let d = of_chain (λ (class : RunClass). option_map (λ (method : ℕ). record { class = c.0; method = method })
+    (number_of_first (λ (m : RunMethod). member_of r m.member) class.methods)) (slice_get P.classes c.0) at c.2 in
+    let m = of_map (λ (method : ℕ). record { class = c.0; method = method })
+    (number_of_first (λ (m : RunMethod). member_of r m.member) d.0.methods) at d.2 in
     c.1 ∙ ap (λ (x : MethodAt). Some x.class) m.2
 
 pub name_of_found : (P : Program) (name : Name) (n : ℕ) → folder_number P name ≡ Some n → name_of_class P n ≡ name
@@ -74,99 +79,126 @@ name_of_found P name n is =
 module _ (P : Program) (T : Typings) (w : World) (typed : TypedWorld P T w) (turn : is_library_turn w.frames ≡ true) where
   -- ---- a call
 
-  pub static_stays : (class : Name) (desc : List ℕ) (at : MethodAt) (method : RunMethod) (code : Code) (vs : List Value) → run_method P at ≡ Some method → code_run method ≡ Some code
-      → is_initialiser method ≡ false → has method.member.flags STATIC ≡ true → method.member.desc ≡ desc → StaysTyped P T w (call_of_static P w class desc at vs)
+  pub static_stays : (class : Name) (desc : List ℕ) (at : MethodAt) (method : RunMethod) (code : Code) (vs : List Value)
+      → run_method P at ≡ Some method → code_run method ≡ Some code
+      → is_initialiser method ≡ false → has method.member.flags STATIC ≡ true → method.member.desc ≡ desc
+      → StaysTyped P T w (call_of_static P w class desc at vs)
   static_stays class desc at method code vs run is plain static same = by (all_conform P w (parameters_of desc) vs) refl where
     begins : (entry P at method.member code).locals ≡ filled code.locals (map verification_type (parameters_of desc))
     begins =
-        static_entry method.member.flags method.member.name (name_of_class P at.class) (parameters_of method.member.desc) code.locals static
+        static_entry method.member.flags method.member.name (name_of_class P at.class) (parameters_of method.member.desc) code.locals
+        static
         ∙ ap (λ d. filled code.locals (map verification_type (parameters_of d))) same
 
-    by : (b : Bool) → all_conform P w (parameters_of desc) vs ≡ b → StaysTyped P T w (if b then beginning_if P class (called P w at vs w.frames) else fault w)
+    by : (b : Bool) → all_conform P w (parameters_of desc) vs ≡ b
+        → StaysTyped P T w (if b then beginning_if P class (called P w at vs w.frames) else fault w)
     by false e = fault_stays P T w typed
     by true e =
-        let one = called_stays P T w typed at method code run is plain (map verification_type (parameters_of desc)) vs begins (fields_are_no_top (parameters_of desc))
+        let one = called_stays P T w typed at method code run is plain (map verification_type (parameters_of desc)) vs begins
+        (fields_are_no_top (parameters_of desc))
         (all_given P w (T at).scope (parameters_of desc) vs e) w.frames (under_any P T w.memory.heap w.frames turn typed.frames) in
         stays_through one (beginning_if_stays P T (called P w at vs w.frames) class one.typed)
 
   -- on a receiver
-  pub call_on_stays : (class : Name) (desc : List ℕ) (at : MethodAt) (method : RunMethod) (code : Code) (vs : List Value) → run_method P at ≡ Some method → code_run method ≡ Some code
-      → is_initialiser method ≡ false → (entry P at method.member code).locals ≡ filled code.locals (types.Object class ∷ map verification_type (parameters_of desc))
+  pub call_on_stays : (class : Name) (desc : List ℕ) (at : MethodAt) (method : RunMethod) (code : Code) (vs : List Value)
+      → run_method P at ≡ Some method → code_run method ≡ Some code
+      → is_initialiser method ≡ false → (entry P at method.member code).locals ≡ filled code.locals
+      (types.Object class ∷ map verification_type (parameters_of desc))
       → AllConform P (T at).scope w.memory.heap (map verification_type (parameters_of desc)) vs
-      → (receiver : Value) → value_conforms P w.memory.heap (field_types.Named class) receiver ≡ true → StaysTyped P T w (call_on P w at vs receiver)
+      → (receiver : Value) → value_conforms P w.memory.heap (field_types.Named class) receiver ≡ true
+      → StaysTyped P T w (call_on P w at vs receiver)
   call_on_stays class desc at method code vs run is plain begins all values.Null conforms =
-      raised_stays P T w null_pointer w.frames typed (raises_null P T typed.program) (library_can P T w.memory.heap w.frames turn typed.frames)
+      raised_stays P T w null_pointer w.frames typed (raises_null P T typed.program)
+      (library_can P T w.memory.heap w.frames turn typed.frames)
   call_on_stays class desc at method code vs run is plain begins all (values.Ref r) conforms =
-      called_stays P T w typed at method code run is plain (types.Object class ∷ map verification_type (parameters_of desc)) (values.Ref r ∷ vs) begins
-      ((λ e. cc), fields_are_no_top (parameters_of desc)) (and_value (given_conforms P (T at).scope w.memory.heap (field_types.Named class) (values.Ref r) conforms) all)
+      called_stays P T w typed at method code run is plain (types.Object class ∷ map verification_type (parameters_of desc))
+      (values.Ref r ∷ vs) begins
+      ((λ e. cc), fields_are_no_top (parameters_of desc)) (and_value
+      (given_conforms P (T at).scope w.memory.heap (field_types.Named class) (values.Ref r) conforms) all)
       w.frames (under_any P T w.memory.heap w.frames turn typed.frames)
   call_on_stays class desc at method code vs run is plain begins all (values.Int n) conforms = cc
   call_on_stays class desc at method code vs run is plain begins all (values.Long n) conforms = cc
   call_on_stays class desc at method code vs run is plain begins all (values.Float n) conforms = cc
   call_on_stays class desc at method code vs run is plain begins all (values.Double n) conforms = cc
 
-  pub instance_stays : (class : Name) (desc : List ℕ) (at : MethodAt) (method : RunMethod) (code : Code) (vs : List Value) → run_method P at ≡ Some method → code_run method ≡ Some code
-      → is_initialiser method ≡ false → bytes_eq init method.member.name ≡ false → has method.member.flags STATIC ≡ false → method.member.desc ≡ desc → name_of_class P at.class ≡ class
+  pub instance_stays : (class : Name) (desc : List ℕ) (at : MethodAt) (method : RunMethod) (code : Code) (vs : List Value)
+      → run_method P at ≡ Some method → code_run method ≡ Some code
+      → is_initialiser method ≡ false → bytes_eq init method.member.name ≡ false → has method.member.flags STATIC ≡ false
+      → method.member.desc ≡ desc → name_of_class P at.class ≡ class
       → StaysTyped P T w (call_of_instance P w class desc at vs)
   instance_stays class desc at method code [] run is plain other flat same named = fault_stays P T w typed
-  instance_stays class desc at method code (receiver ∷ vs) run is plain other flat same named = by (all_conform P w (field_types.Named class ∷ parameters_of desc) (receiver ∷ vs)) refl where
-    begins : (entry P at method.member code).locals ≡ filled code.locals (types.Object class ∷ map verification_type (parameters_of desc))
-    begins =
-        instance_entry method.member.flags method.member.name (name_of_class P at.class) (parameters_of method.member.desc) code.locals flat other
-        ∙ (ap (λ d. filled code.locals (types.Object (name_of_class P at.class) ∷ map verification_type (parameters_of d))) same
-        ∙ ap (λ n. filled code.locals (types.Object n ∷ map verification_type (parameters_of desc))) named)
+  instance_stays class desc at method code (receiver ∷ vs) run is plain other flat same named =
+      by (all_conform P w (field_types.Named class ∷ parameters_of desc) (receiver ∷ vs)) refl where
+        begins : (entry P at method.member code).locals ≡ filled code.locals (types.Object class ∷ map verification_type (parameters_of desc))
+        begins =
+            instance_entry method.member.flags method.member.name (name_of_class P at.class) (parameters_of method.member.desc) code.locals
+            flat other
+            ∙ (ap (λ d. filled code.locals (types.Object (name_of_class P at.class) ∷ map verification_type (parameters_of d))) same
+            ∙ ap (λ n. filled code.locals (types.Object n ∷ map verification_type (parameters_of desc))) named)
 
-    by : (b : Bool) → all_conform P w (field_types.Named class ∷ parameters_of desc) (receiver ∷ vs) ≡ b → StaysTyped P T w (if b then call_on P w at vs receiver else fault w)
-    by false e = fault_stays P T w typed
-    by true e =
-        let one : value_conforms P w.memory.heap (field_types.Named class) receiver ≡ true =
-        and_first (value_conforms P w.memory.heap (field_types.Named class) receiver) (all_conform P w (parameters_of desc) vs) e in
-        let others : all_conform P w (parameters_of desc) vs ≡ true =
-        and_second (value_conforms P w.memory.heap (field_types.Named class) receiver) (all_conform P w (parameters_of desc) vs) e in
-        call_on_stays class desc at method code vs run is plain begins (all_given P w (T at).scope (parameters_of desc) vs others) receiver one
+        by : (b : Bool) → all_conform P w (field_types.Named class ∷ parameters_of desc) (receiver ∷ vs) ≡ b
+            → StaysTyped P T w (if b then call_on P w at vs receiver else fault w)
+        by false e = fault_stays P T w typed
+        by true e =
+            let one : value_conforms P w.memory.heap (field_types.Named class) receiver ≡ true =
+            and_first (value_conforms P w.memory.heap (field_types.Named class) receiver) (all_conform P w (parameters_of desc) vs) e in
+            let others : all_conform P w (parameters_of desc) vs ≡ true =
+            and_second (value_conforms P w.memory.heap (field_types.Named class) receiver) (all_conform P w (parameters_of desc) vs) e in
+            call_on_stays class desc at method code vs run is plain begins (all_given P w (T at).scope (parameters_of desc) vs others)
+            receiver one
 
-  pub method_stays : (class : Name) (name desc : List ℕ) (at : MethodAt) (vs : List Value) → begins_with_angle name ≡ false → place_of_method P (record { class = class; name = name; desc = desc }) ≡ Some at
+  pub method_stays : (class : Name) (name desc : List ℕ) (at : MethodAt) (vs : List Value) → begins_with_angle name ≡ false
+      → place_of_method P (record { class = class; name = name; desc = desc }) ≡ Some at
       → StaysTyped P T w (call_of_method P w class desc at vs (run_method P at))
-  method_stays class name desc at vs plain place = subst (λ m. StaysTyped P T w (call_of_method P w class desc at vs m)) (sym f.run) (by (code_at P at) refl) where
-    r : Reference
-    r = record { class = class; name = name; desc = desc }
+  method_stays class name desc at vs plain place = subst (λ m. StaysTyped P T w (call_of_method P w class desc at vs m)) (sym f.run)
+      (by (code_at P at) refl) where
+        r : Reference
+        r = record { class = class; name = name; desc = desc }
 
-    f : MethodFound P r at
-    f = method_found P r at place
+        f : MethodFound P r at
+        f = method_found P r at place
 
-    no_clinit : is_initialiser f.method ≡ false
-    no_clinit = differ f.method.member.name clinit (λ e. no_angle name clinit plain refl (sym f.name ∙ e))
+        no_clinit : is_initialiser f.method ≡ false
+        no_clinit = differ f.method.member.name clinit (λ e. no_angle name clinit plain refl (sym f.name ∙ e))
 
-    no_init : bytes_eq init f.method.member.name ≡ false
-    no_init = differ init f.method.member.name (λ e. no_angle name init plain refl (sym (e ∙ f.name)))
+        no_init : bytes_eq init f.method.member.name ≡ false
+        no_init = differ init f.method.member.name (λ e. no_angle name init plain refl (sym (e ∙ f.name)))
 
-    by_sort : (code : Code) → code_run f.method ≡ Some code → (b : Bool) → has f.method.member.flags STATIC ≡ b → StaysTyped P T w (call_by_sort P w class desc at vs b)
-    by_sort code is true e = static_stays class desc at f.method code vs f.run is no_clinit e f.desc
-    by_sort code is false e = instance_stays class desc at f.method code vs f.run is no_clinit no_init e f.desc (name_of_found P class at.class (class_of_place P r at place))
+        by_sort : (code : Code) → code_run f.method ≡ Some code → (b : Bool) → has f.method.member.flags STATIC ≡ b
+            → StaysTyped P T w (call_by_sort P w class desc at vs b)
+        by_sort code is true e = static_stays class desc at f.method code vs f.run is no_clinit e f.desc
+        by_sort code is false e = instance_stays class desc at f.method code vs f.run is no_clinit no_init e f.desc
+            (name_of_found P class at.class (class_of_place P r at place))
 
-    by : (c : Option Code) → code_at P at ≡ c → StaysTyped P T w (if is_some c then call_by_sort P w class desc at vs (has f.method.member.flags STATIC) else fault w)
-    by None e = fault_stays P T w typed
-    by (Some code) e = by_sort code (sym (ap (λ o. option_and_then code_run o) f.run) ∙ e) (has f.method.member.flags STATIC) refl
+        by : (c : Option Code) → code_at P at ≡ c → StaysTyped P T w (if is_some c then call_by_sort P w class desc at vs
+            (has f.method.member.flags STATIC) else fault w)
+        by None e = fault_stays P T w typed
+        by (Some code) e = by_sort code (sym (ap (λ o. option_and_then code_run o) f.run) ∙ e) (has f.method.member.flags STATIC) refl
 
   pub call_stays : (class : Name) (name desc : List ℕ) (given : List Given) → StaysTyped P T w (act_call P w class name desc given)
   call_stays class name desc given = by (begins_with_angle name) refl where
-    by_place : begins_with_angle name ≡ false → (at : Option MethodAt) → place_of_method P (record { class = class; name = name; desc = desc }) ≡ at → (vs : Option (List Value))
+    by_place : begins_with_angle name ≡ false → (at : Option MethodAt)
+        → place_of_method P (record { class = class; name = name; desc = desc }) ≡ at → (vs : Option (List Value))
         → StaysTyped P T w (call_at P w class desc at vs)
     by_place plain None e vs = fault_stays P T w typed
     by_place plain (Some at) e None = fault_stays P T w typed
     by_place plain (Some at) e (Some vs) = method_stays class name desc at vs plain e
 
     by : (b : Bool) → begins_with_angle name ≡ b
-        → StaysTyped P T w (if b then fault w else call_at P w class desc (place_of_method P (record { class = class; name = name; desc = desc })) (given_values w.known given))
+        → StaysTyped P T w (if b then fault w else call_at P w class desc
+        (place_of_method P (record { class = class; name = name; desc = desc })) (given_values w.known given))
     by true e = fault_stays P T w typed
     by false e = by_place e (place_of_method P (record { class = class; name = name; desc = desc })) refl (given_values w.known given)
 
   -- ---- a construction
 
-  pub constructed_stays : (class : Name) (desc : List ℕ) (at : MethodAt) (code : Code) (vs : List Value) → place_of_method P (record { class = class; name = init; desc = desc }) ≡ Some at
-      → code_at P at ≡ Some code → all_conform P w (parameters_of desc) vs ≡ true → StaysTyped P T w (constructed P w class at vs (blank_object P w.memory.heap at.class))
+  pub constructed_stays : (class : Name) (desc : List ℕ) (at : MethodAt) (code : Code) (vs : List Value)
+      → place_of_method P (record { class = class; name = init; desc = desc }) ≡ Some at
+      → code_at P at ≡ Some code → all_conform P w (parameters_of desc) vs ≡ true
+      → StaysTyped P T w (constructed P w class at vs (blank_object P w.memory.heap at.class))
   constructed_stays class desc at code vs place is_code conform =
-      stays_through stored (stays_through entered (beginning_if_stays P T (called P v at (values.Ref made.reference ∷ vs) (with_made made.reference w.frames)) class entered.typed)) where
+      stays_through stored (stays_through entered (beginning_if_stays P T
+      (called P v at (values.Ref made.reference ∷ vs) (with_made made.reference w.frames)) class entered.typed)) where
         r : Reference
         r = record { class = class; name = init; desc = desc }
 
@@ -186,7 +218,8 @@ module _ (P : Program) (T : Typings) (w : World) (typed : TypedWorld P T w) (tur
         keep = made_keeps w.memory.heap (shapes.Folder at.class) fields
 
         memory : IsTypedMemory P (with_heap w.memory made.heap)
-        memory = made_typed P w.memory (shapes.Folder at.class) fields typed.memory (blank_object_holds P made.heap at.class f.class f.is_class)
+        memory = made_typed P w.memory (shapes.Folder at.class) fields typed.memory
+            (blank_object_holds P made.heap at.class f.class f.is_class)
 
         shape : HasShape made.heap made.reference (shapes.Folder at.class)
         shape = made_shape w.memory.heap (shapes.Folder at.class) fields
@@ -207,37 +240,50 @@ module _ (P : Program) (T : Typings) (w : World) (typed : TypedWorld P T w) (tur
         plain : is_initialiser f.method ≡ false
         plain = subst (λ n. bytes_eq n clinit ≡ false) (sym f.name) refl
 
-        begins : (entry P at f.method.member code).locals ≡ filled code.locals (types.UninitThis ∷ map verification_type (parameters_of desc))
+        begins : (entry P at f.method.member code).locals ≡ filled code.locals
+            (types.UninitThis ∷ map verification_type (parameters_of desc))
         begins =
-            subst (λ n. (entry P at (record f.method.member { name = n }) code).locals ≡ filled code.locals (types.UninitThis ∷ map verification_type (parameters_of desc))) (sym f.name)
-            (initialiser_entry f.method.member.flags (name_of_class P at.class) (parameters_of f.method.member.desc) code.locals ((flags_of P T typed.program r at f).of_init f.name)
+            subst (λ n. (entry P at (record f.method.member { name = n }) code).locals ≡ filled code.locals
+            (types.UninitThis ∷ map verification_type (parameters_of desc))) (sym f.name)
+            (initialiser_entry f.method.member.flags (name_of_class P at.class) (parameters_of f.method.member.desc) code.locals
+            ((flags_of P T typed.program r at f).of_init f.name)
             ∙ ap (λ d. filled code.locals (types.UninitThis ∷ map verification_type (parameters_of d))) f.desc)
 
         entered : StaysTyped P T v (called P v at (values.Ref made.reference ∷ vs) (with_made made.reference w.frames))
         entered =
-            called_stays P T v stored.typed at f.method code f.run run plain (types.UninitThis ∷ map verification_type (parameters_of desc)) (values.Ref made.reference ∷ vs) begins
-            ((λ e. cc), fields_are_no_top (parameters_of desc)) (and_value this (all_kept keep (all_given P w (T at).scope (parameters_of desc) vs conform)))
-            (with_made made.reference w.frames) (made_below P T made.heap made.reference w.frames turn (frames_kept keep typed.frames) (there shape))
+            called_stays P T v stored.typed at f.method code f.run run plain (types.UninitThis ∷ map verification_type
+            (parameters_of desc)) (values.Ref made.reference ∷ vs) begins
+            ((λ e. cc), fields_are_no_top (parameters_of desc)) (and_value this
+            (all_kept keep (all_given P w (T at).scope (parameters_of desc) vs conform)))
+            (with_made made.reference w.frames) (made_below P T made.heap made.reference w.frames turn (frames_kept keep typed.frames)
+            (there shape))
 
   pub construct_stays : (class : Name) (desc : List ℕ) (given : List Given) → StaysTyped P T w (act_construct P w class desc given)
   construct_stays class desc given =
-      by (folder_number P class) refl (place_of_method P (record { class = class; name = init; desc = desc })) refl (given_values w.known given) where
-        by_test : (at : MethodAt) (vs : List Value) → place_of_method P (record { class = class; name = init; desc = desc }) ≡ Some at → (c : Option Code) → code_at P at ≡ c
-            → (b : Bool) → (is_some c && (is_concrete (header_named P class) && (is_handled P class desc && all_conform P w (parameters_of desc) vs))) ≡ b
+      by (folder_number P class) refl (place_of_method P (record { class = class; name = init; desc = desc })) refl
+      (given_values w.known given) where
+        by_test : (at : MethodAt) (vs : List Value) → place_of_method P (record { class = class; name = init; desc = desc }) ≡ Some at
+            → (c : Option Code) → code_at P at ≡ c
+            → (b : Bool) → (is_some c && (is_concrete (header_named P class) && (is_handled P class desc && all_conform P w
+            (parameters_of desc) vs))) ≡ b
             → StaysTyped P T w (if b then constructed P w class at vs (blank_object P w.memory.heap at.class) else fault w)
         by_test at vs place c is_code false e = fault_stays P T w typed
         by_test at vs place None is_code true e = cc
         by_test at vs place (Some code) is_code true e =
             let rest : (is_handled P class desc && all_conform P w (parameters_of desc) vs) ≡ true =
             and_second (is_concrete (header_named P class)) (is_handled P class desc && all_conform P w (parameters_of desc) vs) e in
-            constructed_stays class desc at code vs place is_code (and_second (is_handled P class desc) (all_conform P w (parameters_of desc) vs) rest)
+            constructed_stays class desc at code vs place is_code (and_second (is_handled P class desc)
+            (all_conform P w (parameters_of desc) vs) rest)
 
-        by : (n : Option ℕ) → folder_number P class ≡ n → (at : Option MethodAt) → place_of_method P (record { class = class; name = init; desc = desc }) ≡ at → (vs : Option (List Value))
+        by : (n : Option ℕ) → folder_number P class ≡ n → (at : Option MethodAt)
+            → place_of_method P (record { class = class; name = init; desc = desc }) ≡ at → (vs : Option (List Value))
             → StaysTyped P T w (construct_at P w class desc n at vs)
         by None of_class at e vs = fault_stays P T w typed
         by (Some n) of_class None e vs = fault_stays P T w typed
         by (Some n) of_class (Some at) e None = fault_stays P T w typed
         by (Some n) of_class (Some at) e (Some vs) =
-            let same : n ≡ at.class = some_of (sym of_class ∙ class_of_place P (record { class = class; name = init; desc = desc }) at e) in
+            let same : n ≡ at.class = some_of (sym of_class ∙ class_of_place P (record { class = class; name = init; desc = desc }) at e)
+            in
             subst (λ k. StaysTyped P T w (construct_at P w class desc (Some k) (Some at) (Some vs))) (sym same)
-            (by_test at vs e (code_at P at) refl (is_some (code_at P at) && (is_concrete (header_named P class) && (is_handled P class desc && all_conform P w (parameters_of desc) vs))) refl)
+            (by_test at vs e (code_at P at) refl (is_some (code_at P at) && (is_concrete
+            (header_named P class) && (is_handled P class desc && all_conform P w (parameters_of desc) vs))) refl)

@@ -20,21 +20,24 @@ fault_stays P T w typed = record {
 }
 
 -- the library's frame conforms below all that may stand on it
-pub under_any : (P : Program) (T : Typings) (h : Heap) {a b : Above} (fs : List RunFrame) → is_library_turn fs ≡ true → FramesConform P T h a fs → FramesConform P T h b fs
+pub under_any : (P : Program) (T : Typings) (h : Heap) {a b : Above} (fs : List RunFrame) → is_library_turn fs ≡ true
+    → FramesConform P T h a fs → FramesConform P T h b fs
 under_any P T h fs is (lowest made) = lowest made
 under_any P T h (frames.Library made ∷ rest) is (upon held below) = upon held below
 under_any P T h (frames.Beginning class ∷ rest) is (upon held below) = cc
 under_any P T h (frames.Method f ∷ rest) is (upon held below) = cc
 
 -- what is raised at the library's turn lands in the library
-pub library_can : (P : Program) (T : Typings) (h : Heap) {a : Above} (fs : List RunFrame) → is_library_turn fs ≡ true → FramesConform P T h a fs → CanUnwind P T h fs
+pub library_can : (P : Program) (T : Typings) (h : Heap) {a : Above} (fs : List RunFrame) → is_library_turn fs ≡ true
+    → FramesConform P T h a fs → CanUnwind P T h fs
 library_can P T h fs is (lowest made) = lowest tt
 library_can P T h (frames.Library made ∷ rest) is (upon held below) = upon tt below
 library_can P T h (frames.Beginning class ∷ rest) is (upon held below) = cc
 library_can P T h (frames.Method f ∷ rest) is (upon held below) = cc
 
 -- it keeps what it makes
-pub made_below : (P : Program) (T : Typings) (h : Heap) {a b : Above} (r : ℕ) (fs : List RunFrame) → is_library_turn fs ≡ true → FramesConform P T h a fs → IsInHeap h r → FramesConform P T h b (with_made r fs)
+pub made_below : (P : Program) (T : Typings) (h : Heap) {a b : Above} (r : ℕ) (fs : List RunFrame) → is_library_turn fs ≡ true
+    → FramesConform P T h a fs → IsInHeap h r → FramesConform P T h b (with_made r fs)
 made_below P T h r fs is (lowest made) there = lowest there
 made_below P T h r (frames.Library made ∷ rest) is (upon held below) there = upon there below
 made_below P T h r (frames.Beginning class ∷ rest) is (upon held below) there = cc

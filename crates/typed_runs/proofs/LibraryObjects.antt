@@ -50,7 +50,8 @@ field_in_heap P h t (values.Ref r) is = cc
 
 -- ---- an element that is written
 
-pub all_with : {A : Type 0} (Q : A → Type 0) (xs : List A) (at : ℕ) (x : A) → AllByRecursion Q xs → Q x → AllByRecursion Q (slice_set xs at x)
+pub all_with : {A : Type 0} (Q : A → Type 0) (xs : List A) (at : ℕ) (x : A) → AllByRecursion Q xs → Q x
+    → AllByRecursion Q (slice_set xs at x)
 all_with Q [] at x all is = tt
 all_with Q (y ∷ xs) zero x all is = (is, all.1)
 all_with Q (y ∷ xs) (suc at) x all is = (all.0, all_with Q xs at x all.1 is)
@@ -59,10 +60,15 @@ pub record WrittenTyped (P : Program) (m : Memory) (h : Heap) : Type 0 where
   pub keep : Keeps m.heap h
   pub typed : IsTypedMemory P (with_heap m h)
 
-pub element_typed : (P : Program) (m : Memory) → IsTypedMemory P m → (r : ℕ) (o : Object) → object_at m.heap r ≡ Some o → (desc : Name) (len : ℕ) → o.shape ≡ shapes.Array desc len
+pub element_typed : (P : Program) (m : Memory) → IsTypedMemory P m → (r : ℕ) (o : Object) → object_at m.heap r ≡ Some o
+    → (desc : Name) (len : ℕ) → o.shape ≡ shapes.Array desc len
     → (at : ℕ) (v : Value) → FitsDescriptor P m.heap (component_text desc) v → WrittenTyped P m (with_value m.heap r at v)
 element_typed P m typed r o is desc len shape at v fits =
-    rw is (record { keep = keep; typed = object_typed P m r o new typed is refl (subst (λ s. HoldsShape P (with_object m.heap r new) s new.values) (sym shape) holds) }) where
+    rw is (record {
+      keep = keep;
+      typed = object_typed P m r o new typed is refl
+          (subst (λ s. HoldsShape P (with_object m.heap r new) s new.values) (sym shape) holds);
+    }) where
       new : Object
       new = record o { values = slice_set o.values at v }
 
@@ -70,14 +76,16 @@ element_typed P m typed r o is desc len shape at v fits =
       keep = object_keeps m.heap r o new is refl
 
       before : IsArrayObject P (with_object m.heap r new) desc len o.values
-      before = holds_kept P keep (shapes.Array desc len) o.values (subst (λ s. HoldsShape P m.heap s o.values) shape (typed.objects r o is))
+      before = holds_kept P keep (shapes.Array desc len) o.values (subst (λ s. HoldsShape P m.heap s o.values) shape
+          (typed.objects r o is))
 
       holds : IsArrayObject P (with_object m.heap r new) desc len new.values
       holds = record {
         is_array = before.is_array;
         element_there = before.element_there;
         as_long = length-set o.values at v ∙ before.as_long;
-        elements = all_with (FitsDescriptor P (with_object m.heap r new) (component_text desc)) o.values at v before.elements (field_kept P keep (type_of (component_text desc)) v fits);
+        elements = all_with (FitsDescriptor P (with_object m.heap r new) (component_text desc)) o.values at v before.elements
+            (field_kept P keep (type_of (component_text desc)) v fits);
       }
 
 -- ---- the form of an array type
@@ -85,12 +93,18 @@ element_typed P m typed r o is desc len shape at v fits =
 pub array_within : (n : ℕ) (text : List ℕ) → is_array_within n text ≡ true → IsArray text
 array_within zero text is = cc
 array_within (suc left) [] is = cc
-array_within (suc left) (first ∷ rest) is = (rest, ap (λ x. x ∷ rest) (same_number first left_bracket (and_first (first == left_bracket) (is_element rest || is_array_within left rest) is)))
+array_within (suc left) (first ∷ rest) is = (
+  rest,
+  ap (λ x. x ∷ rest)
+      (same_number first left_bracket (and_first (first == left_bracket) (is_element rest || is_array_within left rest) is)),
+)
 
-pub all_interfaces : (P : Program) (also : List Name) → list_any (λ name. not (is_interface_named P name)) also ≡ false → AllByRecursion (λ name. IsTrue (is_interface_named P name)) also
+pub all_interfaces : (P : Program) (also : List Name) → list_any (λ name. not (is_interface_named P name)) also ≡ false
+    → AllByRecursion (λ name. IsTrue (is_interface_named P name)) also
 all_interfaces P [] is = tt
 all_interfaces P (x ∷ xs) is = by (is_interface_named P x) refl (λ e. all_interfaces P xs e) where
-  by : (b : Bool) → is_interface_named P x ≡ b → (list_any (λ name. not (is_interface_named P name)) xs ≡ false → AllByRecursion (λ name. IsTrue (is_interface_named P name)) xs)
+  by : (b : Bool) → is_interface_named P x ≡ b → (list_any (λ name. not (is_interface_named P name)) xs ≡ false
+      → AllByRecursion (λ name. IsTrue (is_interface_named P name)) xs)
       → AllByRecursion (λ name. IsTrue (is_interface_named P name)) (x ∷ xs)
   by true e next = (e, next (rw e at is))
   by false e next = let no : true ≡ false = rw e at is in cc
@@ -113,15 +127,20 @@ module _ (P : Program) (T : Typings) (w : World) (typed : TypedWorld P T w) wher
   -- ---- elements of an array
 
   pub got_stays : (v : Value) → IsValueInHeap w.memory.heap v → StaysTyped P T w (shows_got P w v)
-  got_stays v is = record { typed = showing_stays P T w _ typed (value_known P w.memory.heap w.memory.heap w.known v typed.known is); not_stuck = λ no. no }
+  got_stays v is = record {
+    typed = showing_stays P T w _ typed (value_known P w.memory.heap w.memory.heap w.known v typed.known is);
+    not_stuck = λ no. no;
+  }
 
   pub get_stays : (reference : Option ℕ) (index : ℤ) → StaysTyped P T w (act_array_get P w (known_object w reference) index)
   get_stays reference index = by (known_object w reference) refl where
-    by_value : (desc : Name) (len : ℕ) (vs : List Value) → IsArrayObject P w.memory.heap desc len vs → (v : Option Value) → option_and_then (slice_get vs) (index_in index len) ≡ v → StaysTyped P T w (got_of_value P w v)
+    by_value : (desc : Name) (len : ℕ) (vs : List Value) → IsArrayObject P w.memory.heap desc len vs → (v : Option Value)
+        → option_and_then (slice_get vs) (index_in index len) ≡ v → StaysTyped P T w (got_of_value P w v)
     by_value desc len vs holds None e = fault_stays P T w typed
     by_value desc len vs holds (Some v) e =
         let c = of_chain (slice_get vs) (index_in index len) v e in
-        got_stays v (field_in_heap P w.memory.heap (type_of (component_text desc)) v (at_index (FitsDescriptor P w.memory.heap (component_text desc)) vs c.0 v holds.elements c.2))
+        got_stays v (field_in_heap P w.memory.heap (type_of (component_text desc)) v
+        (at_index (FitsDescriptor P w.memory.heap (component_text desc)) vs c.0 v holds.elements c.2))
 
     by_shape : (s : Shape) (vs : List Value) → HoldsShape P w.memory.heap s vs → StaysTyped P T w (got_of_shape P w vs index s)
     by_shape (shapes.Array desc len) vs holds = by_value desc len vs holds (option_and_then (slice_get vs) (index_in index len)) refl
@@ -132,26 +151,37 @@ module _ (P : Program) (T : Typings) (w : World) (typed : TypedWorld P T w) wher
     by None e = fault_stays P T w typed
     by (Some o) e = let c = of_chain (object_at w.memory.heap) reference o e in by_shape o.shape o.values (typed.memory.objects c.0 o c.2)
 
-  pub set_stays : (reference : Option ℕ) (index : ℤ) (value : Option Value) → StaysTyped P T w (act_array_set P w reference (known_object w reference) index value)
+  pub set_stays : (reference : Option ℕ) (index : ℤ) (value : Option Value)
+      → StaysTyped P T w (act_array_set P w reference (known_object w reference) index value)
   set_stays None index value = fault_stays P T w typed
   set_stays (Some r) index value = by (object_at w.memory.heap r) refl value where
-    by_test : (o : Object) → object_at w.memory.heap r ≡ Some o → (desc : Name) (len : ℕ) → o.shape ≡ shapes.Array desc len → (at : ℕ) (v : Value) (b : Bool) → value_conforms P w.memory.heap (type_of (component_text desc)) v ≡ b
-        → StaysTyped P T w (if b then record w { memory = with_heap w.memory (with_value w.memory.heap r at (narrowed (type_of (component_text desc)) v)) } else fault w)
+    by_test : (o : Object) → object_at w.memory.heap r ≡ Some o → (desc : Name) (len : ℕ) → o.shape ≡ shapes.Array desc len
+        → (at : ℕ) (v : Value) (b : Bool) → value_conforms P w.memory.heap (type_of (component_text desc)) v ≡ b
+        → StaysTyped P T w (if b then record w {
+          memory = with_heap w.memory
+              (with_value w.memory.heap r at (narrowed (type_of (component_text desc)) v));
+        } else fault w)
     by_test o is desc len shape at v false e = fault_stays P T w typed
     by_test o is desc len shape at v true e =
-        let written = element_typed P w.memory typed.memory r o is desc len shape at (narrowed (type_of (component_text desc)) v) (narrowed_fits P w.memory.heap (type_of (component_text desc)) v e) in
-        stays P T w (with_heap w.memory (with_value w.memory.heap r at (narrowed (type_of (component_text desc)) v))) w.frames typed written.keep written.typed (frames_kept written.keep typed.frames)
+        let written = element_typed P w.memory typed.memory r o is desc len shape at (narrowed (type_of (component_text desc)) v)
+        (narrowed_fits P w.memory.heap (type_of (component_text desc)) v e) in
+        stays P T w (with_heap w.memory (with_value w.memory.heap r at (narrowed (type_of (component_text desc)) v))) w.frames typed
+        written.keep written.typed (frames_kept written.keep typed.frames)
 
-    by_index : (o : Object) → object_at w.memory.heap r ≡ Some o → (desc : Name) (len : ℕ) → o.shape ≡ shapes.Array desc len → (v : Value) (at : Option ℕ) → StaysTyped P T w (set_at P w r (type_of (component_text desc)) v at)
+    by_index : (o : Object) → object_at w.memory.heap r ≡ Some o → (desc : Name) (len : ℕ) → o.shape ≡ shapes.Array desc len
+        → (v : Value) (at : Option ℕ) → StaysTyped P T w (set_at P w r (type_of (component_text desc)) v at)
     by_index o is desc len shape v None = fault_stays P T w typed
-    by_index o is desc len shape v (Some at) = by_test o is desc len shape at v (value_conforms P w.memory.heap (type_of (component_text desc)) v) refl
+    by_index o is desc len shape v (Some at) = by_test o is desc len shape at v
+        (value_conforms P w.memory.heap (type_of (component_text desc)) v) refl
 
-    by_shape : (o : Object) → object_at w.memory.heap r ≡ Some o → (v : Value) (s : Shape) → o.shape ≡ s → StaysTyped P T w (set_of_shape P w r index v s)
+    by_shape : (o : Object) → object_at w.memory.heap r ≡ Some o → (v : Value) (s : Shape) → o.shape ≡ s
+        → StaysTyped P T w (set_of_shape P w r index v s)
     by_shape o is v (shapes.Array desc len) e = by_index o is desc len e v (index_in index len)
     by_shape o is v (shapes.Folder class) e = fault_stays P T w typed
     by_shape o is v (shapes.External class also) e = fault_stays P T w typed
 
-    by : (o : Option Object) → object_at w.memory.heap r ≡ o → (v : Option Value) → StaysTyped P T w (act_array_set P w (Some r) o index v)
+    by : (o : Option Object) → object_at w.memory.heap r ≡ o → (v : Option Value)
+        → StaysTyped P T w (act_array_set P w (Some r) o index v)
     by None e v = fault_stays P T w typed
     by (Some o) e None = fault_stays P T w typed
     by (Some o) e (Some v) = by_shape o e v o.shape refl
@@ -166,15 +196,18 @@ module _ (P : Program) (T : Typings) (w : World) (typed : TypedWorld P T w) wher
 
   -- ---- new objects
 
-  pub shows_new_stays : (s : Shape) (vs : List Value) → HoldsShape P (allocated w.memory.heap s vs).heap s vs → StaysTyped P T w (shows_new P w (allocated w.memory.heap s vs))
+  pub shows_new_stays : (s : Shape) (vs : List Value) → HoldsShape P (allocated w.memory.heap s vs).heap s vs
+      → StaysTyped P T w (shows_new P w (allocated w.memory.heap s vs))
   shows_new_stays s vs holds =
       let h : Heap = (allocated w.memory.heap s vs).heap in
       let r : ℕ = (allocated w.memory.heap s vs).reference in
       let keep : Keeps w.memory.heap h = made_keeps w.memory.heap s vs in
       let v : World = record w { memory = with_heap w.memory h } in
-      let stored = stays P T w (with_heap w.memory h) w.frames typed keep (made_typed P w.memory s vs typed.memory holds) (frames_kept keep typed.frames) in
+      let stored = stays P T w (with_heap w.memory h) w.frames typed keep (made_typed P w.memory s vs typed.memory holds)
+      (frames_kept keep typed.frames) in
       record {
-        typed = showing_stays P T v _ stored.typed (reference_known P h h w.known r (known_kept keep w.known typed.known) (there (made_shape w.memory.heap s vs)));
+        typed = showing_stays P T v _ stored.typed (reference_known P h h w.known r (known_kept keep w.known typed.known)
+            (there (made_shape w.memory.heap s vs)));
         not_stuck = λ no. no;
       }
 
@@ -182,21 +215,26 @@ module _ (P : Program) (T : Typings) (w : World) (typed : TypedWorld P T w) wher
   pub new_array_stays : (desc : Name) (count : ℤ) → IsNamedThere (headers_in P) desc → StaysTyped P T w (act_new_array P w desc count)
   new_array_stays desc (negsuc n) named = fault_stays P T w typed
   new_array_stays desc (pos count) named = by (is_array_descriptor desc && nat_le count most_elements) refl where
-    by : (b : Bool) → (is_array_descriptor desc && nat_le count most_elements) ≡ b → StaysTyped P T w (if b then shows_new P w (blank_array w.memory.heap desc count) else fault w)
+    by : (b : Bool) → (is_array_descriptor desc && nat_le count most_elements) ≡ b
+        → StaysTyped P T w (if b then shows_new P w (blank_array w.memory.heap desc count) else fault w)
     by false e = fault_stays P T w typed
-    by true e = shows_new_stays (shapes.Array desc count) _ (blank_array_holds P _ desc count (array_within 255 desc (and_first (is_array_descriptor desc) (nat_le count most_elements) e)) named)
+    by true e = shows_new_stays (shapes.Array desc count) _ (blank_array_holds P _ desc count
+        (array_within 255 desc (and_first (is_array_descriptor desc) (nat_le count most_elements) e)) named)
 
   pub new_external_stays : (class : Name) (also : List Name) → StaysTyped P T w (act_new_external P w class also)
   new_external_stays class also = by _ refl where
-    by : (b : Bool) → (not (is_some (folder_number P class)) && (is_concrete (header_named P class) && not (list_any (λ name. not (is_interface_named P name)) also))) ≡ b
+    by : (b : Bool) → (not (is_some (folder_number P class)) && (is_concrete (header_named P class) && not
+        (list_any (λ name. not (is_interface_named P name)) also))) ≡ b
         → StaysTyped P T w (if b then shows_new P w (allocated w.memory.heap (shapes.External class also) []) else fault w)
     by false e = fault_stays P T w typed
     by true e =
         let outside : not (is_some (folder_number P class)) ≡ true = and_first (not (is_some (folder_number P class))) _ e in
-        let rest : (is_concrete (header_named P class) && not (list_any (λ name. not (is_interface_named P name)) also)) ≡ true = and_second (not (is_some (folder_number P class))) _ e in
+        let rest : (is_concrete (header_named P class) && not (list_any (λ name. not (is_interface_named P name)) also)) ≡ true =
+        and_second (not (is_some (folder_number P class))) _ e in
         let holds : IsLibraryObject P class also = record {
           is_there = concrete_there P class (and_first (is_concrete (header_named P class)) _ rest);
           of_library = none_of (folder_number P class) (not_true (is_some (folder_number P class)) outside);
-          interfaces = all_interfaces P also (not_true (list_any (λ name. not (is_interface_named P name)) also) (and_second (is_concrete (header_named P class)) _ rest));
+          interfaces = all_interfaces P also (not_true (list_any (λ name. not (is_interface_named P name)) also)
+              (and_second (is_concrete (header_named P class)) _ rest));
         } in
         shows_new_stays (shapes.External class also) [] holds

@@ -24,12 +24,18 @@ pub record LockedTyped (P : Program) (m : Memory) (l : Locked) : Type 0 where
 pub locked_on_typed : (P : Program) (m : Memory) (r : ℕ) → IsTypedMemory P m → IsInHeap m.heap r → LockedTyped P m (locked_on m r)
 locked_on_typed P m r typed is =
     let l = monitor_typed P m r (monitor_count m.heap r + 1) typed in
-    record { keep = l.keep; typed = entries_typed P (with_heap m (entered m.heap r)) (m.entries + 1) l.typed; held = in_heap_kept l.keep r is }
+    record {
+      keep = l.keep;
+      typed = entries_typed P (with_heap m (entered m.heap r)) (m.entries + 1) l.typed;
+      held = in_heap_kept l.keep r
+          is;
+    }
 
 pub no_lock_typed : (P : Program) (m : Memory) → IsTypedMemory P m → LockedTyped P m (record { memory = m; held = None })
 no_lock_typed P m typed = record { keep = keeps_same m.heap; typed = typed; held = tt }
 
-pub locked_typed : (P : Program) (T : Typings) → IsTypedProgram P T → (m : Memory) (class : Name) (k : Locking) (vs : List Value) → IsTypedMemory P m → AllByRecursion (IsValueInHeap m.heap) vs
+pub locked_typed : (P : Program) (T : Typings) → IsTypedProgram P T → (m : Memory) (class : Name) (k : Locking) (vs : List Value)
+    → IsTypedMemory P m → AllByRecursion (IsValueInHeap m.heap) vs
     → LockedTyped P m (locked_by m class k vs)
 locked_typed P T program m class no_lock vs typed are = no_lock_typed P m typed
 locked_typed P T program m class receiver_lock [] typed are = no_lock_typed P m typed
