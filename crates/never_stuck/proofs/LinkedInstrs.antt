@@ -84,7 +84,8 @@ abbrev pub new_among : Constants → ℕ → List Placed → Option Name
 new_among pool at [] = None
 new_among pool at (p ∷ ps) = if p.at == at then new_named pool p.instr else new_among pool at ps
 
-pub new_found : (pool : Constants) (ps : List Placed) → Ascend ps → (n : ℕ) (p : Placed) → slice_get ps n ≡ Some p → new_among pool p.at ps ≡ new_named pool p.instr
+pub new_found : (pool : Constants) (ps : List Placed) → Ascend ps → (n : ℕ) (p : Placed) → slice_get ps n ≡ Some p
+    → new_among pool p.at ps ≡ new_named pool p.instr
 new_found pool [] order n p is = cc
 new_found pool (q ∷ ps) order zero p is =
     let same : q ≡ p = some_of is in
@@ -94,41 +95,53 @@ new_found pool (q ∷ ps) order (suc n) p is =
 
 -- ---- an instruction
 
-module _ (laws : ReferenceLaws) (links : Links) (classes : Classes) (file : ClassFile) (m : Method) (part : CodePart) (Q : Program) (site : Site) (around : Around Q (headers_of classes) file.major file.pool) where
+module _ (laws : ReferenceLaws) (links : Links) (classes : Classes) (file : ClassFile) (m : Method) (part : CodePart) (Q : Program)
+    (site : Site) (around : Around Q (headers_of classes) file.major file.pool) where
   abbrev s : RowScope
   s = row_scope (scope_with classes file m part)
 
   abbrev us : UseScope
   us = record { headers = headers_of classes; pool = file.pool; site = site }
 
-  pub instr_linked : (place : ℕ) (i : Instr) → OperandFits file.pool file.major part.max_locals i → AllHold (instr_use_checks (record { headers = headers_of classes; pool = file.pool; site = site }) i) → SomeIn i
+  pub instr_linked : (place : ℕ) (i : Instr) → OperandFits file.pool file.major part.max_locals i
+      → AllHold (instr_use_checks (record { headers = headers_of classes; pool = file.pool; site = site }) i) → SomeIn i
       → class_of_new (scope_with classes file m part) place ≡ new_named file.pool i
-      → (frame : Frame) → RowHolds (row_scope (scope_with classes file m part)) frame (access_aside (row_of (row_scope (scope_with classes file m part)) frame place i))
-      → IsLinkedOp Q (row_scope (scope_with classes file m part)) place (instr_op links (number_at (code_points (scope_with classes file m part))) (row_scope (scope_with classes file m part)) i)
+      → (frame : Frame) → RowHolds (row_scope (scope_with classes file m part)) frame
+      (access_aside (row_of (row_scope (scope_with classes file m part)) frame place i))
+      → IsLinkedOp Q (row_scope (scope_with classes file m part)) place
+      (instr_op links (number_at (code_points (scope_with classes file m part))) (row_scope (scope_with classes file m part)) i)
   instr_linked place instrs.Nop fits uses some new frame holds = tt
   instr_linked place (instrs.Const imm) fits uses some new frame holds = tt
-  instr_linked place (instrs.Ldc index) fits uses some new frame holds = constant_linked laws Q s place us file.major around index (constant_at file.pool index) refl (inl fits)
-  instr_linked place (instrs.Ldc2 index) fits uses some new frame holds = constant_linked laws Q s place us file.major around index (constant_at file.pool index) refl (inr fits)
+  instr_linked place (instrs.Ldc index) fits uses some new frame holds = constant_linked laws Q s place us file.major around index
+      (constant_at file.pool index) refl (inl fits)
+  instr_linked place (instrs.Ldc2 index) fits uses some new frame holds = constant_linked laws Q s place us file.major around index
+      (constant_at file.pool index) refl (inr fits)
   instr_linked place (instrs.Load kind at) fits uses some new frame holds = tt
   instr_linked place (instrs.Store kind at) fits uses some new frame holds = tt
   instr_linked place (instrs.Iinc at by) fits uses some new frame holds = tt
-  instr_linked place (instrs.ArrayLoad opcode) fits uses some new frame holds = tested Q s place (nat_le IALOAD opcode && nat_le opcode SALOAD) (load_element opcode) (load_known s frame opcode holds) tt
-  instr_linked place (instrs.ArrayStore opcode) fits uses some new frame holds = tested Q s place (nat_le IASTORE opcode && nat_le opcode SASTORE) (store_element opcode) (store_known s frame opcode holds) tt
+  instr_linked place (instrs.ArrayLoad opcode) fits uses some new frame holds = tested Q s place
+      (nat_le IALOAD opcode && nat_le opcode SALOAD) (load_element opcode) (load_known s frame opcode holds) tt
+  instr_linked place (instrs.ArrayStore opcode) fits uses some new frame holds = tested Q s place
+      (nat_le IASTORE opcode && nat_le opcode SASTORE) (store_element opcode) (store_known s frame opcode holds) tt
   instr_linked place (instrs.Shuffle opcode) fits uses some new frame holds = tt
   instr_linked place (instrs.Pure opcode) fits uses some new frame holds = tt
   instr_linked place (instrs.Divide opcode) fits uses some new frame holds = tt
   instr_linked place (instrs.FloatAsk opcode) fits uses some new frame holds = tt
   instr_linked place (instrs.If opcode target) fits uses some new frame holds =
-      tested Q s place (nat_le IFEQ opcode && nat_le opcode IFLE) (jump_by_int opcode (number_at (code_points (scope_with classes file m part)) target))
+      tested Q s place (nat_le IFEQ opcode && nat_le opcode IFLE) (jump_by_int opcode
+      (number_at (code_points (scope_with classes file m part)) target))
       (jump_known s frame (nat_le IFEQ opcode && nat_le opcode IFLE) (of_kind kinds.Int ∷ []) holds) tt
   instr_linked place (instrs.If2 opcode target) fits uses some new frame holds =
-      tested Q s place (nat_le IF_ICMPEQ opcode && nat_le opcode IF_ICMPLE) (jump_by_ints opcode (number_at (code_points (scope_with classes file m part)) target))
+      tested Q s place (nat_le IF_ICMPEQ opcode && nat_le opcode IF_ICMPLE)
+      (jump_by_ints opcode (number_at (code_points (scope_with classes file m part)) target))
       (jump_known s frame (nat_le IF_ICMPEQ opcode && nat_le opcode IF_ICMPLE) (of_kind kinds.Int ∷ of_kind kinds.Int ∷ []) holds) tt
   instr_linked place (instrs.IfSame opcode target) fits uses some new frame holds =
-      tested Q s place (nat_le IF_ACMPEQ opcode && nat_le opcode IF_ACMPNE) (jump_by_references opcode (number_at (code_points (scope_with classes file m part)) target))
+      tested Q s place (nat_le IF_ACMPEQ opcode && nat_le opcode IF_ACMPNE)
+      (jump_by_references opcode (number_at (code_points (scope_with classes file m part)) target))
       (jump_known s frame (nat_le IF_ACMPEQ opcode && nat_le opcode IF_ACMPNE) (of_kind kinds.Ref ∷ of_kind kinds.Ref ∷ []) holds) tt
   instr_linked place (instrs.IfNull opcode target) fits uses some new frame holds =
-      tested Q s place (nat_le IFNULL opcode && nat_le opcode IFNONNULL) (jump_by_null opcode (number_at (code_points (scope_with classes file m part)) target))
+      tested Q s place (nat_le IFNULL opcode && nat_le opcode IFNONNULL)
+      (jump_by_null opcode (number_at (code_points (scope_with classes file m part)) target))
       (jump_known s frame (nat_le IFNULL opcode && nat_le opcode IFNONNULL) (of_kind kinds.Ref ∷ []) holds) tt
   instr_linked place (instrs.Goto target) fits uses some new frame holds = tt
   instr_linked place (instrs.Table low other targets) fits uses some new frame holds = tt
@@ -139,14 +152,16 @@ module _ (laws : ReferenceLaws) (links : Links) (classes : Classes) (file : Clas
       found Q s place (reference_of file.pool (constant_at file.pool index)) f.0 get_static f.1 f.2
   instr_linked place (instrs.PutStatic index) fits uses some new frame holds =
       let f = field_there laws Q s place us file.major around IsStaticForm (laws.static_field us) index fits uses in
-      found Q s place (reference_of file.pool (constant_at file.pool index)) f.0 (λ r. put_static r (initialises s.is_clinit s.own)) f.1 f.2
+      found Q s place (reference_of file.pool (constant_at file.pool index)) f.0 (λ r. put_static r (initialises s.is_clinit s.own)) f.1
+      f.2
   instr_linked place (instrs.GetField index) fits uses some new frame holds =
       let f = field_there laws Q s place us file.major around IsInstanceForm (laws.instance_field us) index fits uses in
       found Q s place (reference_of file.pool (constant_at file.pool index)) f.0 get_field f.1 f.2
   instr_linked place (instrs.PutField index) fits uses some new frame holds =
       let f = field_there laws Q s place us file.major around IsInstanceForm (laws.instance_field us) index fits uses in
       found Q s place (reference_of file.pool (constant_at file.pool index)) f.0 (λ r. put_field r (initialises s.is_init s.own)) f.1 f.2
-  instr_linked place (instrs.Invoke opcode index count) fits uses some new frame holds = call_linked laws Q s place us file.major around links opcode index count fits uses
+  instr_linked place (instrs.Invoke opcode index count) fits uses some new frame holds = call_linked laws Q s place us file.major around
+      links opcode index count fits uses
   instr_linked place (instrs.Dynamic index) fits uses some new frame holds = by (constant_at file.pool index) refl fits where
     by : (c : Option Const) → constant_at file.pool index ≡ c → IsDynamicConstant c → IsLinkedOp Q s place (dynamic_op s c)
     by (Some (consts.InvokeDynamic bootstrap member)) e is =
@@ -155,29 +170,46 @@ module _ (laws : ReferenceLaws) (links : Links) (classes : Classes) (file : Clas
     by c e is = absurd is
   instr_linked place (instrs.New index) fits uses some new frame holds =
       class_linked laws Q s place us file.major around index new_object fits
-      (λ name e. (subst (λ hs. IsInstantiable hs name) (sym around.same) (others_hold (named_class_checks us name) (asked site rules.WrongForm (IsInstantiable (headers_of classes) name) ∷ []) (rw e at uses)).0, new ∙ e))
+      (λ name e. (
+        subst (λ hs. IsInstantiable hs name) (sym around.same)
+            (others_hold (named_class_checks us name) (asked site rules.WrongForm (IsInstantiable (headers_of classes) name) ∷ [])
+            (rw e at uses)).0,
+        new ∙ e,
+      ))
   instr_linked place (instrs.NewArray code) fits uses some new frame holds = by (primitive_array code) refl holds where
-    by : (o : Option Name) → primitive_array code ≡ o → RowHolds s frame (access_aside (made_row frame 1 o)) → IsLinkedOp Q s place (instr_op links (number_at (code_points (scope_with classes file m part))) s (instrs.NewArray code))
+    by : (o : Option Name) → primitive_array code ≡ o → RowHolds s frame (access_aside (made_row frame 1 o))
+        → IsLinkedOp Q s place (instr_op links (number_at (code_points (scope_with classes file m part))) s (instrs.NewArray code))
     by None e h = absurd (no_row_holds s frame h)
-    by (Some name) e h = let p = primitive_named code name e in found Q s place (primitive_array code) name new_array e (p.0, subst (λ o. IfSome o (IsThere (headers_in Q))) (sym p.1) tt)
+    by (Some name) e h = let p = primitive_named code name e in found Q s place (primitive_array code) name new_array e
+        (p.0, subst (λ o. IfSome o (IsThere (headers_in Q))) (sym p.1) tt)
   instr_linked place (instrs.NewRefArray index) fits uses some new frame holds =
       let c = class_text file.major file.pool around.each index fits.0 in
-      found Q s place (array_of (class_at file.pool index)) (left_bracket ∷ named_text c.0) new_array (rw c.1 refl)
-      ((named_text c.0, refl), subst (λ hs. IsNamedThere hs (left_bracket ∷ named_text c.0)) (sym around.same) (array_there (headers_of classes) c.0 (class_there laws Q s place us file.major around index c.0 c.1 uses)))
+      found Q s place (array_of (class_at file.pool index)) (left_bracket ∷ named_text c.0) new_array (rw c.1 refl) (
+        (named_text c.0, refl),
+        subst (λ hs. IsNamedThere hs (left_bracket ∷ named_text c.0)) (sym around.same)
+            (array_there (headers_of classes) c.0 (class_there laws Q s place us file.major around index c.0 c.1 uses)),
+      )
   instr_linked place (instrs.NewMulti index dimensions) fits uses some new frame holds =
       let c = class_text file.major file.pool around.each index fits.0 in
-      found Q s place (class_at file.pool index) c.0 (λ name. new_arrays name dimensions) c.1
-      (rw c.1 at fits.1, some, subst (λ hs. IsNamedThere hs c.0) (sym around.same) (class_there laws Q s place us file.major around index c.0 c.1 uses))
+      found Q s place (class_at file.pool index) c.0 (λ name. new_arrays name dimensions) c.1 (
+        rw c.1 at fits.1,
+        some,
+        subst (λ hs. IsNamedThere hs c.0) (sym around.same)
+            (class_there laws Q s place us file.major around index c.0 c.1 uses),
+      )
   instr_linked place instrs.Length fits uses some new frame holds = tt
   instr_linked place instrs.Throw fits uses some new frame holds = tt
-  instr_linked place (instrs.Cast index) fits uses some new frame holds = class_linked laws Q s place us file.major around index check_cast fits (λ name e. tt)
-  instr_linked place (instrs.InstanceOf index) fits uses some new frame holds = class_linked laws Q s place us file.major around index instance_of fits (λ name e. tt)
+  instr_linked place (instrs.Cast index) fits uses some new frame holds = class_linked laws Q s place us file.major around index
+      check_cast fits (λ name e. tt)
+  instr_linked place (instrs.InstanceOf index) fits uses some new frame holds = class_linked laws Q s place us file.major around index
+      instance_of fits (λ name e. tt)
   instr_linked place instrs.Enter fits uses some new frame holds = tt
   instr_linked place instrs.Leave fits uses some new frame holds = tt
 
 -- ---- constants of the folder
 
-pub any_at : {A : Type 0} (test : A → Bool) (xs : List A) (n : ℕ) (x : A) → slice_get xs n ≡ Some x → test x ≡ true → list_any test xs ≡ true
+pub any_at : {A : Type 0} (test : A → Bool) (xs : List A) (n : ℕ) (x : A) → slice_get xs n ≡ Some x → test x ≡ true
+    → list_any test xs ≡ true
 any_at test [] n x is passed = cc
 any_at test (y ∷ xs) zero x is passed = let one : test y ≡ true = ap test (some_of is) ∙ passed in rw one refl
 any_at test (y ∷ xs) (suc n) x is passed = by (test y) refl (any_at test xs n x is passed) where
@@ -196,10 +228,12 @@ entry_at pool index c is = by (slice_get pool index) refl where
   by (Some None) e = let no : None ≡ Some c = rw e at is in cc
   by (Some (Some d)) e = let same : d ≡ c = some_of (rw e at is) in e ∙ ap (λ (x : Const). Some (Some x)) same
 
-pub has_constant_at : (test : Const → Bool) (file : ClassFile) (index : ℕ) (c : Const) → constant_at file.pool index ≡ Some c → test c ≡ true → has_constant test file ≡ true
+pub has_constant_at : (test : Const → Bool) (file : ClassFile) (index : ℕ) (c : Const) → constant_at file.pool index ≡ Some c
+    → test c ≡ true → has_constant test file ≡ true
 has_constant_at test file index c is passed = any_at (passes test) file.pool index (Some c) (entry_at file.pool index c is) passed
 
-pub needed_there : (classes : Classes) (test : Const → Bool) (name : Name) → AllHold (needed_class_checks test name classes) → (n : ℕ) (file : ClassFile) → slice_get classes.folder n ≡ Some file → has_constant test file ≡ true
+pub needed_there : (classes : Classes) (test : Const → Bool) (name : Name) → AllHold (needed_class_checks test name classes)
+    → (n : ℕ) (file : ClassFile) → slice_get classes.folder n ≡ Some file → has_constant test file ≡ true
     → IsThere (headers_of classes) name
 needed_there classes test name all n file is passed =
     let any : list_any (has_constant test) classes.folder ≡ true = any_at (has_constant test) classes.folder n file is passed in
@@ -207,7 +241,8 @@ needed_there classes test name all n file is passed =
 
 -- ---- the code of a method
 
-pub code_attr : (attrs : List Attr) (part : CodePart) → code_of attrs ≡ Some part → (n : ℕ) × (name : ℕ) × (slice_get attrs n ≡ Some (Code name part))
+pub code_attr : (attrs : List Attr) (part : CodePart) → code_of attrs ≡ Some part
+    → (n : ℕ) × (name : ℕ) × (slice_get attrs n ≡ Some (Code name part))
 code_attr [] part is = cc
 code_attr (Code name own ∷ attrs) part is = (zero, name, ap (λ (p : CodePart). Some (Code name p)) (some_of is))
 code_attr (Raw name bytes ∷ attrs) part is = let c = code_attr attrs part is in (suc c.0, c.1, c.2)
@@ -217,20 +252,28 @@ pub record DecodedAt (part : CodePart) (number : ℕ) (placed : Placed) : Type 0
   pub decodes : decoded part.code ≡ Ok instrs
   pub there : slice_get instrs number ≡ Some placed
 
-pub decoded_at : (s : Scope) (number : ℕ) (placed : Placed) → slice_get (instructions s) number ≡ Some placed → DecodedAt s.part number placed
+pub decoded_at : (s : Scope) (number : ℕ) (placed : Placed) → slice_get (instructions s) number ≡ Some placed
+    → DecodedAt s.part number placed
 decoded_at s number placed is = by (decoded s.part.code) refl where
   by : (r : Result (List Placed) Fault) → decoded s.part.code ≡ r → DecodedAt s.part number placed
   by (Ok instrs) e = record { instrs = instrs; decodes = e; there = rw e at is }
   by (Err fault) e = let no : None ≡ Some placed = rw e at is in cc
 
-pub linked_instr : LinkLaws → (classes : Classes) (P : Program) (is : IsProgram classes P) → IsHierarchy (headers_of classes) → IsTree classes → IsLinked classes → IsPlainFolder classes
-    → (at : MethodAt) (file : ClassFile) (m : Method) (part : CodePart) → slice_get classes.folder at.class ≡ Some file → slice_get file.methods at.method ≡ Some m → code_of m.attrs ≡ Some part
-    → Ascend (instructions (scope_with classes file m part)) → (number : ℕ) (placed : Placed) → slice_get (instructions (scope_with classes file m part)) number ≡ Some placed
-    → (frame : Frame) → RowHolds (row_scope (scope_with classes file m part)) frame (access_aside (row_of (row_scope (scope_with classes file m part)) frame placed.at placed.instr))
+pub linked_instr : LinkLaws → (classes : Classes) (P : Program) (is : IsProgram classes P) → IsHierarchy (headers_of classes)
+    → IsTree classes → IsLinked classes → IsPlainFolder classes
+    → (at : MethodAt) (file : ClassFile) (m : Method) (part : CodePart) → slice_get classes.folder at.class ≡ Some file
+    → slice_get file.methods at.method ≡ Some m → code_of m.attrs ≡ Some part
+    → Ascend (instructions (scope_with classes file m part)) → (number : ℕ) (placed : Placed)
+    → slice_get (instructions (scope_with classes file m part)) number ≡ Some placed
+    → (frame : Frame) → RowHolds (row_scope (scope_with classes file m part)) frame
+    (access_aside (row_of (row_scope (scope_with classes file m part)) frame placed.at placed.instr))
     → IsLinkedOp (program_of classes is.links) (row_scope (scope_with classes file m part)) placed.at
-    (item_op is.links (number_at (code_points (scope_with classes file m part))) (row_scope (scope_with classes file m part)) (item_instr placed.instr))
-linked_instr laws classes P is hierarchy tree linked plain at file m part of_file of_method of_code order number placed there frame holds =
-    instr_linked laws.references is.links classes file m part Q (site_of (header_of file) (method_member file.pool m)) around placed.at placed.instr fits uses some
+    (item_op is.links (number_at (code_points (scope_with classes file m part))) (row_scope (scope_with classes file m part))
+    (item_instr placed.instr))
+linked_instr laws classes P is hierarchy tree linked plain at file m part of_file of_method of_code order number placed there frame holds
+    =
+    instr_linked laws.references is.links classes file m part Q (site_of (header_of file) (method_member file.pool m)) around
+    placed.at placed.instr fits uses some
     (new_found file.pool (instructions (scope_with classes file m part)) order number placed there) frame holds where
       Q : Program
       Q = program_of classes is.links
@@ -244,18 +287,25 @@ linked_instr laws classes P is hierarchy tree linked plain at file m part of_fil
       base : BaseHolds classes
       base = base_holds classes plain.some tree.holds
 
-      is_of_library : (name : Name) → IsThere (headers_of classes) name → named name (headers_of classes).folder ≡ None → IsOfLibrary Q name
-      is_of_library name is_there outside = record { is_there = subst (λ hs. IsThere hs name) (sym (headers_are classes Q same)) is_there; outside = outside_folder classes Q same name outside }
+      is_of_library : (name : Name) → IsThere (headers_of classes) name → named name (headers_of classes).folder ≡ None
+          → IsOfLibrary Q name
+      is_of_library name is_there outside = record {
+        is_there = subst (λ hs. IsThere hs name) (sym (headers_are classes Q same)) is_there;
+        outside = outside_folder classes Q same name outside;
+      }
 
       around : Around Q (headers_of classes) file.major file.pool
       around = record {
         same = headers_are classes Q same;
         base = has_base classes Q same tree hierarchy plain;
-        each = constant_holds file.major file.pool (subst (λ (f : ClassFile). AllHold (entries_checks f.major f.pool 10 f.pool)) (sym read.is) (parts_hold read.cut read.holds).pool);
+        each = constant_holds file.major file.pool (subst (λ (f : ClassFile). AllHold (entries_checks f.major f.pool 10 f.pool))
+            (sym read.is) (parts_hold read.cut read.holds).pool);
         handles = λ index kind reference e. is_of_library method_handle
-            (needed_there classes is_method_handle method_handle base.handles at.class file of_file (has_constant_at is_method_handle file index (consts.MethodHandle kind reference) e refl)) plain.no_handles;
+            (needed_there classes is_method_handle method_handle base.handles at.class file of_file
+            (has_constant_at is_method_handle file index (consts.MethodHandle kind reference) e refl)) plain.no_handles;
         types = λ index desc e. is_of_library method_type
-            (needed_there classes is_method_type method_type base.types at.class file of_file (has_constant_at is_method_type file index (consts.MethodType desc) e refl)) plain.no_types;
+            (needed_there classes is_method_type method_type base.types at.class file of_file
+            (has_constant_at is_method_type file index (consts.MethodType desc) e refl)) plain.no_types;
       }
 
       d : DecodedAt part number placed
@@ -263,16 +313,24 @@ linked_instr laws classes P is hierarchy tree linked plain at file m part of_fil
 
       operands : HaveOperands file.pool file.major part.max_locals (decoded part.code)
       operands =
-          code_has (HasOperands file.pool file.major) (λ (p : CodePart). HaveOperands file.pool file.major p.max_locals (decoded p.code)) (λ name p x. x) m.attrs part
-          (at_index (λ (x : Method). AllByRecursion (HasOperands file.pool file.major) x.attrs) file.methods at.method m (laws.operands (class_bytes file) file read) of_method) of_code
+          code_has (HasOperands file.pool file.major) (λ (p : CodePart). HaveOperands file.pool file.major p.max_locals (decoded p.code))
+          (λ name p x. x) m.attrs part
+          (at_index (λ (x : Method). AllByRecursion (HasOperands file.pool file.major) x.attrs) file.methods at.method m
+          (laws.operands (class_bytes file) file read) of_method) of_code
 
       fits : OperandFits file.pool file.major part.max_locals placed.instr
-      fits = at_index (λ (p : Placed). OperandFits file.pool file.major part.max_locals p.instr) d.instrs number placed (subst (HaveOperands file.pool file.major part.max_locals) d.decodes operands) d.there
+      fits = at_index (λ (p : Placed). OperandFits file.pool file.major part.max_locals p.instr) d.instrs number placed
+          (subst (HaveOperands file.pool file.major part.max_locals) d.decodes operands) d.there
 
       attr : (n : ℕ) × (name : ℕ) × (slice_get m.attrs n ≡ Some (Code name part))
       attr = code_attr m.attrs part of_code
 
-      uses : AllHold (instr_use_checks (record { headers = headers_of classes; pool = file.pool; site = site_of (header_of file) (method_member file.pool m) }) placed.instr)
+      uses : AllHold (instr_use_checks (record {
+        headers = headers_of classes;
+        pool = file.pool;
+        site = site_of (header_of file)
+            (method_member file.pool m);
+      }) placed.instr)
       uses =
           (laws.by_place classes linked).instructions at.class at.method number
           (record {

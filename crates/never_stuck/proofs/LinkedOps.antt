@@ -45,7 +45,8 @@ pub record ReferenceLaws : Type 0 where
   pub named_class : (s : UseScope) (name : Name) → AllHold (named_class_checks s name) → ClassPasses s name
   pub static_field : (s : UseScope) (r : Reference) → AllHold (field_use_checks s IsStaticForm r) → FieldPasses s IsStaticForm r
   pub instance_field : (s : UseScope) (r : Reference) → AllHold (field_use_checks s IsInstanceForm r) → FieldPasses s IsInstanceForm r
-  pub call : (s : UseScope) (opcode : ℕ) (constant : Option Const) (r : Reference) → AllHold (method_use_checks s (FitsCall s.headers opcode constant) r) → MethodPasses s (FitsCall s.headers opcode constant) r
+  pub call : (s : UseScope) (opcode : ℕ) (constant : Option Const) (r : Reference)
+      → AllHold (method_use_checks s (FitsCall s.headers opcode constant) r) → MethodPasses s (FitsCall s.headers opcode constant) r
 
 -- ---- rows that no instruction has
 
@@ -56,7 +57,8 @@ no_operand s (t ∷ ts) fit = fit.0
 pub no_row_holds : (s : RowScope) (frame : Frame) → RowHolds s frame (access_aside (no_row frame)) → ⊥
 no_row_holds s frame holds = no_operand s _ holds.operands
 
-pub jump_known : (s : RowScope) (frame : Frame) (b : Bool) (takes : List Need) → RowHolds s frame (access_aside (jump_row frame b takes)) → b ≡ true
+pub jump_known : (s : RowScope) (frame : Frame) (b : Bool) (takes : List Need) → RowHolds s frame (access_aside (jump_row frame b takes))
+    → b ≡ true
 jump_known s frame true takes holds = refl
 jump_known s frame false takes holds = absurd (no_row_holds s frame holds)
 
@@ -75,9 +77,11 @@ elements_between first opcode e is = by (nat_lt opcode first) refl where
       let low : first ≤ opcode = grind (arith, d) in
       (low, omega (arith, low, few))
 
-pub load_known : (s : RowScope) (frame : Frame) (opcode : ℕ) → RowHolds s frame (access_aside (array_load_row frame opcode)) → (nat_le IALOAD opcode && nat_le opcode SALOAD) ≡ true
+pub load_known : (s : RowScope) (frame : Frame) (opcode : ℕ) → RowHolds s frame (access_aside (array_load_row frame opcode))
+    → (nat_le IALOAD opcode && nat_le opcode SALOAD) ≡ true
 load_known s frame opcode holds = by (opcode == AALOAD) refl where
-  by_elements : (o : Option Elements) → elements_from IALOAD opcode ≡ o → RowHolds s frame (access_aside (elements_load_row frame o)) → (nat_le IALOAD opcode && nat_le opcode SALOAD) ≡ true
+  by_elements : (o : Option Elements) → elements_from IALOAD opcode ≡ o → RowHolds s frame (access_aside (elements_load_row frame o))
+      → (nat_le IALOAD opcode && nat_le opcode SALOAD) ≡ true
   by_elements None e h = absurd (no_row_holds s frame h)
   by_elements (Some x) e h = let b = elements_between IALOAD opcode x e in between IALOAD SALOAD opcode b.0 b.1
 
@@ -85,9 +89,11 @@ load_known s frame opcode holds = by (opcode == AALOAD) refl where
   by true e = let same : opcode ≡ AALOAD = search arith in subst (λ o. (nat_le IALOAD o && nat_le o SALOAD) ≡ true) (sym same) refl
   by false e = by_elements (elements_from IALOAD opcode) refl (rw e at holds)
 
-pub store_known : (s : RowScope) (frame : Frame) (opcode : ℕ) → RowHolds s frame (access_aside (array_store_row frame opcode)) → (nat_le IASTORE opcode && nat_le opcode SASTORE) ≡ true
+pub store_known : (s : RowScope) (frame : Frame) (opcode : ℕ) → RowHolds s frame (access_aside (array_store_row frame opcode))
+    → (nat_le IASTORE opcode && nat_le opcode SASTORE) ≡ true
 store_known s frame opcode holds = by (opcode == AASTORE) refl where
-  by_elements : (o : Option Elements) → elements_from IASTORE opcode ≡ o → RowHolds s frame (access_aside (elements_store_row frame o)) → (nat_le IASTORE opcode && nat_le opcode SASTORE) ≡ true
+  by_elements : (o : Option Elements) → elements_from IASTORE opcode ≡ o → RowHolds s frame (access_aside (elements_store_row frame o))
+      → (nat_le IASTORE opcode && nat_le opcode SASTORE) ≡ true
   by_elements None e h = absurd (no_row_holds s frame h)
   by_elements (Some x) e h = let b = elements_between IASTORE opcode x e in between IASTORE SASTORE opcode b.0 b.1
 
@@ -130,20 +136,24 @@ pub array_element : (name : Name) → element_class (left_bracket ∷ named_text
 array_element [] = refl
 array_element (first ∷ rest) = by (first == left_bracket) refl where
   class_is : take (length (first ∷ rest ++ semicolon ∷ []) - 1) (first ∷ rest ++ semicolon ∷ []) ≡ first ∷ rest
-  class_is = take_at (first ∷ rest) (semicolon ∷ []) (length (first ∷ rest ++ semicolon ∷ []) - 1) (let e = length_push (first ∷ rest) semicolon in omega (arith, e))
+  class_is = take_at (first ∷ rest) (semicolon ∷ []) (length (first ∷ rest ++ semicolon ∷ []) - 1)
+      (let e = length_push (first ∷ rest) semicolon in omega (arith, e))
 
   of_array : (first ≡ left_bracket) → element_class (left_bracket ∷ (first ∷ rest)) ≡ element_class (first ∷ rest)
   of_array same =
       subst (λ x. element_class (left_bracket ∷ (x ∷ rest)) ≡ element_class (x ∷ rest)) (sym same)
-      (element_more (left_bracket ∷ rest) ∙ (ap (λ n. element_in (drop n (left_bracket ∷ rest))) (bracket_more rest) ∙ sym (element_more rest)))
+      (element_more (left_bracket ∷ rest) ∙ (ap (λ n. element_in (drop n (left_bracket ∷ rest))) (bracket_more rest)
+      ∙ sym (element_more rest)))
 
   by : (b : Bool) → (first == left_bracket) ≡ b → element_class (left_bracket ∷ named_text (first ∷ rest)) ≡ element_class (first ∷ rest)
-  by true e = let text : named_text (first ∷ rest) ≡ first ∷ rest = rw e refl in ap (λ t. element_class (left_bracket ∷ t)) text ∙ of_array (search arith)
+  by true e = let text : named_text (first ∷ rest) ≡ first ∷ rest = rw e refl in ap (λ t. element_class (left_bracket ∷ t)) text
+      ∙ of_array (search arith)
   by false e =
       let text : named_text (first ∷ rest) ≡ class_letter ∷ (first ∷ rest ++ semicolon ∷ []) = rw e refl in
       ap (λ t. element_class (left_bracket ∷ t)) text
       ∙ (element_more (class_letter ∷ (first ∷ rest ++ semicolon ∷ []))
-      ∙ (ap (λ n. element_in (drop n (class_letter ∷ (first ∷ rest ++ semicolon ∷ [])))) (bracket_none class_letter (first ∷ rest ++ semicolon ∷ []) refl)
+      ∙ (ap (λ n. element_in (drop n (class_letter ∷ (first ∷ rest ++ semicolon ∷ []))))
+      (bracket_none class_letter (first ∷ rest ++ semicolon ∷ []) refl)
       ∙ (ap Some class_is ∙ sym (element_none first rest e))))
 
 pub array_there : (headers : Headers) (name : Name) → IsNamedThere headers name → IsNamedThere headers (left_bracket ∷ named_text name)
@@ -159,34 +169,46 @@ module _ (Q : Program) (s : RowScope) (place : ℕ) where
   tested true op e linked = linked
   tested false op e linked = cc
 
-  pub found : {A : Type 0} (o : Option A) (a : A) (op : A → Op) → o ≡ Some a → IsLinkedOp Q s place (op a) → IsLinkedOp Q s place (or_meaningless (option_map op o))
+  pub found : {A : Type 0} (o : Option A) (a : A) (op : A → Op) → o ≡ Some a → IsLinkedOp Q s place (op a)
+      → IsLinkedOp Q s place (or_meaningless (option_map op o))
   found o a op e linked = subst (λ x. IsLinkedOp Q s place (or_meaningless (option_map op x))) (sym e) linked
 
-  pub return_linked : (frame : Frame) (kind : Option Kind) → RowHolds s frame (access_aside (return_row s frame kind)) → IsLinkedOp Q s place (return_op s.result kind)
-  return_linked frame None holds = let may : MayReturn s frame = holds.further in subst (λ r. IsLinkedOp Q s place (return_op r None)) (sym may.no_result) may.no_result
+  pub return_linked : (frame : Frame) (kind : Option Kind) → RowHolds s frame (access_aside (return_row s frame kind))
+      → IsLinkedOp Q s place (return_op s.result kind)
+  return_linked frame None holds = let may : MayReturn s frame = holds.further in subst (λ r. IsLinkedOp Q s place (return_op r None))
+      (sym may.no_result) may.no_result
   return_linked frame (Some kind) holds =
       let may = holds.further in
       subst (λ r. IsLinkedOp Q s place (return_op r (Some kind))) (sym may.is_result)
-      (tested (same_kind (kind_of may.type) kind) (return_value may.type) (subst (λ k. same_kind (kind_of may.type) k ≡ true) may.same_kind (kind_is_same (kind_of may.type))) may.is_result)
+      (tested (same_kind (kind_of may.type) kind) (return_value may.type)
+      (subst (λ k. same_kind (kind_of may.type) k ≡ true) may.same_kind (kind_is_same (kind_of may.type))) may.is_result)
 
 -- what is known of the class file and the program around an instruction
 pub record Around (Q : Program) (headers : Headers) (major : ℕ) (pool : Constants) : Type 0 where
   pub same : headers_in Q ≡ headers
   pub base : HasBase Q
   pub each : HoldsEach major pool
-  pub handles : (index kind reference : ℕ) → constant_at pool index ≡ Some (consts.MethodHandle kind reference) → IsOfLibrary Q method_handle
+  pub handles : (index kind reference : ℕ) → constant_at pool index ≡ Some (consts.MethodHandle kind reference)
+      → IsOfLibrary Q method_handle
   pub types : (index desc : ℕ) → constant_at pool index ≡ Some (consts.MethodType desc) → IsOfLibrary Q method_type
 
-module _ (laws : ReferenceLaws) (Q : Program) (s : RowScope) (place : ℕ) (us : UseScope) (major : ℕ) (around : Around Q us.headers major us.pool) where
+module _ (laws : ReferenceLaws) (Q : Program) (s : RowScope) (place : ℕ) (us : UseScope) (major : ℕ)
+    (around : Around Q us.headers major us.pool) where
   -- ---- constants
 
-  pub text_linked : (o : Option (List ℕ)) (op : List ℕ → Op) → IsSome o → ((t : List ℕ) → IsLinkedOp Q s place (op t)) → IsLinkedOp Q s place (or_meaningless (option_map op o))
+  pub text_linked : (o : Option (List ℕ)) (op : List ℕ → Op) → IsSome o → ((t : List ℕ) → IsLinkedOp Q s place (op t))
+      → IsLinkedOp Q s place (or_meaningless (option_map op o))
   text_linked o op there linked = let t = some_there o there in found Q s place o t.0 op t.1 (linked t.0)
 
-  pub refers : (c : Option Const) → (IsFieldConstant c ⊎ (IsMethodConstant c ⊎ IsInterfaceConstant c)) → (index : ℕ) → constant_at us.pool index ≡ c → (r : Reference) × (reference_of us.pool c ≡ Some r)
-  refers (Some (consts.Fieldref class member)) is index e = let t = (around.each index (consts.Fieldref class member) e).1.0 in let r = reference_text major us.pool around.each class member t.0 t.1 in (r.reference, r.is)
-  refers (Some (consts.Methodref class member)) is index e = let t = (around.each index (consts.Methodref class member) e).1.0 in let r = reference_text major us.pool around.each class member t.0 t.1 in (r.reference, r.is)
-  refers (Some (consts.InterfaceMethodref class member)) is index e = let t = (around.each index (consts.InterfaceMethodref class member) e).1.0 in let r = reference_text major us.pool around.each class member t.0 t.1 in (r.reference, r.is)
+  pub refers : (c : Option Const) → (IsFieldConstant c ⊎ (IsMethodConstant c ⊎ IsInterfaceConstant c)) → (index : ℕ)
+      → constant_at us.pool index ≡ c → (r : Reference) × (reference_of us.pool c ≡ Some r)
+  refers (Some (consts.Fieldref class member)) is index e = let t = (around.each index (consts.Fieldref class member) e).1.0 in let r =
+      reference_text major us.pool around.each class member t.0 t.1 in (r.reference, r.is)
+  refers (Some (consts.Methodref class member)) is index e = let t = (around.each index (consts.Methodref class member) e).1.0 in let r =
+      reference_text major us.pool around.each class member t.0 t.1 in (r.reference, r.is)
+  refers (Some (consts.InterfaceMethodref class member)) is index e =
+      let t = (around.each index (consts.InterfaceMethodref class member) e).1.0 in let r = reference_text major us.pool around.each class
+      member t.0 t.1 in (r.reference, r.is)
   refers None (inl is) index e = absurd is
   refers None (inr (inl is)) index e = absurd is
   refers None (inr (inr is)) index e = absurd is
@@ -195,7 +217,8 @@ module _ (laws : ReferenceLaws) (Q : Program) (s : RowScope) (place : ℕ) (us :
   refers (Some c) (inr (inr is)) index e = absurd is
 
   handle_refers : (kind reference : ℕ) → RefersWell major us.pool kind reference
-      → IsFieldConstant (constant_at us.pool reference) ⊎ (IsMethodConstant (constant_at us.pool reference) ⊎ IsInterfaceConstant (constant_at us.pool reference))
+      → IsFieldConstant (constant_at us.pool reference) ⊎ (IsMethodConstant (constant_at us.pool reference) ⊎ IsInterfaceConstant
+      (constant_at us.pool reference))
   handle_refers kind reference (inl is) = inl is.2
   handle_refers kind reference (inr (inl is)) = inr (inl is.1)
   handle_refers kind reference (inr (inr (inl is))) = of_version (constant_at us.pool reference) is.2 where
@@ -205,33 +228,46 @@ module _ (laws : ReferenceLaws) (Q : Program) (s : RowScope) (place : ℕ) (us :
   handle_refers kind reference (inr (inr (inr (inl is)))) = inr (inl is.1)
   handle_refers kind reference (inr (inr (inr (inr is)))) = inr (inr is.1)
 
-  pub constant_linked : (index : ℕ) (c : Option Const) → constant_at us.pool index ≡ c → IsLoadable c ⊎ IsLoadable2 c → IsLinkedOp Q s place (constant_op us.pool c)
+  pub constant_linked : (index : ℕ) (c : Option Const) → constant_at us.pool index ≡ c → IsLoadable c ⊎ IsLoadable2 c
+      → IsLinkedOp Q s place (constant_op us.pool c)
   constant_linked index (Some (consts.Integer n)) e is = tt
   constant_linked index (Some (consts.Long n)) e is = tt
   constant_linked index (Some (consts.Float n)) e is = tt
   constant_linked index (Some (consts.Double n)) e is = tt
-  constant_linked index (Some (consts.String t)) e is = text_linked (utf8_at us.pool t) (λ x. push_constant (objects.Str x)) (around.each index (consts.String t) e).1.0 (λ x. around.base.of_strings)
-  constant_linked index (Some (consts.Class t)) e is = text_linked (utf8_at us.pool t) (λ x. push_constant (objects.Class x)) (around.each index (consts.Class t) e).1.0 (λ x. around.base.of_classes)
-  constant_linked index (Some (consts.MethodType t)) e is = text_linked (utf8_at us.pool t) (λ x. push_constant (objects.MethodType x)) (around.each index (consts.MethodType t) e).1.0 (λ x. around.types index t e)
+  constant_linked index (Some (consts.String t)) e is = text_linked (utf8_at us.pool t) (λ x. push_constant (objects.Str x))
+      (around.each index (consts.String t) e).1.0 (λ x. around.base.of_strings)
+  constant_linked index (Some (consts.Class t)) e is = text_linked (utf8_at us.pool t) (λ x. push_constant (objects.Class x))
+      (around.each index (consts.Class t) e).1.0 (λ x. around.base.of_classes)
+  constant_linked index (Some (consts.MethodType t)) e is = text_linked (utf8_at us.pool t) (λ x. push_constant (objects.MethodType x))
+      (around.each index (consts.MethodType t) e).1.0 (λ x. around.types index t e)
   constant_linked index (Some (consts.MethodHandle kind reference)) e is =
       let well = (around.each index (consts.MethodHandle kind reference) e).1.0 in
       let r = refers (constant_at us.pool reference) (handle_refers kind reference well) reference refl in
-      found Q s place (handle_of us.pool kind reference) (objects.Handle kind r.0.class r.0.name r.0.desc) push_constant (rw r.1 refl) (around.handles index kind reference e)
+      found Q s place (handle_of us.pool kind reference) (objects.Handle kind r.0.class r.0.name r.0.desc) push_constant (rw r.1 refl)
+      (around.handles index kind reference e)
   constant_linked index c e (inl is) = absurd is
   constant_linked index c e (inr is) = absurd is
 
   -- ---- fields
 
-  pub field_there : (Form : Declared → Type 0) → ((r : Reference) → AllHold (field_use_checks us Form r) → FieldPasses us Form r) → (index : ℕ) → IsFieldConstant (constant_at us.pool index)
-      → AllHold (fieldref_use_checks us Form (constant_at us.pool index)) → (r : Reference) × (reference_of us.pool (constant_at us.pool index) ≡ Some r) × HasField (headers_in Q) Form r
+  pub field_there : (Form : Declared → Type 0) → ((r : Reference) → AllHold (field_use_checks us Form r) → FieldPasses us Form r)
+      → (index : ℕ) → IsFieldConstant (constant_at us.pool index)
+      → AllHold (fieldref_use_checks us Form (constant_at us.pool index)) → (r : Reference)
+      × (reference_of us.pool (constant_at us.pool index) ≡ Some r) × HasField (headers_in Q) Form r
   field_there Form passes index is uses = by (constant_at us.pool index) refl is uses where
-    by : (c : Option Const) → constant_at us.pool index ≡ c → IsFieldConstant c → AllHold (fieldref_use_checks us Form c) → (r : Reference) × (reference_of us.pool c ≡ Some r) × HasField (headers_in Q) Form r
+    by : (c : Option Const) → constant_at us.pool index ≡ c → IsFieldConstant c → AllHold (fieldref_use_checks us Form c)
+        → (r : Reference) × (reference_of us.pool c ≡ Some r) × HasField (headers_in Q) Form r
     by (Some (consts.Fieldref class member)) e is uses =
         let t = (around.each index (consts.Fieldref class member) e).1.0 in
         let r = reference_text major us.pool around.each class member t.0 t.1 in
-        let checked : AllHold (asked_of_reference (field_use_checks us Form) (Some r.reference)) = subst (λ o. AllHold (asked_of_reference (field_use_checks us Form) o)) r.is uses in
-        let p = passes r.reference checked in
-        (r.reference, r.is, subst (λ hs. HasField hs Form r.reference) (sym around.same) (record { field = p.member; finds = p.found; form = p.form }))
+        let checked : AllHold (asked_of_reference (field_use_checks us Form) (Some r.reference)) = subst
+        (λ o. AllHold (asked_of_reference (field_use_checks us Form) o)) r.is uses in
+        let p = passes r.reference checked in (
+          r.reference,
+          r.is,
+          subst (λ hs. HasField hs Form r.reference) (sym around.same)
+              (record { field = p.member; finds = p.found; form = p.form }),
+        )
     by c e is uses = absurd is
 
   -- ---- calls
@@ -243,54 +279,78 @@ module _ (laws : ReferenceLaws) (Q : Program) (s : RowScope) (place : ℕ) (us :
     pub no_clinit : reference.name ≢ clinit
 
   pub method_there : (opcode index : ℕ) → IsMethodConstant (constant_at us.pool index) ⊎ IsInterfaceConstant (constant_at us.pool index)
-      → AllHold (methodref_use_checks us (FitsCall us.headers opcode (constant_at us.pool index)) (constant_at us.pool index)) → MethodThere opcode index
+      → AllHold (methodref_use_checks us (FitsCall us.headers opcode (constant_at us.pool index)) (constant_at us.pool index))
+      → MethodThere opcode index
   method_there opcode index is uses = by (constant_at us.pool index) refl is uses where
-    by : (c : Option Const) → constant_at us.pool index ≡ c → IsMethodConstant c ⊎ IsInterfaceConstant c → AllHold (methodref_use_checks us (FitsCall us.headers opcode (constant_at us.pool index)) c) → MethodThere opcode index
+    by : (c : Option Const) → constant_at us.pool index ≡ c → IsMethodConstant c ⊎ IsInterfaceConstant c
+        → AllHold (methodref_use_checks us (FitsCall us.headers opcode (constant_at us.pool index)) c) → MethodThere opcode index
     by (Some (consts.Methodref class member)) e is uses =
         let t = (around.each index (consts.Methodref class member) e).1 in
         let r = reference_text major us.pool around.each class member t.0.0 t.0.1 in
-        let checked : AllHold (asked_of_reference (method_use_checks us (FitsCall us.headers opcode (constant_at us.pool index))) (Some r.reference)) =
-        subst (λ o. AllHold (asked_of_reference (method_use_checks us (FitsCall us.headers opcode (constant_at us.pool index))) o)) r.is uses in
-        record { reference = r.reference; is = rw e r.is; passes = laws.call us opcode (constant_at us.pool index) r.reference checked; no_clinit = (rw r.is_name at t.1.0).1 }
+        let checked : AllHold (asked_of_reference (method_use_checks us (FitsCall us.headers opcode (constant_at us.pool index)))
+        (Some r.reference)) =
+        subst (λ o. AllHold (asked_of_reference (method_use_checks us (FitsCall us.headers opcode (constant_at us.pool index))) o)) r.is
+        uses in
+        record {
+          reference = r.reference;
+          is = rw e r.is;
+          passes = laws.call us opcode (constant_at us.pool index) r.reference checked;
+          no_clinit = (rw r.is_name at t.1.0).1;
+        }
     by (Some (consts.InterfaceMethodref class member)) e is uses =
         let t = (around.each index (consts.InterfaceMethodref class member) e).1 in
         let r = reference_text major us.pool around.each class member t.0.0 t.0.1 in
-        let checked : AllHold (asked_of_reference (method_use_checks us (FitsCall us.headers opcode (constant_at us.pool index))) (Some r.reference)) =
-        subst (λ o. AllHold (asked_of_reference (method_use_checks us (FitsCall us.headers opcode (constant_at us.pool index))) o)) r.is uses in
-        record { reference = r.reference; is = rw e r.is; passes = laws.call us opcode (constant_at us.pool index) r.reference checked; no_clinit = (rw r.is_name at t.1.0).1 }
+        let checked : AllHold (asked_of_reference (method_use_checks us (FitsCall us.headers opcode (constant_at us.pool index)))
+        (Some r.reference)) =
+        subst (λ o. AllHold (asked_of_reference (method_use_checks us (FitsCall us.headers opcode (constant_at us.pool index))) o)) r.is
+        uses in
+        record {
+          reference = r.reference;
+          is = rw e r.is;
+          passes = laws.call us opcode (constant_at us.pool index) r.reference checked;
+          no_clinit = (rw r.is_name at t.1.0).1;
+        }
     by c e (inl is) uses = absurd is
     by c e (inr is) uses = absurd is
 
-  has_method : (opcode index : ℕ) (Form : Declared → Type 0) (m : MethodThere opcode index) → Form m.passes.member → HasMethod (headers_in Q) Form m.reference
-  has_method opcode index Form m form = subst (λ hs. HasMethod hs Form m.reference) (sym around.same) (record { method = m.passes.member; finds = m.passes.found; form = form; no_clinit = m.no_clinit })
+  has_method : (opcode index : ℕ) (Form : Declared → Type 0) (m : MethodThere opcode index) → Form m.passes.member
+      → HasMethod (headers_in Q) Form m.reference
+  has_method opcode index Form m form = subst (λ hs. HasMethod hs Form m.reference) (sym around.same)
+      (record { method = m.passes.member; finds = m.passes.found; form = form; no_clinit = m.no_clinit })
 
-  pub call_linked : (links : Links) (opcode index count : ℕ) → IsCalled us.pool major opcode index count → AllHold (methodref_use_checks us (FitsCall us.headers opcode (constant_at us.pool index)) (constant_at us.pool index))
+  pub call_linked : (links : Links) (opcode index count : ℕ) → IsCalled us.pool major opcode index count
+      → AllHold (methodref_use_checks us (FitsCall us.headers opcode (constant_at us.pool index)) (constant_at us.pool index))
       → IsLinkedOp Q s place (or_meaningless (option_map (call_op links s opcode) (reference_of us.pool (constant_at us.pool index))))
   call_linked links opcode index count (inl is) uses =
       let m = method_there opcode index (inl is.1) uses in
       found Q s place (reference_of us.pool (constant_at us.pool index)) m.reference (call_op links s opcode) m.is
       (subst (λ o. IsLinkedOp Q s place (call_op links s o m.reference)) (sym is.0) (
-        has_method opcode index IsInstanceForm m (m.passes.form.of_instance (λ e. let no : INVOKEVIRTUAL ≡ INVOKESTATIC = sym is.0 ∙ e in absurd (omega (arith, no)))),
+        has_method opcode index IsInstanceForm m (m.passes.form.of_instance
+            (λ e. let no : INVOKEVIRTUAL ≡ INVOKESTATIC = sym is.0 ∙ e in absurd (omega (arith, no)))),
         λ e. let no : INVOKEVIRTUAL ≡ INVOKESPECIAL = sym is.0 ∙ m.passes.form.initialiser e in absurd (omega (arith, no)),
       ))
   call_linked links opcode index count (inr (inl is)) uses =
       let m = method_there opcode index (inr is.1) uses in
       found Q s place (reference_of us.pool (constant_at us.pool index)) m.reference (call_op links s opcode) m.is
       (subst (λ o. IsLinkedOp Q s place (call_op links s o m.reference)) (sym is.0) (
-        has_method opcode index IsInstanceForm m (m.passes.form.of_instance (λ e. let no : INVOKEINTERFACE ≡ INVOKESTATIC = sym is.0 ∙ e in absurd (omega (arith, no)))),
+        has_method opcode index IsInstanceForm m (m.passes.form.of_instance
+            (λ e. let no : INVOKEINTERFACE ≡ INVOKESTATIC = sym is.0 ∙ e in absurd (omega (arith, no)))),
         λ e. let no : INVOKEINTERFACE ≡ INVOKESPECIAL = sym is.0 ∙ m.passes.form.initialiser e in absurd (omega (arith, no)),
       ))
   call_linked links opcode index count (inr (inr is)) uses =
       let m = method_there opcode index (names is.1) uses in
       found Q s place (reference_of us.pool (constant_at us.pool index)) m.reference (call_op links s opcode) m.is (by is.0 m) where
-        names : (IsMethodConstant (constant_at us.pool index)) ⊎ ((major ≡ 52) × IsInterfaceConstant (constant_at us.pool index)) → IsMethodConstant (constant_at us.pool index) ⊎ IsInterfaceConstant (constant_at us.pool index)
+        names : (IsMethodConstant (constant_at us.pool index)) ⊎ ((major ≡ 52) × IsInterfaceConstant (constant_at us.pool index))
+            → IsMethodConstant (constant_at us.pool index) ⊎ IsInterfaceConstant (constant_at us.pool index)
         names (inl x) = inl x
         names (inr x) = inr x.1
 
-        by : (opcode ≡ INVOKESPECIAL) ⊎ (opcode ≡ INVOKESTATIC) → (m : MethodThere opcode index) → IsLinkedOp Q s place (call_op links s opcode m.reference)
+        by : (opcode ≡ INVOKESPECIAL) ⊎ (opcode ≡ INVOKESTATIC) → (m : MethodThere opcode index)
+            → IsLinkedOp Q s place (call_op links s opcode m.reference)
         by (inl is) m =
             subst (λ o. IsLinkedOp Q s place (call_op links s o m.reference)) (sym is)
-            (has_method opcode index IsInstanceForm m (m.passes.form.of_instance (λ e. let no : INVOKESPECIAL ≡ INVOKESTATIC = sym is ∙ e in absurd (omega (arith, no)))))
+            (has_method opcode index IsInstanceForm m (m.passes.form.of_instance
+            (λ e. let no : INVOKESPECIAL ≡ INVOKESTATIC = sym is ∙ e in absurd (omega (arith, no)))))
         by (inr is) m =
             subst (λ o. IsLinkedOp Q s place (call_op links s o m.reference)) (sym is) (
               has_method opcode index IsStaticForm m (m.passes.form.of_static is),
@@ -303,9 +363,13 @@ module _ (laws : ReferenceLaws) (Q : Program) (s : RowScope) (place : ℕ) (us :
 
   -- ---- classes
 
-  pub class_linked : (index : ℕ) (op : Name → Op) → IsClassAt us.pool index → ((name : Name) → class_at us.pool index ≡ Some name → IsLinkedOp Q s place (op name)) → IsLinkedOp Q s place (or_meaningless (option_map op (class_at us.pool index)))
-  class_linked index op is linked = let c = class_text major us.pool around.each index is in found Q s place (class_at us.pool index) c.0 op c.1 (linked c.0 c.1)
+  pub class_linked : (index : ℕ) (op : Name → Op) → IsClassAt us.pool index
+      → ((name : Name) → class_at us.pool index ≡ Some name → IsLinkedOp Q s place (op name))
+      → IsLinkedOp Q s place (or_meaningless (option_map op (class_at us.pool index)))
+  class_linked index op is linked = let c = class_text major us.pool around.each index is in found Q s place (class_at us.pool index) c.0
+      op c.1 (linked c.0 c.1)
 
   -- the class that is named is there
-  pub class_there : (index : ℕ) (name : Name) → class_at us.pool index ≡ Some name → AllHold (class_use_checks us index) → IsNamedThere us.headers name
+  pub class_there : (index : ℕ) (name : Name) → class_at us.pool index ≡ Some name → AllHold (class_use_checks us index)
+      → IsNamedThere us.headers name
   class_there index name e uses = (laws.named_class us name (rw e at uses)).there

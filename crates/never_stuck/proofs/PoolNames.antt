@@ -14,18 +14,24 @@ pub some_there : {A : Type 0} (o : Option A) → IsSome o → (a : A) × (o ≡ 
 some_there None is = cc
 some_there (Some a) is = (a, refl)
 
-pub entry_holds : (major : ℕ) (pool : Constants) (at : ℕ) (entries : Constants) → AllHold (entries_checks major pool at entries) → (n : ℕ) (c : Const) → slice_get entries n ≡ Some (Some c)
+pub entry_holds : (major : ℕ) (pool : Constants) (at : ℕ) (entries : Constants) → AllHold (entries_checks major pool at entries)
+    → (n : ℕ) (c : Const) → slice_get entries n ≡ Some (Some c)
     → (place : ℕ) × AllHold (constant_checks major pool place c)
 entry_holds major pool at [] all n c is = cc
 entry_holds major pool at (None ∷ entries) all zero c is = cc
 entry_holds major pool at (None ∷ entries) all (suc n) c is = entry_holds major pool at entries all n c is
 entry_holds major pool at (Some d ∷ entries) all zero c is =
-    let same : d ≡ c = some_of (some_of is) in
-    (at, subst (λ (x : Const). AllHold (constant_checks major pool at x)) same (first_holds (constant_checks major pool at d) (entries_checks major pool (at + length (constant_bytes d)) entries) all))
+    let same : d ≡ c = some_of (some_of is) in (
+      at,
+      subst (λ (x : Const). AllHold (constant_checks major pool at x)) same
+          (first_holds (constant_checks major pool at d) (entries_checks major pool (at + length (constant_bytes d)) entries) all),
+    )
 entry_holds major pool at (Some d ∷ entries) all (suc n) c is =
-    entry_holds major pool (at + length (constant_bytes d)) entries (others_hold (constant_checks major pool at d) (entries_checks major pool (at + length (constant_bytes d)) entries) all) n c is
+    entry_holds major pool (at + length (constant_bytes d)) entries
+    (others_hold (constant_checks major pool at d) (entries_checks major pool (at + length (constant_bytes d)) entries) all) n c is
 
-pub constant_holds : (major : ℕ) (pool : Constants) → AllHold (entries_checks major pool 10 pool) → (index : ℕ) (c : Const) → constant_at pool index ≡ Some c → (place : ℕ) × AllHold (constant_checks major pool place c)
+pub constant_holds : (major : ℕ) (pool : Constants) → AllHold (entries_checks major pool 10 pool) → (index : ℕ) (c : Const)
+    → constant_at pool index ≡ Some c → (place : ℕ) × AllHold (constant_checks major pool place c)
 constant_holds major pool all index c is = by (slice_get pool index) refl where
   by : (o : Option (Option Const)) → slice_get pool index ≡ o → (place : ℕ) × AllHold (constant_checks major pool place c)
   by None e = let no : None ≡ Some c = rw e at is in cc
@@ -35,7 +41,8 @@ constant_holds major pool all index c is = by (slice_get pool index) refl where
       entry_holds major pool 10 pool all index c (e ∙ ap (λ (x : Const). Some (Some x)) same)
 
 abbrev pub HoldsEach : ℕ → Constants → Type 0
-HoldsEach major pool = (index : ℕ) (c : Const) → constant_at pool index ≡ Some c → (place : ℕ) × AllHold (constant_checks major pool place c)
+HoldsEach major pool = (index : ℕ) (c : Const) → constant_at pool index ≡ Some c → (place : ℕ)
+    × AllHold (constant_checks major pool place c)
 
 module _ (major : ℕ) (pool : Constants) (holds : HoldsEach major pool) where
   pub class_text : (index : ℕ) → IsClassAt pool index → (name : List ℕ) × (class_at pool index ≡ Some name)
@@ -73,4 +80,9 @@ module _ (major : ℕ) (pool : Constants) (holds : HoldsEach major pool) where
   reference_text class member of_class of_member =
       let c = class_text class of_class in
       let t = member_text member of_member in
-      record { reference = record { class = c.0; name = t.name; desc = t.desc }; is = rw c.1 (rw t.is_name (rw t.is_desc refl)); is_name = t.is_name }
+      record {
+        reference = record { class = c.0; name = t.name; desc = t.desc };
+        is = rw c.1 (rw t.is_name (rw t.is_desc refl));
+        is_name =
+            t.is_name;
+      }

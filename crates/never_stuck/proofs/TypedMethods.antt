@@ -32,12 +32,17 @@ module _ (classes : Classes) (links : Links) (at : MethodAt) (file : ClassFile) 
   abbrev scope : Scope
   scope = scope_with classes file m part
 
-  pub method_typed : IsTypedCode (scope_with classes file m part) frames → slice_get (program_of classes links).classes at.class ≡ Some (run_class_of links (headers_of classes) file)
+  pub method_typed : IsTypedCode (scope_with classes file m part) frames
+      → slice_get (program_of classes links).classes at.class ≡ Some (run_class_of links (headers_of classes) file)
       → (name : Name) → class_at file.pool file.this_class ≡ Some name
-      → ((number : ℕ) (placed : Placed) → slice_get (instructions (scope_with classes file m part)) number ≡ Some placed → (t : IsTypedCode (scope_with classes file m part) frames) → IsLinkedInstr (scope_with classes file m part) frames t (program_of classes links) links placed)
-      → IsTypedMethod (program_of classes links) at (method_member file.pool m) (method_code links (scope_with classes file m part)) (record { scope = row_scope (scope_with classes file m part); frames = frames })
+      → ((number : ℕ) (placed : Placed) → slice_get (instructions (scope_with classes file m part)) number ≡ Some placed
+      → (t : IsTypedCode (scope_with classes file m part) frames) → IsLinkedInstr (scope_with classes file m part) frames t
+      (program_of classes links) links placed)
+      → IsTypedMethod (program_of classes links) at (method_member file.pool m) (method_code links (scope_with classes file m part))
+      (record { scope = row_scope (scope_with classes file m part); frames = frames })
   method_typed typed here name named linked = record {
-    headers = ap (λ (folder : List Header). let headers : Headers = record { folder = folder; library = classes.library } in headers) (sym (folder_headers links (headers_of classes) classes.folder));
+    headers = ap (λ (folder : List Header). let headers : Headers = record { folder = folder; library = classes.library } in headers)
+        (sym (folder_headers links (headers_of classes) classes.folder));
     own = own;
     result = refl;
     one_each = as_many_points scope frames typed links;
@@ -49,5 +54,6 @@ module _ (classes : Classes) (links : Links) (at : MethodAt) (file : ClassFile) 
 
     begins : (body_of scope).entry ≡ entry program at (method_member file.pool m) (method_code links scope)
     begins =
-        ap (λ (n : Option Name). entry_frame m.flags (text_or_empty (utf8_at file.pool m.name)) n (parameters_of (text_or_empty (utf8_at file.pool m.desc))) part.max_locals)
+        ap (λ (n : Option Name). entry_frame m.flags (text_or_empty (utf8_at file.pool m.name)) n
+        (parameters_of (text_or_empty (utf8_at file.pool m.desc))) part.max_locals)
         (named ∙ ap Some (sym (ap text_or_empty named) ∙ own))

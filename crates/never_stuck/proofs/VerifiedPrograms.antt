@@ -42,13 +42,16 @@ use Rattle.typed_runs.specs.TypedPrograms.{Typings, IsTypedMethod, IsTypedProgra
 
 -- what the laws of typing say
 pub record TypeLaws : Type 0 where
-  pub methods : (classes : Classes) (typed : FolderFrames) → TypesFolder classes typed → (at : MethodAt) → TypesMethod (scope_at classes at) (typed_frames_at typed at)
+  pub methods : (classes : Classes) (typed : FolderFrames) → TypesFolder classes typed → (at : MethodAt)
+      → TypesMethod (scope_at classes at) (typed_frames_at typed at)
   pub count : (b : Body) (frames : List Frame) → TypesBody b frames → length frames ≡ length b.points
-  pub each : (b : Body) (frames : List Frame) → TypesBody b frames → (number : ℕ) (point : BodyPoint) → slice_get b.points number ≡ Some point
+  pub each : (b : Body) (frames : List Frame) → TypesBody b frames → (number : ℕ) (point : BodyPoint)
+      → slice_get b.points number ≡ Some point
       → (frame : Frame) × (slice_get frames number ≡ Some frame) × IsTypedAt b (flows_into b frames number) point frame
   pub past : (b : Body) (frames : List Frame) → TypesBody b frames → flows_into b frames (length b.points) ≡ None
   pub has : (b : Body) (frames : List Frame) → AreInOrder b.points → TypesBody b frames → HasFrames b frames
-  pub edges : (b : Body) (frames : List Frame) → AreInOrder b.points → StatesAtPoints b → TypesBody b frames → AllByRecursion (GoesToStated b frames) b.points
+  pub edges : (b : Body) (frames : List Frame) → AreInOrder b.points → StatesAtPoints b → TypesBody b frames
+      → AllByRecursion (GoesToStated b frames) b.points
   pub order : (s : Scope) → AreInOrder (body_of s).points
   pub stated : (s : Scope) → StatesAtPoints (body_of s)
 
@@ -88,34 +91,40 @@ typing_with classes s frames = no_typing classes
 abbrev pub typings_of : Classes → FolderFrames → Typings
 typings_of classes typed at = typing_with classes (scope_at classes at) (typed_frames_at typed at)
 
-module _ (laws : TypeLaws) (link_laws : LinkLaws) (classes : Classes) (P : Program) (is : IsProgram classes P) (hierarchy : IsHierarchy (headers_of classes)) (verified : IsVerified classes) (plain : IsPlainFolder classes) where
+module _ (laws : TypeLaws) (link_laws : LinkLaws) (classes : Classes) (P : Program) (is : IsProgram classes P)
+    (hierarchy : IsHierarchy (headers_of classes)) (verified : IsVerified classes) (plain : IsPlainFolder classes) where
   abbrev T : Typings
   T = typings_of classes verified.typed
 
   abbrev Q : Program
   Q = program_of classes is.links
 
-  here_typed : (at : MethodAt) (file : ClassFile) (m : Method) (part : CodePart) → slice_get classes.folder at.class ≡ Some file → slice_get file.methods at.method ≡ Some m → code_of m.attrs ≡ Some part
+  here_typed : (at : MethodAt) (file : ClassFile) (m : Method) (part : CodePart) → slice_get classes.folder at.class ≡ Some file
+      → slice_get file.methods at.method ≡ Some m → code_of m.attrs ≡ Some part
       → IsTypedMethod Q at (method_member file.pool m) (method_code is.links (scope_with classes file m part)) (T at)
   here_typed at file m part of_file of_method of_code =
       subst (λ (t : Typing). IsTypedMethod Q at (method_member file.pool m) (method_code is.links s) t) (sym same)
       (method_typed classes is.links at file m part found.0 (typed_code laws s found.0 found.2) here named.0 named.1
-      (λ number placed there t. linked_instr link_laws classes P is hierarchy verified.tree verified.linked plain at file m part of_file of_method of_code (ascend s (instructions s) (laws.order s)) number placed there)) where
+      (λ number placed there t. linked_instr link_laws classes P is hierarchy verified.tree verified.linked plain at file m part of_file
+      of_method of_code (ascend s (instructions s) (laws.order s)) number placed there)) where
         s : Scope
         s = scope_with classes file m part
 
         scoped : scope_at classes at ≡ Some s
         scoped = rw of_file (rw of_method (rw of_code refl))
 
-        by : (o : Option (List Frame)) → typed_frames_at verified.typed at ≡ o → TypesMethod (Some s) o → (frames : List Frame) × (typed_frames_at verified.typed at ≡ Some frames) × Typed s frames
+        by : (o : Option (List Frame)) → typed_frames_at verified.typed at ≡ o → TypesMethod (Some s) o
+            → (frames : List Frame) × (typed_frames_at verified.typed at ≡ Some frames) × Typed s frames
         by None e t = absurd t
         by (Some frames) e t = (frames, e, t)
 
         found : (frames : List Frame) × (typed_frames_at verified.typed at ≡ Some frames) × Typed s frames
-        found = by (typed_frames_at verified.typed at) refl (subst (λ (o : Option Scope). TypesMethod o (typed_frames_at verified.typed at)) scoped (laws.methods classes verified.typed verified.types at))
+        found = by (typed_frames_at verified.typed at) refl (subst (λ (o : Option Scope). TypesMethod o
+            (typed_frames_at verified.typed at)) scoped (laws.methods classes verified.typed verified.types at))
 
         same : T at ≡ record { scope = row_scope s; frames = found.0 }
-        same = ap (λ (o : Option Scope). typing_with classes o (typed_frames_at verified.typed at)) scoped ∙ ap (typing_with classes (Some s)) found.1
+        same = ap (λ (o : Option Scope). typing_with classes o (typed_frames_at verified.typed at)) scoped
+            ∙ ap (typing_with classes (Some s)) found.1
 
         here : slice_get Q.classes at.class ≡ Some (run_class_of is.links (headers_of classes) file)
         here = slice_get-map (run_class_of is.links (headers_of classes)) classes.folder at.class ∙ (rw of_file refl)
@@ -123,36 +132,48 @@ module _ (laws : TypeLaws) (link_laws : LinkLaws) (classes : Classes) (P : Progr
         read : IsClassFile file
         read = at_index IsClassFile classes.folder at.class file verified.tree.folder of_file
 
-        named_in : (f : ClassFile) → f ≡ file → (o : Option Name) → class_at f.pool f.this_class ≡ o → IsSome o → (name : Name) × (class_at file.pool file.this_class ≡ Some name)
+        named_in : (f : ClassFile) → f ≡ file → (o : Option Name) → class_at f.pool f.this_class ≡ o → IsSome o
+            → (name : Name) × (class_at file.pool file.this_class ≡ Some name)
         named_in f e None d there = cc
         named_in f e (Some name) d there = (name, subst (λ (g : ClassFile). class_at g.pool g.this_class ≡ Some name) e d)
 
         named : (name : Name) × (class_at file.pool file.this_class ≡ Some name)
-        named = named_in (entered read.cut) (sym read.is) (class_at read.cut.pool read.cut.this_class) refl (parts_hold read.cut read.holds).this_class.0
+        named = named_in (entered read.cut) (sym read.is) (class_at read.cut.pool read.cut.this_class) refl
+            (parts_hold read.cut read.holds).this_class.0
 
-  by_code : (at : MethodAt) (file : ClassFile) (m : Method) (code : Code) → slice_get classes.folder at.class ≡ Some file → slice_get file.methods at.method ≡ Some m
-      → (native : Bool) (part : Option CodePart) → code_of m.attrs ≡ part → (if native then None else option_map (method_code is.links) (option_map (scope_with classes file m) part)) ≡ Some code
+  by_code : (at : MethodAt) (file : ClassFile) (m : Method) (code : Code) → slice_get classes.folder at.class ≡ Some file
+      → slice_get file.methods at.method ≡ Some m
+      → (native : Bool) (part : Option CodePart) → code_of m.attrs ≡ part
+      → (if native then None else option_map (method_code is.links) (option_map (scope_with classes file m) part)) ≡ Some code
       → IsTypedMethod Q at (method_member file.pool m) code (T at)
   by_code at file m code of_file of_method true part of_code e = cc
   by_code at file m code of_file of_method false None of_code e = cc
   by_code at file m code of_file of_method false (Some part) of_code e =
-      subst (λ (c : Code). IsTypedMethod Q at (method_member file.pool m) c (T at)) (some_of e) (here_typed at file m part of_file of_method of_code)
+      subst (λ (c : Code). IsTypedMethod Q at (method_member file.pool m) c (T at)) (some_of e)
+      (here_typed at file m part of_file of_method of_code)
 
-  methods_typed : (at : MethodAt) (method : RunMethod) (code : Code) → run_method Q at ≡ Some method → code_run method ≡ Some code → IsTypedMethod Q at method.member code (T at)
-  methods_typed at method code run of_code = by_file (slice_get classes.folder at.class) refl (sym (ap (option_and_then (λ (class : RunClass). slice_get class.methods at.method)) (slice_get-map (run_class_of is.links (headers_of classes)) classes.folder at.class)) ∙ run) where
-    by_method : (file : ClassFile) → slice_get classes.folder at.class ≡ Some file → (o : Option Method) → slice_get file.methods at.method ≡ o → option_map (run_method_of is.links (headers_of classes) file) o ≡ Some method
-        → IsTypedMethod Q at method.member code (T at)
-    by_method file of_file None e m = cc
-    by_method file of_file (Some m) e d =
-        let same : run_method_of is.links (headers_of classes) file m ≡ method = some_of d in
-        let coded : code_run (run_method_of is.links (headers_of classes) file m) ≡ Some code = ap code_run same ∙ of_code in
-        subst (λ (x : RunMethod). IsTypedMethod Q at x.member code (T at)) same (by_code at file m code of_file e (has m.flags NATIVE) (code_of m.attrs) refl coded)
+  methods_typed : (at : MethodAt) (method : RunMethod) (code : Code) → run_method Q at ≡ Some method → code_run method ≡ Some code
+      → IsTypedMethod Q at method.member code (T at)
+  methods_typed at method code run of_code = by_file (slice_get classes.folder at.class) refl
+      (sym (ap (option_and_then (λ (class : RunClass). slice_get class.methods at.method))
+      (slice_get-map (run_class_of is.links (headers_of classes)) classes.folder at.class)) ∙ run) where
+        by_method : (file : ClassFile) → slice_get classes.folder at.class ≡ Some file → (o : Option Method)
+            → slice_get file.methods at.method ≡ o → option_map (run_method_of is.links (headers_of classes) file) o ≡ Some method
+            → IsTypedMethod Q at method.member code (T at)
+        by_method file of_file None e m = cc
+        by_method file of_file (Some m) e d =
+            let same : run_method_of is.links (headers_of classes) file m ≡ method = some_of d in
+            let coded : code_run (run_method_of is.links (headers_of classes) file m) ≡ Some code = ap code_run same ∙ of_code in
+            subst (λ (x : RunMethod). IsTypedMethod Q at x.member code (T at)) same
+            (by_code at file m code of_file e (has m.flags NATIVE) (code_of m.attrs) refl coded)
 
-    by_file : (o : Option ClassFile) → slice_get classes.folder at.class ≡ o
-        → option_and_then (λ (class : RunClass). slice_get class.methods at.method) (option_map (run_class_of is.links (headers_of classes)) o) ≡ Some method → IsTypedMethod Q at method.member code (T at)
-    by_file None e m = cc
-    by_file (Some file) e m =
-        by_method file e (slice_get file.methods at.method) refl (sym (slice_get-map (run_method_of is.links (headers_of classes) file) file.methods at.method) ∙ m)
+        by_file : (o : Option ClassFile) → slice_get classes.folder at.class ≡ o
+            → option_and_then (λ (class : RunClass). slice_get class.methods at.method)
+            (option_map (run_class_of is.links (headers_of classes)) o) ≡ Some method → IsTypedMethod Q at method.member code (T at)
+        by_file None e m = cc
+        by_file (Some file) e m =
+            by_method file e (slice_get file.methods at.method) refl (sym
+            (slice_get-map (run_method_of is.links (headers_of classes) file) file.methods at.method) ∙ m)
 
   pub program_typed : (T : Typings) × IsTypedProgram P T
   program_typed = (
@@ -162,6 +183,7 @@ module _ (laws : TypeLaws) (link_laws : LinkLaws) (classes : Classes) (P : Progr
       links = subst (λ hs. AreLinksOf hs P.links) (sym (headers_are classes P is)) (links_are classes P is);
       base = has_base classes P is verified.tree hierarchy plain;
       classes = class_typed classes P is verified.tree;
-      methods = subst (λ (p : Program). (at : MethodAt) (method : RunMethod) (code : Code) → run_method p at ≡ Some method → code_run method ≡ Some code → IsTypedMethod p at method.member code (T at)) (sym is.same) methods_typed;
+      methods = subst (λ (p : Program). (at : MethodAt) (method : RunMethod) (code : Code) → run_method p at ≡ Some method
+          → code_run method ≡ Some code → IsTypedMethod p at method.member code (T at)) (sym is.same) methods_typed;
     },
   )
