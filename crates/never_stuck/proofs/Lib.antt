@@ -9,3 +9,4 @@ mod SomeDimensions
 mod LinkedInstrs
 mod VerifiedPrograms
 mod PoolNames
+mod LibraryAlone
