@@ -4,9 +4,11 @@ mod FileClasses
 mod PlacedFrames
 mod TypedCode
 mod TypedMethods
+mod KnownRows
 mod LinkedOps
 mod SomeDimensions
 mod LinkedInstrs
+mod LinkedCode
 mod VerifiedPrograms
 mod PoolNames
 mod LibraryAlone

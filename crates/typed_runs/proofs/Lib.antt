@@ -35,7 +35,10 @@ mod Entered
 mod Blanks
 mod Awaited
 mod LibraryFrames
+mod MethodsFound
 mod LibraryCalls
+mod LibraryConstructions
 mod LibraryAnswers
+mod Elements
 mod LibraryObjects
 mod LibraryActions

@@ -7,7 +7,8 @@ use Rattle.member_link.specs.Machine.Stepping.{is_library_turn}
 use Rattle.member_link.specs.Machine.Worlds.{World}
 use Rattle.typed_runs.proofs.Here.{counted, uncounted}
 use Rattle.typed_runs.proofs.LibraryAnswers.{return_stays, throw_stays}
-use Rattle.typed_runs.proofs.LibraryCalls.{call_stays, construct_stays}
+use Rattle.typed_runs.proofs.LibraryCalls.{call_stays}
+use Rattle.typed_runs.proofs.LibraryConstructions.{construct_stays}
 use Rattle.typed_runs.proofs.LibraryFrames.{fault_stays}
 use Rattle.typed_runs.proofs.LibraryObjects.{get_stays, set_stays, length_stays, new_array_stays, new_external_stays}
 use Rattle.typed_runs.specs.Families.{NamesElement}

@@ -1,6 +1,5 @@
-use Rattle.std.specs.Prelude.{◌≡◌, ◌&&◌, refl, ℕ, Bool, true, false, List, [], ◌∷◌, map, bytes_eq, Option, Some, None, is_some, option_map, option_and_then, slice_get, if◌then◌else◌}
+use Rattle.std.specs.Prelude.{◌≡◌, refl, ℕ, Bool, true, false, List, [], ◌∷◌, map, bytes_eq, Option, Some, None, is_some, option_and_then, if◌then◌else◌}
 use Rattle.std.proofs.Common.{ap, sym, ◌∙◌, subst}
-use Rattle.std.proofs.lemmas.Slice.Eq.{bytes_eq-Decides}
 use Rattle.class_model.specs.Code.{verification_type}
 use Rattle.class_model.specs.Descriptors.{parameters_of}
 use Rattle.class_model.specs.Frames.{filled}
@@ -10,71 +9,28 @@ use Rattle.class_model.specs.declared.class_file.MethodAt.{MethodAt}
 use Rattle.class_model.specs.declared.descriptor.FieldType.TheVariants as field_types
 use Rattle.class_model.specs.declared.frame.VType.TheVariants as types
 use Rattle.class_tree.specs.Headers.{Name}
-use Rattle.class_tree.specs.Layouts.{instance_fields}
-use Rattle.class_tree.specs.Subtype.{itself}
-use Rattle.machine_values.specs.Heaps.{Made}
-use Rattle.machine_values.specs.Values.{blank_values}
 use Rattle.machine_values.specs.declared.action.Given.{Given}
-use Rattle.machine_values.specs.declared.object.Shape.TheVariants as shapes
 use Rattle.machine_values.specs.declared.value.Value.{Value}
 use Rattle.machine_values.specs.declared.value.Value.TheVariants as values
-use Rattle.member_link.specs.Machine.Acting.{fault, given_values, all_conform, beginning_if, begins_with_angle, call_of_static, call_on, call_of_instance, call_by_sort, call_of_method, call_at, act_call, is_handled, is_concrete, with_made, constructed, construct_at, act_construct}
-use Rattle.member_link.specs.Machine.ObjectSteps.{blank_object}
+use Rattle.member_link.specs.Machine.Acting.{fault, given_values, all_conform, beginning_if, begins_with_angle, call_of_static, call_on, call_of_instance, call_by_sort, call_of_method, call_at, act_call}
 use Rattle.member_link.specs.Machine.Performing.{is_initialiser, called}
-use Rattle.member_link.specs.Machine.Programs.{Program, RunClass, RunMethod, Code, headers_in, header_named, number_of_first, folder_number, name_of_class, member_of, place_of_method, run_method, code_run, code_at}
+use Rattle.member_link.specs.Machine.Programs.{Program, RunMethod, Code, name_of_class, place_of_method, run_method, code_run, code_at}
 use Rattle.member_link.specs.Machine.Shapes.{value_conforms}
 use Rattle.member_link.specs.Machine.Stepping.{is_library_turn}
 use Rattle.member_link.specs.Machine.Throwables.{null_pointer}
-use Rattle.member_link.specs.Machine.Worlds.{World, with_heap}
+use Rattle.member_link.specs.Machine.Worlds.{World}
 use Rattle.member_link.specs.References.{Reference}
-use Rattle.typed_runs.proofs.Basics.{and_first, and_second, some_of}
-use Rattle.typed_runs.proofs.BeginningSteps.{MethodFound, first_found, method_found, flags_of, of_map}
-use Rattle.typed_runs.proofs.Blanks.{blank_object_holds}
+use Rattle.typed_runs.proofs.Basics.{and_first, and_second}
+use Rattle.typed_runs.proofs.BeginningSteps.{MethodFound, method_found}
 use Rattle.typed_runs.proofs.Entered.{stays_through, called_stays, beginning_if_stays}
-use Rattle.typed_runs.proofs.Entering.{fields_are_no_top, static_entry, instance_entry, initialiser_entry}
+use Rattle.typed_runs.proofs.Entering.{fields_are_no_top, static_entry, instance_entry}
 use Rattle.typed_runs.proofs.Given.{given_conforms, all_given}
-use Rattle.typed_runs.proofs.Here.{stays}
-use Rattle.typed_runs.proofs.Kept.{Keeps, frames_kept, all_kept, there}
-use Rattle.typed_runs.proofs.LibraryFrames.{fault_stays, under_any, library_can, made_below}
-use Rattle.typed_runs.proofs.Memories.{made_keeps, made_shape, made_typed}
-use Rattle.typed_runs.proofs.Points.{of_chain}
+use Rattle.typed_runs.proofs.LibraryFrames.{fault_stays, under_any, library_can}
+use Rattle.typed_runs.proofs.MethodsFound.{differ, no_angle, class_of_place, name_of_found}
 use Rattle.typed_runs.proofs.Raising.{raises_null, raised_stays}
-use Rattle.typed_runs.specs.Conforming.{HasShape, Conforms, of_this, AllConform, and_value, IsTypedMemory}
-use Rattle.typed_runs.specs.TypedPrograms.{Typings, IsTypedMethod, entry}
+use Rattle.typed_runs.specs.Conforming.{AllConform, and_value}
+use Rattle.typed_runs.specs.TypedPrograms.{Typings, entry}
 use Rattle.typed_runs.specs.TypedWorlds.{TypedWorld, StaysTyped}
-
--- ---- names
-
-pub differ : (one other : List ℕ) → (one ≡ other → ⊥) → bytes_eq one other ≡ false
-differ one other apart = by (bytes_eq one other) refl where
-  by : (b : Bool) → bytes_eq one other ≡ b → bytes_eq one other ≡ false
-  by true e = absurd (apart ((bytes_eq-Decides one other).0 e))
-  by false e = e
-
--- a name that does not begin with < is none of the two that do
-pub no_angle : (name other : List ℕ) → begins_with_angle name ≡ false → begins_with_angle other ≡ true → name ≡ other → ⊥
-no_angle name other plain angle same = let no : true ≡ false = sym angle ∙ (sym (ap begins_with_angle same) ∙ plain) in cc
-
--- ---- the class of a method that is found
-
-pub class_of_place : (P : Program) (r : Reference) (at : MethodAt) → place_of_method P r ≡ Some at
-    → folder_number P r.class ≡ Some at.class
-class_of_place P r at is =
-    let c = of_chain (λ (number : ℕ). option_and_then (λ (class : RunClass). option_map
-    (λ (method : ℕ). record { class = number; method = method }) (number_of_first (λ (m : RunMethod). member_of r m.member)
-    class.methods)) (slice_get P.classes number))
-    (folder_number P r.class) at is in
-    let d = of_chain (λ (class : RunClass). option_map (λ (method : ℕ). record { class = c.0; method = method })
-    (number_of_first (λ (m : RunMethod). member_of r m.member) class.methods)) (slice_get P.classes c.0) at c.2 in
-    let m = of_map (λ (method : ℕ). record { class = c.0; method = method })
-    (number_of_first (λ (m : RunMethod). member_of r m.member) d.0.methods) at d.2 in
-    c.1 ∙ ap (λ (x : MethodAt). Some x.class) m.2
-
-pub name_of_found : (P : Program) (name : Name) (n : ℕ) → folder_number P name ≡ Some n → name_of_class P n ≡ name
-name_of_found P name n is =
-    let f = first_found (λ (class : RunClass). bytes_eq name class.header.name) P.classes n is in
-    let same : name_of_class P n ≡ f.item.header.name = rw f.is_there refl in
-    same ∙ sym ((bytes_eq-Decides name f.item.header.name).0 f.passed)
 
 module _ (P : Program) (T : Typings) (w : World) (typed : TypedWorld P T w) (turn : is_library_turn w.frames ≡ true) where
   -- ---- a call
@@ -189,101 +145,3 @@ module _ (P : Program) (T : Typings) (w : World) (typed : TypedWorld P T w) (tur
         (place_of_method P (record { class = class; name = name; desc = desc })) (given_values w.known given))
     by true e = fault_stays P T w typed
     by false e = by_place e (place_of_method P (record { class = class; name = name; desc = desc })) refl (given_values w.known given)
-
-  -- ---- a construction
-
-  pub constructed_stays : (class : Name) (desc : List ℕ) (at : MethodAt) (code : Code) (vs : List Value)
-      → place_of_method P (record { class = class; name = init; desc = desc }) ≡ Some at
-      → code_at P at ≡ Some code → all_conform P w (parameters_of desc) vs ≡ true
-      → StaysTyped P T w (constructed P w class at vs (blank_object P w.memory.heap at.class))
-  constructed_stays class desc at code vs place is_code conform =
-      stays_through stored (stays_through entered (beginning_if_stays P T
-      (called P v at (values.Ref made.reference ∷ vs) (with_made made.reference w.frames)) class entered.typed)) where
-        r : Reference
-        r = record { class = class; name = init; desc = desc }
-
-        f : MethodFound P r at
-        f = method_found P r at place
-
-        run : code_run f.method ≡ Some code
-        run = sym (ap (λ o. option_and_then code_run o) f.run) ∙ is_code
-
-        fields : List Value
-        fields = blank_values (instance_fields (headers_in P) (name_of_class P at.class))
-
-        made : Made
-        made = blank_object P w.memory.heap at.class
-
-        keep : Keeps w.memory.heap made.heap
-        keep = made_keeps w.memory.heap (shapes.Folder at.class) fields
-
-        memory : IsTypedMemory P (with_heap w.memory made.heap)
-        memory = made_typed P w.memory (shapes.Folder at.class) fields typed.memory
-            (blank_object_holds P made.heap at.class f.class f.is_class)
-
-        shape : HasShape made.heap made.reference (shapes.Folder at.class)
-        shape = made_shape w.memory.heap (shapes.Folder at.class) fields
-
-        v : World
-        v = record w { memory = with_heap w.memory made.heap }
-
-        stored : StaysTyped P T w v
-        stored = stays P T w (with_heap w.memory made.heap) w.frames typed keep memory (frames_kept keep typed.frames)
-
-        of_method : IsTypedMethod P at f.method.member code (T at)
-        of_method = typed.program.methods at f.method code f.run run
-
-        this : Conforms P (T at).scope made.heap types.UninitThis (values.Ref made.reference)
-        this = of_this shape (subst (λ n. P.links.below (name_of_class P at.class) n ≡ true) (sym of_method.own)
-            ((typed.program.links.below (name_of_class P at.class) (name_of_class P at.class)).1 (itself (name_of_class P at.class))))
-
-        plain : is_initialiser f.method ≡ false
-        plain = subst (λ n. bytes_eq n clinit ≡ false) (sym f.name) refl
-
-        begins : (entry P at f.method.member code).locals ≡ filled code.locals
-            (types.UninitThis ∷ map verification_type (parameters_of desc))
-        begins =
-            subst (λ n. (entry P at (record f.method.member { name = n }) code).locals ≡ filled code.locals
-            (types.UninitThis ∷ map verification_type (parameters_of desc))) (sym f.name)
-            (initialiser_entry f.method.member.flags (name_of_class P at.class) (parameters_of f.method.member.desc) code.locals
-            ((flags_of P T typed.program r at f).of_init f.name)
-            ∙ ap (λ d. filled code.locals (types.UninitThis ∷ map verification_type (parameters_of d))) f.desc)
-
-        entered : StaysTyped P T v (called P v at (values.Ref made.reference ∷ vs) (with_made made.reference w.frames))
-        entered =
-            called_stays P T v stored.typed at f.method code f.run run plain (types.UninitThis ∷ map verification_type
-            (parameters_of desc)) (values.Ref made.reference ∷ vs) begins
-            ((λ e. cc), fields_are_no_top (parameters_of desc)) (and_value this
-            (all_kept keep (all_given P w (T at).scope (parameters_of desc) vs conform)))
-            (with_made made.reference w.frames) (made_below P T made.heap made.reference w.frames turn (frames_kept keep typed.frames)
-            (there shape))
-
-  pub construct_stays : (class : Name) (desc : List ℕ) (given : List Given) → StaysTyped P T w (act_construct P w class desc given)
-  construct_stays class desc given =
-      by (folder_number P class) refl (place_of_method P (record { class = class; name = init; desc = desc })) refl
-      (given_values w.known given) where
-        by_test : (at : MethodAt) (vs : List Value) → place_of_method P (record { class = class; name = init; desc = desc }) ≡ Some at
-            → (c : Option Code) → code_at P at ≡ c
-            → (b : Bool) → (is_some c && (is_concrete (header_named P class) && (is_handled P class desc && all_conform P w
-            (parameters_of desc) vs))) ≡ b
-            → StaysTyped P T w (if b then constructed P w class at vs (blank_object P w.memory.heap at.class) else fault w)
-        by_test at vs place c is_code false e = fault_stays P T w typed
-        by_test at vs place None is_code true e = cc
-        by_test at vs place (Some code) is_code true e =
-            let rest : (is_handled P class desc && all_conform P w (parameters_of desc) vs) ≡ true =
-            and_second (is_concrete (header_named P class)) (is_handled P class desc && all_conform P w (parameters_of desc) vs) e in
-            constructed_stays class desc at code vs place is_code (and_second (is_handled P class desc)
-            (all_conform P w (parameters_of desc) vs) rest)
-
-        by : (n : Option ℕ) → folder_number P class ≡ n → (at : Option MethodAt)
-            → place_of_method P (record { class = class; name = init; desc = desc }) ≡ at → (vs : Option (List Value))
-            → StaysTyped P T w (construct_at P w class desc n at vs)
-        by None of_class at e vs = fault_stays P T w typed
-        by (Some n) of_class None e vs = fault_stays P T w typed
-        by (Some n) of_class (Some at) e None = fault_stays P T w typed
-        by (Some n) of_class (Some at) e (Some vs) =
-            let same : n ≡ at.class = some_of (sym of_class ∙ class_of_place P (record { class = class; name = init; desc = desc }) at e)
-            in
-            subst (λ k. StaysTyped P T w (construct_at P w class desc (Some k) (Some at) (Some vs))) (sym same)
-            (by_test at vs e (code_at P at) refl (is_some (code_at P at) && (is_concrete
-            (header_named P class) && (is_handled P class desc && all_conform P w (parameters_of desc) vs))) refl)
