@@ -1,21 +1,18 @@
-use Rattle.std.specs.Prelude.{◌≡◌, ◌==◌, ◌<◌, ◌&&◌, refl, ℕ, zero, suc, nat_le, Bool, true, false, List, [], ◌∷◌, slice_get, Option, Some, None, Result, Ok, Err, IfSome, if◌then◌else◌}
+use Rattle.std.specs.Prelude.{◌≡◌, refl, ℕ, zero, suc, Bool, true, false, List, [], ◌∷◌, slice_get, Option, Some, None, Result, Ok, Err}
 use Rattle.std.specs.List.{AllByRecursion, list_any}
-use Rattle.std.proofs.Common.{inl, inr, ap, sym, ◌∙◌, subst}
+use Rattle.std.proofs.Common.{ap, sym, ◌∙◌, subst}
 use Rattle.std.proofs.lemmas.Option.{slice_get-map}
 use Rattle.class_model.specs.Checks.{AllHold, Fault}
 use Rattle.class_model.specs.ClassOf.{ClassOf}
-use Rattle.class_model.specs.Characters.{left_bracket}
-use Rattle.class_model.specs.Code.{OperandFits, IsDynamicConstant}
-use Rattle.class_model.specs.Descriptors.{named_text}
+use Rattle.class_model.specs.Code.{OperandFits}
 use Rattle.class_model.specs.Header.{header_of, method_member}
 use Rattle.class_model.specs.Instructions.{decoded}
-use Rattle.class_model.specs.Laws.Checks.{others_hold}
 use Rattle.class_model.specs.Laws.ClassFiles.{parts_hold}
 use Rattle.class_model.specs.Laws.Codes.{code_has}
 use Rattle.class_model.specs.Laws.Lists.{at_index}
 use Rattle.class_model.specs.MethodCode.{code_of}
 use Rattle.class_model.specs.Pool.{Constants, constant_at}
-use Rattle.class_model.specs.PoolChecks.{class_at, entries_checks}
+use Rattle.class_model.specs.PoolChecks.{entries_checks}
 use Rattle.class_model.specs.Spelling.{class_bytes}
 use Rattle.class_model.specs.declared.class_file.Attr.{Attr}
 use Rattle.class_model.specs.declared.class_file.Attr.TheVariants.{Raw, Code}
@@ -23,12 +20,8 @@ use Rattle.class_model.specs.declared.class_file.ClassFile.{ClassFile}
 use Rattle.class_model.specs.declared.class_file.CodePart.{CodePart}
 use Rattle.class_model.specs.declared.class_file.Method.{Method}
 use Rattle.class_model.specs.declared.class_file.MethodAt.{MethodAt}
-use Rattle.class_model.specs.declared.descriptor.Kind.TheVariants as kinds
 use Rattle.class_model.specs.declared.frame.Frame.{Frame}
-use Rattle.class_model.specs.declared.instr.Instr.{Instr}
-use Rattle.class_model.specs.declared.instr.Instr.TheVariants as instrs
 use Rattle.class_model.specs.declared.instr.Placed.{Placed}
-use Rattle.class_model.specs.declared.opcodes.TheConstants.{IALOAD, SALOAD, IASTORE, SASTORE, IFEQ, IFLE, IF_ICMPEQ, IF_ICMPLE, IF_ACMPEQ, IF_ACMPNE, IFNULL, IFNONNULL}
 use Rattle.class_model.specs.declared.pool.Const.{Const}
 use Rattle.class_model.specs.declared.pool.Const.TheVariants as consts
 use Rattle.class_tree.specs.Headers.{Name, Classes, IsThere, IsClassFile, headers_of, named}
@@ -36,34 +29,26 @@ use Rattle.class_tree.specs.Hierarchy.{IsHierarchy}
 use Rattle.class_tree.specs.Names.{method_handle, method_type}
 use Rattle.class_tree.specs.Steps.{has_constant, is_method_handle, is_method_type, needed_class_checks}
 use Rattle.class_tree.specs.Trees.{IsTree}
-use Rattle.class_tree.specs.declared.fault.LinkRule.TheVariants as rules
 use Rattle.code_bytes.specs.Codes.{HasOperands, HaveOperands, HasReadOperands}
 use Rattle.machine_step.specs.Programs.{IsProgram}
 use Rattle.member_link.specs.Bodies.{item_instr}
 use Rattle.member_link.specs.BodyTyping.{RowHolds}
-use Rattle.member_link.specs.Declarations.{Site, asked, site_of}
-use Rattle.member_link.specs.Forms.{IsStaticForm, IsInstanceForm, IsInstantiable}
+use Rattle.member_link.specs.Declarations.{site_of}
 use Rattle.member_link.specs.Linked.{IsLinked}
 use Rattle.member_link.specs.LinkedPlaces.{IsLinkedByPlace}
 use Rattle.member_link.specs.Machine.Classes.{program_of}
-use Rattle.member_link.specs.Machine.Codes.{number_at, code_points, item_op, instr_op, dynamic_op, initialises}
-use Rattle.member_link.specs.Machine.Ops.{jump_by_int, jump_by_ints, jump_by_references, jump_by_null, load_element, store_element, get_static, put_static, get_field, put_field, new_object, new_array, new_arrays, check_cast, instance_of}
-use Rattle.member_link.specs.Machine.Programs.{Program, Links, headers_in}
-use Rattle.member_link.specs.References.{IsNamedThere}
-use Rattle.member_link.specs.RowScope.{RowScope}
-use Rattle.member_link.specs.Rows.ArrayRows.{primitive_array, array_of, made_row}
-use Rattle.member_link.specs.Rows.Operands.{of_kind}
+use Rattle.member_link.specs.Machine.Codes.{number_at, code_points, item_op}
+use Rattle.member_link.specs.Machine.Programs.{Program}
 use Rattle.member_link.specs.Rows.Row.{access_aside}
 use Rattle.member_link.specs.Rows.Table.{row_of}
-use Rattle.member_link.specs.Scope.{Scope, instructions, row_scope, class_of_new}
-use Rattle.member_link.specs.Signatures.{reference_of}
-use Rattle.member_link.specs.Uses.{UseScope, instr_use_checks, named_class_checks}
+use Rattle.member_link.specs.Scope.{Scope, instructions, row_scope}
+use Rattle.member_link.specs.Uses.{instr_use_checks}
 use Rattle.never_stuck.proofs.Bases.{BaseHolds, base_holds, has_base}
 use Rattle.never_stuck.proofs.Folders.{some_of, headers_are, outside_folder}
 use Rattle.never_stuck.proofs.LinkedInstrs.{new_found, instr_linked}
-use Rattle.never_stuck.proofs.LinkedOps.{ReferenceLaws, Around, tested, found, return_linked, constant_linked, field_there, call_linked, class_linked, class_there}
-use Rattle.never_stuck.proofs.PlacedFrames.{Ascend, same_place, other_place}
-use Rattle.never_stuck.proofs.PoolNames.{constant_holds, class_text, member_text}
+use Rattle.never_stuck.proofs.LinkedOps.{ReferenceLaws, Around}
+use Rattle.never_stuck.proofs.PlacedFrames.{Ascend}
+use Rattle.never_stuck.proofs.PoolNames.{constant_holds}
 use Rattle.never_stuck.proofs.SomeDimensions.{SomeIn, ListSome, instrs_some}
 use Rattle.never_stuck.proofs.TypedMethods.{scope_with}
 use Rattle.never_stuck.specs.PlainFolders.{IsPlainFolder}

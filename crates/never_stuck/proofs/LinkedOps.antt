@@ -1,39 +1,30 @@
-use Rattle.std.specs.Prelude.{◌≡◌, ◌≢◌, ◌⊎◌, ◌≤◌, ◌==◌, ◌&&◌, ◌+◌, ◌-◌, refl, ℕ, suc, nat_le, nat_lt, Bool, true, false, List, [], ◌∷◌, ◌++◌, length, take, drop, Option, Some, None, IsSome, IfSome, option_map, if◌then◌else◌}
-use Rattle.std.proofs.Common.{arith, inl, inr, ap, sym, ◌∙◌, subst}
-use Rattle.std.proofs.lemmas.List.{length_push, take_at}
-use Rattle.std.proofs.lemmas.List.Sums.{take_while-cons}
-use Rattle.class_model.specs.Characters.{left_bracket, class_letter, semicolon}
+use Rattle.std.specs.Prelude.{◌≡◌, ◌≢◌, ◌⊎◌, refl, ℕ, Bool, true, false, List, Option, Some, None, IsSome, option_map, if◌then◌else◌}
+use Rattle.std.proofs.Common.{arith, inl, inr, sym, ◌∙◌, subst}
 use Rattle.class_model.specs.Checks.{AllHold}
 use Rattle.class_model.specs.Code.{IsLoadable, IsLoadable2, IsCalled}
-use Rattle.class_model.specs.Descriptors.{brackets, kind_of, named_text}
+use Rattle.class_model.specs.Descriptors.{kind_of}
 use Rattle.class_model.specs.Names.{clinit}
 use Rattle.class_model.specs.Pool.{Constants, constant_at}
 use Rattle.class_model.specs.PoolChecks.{utf8_at, class_at, IsClassAt, IsFieldConstant, IsMethodConstant, IsMethodConstantOf, IsInterfaceConstant, RefersWell}
 use Rattle.class_model.specs.declared.descriptor.Kind.{Kind}
-use Rattle.class_model.specs.declared.descriptor.Kind.TheVariants as kinds
 use Rattle.class_model.specs.declared.frame.Frame.{Frame}
-use Rattle.class_model.specs.declared.frame.VType.{VType}
-use Rattle.class_model.specs.declared.opcodes.TheConstants.{IALOAD, SALOAD, AALOAD, IASTORE, SASTORE, AASTORE, INVOKEVIRTUAL, INVOKESPECIAL, INVOKESTATIC, INVOKEINTERFACE}
+use Rattle.class_model.specs.declared.opcodes.TheConstants.{INVOKEVIRTUAL, INVOKESPECIAL, INVOKESTATIC, INVOKEINTERFACE}
 use Rattle.class_model.specs.declared.pool.Const.{Const}
 use Rattle.class_model.specs.declared.pool.Const.TheVariants as consts
-use Rattle.class_tree.specs.Headers.{Name, Headers, IsThere}
+use Rattle.class_tree.specs.Headers.{Name, Headers}
 use Rattle.class_tree.specs.Names.{method_handle, method_type}
-use Rattle.class_tree.specs.Subtype.{IsArray}
 use Rattle.machine_values.specs.declared.object.Constant.TheVariants as objects
 use Rattle.member_link.specs.BodyTyping.{RowHolds}
 use Rattle.member_link.specs.DeclaredMembers.{Declared}
 use Rattle.member_link.specs.Forms.{IsStaticForm, IsInstanceForm, FitsCall}
 use Rattle.member_link.specs.LinkedPlaces.{ClassPasses, FieldPasses, MethodPasses}
 use Rattle.member_link.specs.Machine.Codes.{constant_op, handle_of, or_meaningless, return_op, same_kind, call_op}
-use Rattle.member_link.specs.Machine.Ops.{Op, meaningless, push_constant, return_value, call_dynamic}
+use Rattle.member_link.specs.Machine.Ops.{Op, meaningless, push_constant, return_value}
 use Rattle.member_link.specs.Machine.Programs.{Program, Links, headers_in}
-use Rattle.member_link.specs.References.{Reference, element_class, IsNamedThere}
+use Rattle.member_link.specs.References.{Reference, IsNamedThere}
 use Rattle.member_link.specs.RowScope.{RowScope}
-use Rattle.member_link.specs.Rows.ArrayRows.{Elements, elements_of, elements_from, elements_load_row, elements_store_row, array_load_row, array_store_row, primitive_array}
 use Rattle.member_link.specs.Rows.MemberRows.{MayReturn, return_row}
-use Rattle.member_link.specs.Rows.Operands.{Need, nothing, AllFit}
-use Rattle.member_link.specs.Rows.Row.{access_aside, no_row}
-use Rattle.member_link.specs.Rows.Table.{jump_row}
+use Rattle.member_link.specs.Rows.Row.{access_aside}
 use Rattle.member_link.specs.Signatures.{reference_of}
 use Rattle.member_link.specs.Uses.{UseScope, fieldref_use_checks, methodref_use_checks, field_use_checks, method_use_checks, asked_of_reference, named_class_checks, class_use_checks}
 use Rattle.never_stuck.proofs.KnownRows.{kind_is_same}
@@ -243,10 +234,6 @@ module _ (laws : ReferenceLaws) (Q : Program) (s : RowScope) (place : ℕ) (us :
               has_method opcode index IsStaticForm m (m.passes.form.of_static is),
               λ e. let no : INVOKESTATIC ≡ INVOKESPECIAL = sym is ∙ m.passes.form.initialiser e in absurd (omega (arith, no)),
             )
-
-  abbrev pub dynamic_with : RowScope → ℕ → Option (List ℕ) → Option (List ℕ) → Op
-  dynamic_with r bootstrap (Some name) (Some desc) = call_dynamic r.own.name bootstrap name desc
-  dynamic_with r bootstrap name desc = meaningless
 
   -- ---- classes
 
