@@ -15,7 +15,7 @@ use Rattle.member_link.specs.Machine.Programs.{Program, Code, RunMethod, run_met
 use Rattle.member_link.specs.Machine.Worlds.{World, is_begun}
 use Rattle.typed_runs.proofs.BeginningSteps.{begun_on_stays, class_there}
 use Rattle.typed_runs.proofs.Entering.{NoTop, enters}
-use Rattle.typed_runs.proofs.Floats.{all_in_heap}
+use Rattle.typed_runs.proofs.Assigned.{all_in_heap}
 use Rattle.typed_runs.proofs.Here.{stays}
 use Rattle.typed_runs.proofs.Kept.{all_kept, frames_kept}
 use Rattle.typed_runs.proofs.Locking.{LockedTyped, locked_typed}

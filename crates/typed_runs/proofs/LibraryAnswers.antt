@@ -2,6 +2,7 @@ use Rattle.std.specs.Prelude.{◌≡◌, ◌&&◌, ◌+◌, ◌++◌, refl, ℕ,
 use Rattle.std.proofs.Common.{ap, sym, ◌∙◌, subst}
 use Rattle.class_model.specs.declared.descriptor.FieldType.{FieldType}
 use Rattle.class_model.specs.declared.frame.Frame.{Frame}
+use Rattle.class_tree.specs.Names.{throwable}
 use Rattle.machine_values.specs.Frames.{MethodState}
 use Rattle.machine_values.specs.Heaps.{Heap, object_at}
 use Rattle.machine_values.specs.Values.{narrowed}
