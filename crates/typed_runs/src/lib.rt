@@ -2,9 +2,11 @@
 //! whose contracts say what always holds.
 #![tactic(auto)]
 
+mod actions;
 mod steps;
 mod worlds;
 
+pub use actions::an_action_stays_typed;
 pub use steps::{
     a_call_stays_typed, a_new_object_stays_typed, a_return_stays_typed,
     a_step_of_a_beginning_stays_typed, a_step_stays_typed, a_throw_stays_typed,
