@@ -3,7 +3,6 @@ pub mod NamesInOrder
 pub mod Copying
 pub mod Outcomes
 pub mod Stopping
-pub mod ScriptStops
 pub mod MemberLines
 pub mod CallCounts
 pub mod FolderReads
