@@ -1,11 +1,10 @@
 -- A program that is typed: its folder is linked with its library, and each method with code has fitting frames (JVM Specification SE 8,
 -- 4.10 and 5.4).
-use Rattle.std.specs.Prelude.{◌≡◌, ◌+◌, ◌≤◌, ℕ, [], ◌∷◌, length, map, slice_get, codes, Some, None, IsTrue, IsFalse}
+use Rattle.std.specs.Prelude.{◌≡◌, ℕ, [], ◌∷◌, length, map, slice_get, codes, Some, None, IsTrue, IsFalse}
 use Rattle.std.specs.List.{AllByRecursion}
 use Rattle.class_model.specs.Code.{entry_frame}
-use Rattle.class_model.specs.Descriptors.{kind_of, parameters_of, parameter_units, type_of}
+use Rattle.class_model.specs.Descriptors.{kind_of, parameters_of, type_of}
 use Rattle.class_model.specs.Members.{has, STATIC}
-use Rattle.class_model.specs.Methods.{this_units}
 use Rattle.class_model.specs.Names.{clinit, init}
 use Rattle.class_model.specs.declared.class_file.MethodAt.{MethodAt}
 use Rattle.class_model.specs.declared.descriptor.FieldType.{FieldType}
@@ -44,7 +43,6 @@ pub record IsTypedMethod (P : Program) (at : MethodAt) (member : Member) (code :
   pub headers : t.scope.headers ≡ headers_in P
   pub own : t.scope.own.name ≡ name_of_class P at.class
   pub result : t.scope.result ≡ result_of member.desc
-  pub room : parameter_units (parameters_of member.desc) + this_units member.flags ≤ code.locals
   pub one_each : length t.frames ≡ length code.points
   pub entry_leads : LeadsTo t 0 (entry P at member code)
   pub points : (number : ℕ) (point : Point)

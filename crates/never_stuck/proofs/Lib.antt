@@ -1,0 +1,14 @@
+mod Folders
+mod Bases
+mod FileClasses
+mod PlacedFrames
+mod TypedCode
+mod TypedMethods
+mod KnownRows
+mod LinkedOps
+mod SomeDimensions
+mod LinkedInstrs
+mod LinkedCode
+mod VerifiedPrograms
+mod PoolNames
+mod LibraryAlone
