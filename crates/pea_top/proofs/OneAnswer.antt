@@ -23,7 +23,7 @@ use Rattle.pea_top.proofs.FirstRefused.{one_first_of}
 use Rattle.pea_top.proofs.FolderValues.{one_list_of_values, none_refused}
 use Rattle.pea_top.proofs.OneLinkProblem.{TreeLaws, one_link_problem, linked_no_problem}
 use Rattle.pea_top.proofs.OneTypeFailure.{TypeLaws, one_type_failure, verified_no_failure}
-use Rattle.pea_top.proofs.OneScript.{one_line_outside, no_line_outside}
+use Rattle.pea_top.proofs.OneScript.{ScriptLaws}
 use Rattle.pea_top.proofs.WordGrammar.{same_command}
 
 abbrev version : ℕ → ℕ → Version
@@ -41,6 +41,7 @@ pub record Laws : Type 0 where
   pub headers : HeaderLaws
   pub trees : TreeLaws
   pub types : TypeLaws
+  pub scripts : ScriptLaws
 
 module _ (laws : Laws) where
   -- what is read has no refused file
@@ -125,9 +126,10 @@ module _ (laws : Laws) where
     -- a script that is there is no bad one, and is not absent
     not_bad : (command : Command) (line : ℕ) → Spells command words → HasScript command files → ¬ HasBadScript words files line
     not_bad command line spelled has h =
-        let there = (script_at command h.input h.script h.library h.steps spelled h.spelled has).1 in
+        let has_run = script_at command h.input h.script h.library h.steps spelled h.spelled has in
+        let there = has_run.1 in
         let same : there.bytes ≡ h.bytes = cc (there.there, h.there) in
-        no_line_outside there.is_script (subst (λ (bytes : Bytes). IsFirstOutside (lines_of bytes) line) (sym same) h.outside)
+        laws.scripts.none there.bytes has_run.0 line there.is_script (subst (λ (bytes : Bytes). IsFirstOutside (lines_of bytes) line) (sym same) h.outside)
 
     not_absent : (command : Command) (name : Bytes) → Spells command words → HasScript command files → ¬ LacksScript words files name
     not_absent command name spelled has h =
@@ -148,7 +150,7 @@ module _ (laws : Laws) where
         let script = same_run i.input h.input i.script h.script i.library h.library i.steps h.steps i.spelled h.spelled in
         let there = subst (λ (name : Bytes). files [] name ≡ Some i.bytes) script i.there in
         let same : i.bytes ≡ h.bytes = cc (there, h.there) in
-        one_line_outside h.outside (subst (λ (bytes : Bytes). IsFirstOutside (lines_of bytes) other) same i.outside)
+        laws.scripts.one h.bytes line other h.outside (subst (λ (bytes : Bytes). IsFirstOutside (lines_of bytes) other) same i.outside)
 
     refused_not_absent : (name : Bytes) (why : Refusal) (missing : Bytes) → LacksScript words files missing → ¬ MustRefuse words files name why
     refused_not_absent name why missing h = read_not_refused (Run h.input missing h.library h.steps) h.classes h.headers name why h.spelled h.read

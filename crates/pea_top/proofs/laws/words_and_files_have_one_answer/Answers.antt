@@ -2,6 +2,7 @@
 use Rattle.pea_top.proofs.BytesLaws.{ClassLaws, HeaderLaws}
 use Rattle.pea_top.proofs.OneLinkProblem.{TreeLaws}
 use Rattle.pea_top.proofs.OneTypeFailure.{TypeLaws}
+use Rattle.pea_top.proofs.OneScript.{ScriptLaws}
 use Rattle.pea_top.proofs.OneAnswer.{one_answer}
 use Rattle.pea_top.proofs.laws.words_and_files_have_one_answer.Goals as goal
 
@@ -26,4 +27,8 @@ returns c = λ words files one other h i.
       arranged = c.a_folder_is_told_once.ensures.arranged;
     } in
     let types : TypeLaws = record { none = c.a_folder_fails_once.ensures.none; one = c.a_folder_fails_once.ensures.one } in
-    one_answer (record { classes = classes; headers = headers; trees = trees; types = types }) words files one other h i
+    let scripts : ScriptLaws = record {
+      none = c.a_script_has_actions_or_a_first_line_outside.ensures.not_both;
+      one = c.a_script_has_actions_or_a_first_line_outside.ensures.one_line;
+    } in
+    one_answer (record { classes = classes; headers = headers; trees = trees; types = types; scripts = scripts }) words files one other h i
