@@ -1,5 +1,5 @@
 -- Spellings of instructions whose targets are within what 16 bits reach, and how long they are.
-use Rattle.std.proofs.Common.{◌≡◌, ℕ, ℤ, pos, ◌+◌, ◌-◌, ◌*◌, ◌%◌, ◌^◌, ◌<◌, ◌≤◌, Bool, true, false, ◌||◌, ltb, leb, List, [], ◌∷◌, length, map, replicate, inl, inr, refl, sym, ap, subst, ◌∙◌, arith, length-append, w16, FitsSigned}
+use Rattle.std.proofs.Common.{◌≡◌, ◌⊎◌, ℕ, ℤ, pos, ◌+◌, ◌-◌, ◌*◌, ◌%◌, ◌^◌, ◌<◌, ◌≤◌, Bool, true, false, ◌||◌, ltb, leb, List, [], ◌∷◌, length, map, replicate, inl, inr, refl, sym, ap, subst, ◌∙◌, arith, length-append, w16, FitsSigned}
 use Rattle.std.specs.Prelude.{◌-ℤ◌}
 use Rattle.std.specs.List.{AllByRecursion, flat_map}
 use Rattle.std.proofs.lemmas.List.{length-replicate, length-map}
@@ -136,3 +136,14 @@ table-short at n instr low other to is long = rw (is, long) (sym (table_short at
 
 pub lookup-short : (at n : ℕ) (instr : Instr) (other : ℕ) (pairs : List Pair) → instr ≡ Lookup other pairs → n ≡ length pairs → 9 + (3 - at % 4) + 8 * n ≡ short_len at instr
 lookup-short at n instr other pairs is long = rw (is, long) (sym (lookup_short at other pairs))
+
+-- a jump has 16 bits
+pub jump_short : (at : ℕ) (instr : Instr) → at ≤ 32767
+    → ((o : ℕ) × (t : ℕ) × (instr ≡ If o t)) ⊎ (((o : ℕ) × (t : ℕ) × (instr ≡ If2 o t)) ⊎ (((o : ℕ) × (t : ℕ) × (instr ≡ IfSame o t)) ⊎ (((o : ℕ) × (t : ℕ) × (instr ≡ IfNull o t)) ⊎ ((t : ℕ) × (instr ≡ Goto t)))))
+    → 3 ≡ short_len at instr
+unfolding instr_bytes
+jump_short at instr here (inl is) = rw is.2 refl
+jump_short at instr here (inr (inl is)) = rw is.2 refl
+jump_short at instr here (inr (inr (inl is))) = rw is.2 refl
+jump_short at instr here (inr (inr (inr (inl is)))) = rw is.2 refl
+jump_short at instr here (inr (inr (inr (inr is)))) = rw is.1 (sym (goto_len at at here here))
