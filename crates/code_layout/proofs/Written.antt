@@ -1,6 +1,5 @@
 -- What is written of items so far.
-use Rattle.std.proofs.Common.{◌≡◌, ℕ, zero, suc, ◌+◌, ◌≤◌, ◌<◌, List, [], ◌∷◌, ◌++◌, length, slice_index_or, refl, sym, ap, subst, ◌∙◌, append_assoc, arith, length-append}
-use Rattle.class_model.specs.declared.instr.Placed.{Placed}
+use Rattle.std.proofs.Common.{◌≡◌, ℕ, zero, suc, ◌+◌, ◌≤◌, List, [], ◌∷◌, ◌++◌, length, refl, sym, ap, subst, ◌∙◌, append_assoc, arith, length-append}
 use Rattle.code_bytes.specs.Forms.{instr_bytes}
 use Rattle.code_layout.specs.Emitting.{with_targets}
 use Rattle.code_layout.specs.Inner.Writing.{AreSpelled, IsAppended}

@@ -14,11 +14,8 @@ pub(crate) fn short_len(instr: &Instr, at: u32) -> u32
     ensures { result ≡ short_len at instr.now }
 {
     match instr {
-        Instr::If(..)
-        | Instr::If2(..)
-        | Instr::IfSame(..)
-        | Instr::IfNull(..)
-        | Instr::Goto(_) => 3,
+        Instr::If(..) | Instr::If2(..) | Instr::IfSame(..) | Instr::IfNull(..) | Instr::Goto(_) =>
+            3,
         Instr::Table { targets, .. } => 13 + (3 - at % 4) + 4 * targets.len() as u32,
         Instr::Lookup { pairs, .. } => 9 + (3 - at % 4) + 8 * pairs.len() as u32,
         _ => code_len(instr, at),

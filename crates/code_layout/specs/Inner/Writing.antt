@@ -1,11 +1,11 @@
 -- What the functions that write a layout ask and keep.
-use Rattle.std.specs.Prelude.{◌≡◌, ℕ, ◌<◌, ◌≤◌, List, ◌++◌, length}
+use Rattle.std.specs.Prelude.{◌≡◌, ℕ, ◌≤◌, List, ◌++◌, length}
 use Rattle.std.specs.List.{AllByRecursion}
 use Rattle.class_model.specs.Instructions.{IsSpelling}
 use Rattle.class_model.specs.declared.instr.Instr.{Instr}
 use Rattle.class_model.specs.declared.instr.Placed.{Placed}
 use Rattle.code_bytes.specs.Forms.{instr_bytes}
-use Rattle.code_layout.specs.Emitting.{HasForm, IsEmitted, with_targets}
+use Rattle.code_layout.specs.Emitting.{HasForm, with_targets}
 use Rattle.code_layout.specs.Layout.{end_from, short_starts}
 use Rattle.code_layout.specs.declared.emitted.EmitItem.{EmitItem}
 

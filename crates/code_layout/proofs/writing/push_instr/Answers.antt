@@ -1,4 +1,4 @@
-use Rattle.std.proofs.Common.{◌≡◌, ℕ, ◌≤◌, length, sym, subst, arith}
+use Rattle.std.proofs.Common.{◌≤◌, sym, subst, arith}
 use Rattle.class_model.specs.declared.instr.Instr.{Instr}
 use Rattle.code_bytes.specs.Encoding.{HasSpelling}
 use Rattle.code_layout.specs.Layout.{start_in}
