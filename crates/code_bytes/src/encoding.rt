@@ -1,5 +1,5 @@
 //! Writing an instruction.
-ghost use Rattle.std.specs.Prelude.{◌≡◌, ◌+◌, ◌<◌, ℕ, List, length, FitsSigned, IfOk};
+ghost use Rattle.std.specs.Prelude.{◌≡◌, ◌+◌, ◌++◌, ◌<◌, ℕ, List, length, FitsSigned, IfOk, OnOk};
 ghost use Rattle.std.specs.Int.{w16};
 ghost use Rattle.class_model.specs.Cutting.{IsBytes};
 ghost use Rattle.code_bytes.specs.Encoding.{HasSpelling, IsChosen, IsPushed};
@@ -29,10 +29,24 @@ pub fn encode_one(alloc: Global, instr: &Instr, at: u32) -> Result<ByteList, NoM
     ensures chosen { IfOk result (IsChosen at instr.now) }
     ensures written { IfOk result (λ bytes. bytes ≡ instr_bytes at instr.now) }
 {
+    let mut bytes = Vec::new(alloc);
+    encode_into(&mut bytes, instr, at)?;
+    Ok(ListOf::from_vec(bytes))
+}
+
+/// Appends the bytes that `encode_one` gives of an instruction.
+///
+/// # Errors
+/// `NoMemory`, where memory runs out.
+pub fn encode_into(bytes: &mut Vec<u8>, instr: &Instr, at: u32) -> Result<(), NoMemory>
+    requires { HasSpelling at instr.now }
+    ensures chosen { OnOk result (IsChosen at instr.now (instr_bytes at instr.now)) }
+    ensures written { OnOk result (bytes.new.items ≡ bytes.old.items ++ instr_bytes at instr.now) }
+{
     let form = form_of(instr, at);
-    let mut out = Vec::with_capacity(alloc, form.len() as usize)?;
-    form.push(&mut out)?;
-    Ok(ListOf::from_vec(out))
+    bytes.reserve(form.len() as usize)?;
+    form.push(bytes)?;
+    Ok(())
 }
 
 /// How many bytes the shortest spelling of an instruction at an offset takes; it has one, as for `encode_one`.

@@ -19,7 +19,7 @@ mod switches;
 pub use code::instructions_of;
 pub use decoding::decode;
 pub use descriptor::method_descriptor;
-pub use encoding::{code_len, encode_one};
+pub use encoding::{code_len, encode_into, encode_one};
 pub use entry::{entry_frame, entry_locals, is_text, verification_type};
 pub use laws::{
     a_class_file_has_read_methods, frames_are_stated_at_instructions, instructions_are_consecutive,

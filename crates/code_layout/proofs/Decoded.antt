@@ -1,9 +1,8 @@
 -- Instructions that are written one after the other are read back.
-use Rattle.std.proofs.Common.{◌≡◌, ℕ, zero, suc, ltb, ◌+◌, ◌≤◌, ◌<◌, Bool, true, false, ◌||◌, List, [], ◌∷◌, ◌++◌, length, map, drop, slice_get, slice_index_or, Some, Ok, refl, sym, ap, subst, ◌∙◌, arith, append-nil, length-append, IsTrue}
-use Rattle.std.specs.List.{AllByRecursion, list_any}
+use Rattle.std.proofs.Common.{◌≡◌, ℕ, zero, suc, ltb, ◌+◌, ◌≤◌, ◌<◌, Bool, true, false, ◌||◌, List, [], ◌∷◌, ◌++◌, length, map, slice_get, Some, Ok, refl, ap, subst, arith, length-append, IsTrue}
+use Rattle.std.specs.List.{AllByRecursion}
 use Rattle.std.proofs.lemmas.Bool.{eq-eqb}
 use Rattle.std.proofs.Math.Seq.{drop-append_seam}
-use Rattle.class_model.specs.Checks.{◌>>=◌}
 use Rattle.class_model.specs.Instructions.{CodeOf, IsSpelling, instr_at, instrs_at, is_start, targets}
 use Rattle.class_model.specs.declared.instr.Instr.{Instr}
 use Rattle.class_model.specs.declared.instr.Instr.TheVariants.{Nop, If, If2, IfSame, IfNull, Goto, Table, Lookup}

@@ -13,7 +13,7 @@ use Rattle.class_model.specs.declared.instr.Pair.{Pair}
 use Rattle.class_model.specs.declared.instr.Placed.{Placed}
 use Rattle.class_tree.specs.Headers.{Name}
 use Rattle.member_link.specs.Bodies.{item_instr}
-use Rattle.member_link.specs.Machine.Codes.{CodePoint, catch_in, catches_at, code_points, covers, instr_op, item_op, method_code, number_at}
+use Rattle.member_link.specs.Machine.Codes.{CodePoint, catch_in, catches_at, code_points, instr_op, item_op, method_code, number_at}
 use Rattle.member_link.specs.Machine.Programs.{Catch, Code, Links, Point, number_of_first}
 use Rattle.member_link.specs.Machine.Replaced.{map_numbered}
 use Rattle.member_link.specs.RowScope.{RowScope}

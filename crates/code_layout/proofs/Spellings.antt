@@ -1,16 +1,15 @@
 -- Spellings of instructions whose targets are within what 16 bits reach, and how long they are.
-use Rattle.std.proofs.Common.{◌≡◌, ℕ, ℤ, pos, ◌+◌, ◌-◌, ◌*◌, ◌%◌, ◌^◌, ◌<◌, ◌≤◌, Bool, true, false, ◌||◌, ltb, leb, List, [], ◌∷◌, length, map, replicate, inl, inr, refl, sym, ap, subst, ◌∙◌, arith, length-append, w16, FitsSigned}
-use Rattle.std.specs.Prelude.{◌-ℤ◌}
+use Rattle.std.proofs.Common.{◌≡◌, ◌⊎◌, ℕ, ℤ, ◌+◌, ◌-◌, ◌*◌, ◌%◌, ◌^◌, ◌<◌, ◌≤◌, Bool, true, false, ◌||◌, List, [], ◌∷◌, length, map, replicate, inl, inr, refl, sym, ap, ◌∙◌, arith, length-append}
 use Rattle.std.specs.List.{AllByRecursion, flat_map}
 use Rattle.std.proofs.lemmas.List.{length-replicate, length-map}
 use Rattle.std.proofs.lemmas.Int.{ints}
 use Rattle.std.proofs.lemmas.Bool.{lt-ltb, le-leb, cases_lt}
 use Rattle.class_model.specs.Instructions.{pad_of, targets, keys_increase}
 use Rattle.class_model.specs.declared.instr.Instr.{Instr}
-use Rattle.class_model.specs.declared.instr.Instr.TheVariants.{Nop, Const, Ldc, Ldc2, Load, Store, Iinc, ArrayLoad, ArrayStore, Shuffle, Pure, Divide, FloatAsk, If, If2, IfSame, IfNull, Goto, Table, Lookup, Return, GetStatic, PutStatic, GetField, PutField, Invoke, Dynamic, New, NewArray, NewRefArray, NewMulti, Length, Throw, Cast, InstanceOf, Enter, Leave}
+use Rattle.class_model.specs.declared.instr.Instr.TheVariants.{If, If2, IfSame, IfNull, Goto, Table, Lookup}
 use Rattle.class_model.specs.declared.instr.Pair.{Pair}
 use Rattle.code_bytes.specs.Encoding.{FitsForm, HasSpelling, IsPlace, Reaches}
-use Rattle.code_bytes.specs.Forms.{instr_bytes, offset_of, is_near, jump_bytes, goto_bytes, target_bytes, pair_bytes, switch_bytes, table_bytes, lookup_bytes}
+use Rattle.code_bytes.specs.Forms.{instr_bytes, offset_of, is_near, goto_bytes, target_bytes, pair_bytes, switch_bytes, table_bytes, lookup_bytes}
 use Rattle.code_layout.specs.Emitting.{HasForm, pair_to, with_targets}
 use Rattle.code_layout.specs.Layout.{short_len}
 
@@ -136,3 +135,14 @@ table-short at n instr low other to is long = rw (is, long) (sym (table_short at
 
 pub lookup-short : (at n : ℕ) (instr : Instr) (other : ℕ) (pairs : List Pair) → instr ≡ Lookup other pairs → n ≡ length pairs → 9 + (3 - at % 4) + 8 * n ≡ short_len at instr
 lookup-short at n instr other pairs is long = rw (is, long) (sym (lookup_short at other pairs))
+
+-- a jump has 16 bits
+pub jump_short : (at : ℕ) (instr : Instr) → at ≤ 32767
+    → ((o : ℕ) × (t : ℕ) × (instr ≡ If o t)) ⊎ (((o : ℕ) × (t : ℕ) × (instr ≡ If2 o t)) ⊎ (((o : ℕ) × (t : ℕ) × (instr ≡ IfSame o t)) ⊎ (((o : ℕ) × (t : ℕ) × (instr ≡ IfNull o t)) ⊎ ((t : ℕ) × (instr ≡ Goto t)))))
+    → 3 ≡ short_len at instr
+unfolding instr_bytes
+jump_short at instr here (inl is) = rw is.2 refl
+jump_short at instr here (inr (inl is)) = rw is.2 refl
+jump_short at instr here (inr (inr (inl is))) = rw is.2 refl
+jump_short at instr here (inr (inr (inr (inl is)))) = rw is.2 refl
+jump_short at instr here (inr (inr (inr (inr is)))) = rw is.1 (sym (goto_len at at here here))

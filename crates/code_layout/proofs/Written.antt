@@ -1,10 +1,8 @@
 -- What is written of items so far.
-use Rattle.std.proofs.Common.{◌≡◌, ℕ, zero, suc, ◌+◌, ◌≤◌, ◌<◌, List, [], ◌∷◌, ◌++◌, length, slice_index_or, refl, sym, ap, subst, ◌∙◌, append_assoc, arith, length-append}
-use Rattle.class_model.specs.Instructions.{IsSpelling}
-use Rattle.class_model.specs.declared.instr.Placed.{Placed}
+use Rattle.std.proofs.Common.{◌≡◌, ℕ, zero, suc, ◌+◌, ◌≤◌, List, [], ◌∷◌, ◌++◌, length, refl, sym, ap, subst, ◌∙◌, append_assoc, arith, length-append}
 use Rattle.code_bytes.specs.Forms.{instr_bytes}
 use Rattle.code_layout.specs.Emitting.{with_targets}
-use Rattle.code_layout.specs.Inner.Writing.{AreSpelled}
+use Rattle.code_layout.specs.Inner.Writing.{AreSpelled, IsAppended}
 use Rattle.code_layout.specs.Layout.{end_from, placed_bytes, placed_from, placed_items, short_len, short_starts, start_in, starts_from}
 use Rattle.code_layout.specs.declared.emitted.EmitItem.{EmitItem}
 use Rattle.code_layout.proofs.Spellings.{len-with_targets}
@@ -34,21 +32,27 @@ start-most at (item ∷ items) most fits (suc to) = start-most (at + short_len a
 pub written-none : (items : List EmitItem) (starts : List ℕ) → starts ≡ short_starts items → IsWritten items starts [] items
 written-none items starts are = subst (λ (s : List ℕ). IsWritten items s [] items) (sym are) (record { bytes = refl; end = refl; spelled = λ all. all })
 
-module _ (items : List EmitItem) (starts code bytes : List ℕ) (item : EmitItem) (left : List EmitItem) (written : IsWritten items starts code (item ∷ left))
-    (here : length code ≤ 32767) (small : (to : ℕ) → start_in starts to ≤ 32767)
-    (is : bytes ≡ instr_bytes (length code) (with_targets (start_in starts) item.instr)) where
-  long : length (code ++ bytes) ≡ length code + short_len (length code) item.instr
-  long =
-      length-append code bytes ∙ ap (λ (b : List ℕ). length code + length b) is ∙ ap (λ (n : ℕ). length code + n) (len-with_targets (length code) (start_in starts) item.instr here small)
+module _ (items : List EmitItem) (starts code after : List ℕ) (item : EmitItem) (left : List EmitItem) (here : length code ≤ 32767) (small : (to : ℕ) → start_in starts to ≤ 32767)
+    (added : IsAppended (start_in starts) item.instr code after) where
+  abbrev bytes : List ℕ
+  bytes = instr_bytes (length code) (with_targets (start_in starts) item.instr)
+
+  abbrev next : ℕ
+  next = length code + short_len (length code) item.instr
+
+  -- it ends where the next one starts
+  pub appended-end : length after ≡ next
+  appended-end =
+      ap length added.bytes ∙ length-append code bytes ∙ ap (λ (n : ℕ). length code + n) (len-with_targets (length code) (start_in starts) item.instr here small)
 
   -- one more item
-  pub written-more : IsSpelling (length code) (with_targets (start_in starts) item.instr) bytes → IsWritten items starts (code ++ bytes) left
-  written-more spells = record {
+  pub written-more : IsWritten items starts code (item ∷ left) → IsWritten items starts after left
+  written-more written = record {
     bytes =
         written.bytes
-        ∙ ap (λ (b : List ℕ). code ++ (b ++ placed_bytes (placed_from (start_in starts) (length code + short_len (length code) item.instr) left))) (sym is)
-        ∙ sym (append_assoc code bytes (placed_bytes (placed_from (start_in starts) (length code + short_len (length code) item.instr) left)))
-        ∙ ap (λ (n : ℕ). (code ++ bytes) ++ placed_bytes (placed_from (start_in starts) n left)) (sym long);
-    end = written.end ∙ ap (λ (n : ℕ). end_from n left) (sym long);
-    spelled = λ rest. written.spelled (subst (λ (b : List ℕ). IsSpelling (length code) (with_targets (start_in starts) item.instr) b) is spells, subst (λ (n : ℕ). AreSpelled (placed_from (start_in starts) n left)) long rest);
+        ∙ sym (append_assoc code bytes (placed_bytes (placed_from (start_in starts) next left)))
+        ∙ ap (λ (all : List ℕ). all ++ placed_bytes (placed_from (start_in starts) next left)) (sym added.bytes)
+        ∙ ap (λ (n : ℕ). after ++ placed_bytes (placed_from (start_in starts) n left)) (sym appended-end);
+    end = written.end ∙ ap (λ (n : ℕ). end_from n left) (sym appended-end);
+    spelled = λ rest. written.spelled (added.spelled, subst (λ (n : ℕ). AreSpelled (placed_from (start_in starts) n left)) appended-end rest);
   }

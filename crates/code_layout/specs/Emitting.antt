@@ -1,5 +1,5 @@
 -- Code that was emitted: instructions whose targets are numbers of items. It is this project's profile.
-use Rattle.std.specs.Prelude.{◌≡◌, ℕ, ◌+◌, ◌<◌, Bool, true, false, List, length, map, slice_get, Some}
+use Rattle.std.specs.Prelude.{◌≡◌, ℕ, ◌+◌, ◌<◌, true, List, length, map, slice_get, Some}
 use Rattle.std.specs.List.{AllByRecursion}
 use Rattle.class_model.specs.Instructions.{targets}
 use Rattle.class_model.specs.declared.instr.Imm.TheVariants as imms
@@ -7,7 +7,6 @@ use Rattle.class_model.specs.declared.instr.Instr.{Instr}
 use Rattle.class_model.specs.declared.instr.Instr.TheVariants.{Const, If, If2, IfSame, IfNull, Goto, Table, Lookup, Throw}
 use Rattle.class_model.specs.declared.instr.Pair.{Pair}
 use Rattle.code_bytes.specs.Encoding.{FitsForm}
-use Rattle.code_layout.specs.declared.emitted.Catch.{Catch}
 use Rattle.code_layout.specs.declared.emitted.EmitItem.{EmitItem}
 
 -- the key, and the target that a map makes of its target

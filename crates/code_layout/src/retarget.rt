@@ -1,5 +1,5 @@
 //! Instructions whose targets are offsets.
-ghost use Rattle.std.specs.Prelude.{◌≡◌, map, IfOk};
+ghost use Rattle.std.specs.Prelude.{◌≡◌, map, IfOk, MatchOption};
 ghost use Rattle.code_layout.specs.Emitting.{pair_to, with_targets};
 ghost use Rattle.code_layout.specs.Layout.{start_in};
 
@@ -7,11 +7,17 @@ use crate::places::start_of;
 use class_model::{Instr, ListOf, NoMemory, Pair};
 use std::alloc::Global;
 
-/// An instruction whose targets are the offsets of the items that they are the numbers of.
-pub(crate) fn retargeted(alloc: Global, instr: &Instr, starts: &[u32]) -> Result<Instr, NoMemory>
-    ensures { IfOk result (λ placed. placed ≡ with_targets (start_in starts.now) instr.now) }
+/// An instruction whose targets are the offsets of the items that they are the numbers of. None: it has no targets.
+pub(crate) fn retargeted(
+    alloc: Global,
+    instr: &Instr,
+    starts: &[u32],
+) -> Result<Option<Instr>, NoMemory>
+    ensures { IfOk result (λ found.
+        MatchOption found (with_targets (start_in starts.now) instr.now ≡ instr.now)
+        (λ placed. placed ≡ with_targets (start_in starts.now) instr.now)) }
 {
-    Ok(match instr {
+    Ok(Some(match instr {
         Instr::If(opcode, to) => Instr::If(*opcode, start_of(starts, *to)),
         Instr::If2(opcode, to) => Instr::If2(*opcode, start_of(starts, *to)),
         Instr::IfSame(opcode, to) => Instr::IfSame(*opcode, start_of(starts, *to)),
@@ -30,8 +36,8 @@ pub(crate) fn retargeted(alloc: Global, instr: &Instr, starts: &[u32]) -> Result
             other: start_of(starts, *other),
             pairs: ListOf::from_vec(pairs_at(alloc, pairs.as_slice(), starts)?),
         },
-        _ => instr.copy(alloc)?,
-    })
+        _ => return Ok(None),
+    }))
 }
 
 // Where the items of these numbers start.

@@ -6,7 +6,7 @@ ghost use Rattle.code_layout.specs.Layout.{IsLaid, IsShort, KeepsLong};
 use crate::emitted::Emitted;
 use crate::laid::Laid;
 use crate::places::{fits_table, short_places};
-use crate::writing::{code_of, table_of};
+use crate::writing::code_and_table;
 use class_model::ListOf;
 use flow_code::{KeptFault, Reason};
 use std::alloc::Global;
@@ -32,8 +32,7 @@ pub fn layout(alloc: Global, emitted: &Emitted) -> Result<Laid, KeptFault>
     let Some(starts) = short_places(alloc, items)? else {
         return Err(KeptFault::Kept(Reason::Long));
     };
-    let code = code_of(alloc, items, starts.as_slice())?;
-    let handlers = table_of(alloc, items, starts.as_slice())?;
+    let (code, handlers) = code_and_table(alloc, items, starts.as_slice())?;
     Ok(Laid {
         code: ListOf::from_vec(code),
         handlers: ListOf::from_vec(handlers),

@@ -2,7 +2,7 @@ ghost use Rattle.std.specs.Prelude.{◌<◌};
 ghost use Rattle.code_bytes.specs.Encoding.{HasSpelling};
 
 use class_model::{Imm, Instr, Kind, ListOf, Pair};
-use code_bytes::{code_len, encode_one};
+use code_bytes::{code_len, encode_into, encode_one};
 use std::alloc::Global;
 use std::process::Abort;
 
@@ -18,9 +18,24 @@ fn is_written(alloc: Global, instr: &Instr, at: u32, bytes: &[u8]) -> bool
     requires { HasSpelling at instr.now }
 {
     let is_counted = code_len(instr, at) as usize == bytes.len();
+    let is_appended = is_appended(alloc, instr, at, bytes);
     match encode_one(alloc, instr, at) {
-        Ok(out) => is_counted && out.as_slice() == bytes,
+        Ok(out) => is_counted && is_appended && out.as_slice() == bytes,
         Err(_) => false,
+    }
+}
+
+// Whether these bytes of an instruction are appended behind a byte that is there.
+fn is_appended(alloc: Global, instr: &Instr, at: u32, bytes: &[u8]) -> bool
+    requires { HasSpelling at instr.now }
+{
+    let mut out = Vec::new(alloc);
+    if out.push(0xFF).is_err() || encode_into(&mut out, instr, at).is_err() {
+        return false;
+    }
+    match out.as_slice().split_first() {
+        Some((first, behind)) => *first == 0xFF && behind == bytes,
+        None => false,
     }
 }
 

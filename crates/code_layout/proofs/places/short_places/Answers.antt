@@ -1,4 +1,4 @@
-use Rattle.std.proofs.Common.{◌≡◌, ◌<◌, length, Some, slice_get, arith}
+use Rattle.std.proofs.Common.{arith}
 use Rattle.code_layout.specs.Layout.{end_from}
 use Rattle.code_layout.proofs.Steps.{end-below, item-is}
 use Rattle.code_layout.proofs.places.short_places.Goals as goal

@@ -22,7 +22,7 @@ returns-clause-laid c =
       starts = c.from_vec-3.ensures ∙ found.0;
       spelled = c.from_vec.ensures ∙ c.in_ok-code.ensures.bytes;
       decodes = subst (λ (bytes : List ℕ). CodeOf bytes (placed_items items)) (sym c.from_vec.ensures) decodes;
-      handlers = c.from_vec-2.ensures ∙ c.in_ok-handlers.ensures;
+      handlers = c.from_vec-2.ensures ∙ c.in_ok-code.ensures.table;
     })
 
 pub returns-clause-code : goal.returns-clause-code
