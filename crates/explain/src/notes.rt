@@ -28,6 +28,8 @@ pub fn usage(alloc: Global) -> Result<String, NoMemory> {
     lines.put("  pea optimise IN OUT --lib LIB\n");
     lines.put("  pea run IN SCRIPT --lib LIB [--steps N]\n");
     lines.put("  each of IN, OUT and LIB is a folder, and OUT is neither IN nor LIB\n");
-    lines.put("  SCRIPT is a file, and N is at most 10000000 steps, and 1000000 where it is left out\n");
+    lines.put(
+        "  SCRIPT is a file, and N is at most 10000000 steps, and 1000000 where it is left out\n",
+    );
     lines.finish()
 }

@@ -23,7 +23,9 @@ pub fn explain_line(alloc: Global, script: &[u8], number: u64) -> Result<String,
     lines.name(line);
     lines.put("\n");
     lines.put(form_of(first_word(line)));
-    lines.put("  words have one space between, and a VALUE is i:N, l:N, f:BITS, d:BITS, null or r:K\n");
+    lines.put(
+        "  words have one space between, and a VALUE is i:N, l:N, f:BITS, d:BITS, null or r:K\n",
+    );
     lines.finish()
 }
 
