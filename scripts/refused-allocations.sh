@@ -52,6 +52,15 @@ __attribute__((destructor)) static void tell(void) {
 C
 cc -shared -fPIC -O1 -o "$work/refuse.so" "$work/refuse.c" -ldl
 ask=(bin/pea run examples/points/in examples/points/script --lib examples/first/lib)
+# where there is a javac, a run with more allocations: the methods of the bench
+if command -v javac >/dev/null; then
+    mkdir "$work/src" "$work/in"
+    { awk '/Prints the least time/ { exit } { print }' bench/java/Turns.java && echo "}"; } >"$work/src/Turns.java"
+    if javac --release 8 -Xlint:-options -d "$work/in" "$work/src/Turns.java" 2>/dev/null; then
+        printf 'call Turns loop (I)I i:50\ncall Turns objects (I)I i:50\ncall Turns deep (I)I i:50\nstop\n' >"$work/script"
+        ask=(bin/pea run "$work/in" "$work/script" --lib examples/first/lib)
+    fi
+fi
 made() { MADE="$work/made" LD_PRELOAD="$work/refuse.so" "$@" >"$work/printed" 2>/dev/null; cat "$work/made"; }
 before=$(made "${ask[@]}" --steps 0)
 all=$(made "${ask[@]}")
