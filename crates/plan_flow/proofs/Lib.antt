@@ -16,3 +16,6 @@ pub mod Raising
 pub mod Iterating
 pub mod LeastPlans
 pub mod Fitting
+pub mod Parameters
+pub mod ResultLens
+pub mod FieldNumbers

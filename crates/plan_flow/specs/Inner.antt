@@ -1,1 +1,4 @@
+pub mod FieldWords
 pub mod Fitting
+pub mod ParameterWords
+pub mod RowViews

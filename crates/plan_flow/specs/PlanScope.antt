@@ -1,5 +1,5 @@
 -- What plans of flat code read: the classes, what look-up and subtyping answer, and the flat code. It is this project's profile.
-use Rattle.std.specs.Prelude.{◌==◌, ℕ, Bool, false, List, [], map, reverse, length, slice_get, Option, Some, None, option_and_then, not, is_some}
+use Rattle.std.specs.Prelude.{◌==◌, ◌≤◌, ℕ, Bool, false, List, [], map, reverse, length, slice_get, Option, Some, None, option_and_then, not, is_some}
 use Rattle.std.specs.List.{flat_map}
 use Rattle.class_model.specs.Pool.{Constants, constant_at}
 use Rattle.class_model.specs.declared.class_file.ClassFile.{ClassFile}
@@ -95,3 +95,13 @@ stack_types flat at = of_point (point_at flat at) where
   of_point : Option Point → List VType
   of_point None = []
   of_point (Some point) = point.typed.stack
+
+-- ---- scopes
+
+-- what plans of a flat code read: the classes of a folder, and their links
+abbrev pub scope_of : Classes → Links → FlatCode → PlanScope
+scope_of classes links flat = record { classes = classes; links = links; flat = flat }
+
+-- the sites have numbers of 16 bits
+abbrev pub HasFewSites : FlatCode → Type 0
+HasFewSites flat = length flat.sites ≤ 65536

@@ -3,10 +3,19 @@
 //! project's profile).
 #![tactic(auto)]
 
+mod arithmetic;
+mod constants;
+mod descriptors;
 mod edge;
 mod edge_states;
+mod fields;
 mod laws;
+mod numbers;
+mod reference;
+mod rows;
+mod shuffles;
 mod slots;
+mod table;
 
 pub use edge::{Edge, EdgeKind, EdgeList};
 pub use laws::{effect_grows, flat_code_has_one_least_plan, must_grows, no_valid_plan_keeps_more};

@@ -1,0 +1,18 @@
+use Rattle.std.proofs.Common.{◌+◌, ℕ, List, drop, sym, subst, ◌∙◌}
+use Rattle.class_model.specs.Descriptors.{type_len}
+use Rattle.plan_flow.proofs.Parameters.{Read, read_none, read_more, read_all}
+use Rattle.plan_flow.proofs.descriptors.parameter_count.Goals as goal
+
+pub loop-rest-init : goal.loop-rest-init
+loop-rest-init c =
+    let desc = c.args.desc.now in
+    subst (λ (rest : List ℕ). Read desc rest 0) (sym c.after_first-rest.ensures) (read_none desc)
+
+pub loop-rest-preserved : goal.loop-rest-preserved
+loop-rest-preserved c =
+    let desc = c.args.desc.now in
+    subst (λ (rest : List ℕ). Read desc rest (c.loop-rest.count + 1)) (sym c.after_type-rest.ensures)
+    (read_more desc c.loop-rest.rest.now c.loop-rest.count (sym c.begins_type.ensures ∙ c.loop-rest-test.true) c.loop-rest.invariant)
+
+pub returns : goal.returns
+returns c = read_all c.args.desc.now c.loop-rest.rest.now c.loop-rest.count (sym c.begins_type.ensures ∙ c.loop-rest-test.false) c.loop-rest.invariant
