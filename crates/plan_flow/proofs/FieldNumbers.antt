@@ -10,7 +10,7 @@ use Rattle.class_model.specs.declared.header.Header.{Header}
 use Rattle.class_model.specs.declared.header.Member.{Member}
 use Rattle.class_tree.specs.Headers.{Name, Headers, all_headers, class_named, named}
 use Rattle.class_tree.specs.Hierarchy.{IsHierarchy, climb, height, superclass_of}
-use Rattle.class_tree.specs.Laws.FirstPlaces.{first_at}
+use Rattle.class_tree.specs.Laws.FirstPlaces.{first_at, first_there}
 use Rattle.class_tree.specs.Laws.Headers.{class_there, header_there, no_superclass, super_is_there, superclass_is, superclass_there}
 use Rattle.class_tree.specs.Layouts.{classes_up, own_fields, superclasses}
 use Rattle.class_tree.specs.Names.{is_member}
@@ -19,7 +19,7 @@ use Rattle.class_tree.specs.declared.place.Place.{Place}
 use Rattle.class_tree.specs.declared.place.Place.TheVariants.{Folder, Library}
 use Rattle.member_link.specs.Machine.Programs.{number_of_first, same_reference}
 use Rattle.member_link.specs.References.{Reference}
-use Rattle.plan_flow.specs.Inner.FieldWords.{capped, is_of_object, number_in, own_number}
+use Rattle.plan_flow.specs.Inner.FieldWords.{capped, is_in_folder, is_of_object, number_in, own_number}
 use Rattle.plan_flow.specs.PlanScope.{own_references}
 
 -- ---- places
@@ -45,6 +45,32 @@ number_of_place headers name = by (first_place (λ (header : Header). bytes_eq n
         → number_at (place_of headers name) ≡ front
     by (Some place) is = rw is refl
     by None is = rw is (in_library (first_place (λ (header : Header). bytes_eq name header.name) headers.library))
+
+-- a class of the folder is one that stands there
+pub named_in_folder :
+    (headers : Headers) (name : Name) → is_some (named name headers.folder) ≡ is_in_folder (place_of headers name)
+named_in_folder headers name =
+    by (first_place (λ (header : Header). bytes_eq name header.name) headers.folder) refl
+  where
+    test : Header → Bool
+    test header = bytes_eq name header.name
+
+    there : (found : Option ℕ) → first_place test headers.folder ≡ found → named name headers.folder ≡ option_and_then (slice_get headers.folder) found
+    there found is = first_at test (named name) refl (λ header rest. refl) headers.folder ∙ ap (option_and_then (slice_get headers.folder)) is
+
+    in_library : (found : Option ℕ) → is_in_folder (option_map Library found) ≡ false
+    in_library None = refl
+    in_library (Some place) = refl
+
+    by :
+        (front : Option ℕ)
+        → first_place test headers.folder ≡ front
+        → is_some (named name headers.folder) ≡ is_in_folder (place_of headers name)
+    by (Some place) is =
+        ap is_some (there (Some place) is)
+        ∙ subst (λ (found : Option ℕ). IfSome found (λ place. IsSome (slice_get headers.folder place))) is (first_there test headers.folder)
+        ∙ (rw is refl)
+    by None is = ap is_some (there None is) ∙ (rw is (sym (in_library (first_place test headers.library))))
 
 -- ---- numbers in lists
 

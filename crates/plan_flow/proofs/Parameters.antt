@@ -82,10 +82,16 @@ none_before (suc left) (first ∷ rest) ends =
 pub record Read (desc rest : List ℕ) (count : ℕ) : Type 0 where
   pub left : ℕ
   pub enough : length rest ≤ left
+  pub short : count + length rest ≤ length desc
   pub same : length (parameters_of desc) ≡ count + length (types_before left rest)
 
 pub read_none : (desc : List ℕ) → Read desc (drop 1 desc) 0
-read_none desc = record { left = length desc; enough = omega (arith, length-drop {A = ℕ} 1 desc); same = refl }
+read_none desc = record {
+  left = length desc;
+  enough = omega (arith, length-drop {A = ℕ} 1 desc);
+  short = omega (arith, length-drop {A = ℕ} 1 desc);
+  same = omega arith;
+}
 
 pub shorter : (rest : List ℕ) → begins_type rest ≡ true → length (drop (type_len rest) rest) < length rest
 shorter [] begins = absurd cc
@@ -113,6 +119,7 @@ read_more desc (first ∷ rest) count begins read = by read.left read.enough rea
         record {
           left = left;
           enough = (let smaller = shorter (first ∷ rest) begins in omega arith);
+          short = (let smaller = shorter (first ∷ rest) begins in omega (arith, smaller, read.short));
           same = omega (arith, same, step);
         }
 
@@ -125,3 +132,7 @@ pub read_all :
 read_all desc rest count ends read =
     let none : length (types_before read.left rest) ≡ 0 = ap length (none_before read.left rest ends) in
     omega (arith, read.same, none)
+
+pub not_empty : (rest : List ℕ) → begins_type rest ≡ true → 0 < length rest
+not_empty [] begins = absurd cc
+not_empty (first ∷ rest) begins = omega arith

@@ -1,5 +1,5 @@
 //! What the text of a method descriptor says of a call (JVM Specification SE 8, 4.3.3). It need not be a descriptor.
-ghost use Rattle.std.specs.Prelude.{◌≡◌, ◌+◌, ◌-◌, ◌==◌, not, drop, length, take, take_while, is_some};
+ghost use Rattle.std.specs.Prelude.{◌≡◌, ◌≤◌, ◌+◌, ◌-◌, ◌==◌, not, drop, length, take, take_while, is_some};
 ghost use Rattle.class_model.specs.Characters.{semicolon};
 ghost use Rattle.class_model.specs.Descriptors.{brackets, element_len, field_type_text, kind_of, named_text, parameters_of, type_len, type_of};
 ghost use Rattle.class_model.specs.declared.descriptor.FieldType.TheVariants.{Named};
@@ -11,7 +11,8 @@ use class_model::Kind;
 
 /// How many parameters there are. It does not allocate.
 pub(crate) fn parameter_count(desc: &[u8]) -> usize
-    ensures { result ≡ length (parameters_of desc.now) }
+    ensures is { result ≡ length (parameters_of desc.now) }
+    ensures few { result ≤ length desc.now }
 {
     let mut count = 0;
     let mut rest = after_first(desc);

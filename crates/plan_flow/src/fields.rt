@@ -6,6 +6,7 @@ ghost use Rattle.member_link.specs.DeclaredMembers.{Declared};
 ghost use Rattle.member_link.specs.Found.{IsFieldFound};
 ghost use Rattle.member_link.specs.Machine.Links.{AreLinksOf, reference_to};
 ghost use Rattle.member_link.specs.Machine.Programs.{Links};
+ghost use Rattle.plan_flow.specs.Inner.FieldWords.{is_in_folder};
 ghost use Rattle.plan_flow.specs.PlanScope.{field_of, is_of_library, scope_of};
 
 use crate::constants::member_of;
@@ -23,10 +24,11 @@ pub(crate) fn field_of(tree: &Tree, class: usize, index: u16) -> Result<Option<R
         → AreLinksOf (headers_of tree.now) links
         → field ≡ field_of (scope_of tree.now links flat) class index) }
 {
-    match member_of(tree, class, index)? {
-        Some(named) => field_found(tree, &named),
-        None => Ok(None),
-    }
+    let Some(named) = member_of(tree, class, index)? else {
+        return Ok(None);
+    };
+    let field = field_found(tree, &named)?;
+    Ok(field)
 }
 
 // The field that a reference finds.
@@ -68,8 +70,16 @@ pub(crate) fn is_of_library(tree: &Tree, field: &Reference) -> bool
     ensures { (links : Links) (flat : FlatCode)
         → result ≡ is_of_library (scope_of tree.now links flat) field.now }
 {
-    match tree.place(&field.class) {
-        Some(Place::Folder(_)) => false,
-        Some(Place::Library(_)) | None => true,
+    !is_in_folder(tree.place(&field.class))
+}
+
+// Whether a class is one of the folder.
+fn is_in_folder(place: Option<Place>) -> bool
+    ensures { result ≡ is_in_folder place }
+{
+    match place {
+        Some(Place::Folder(_)) => true,
+        Some(Place::Library(_)) => false,
+        None => false,
     }
 }

@@ -2,6 +2,7 @@
 //! units, counted from 0, and behind them the stack entries, the lowest first.
 ghost use Rattle.std.specs.Prelude.{◌≡◌, ◌-◌, length};
 ghost use Rattle.plan_flow.specs.Inner.RowViews.{given_by, moving_row, plan_row};
+ghost use Rattle.plan_flow.specs.PlanScope.{HasFewLocals};
 ghost use Rattle.plan_flow.specs.PlanTable.{moving, operand, throwing};
 
 use crate::reference::Reference;
@@ -119,6 +120,7 @@ impl Row {
 
 /// The place of a stack entry, counted from the top, which is 0.
 pub(crate) fn operand(types: &Frame, number: usize) -> usize
+    requires { HasFewLocals types.now }
     ensures { result ≡ operand types.now number }
 {
     (types.locals.len() + types.stack.len())

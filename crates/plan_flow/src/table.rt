@@ -9,7 +9,7 @@ ghost use Rattle.member_link.specs.Machine.Programs.{Links};
 ghost use Rattle.member_link.specs.Rows.ShuffleRows.{form_in, forms_of};
 ghost use Rattle.member_link.specs.Signatures.{result_of};
 ghost use Rattle.plan_flow.specs.Inner.RowViews.{asked_by, change_of, described_row, given_by, plan_row};
-ghost use Rattle.plan_flow.specs.PlanScope.{HasFewSites, scope_of, site_at as site_of_point};
+ghost use Rattle.plan_flow.specs.PlanScope.{HasFewLocals, IsNarrow, scope_of, site_at as site_of_point};
 ghost use Rattle.plan_flow.specs.PlanTable as tables;
 
 use crate::arithmetic::{divide_operands, float_operands, pure_operands};
@@ -35,7 +35,8 @@ pub(crate) fn row_at(
     types: &Frame,
     instr: &FlatInstr,
 ) -> Result<Row, NoMemory>
-    requires { HasFewSites flat.now }
+    requires narrow { IsNarrow flat.now }
+    requires types { HasFewLocals types.now }
     ensures { IfOk result (λ row. (links : Links)
         → AreLinksOf (headers_of tree.now) links
         → plan_row types.now row
@@ -59,7 +60,8 @@ fn instr_row(
     class: usize,
     instr: &Instr,
 ) -> Result<Row, NoMemory>
-    requires { HasFewSites flat.now }
+    requires narrow { IsNarrow flat.now }
+    requires types { HasFewLocals types.now }
     ensures { IfOk result (λ row. (links : Links)
         → AreLinksOf (headers_of tree.now) links
         → plan_row types.now row
@@ -140,6 +142,7 @@ fn asking_row(types: &Frame, takes: usize) -> Row
 
 // Of a getfield of a field, by the class that declares it.
 fn get_field_row(tree: &Tree, types: &Frame, field: Option<Reference>) -> Row
+    requires { HasFewLocals types.now }
     ensures { (links : Links) (flat : FlatCode)
         → plan_row types.now result
         ≡ tables.get_field_row (scope_of tree.now links flat) types.now field }
@@ -157,6 +160,7 @@ fn get_field_row(tree: &Tree, types: &Frame, field: Option<Reference>) -> Row
 
 // Of a putfield of a field, by the class that declares it.
 fn put_field_row(tree: &Tree, types: &Frame, field: Option<Reference>) -> Row
+    requires { HasFewLocals types.now }
     ensures { (links : Links) (flat : FlatCode)
         → plan_row types.now result
         ≡ tables.put_field_row (scope_of tree.now links flat) types.now field }
@@ -267,7 +271,7 @@ fn new_row(types: &Frame, site: Option<u16>) -> Row
 
 // The site of the new at a point, by its number.
 fn site_at(flat: &Flat, at: usize) -> Option<u16>
-    requires { HasFewSites flat.now }
+    requires { IsNarrow flat.now }
     ensures { result ≡ site_of_point flat.now at }
 {
     let number = flat
@@ -280,6 +284,7 @@ fn site_at(flat: &Flat, at: usize) -> Option<u16>
 
 // Of a cast to a class.
 fn cast_row(types: &Frame, class: Option<&Text>) -> Result<Row, NoMemory>
+    requires { HasFewLocals types.now }
     ensures { IfOk result
         (λ row. plan_row types.now row ≡ tables.cast_row types.now (option_copied class.entry)) }
 {
@@ -296,6 +301,7 @@ fn cast_row(types: &Frame, class: Option<&Text>) -> Result<Row, NoMemory>
 
 // Of a monitorenter or monitorexit.
 fn monitor_row(types: &Frame, change: Change) -> Row
+    requires { HasFewLocals types.now }
     ensures { plan_row types.now result ≡ tables.monitor_row types.now (change_of change) }
 {
     Row {
@@ -318,6 +324,7 @@ fn shuffle_row(types: &Frame, opcode: u8) -> Row
 
 // Of a jump by a test of a reference against null: a virtual object is not null.
 fn null_row(types: &Frame, opcode: u8) -> Row
+    requires { HasFewLocals types.now }
     ensures { plan_row types.now result ≡ tables.null_row types.now opcode }
 {
     let guard = Guard::Plain(operand(types, 0));
@@ -331,6 +338,7 @@ fn null_row(types: &Frame, opcode: u8) -> Row
 
 // Of a jump by a test of two references: a virtual object is the same as itself, and as nothing else.
 fn same_row(types: &Frame, opcode: u8) -> Row
+    requires { HasFewLocals types.now }
     ensures { plan_row types.now result ≡ tables.same_row types.now opcode }
 {
     let (one, other) = (operand(types, 1), operand(types, 0));

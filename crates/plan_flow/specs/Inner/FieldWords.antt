@@ -1,11 +1,13 @@
 -- Words of the search for the number of a field.
-use Rattle.std.specs.Prelude.{not, ℕ, Bool, List, bytes_eq, filter, reverse, min, Option, None, option_map, if◌then◌else◌}
+use Rattle.std.specs.Prelude.{not, ℕ, Bool, true, false, List, bytes_eq, filter, reverse, min, Option, Some, None, option_map, if◌then◌else◌}
 use Rattle.std.specs.List.{flat_map, position_from}
 use Rattle.class_model.specs.Members.{has, STATIC}
 use Rattle.class_model.specs.declared.header.Header.{Header}
 use Rattle.class_model.specs.declared.header.Member.{Member}
 use Rattle.class_tree.specs.Headers.{Name, Headers}
 use Rattle.class_tree.specs.Names.{is_member}
+use Rattle.class_tree.specs.declared.place.Place.{Place}
+use Rattle.class_tree.specs.declared.place.Place.TheVariants.{Folder, Library}
 use Rattle.member_link.specs.Machine.Programs.{number_of_first, same_reference}
 use Rattle.member_link.specs.References.{Reference}
 use Rattle.plan_flow.specs.PlanScope.{own_references}
@@ -29,3 +31,9 @@ own_number header field =
     if bytes_eq field.class header.name
     then position_from (is_member field.name field.desc) 0 (filter is_of_object header.fields)
     else None
+
+-- a class is one of the folder
+abbrev pub is_in_folder : Option Place → Bool
+is_in_folder None = false
+is_in_folder (Some (Folder place)) = true
+is_in_folder (Some (Library place)) = false
