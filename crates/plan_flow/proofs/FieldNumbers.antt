@@ -89,7 +89,7 @@ number_from test i (x ∷ xs) = by (test x) (number_of_first test xs) (number_fr
     by false None later = later
     by false (Some n) later = later ∙ ap Some (omega arith)
 
-from_start : {A : Type 0} (test : A → Bool) (xs : List A) → position_from test 0 xs ≡ number_of_first test xs
+pub from_start : {A : Type 0} (test : A → Bool) (xs : List A) → position_from test 0 xs ≡ number_of_first test xs
 from_start test xs = number_from test 0 xs ∙ by (number_of_first test xs)
   where
     by : (found : Option ℕ) → option_map (λ n. 0 + n) found ≡ found

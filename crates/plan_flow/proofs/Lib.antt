@@ -19,3 +19,5 @@ pub mod Fitting
 pub mod Parameters
 pub mod ResultLens
 pub mod FieldNumbers
+pub mod Adding
+pub mod RowUpdates

@@ -1,5 +1,5 @@
 -- The result of a descriptor, found by the lengths of the texts of its parameters.
-use Rattle.std.proofs.Common.{◌≡◌, ◌==◌, ◌+◌, ◌-◌, ◌≤◌, ℕ, zero, suc, Bool, true, false, List, [], ◌∷◌, ◌++◌, length, take, drop, if◌then◌else◌, bytes_eq, codes, Option, Some, None, refl, sym, ap, ◌∙◌, arith, length-append, length-drop}
+use Rattle.std.proofs.Common.{not, is_some, ◌≡◌, ◌==◌, ◌+◌, ◌-◌, ◌≤◌, ℕ, zero, suc, Bool, true, false, List, [], ◌∷◌, ◌++◌, length, take, drop, if◌then◌else◌, bytes_eq, codes, Option, Some, None, refl, sym, ap, ◌∙◌, arith, length-append, length-drop}
 use Rattle.std.specs.List.{flat_map}
 use Rattle.class_model.specs.Descriptors.{field_type_text, kind_of, named_text, parameters_of, type_len, type_of, types_before}
 use Rattle.class_model.specs.declared.descriptor.FieldType.{FieldType}
@@ -113,3 +113,14 @@ behind_class name first_rest bytes rest result first is other rest_is result_is 
     ∙ ap (λ (n : List ℕ). drop (length n + 2) bytes) is
     ∙ ap (λ (k : ℕ). drop k bytes) (sym (class_len first first_rest other))
     ∙ ap (λ (n : List ℕ). drop (length (named_text n)) bytes) (sym is)
+
+-- there is one, if it is not V
+pub read_some : (desc text : List ℕ) (some : Bool)
+    → drop (length (flat_map field_type_text (parameters_of desc)) + 2) desc ≡ text
+    → bytes_eq text (codes "V") ≡ not some
+    → some ≡ is_some (result_of desc)
+read_some desc text some cut is = sym (ap is_some (read desc text (not some) cut is) ∙ by some)
+  where
+    by : (some : Bool) → is_some (if not some then None else Some (type_of text)) ≡ some
+    by true = refl
+    by false = refl

@@ -1,3 +1,4 @@
+pub mod Asking
 pub mod FieldWords
 pub mod Fitting
 pub mod ParameterWords

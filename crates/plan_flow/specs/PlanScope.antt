@@ -1,9 +1,8 @@
 -- What plans of flat code read: the classes, what look-up and subtyping answer, and the flat code. It is this project's profile.
-use Rattle.std.specs.Prelude.{◌==◌, ◌≤◌, ℕ, Bool, false, List, [], map, reverse, length, slice_get, Option, Some, None, option_and_then, not, is_some}
-use Rattle.std.specs.List.{AllByRecursion, flat_map}
+use Rattle.std.specs.Prelude.{◌==◌, ℕ, Bool, false, List, [], map, reverse, length, slice_get, Option, Some, None, option_and_then, not, is_some}
+use Rattle.std.specs.List.{flat_map}
 use Rattle.class_model.specs.Pool.{Constants, constant_at}
 use Rattle.class_model.specs.declared.class_file.ClassFile.{ClassFile}
-use Rattle.class_model.specs.declared.frame.Frame.{Frame}
 use Rattle.class_model.specs.declared.frame.VType.{VType}
 use Rattle.class_tree.specs.Headers.{Name, Classes, Headers, headers_of, named}
 use Rattle.class_tree.specs.Layouts.{superclasses, own_fields}
@@ -102,14 +101,3 @@ stack_types flat at = of_point (point_at flat at) where
 -- what plans of a flat code read: the classes of a folder, and their links
 abbrev pub scope_of : Classes → Links → FlatCode → PlanScope
 scope_of classes links flat = record { classes = classes; links = links; flat = flat }
-
--- ---- how wide flat code is
-
--- so many local units that each has a number of 16 bits
-abbrev pub HasFewLocals : Frame → Type 0
-HasFewLocals f = length f.locals ≤ 65536
-
--- The sites and the local units have numbers of 16 bits.
-pub record IsNarrow (flat : FlatCode) : Type 0 where
-  pub sites : length flat.sites ≤ 65536
-  pub locals : AllByRecursion (λ point. HasFewLocals point.typed) flat.points

@@ -24,11 +24,13 @@ pub(crate) fn field_of(tree: &Tree, class: usize, index: u16) -> Result<Option<R
         → AreLinksOf (headers_of tree.now) links
         → field ≡ field_of (scope_of tree.now links flat) class index) }
 {
-    let Some(named) = member_of(tree, class, index)? else {
-        return Ok(None);
-    };
-    let field = field_found(tree, &named)?;
-    Ok(field)
+    match member_of(tree, class, index)? {
+        Some(named) => {
+            let field = field_found(tree, &named)?;
+            Ok(field)
+        }
+        None => Ok(None),
+    }
 }
 
 // The field that a reference finds.

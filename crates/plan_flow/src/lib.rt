@@ -4,6 +4,7 @@
 #![tactic(auto)]
 
 mod arithmetic;
+mod asked;
 mod constants;
 mod descriptors;
 mod edge;

@@ -2,7 +2,7 @@
 //! units, counted from 0, and behind them the stack entries, the lowest first.
 ghost use Rattle.std.specs.Prelude.{◌≡◌, ◌-◌, length};
 ghost use Rattle.plan_flow.specs.Inner.RowViews.{given_by, moving_row, plan_row};
-ghost use Rattle.plan_flow.specs.PlanScope.{HasFewLocals};
+ghost use Rattle.plan_flow.specs.Narrow.{HasFewLocals};
 ghost use Rattle.plan_flow.specs.PlanTable.{moving, operand, throwing};
 
 use crate::reference::Reference;
@@ -123,7 +123,8 @@ pub(crate) fn operand(types: &Frame, number: usize) -> usize
     requires { HasFewLocals types.now }
     ensures { result ≡ operand types.now number }
 {
-    (types.locals.len() + types.stack.len())
+    let stack = types.stack.as_slice().len();
+    (types.locals.len() + stack)
         .saturating_sub(number)
         .saturating_sub(1)
 }

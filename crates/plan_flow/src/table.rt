@@ -1,5 +1,6 @@
 //! The row of each instruction of flat code: what it asks to be made, what it moves, and where it goes on.
-ghost use Rattle.std.specs.Prelude.{◌≡◌, [], Some, IfOk};
+ghost use Rattle.std.specs.Prelude.{◌≡◌, ◌==◌, ◌<◌, [], Some, IfOk, IfSome, length};
+ghost use Rattle.std.specs.List.{position_from};
 ghost use Rattle.std.specs.Option.{option_copied};
 ghost use Rattle.class_model.specs.declared.frame.Frame.{Frame};
 ghost use Rattle.class_tree.specs.Headers.{headers_of};
@@ -9,7 +10,8 @@ ghost use Rattle.member_link.specs.Machine.Programs.{Links};
 ghost use Rattle.member_link.specs.Rows.ShuffleRows.{form_in, forms_of};
 ghost use Rattle.member_link.specs.Signatures.{result_of};
 ghost use Rattle.plan_flow.specs.Inner.RowViews.{asked_by, change_of, described_row, given_by, plan_row};
-ghost use Rattle.plan_flow.specs.PlanScope.{HasFewLocals, IsNarrow, scope_of, site_at as site_of_point};
+ghost use Rattle.plan_flow.specs.Narrow.{HasFewLocals, IsNarrow};
+ghost use Rattle.plan_flow.specs.PlanScope.{scope_of, site_at as site_of_point};
 ghost use Rattle.plan_flow.specs.PlanTable as tables;
 
 use crate::arithmetic::{divide_operands, float_operands, pure_operands};
@@ -22,7 +24,7 @@ use crate::shuffles::form_on;
 use class_model::opcodes::{IF_ACMPEQ, IFNULL, INVOKESTATIC};
 use class_model::{Frame, INIT, Instr, Kind, NoMemory, Text};
 use class_tree::{OBJECT, Tree};
-use flow_code::{Flat, FlatInstr};
+use flow_code::{Flat, FlatInstr, Site};
 
 /// The row of an instruction at a point with these types.
 ///
@@ -75,7 +77,7 @@ fn instr_row(
         }
         Instr::Dynamic(index) => Ok(dynamic_row(types, dynamic_descriptor(tree, class, *index))),
         Instr::New(_) => Ok(new_row(types, site_at(flat, at))),
-        Instr::Cast(index) => cast_row(types, class_named(tree, class, *index)),
+        Instr::Cast(index) => Ok(cast_row(types, class_named(tree, class, *index))?),
         Instr::Store(_, local) => Ok(store_row(types, *local)),
         Instr::Shuffle(opcode) => Ok(shuffle_row(types, *opcode)),
         Instr::IfSame(opcode, _) => Ok(same_row(types, *opcode)),
@@ -274,12 +276,25 @@ fn site_at(flat: &Flat, at: usize) -> Option<u16>
     requires { IsNarrow flat.now }
     ensures { result ≡ site_of_point flat.now at }
 {
-    let number = flat
-        .sites()
-        .as_slice()
-        .iter()
-        .position(|site| site.at == at)?;
-    Some(number as u16)
+    match site_number(flat.sites().as_slice(), at) {
+        Some(number) => Some(number as u16),
+        None => None,
+    }
+}
+
+// The number of the first site at a point.
+fn site_number(sites: &[Site], at: usize) -> Option<usize>
+    ensures is { result ≡ position_from (λ site. site.at == at) 0 sites.now }
+    ensures few { IfSome result (λ number. number < length sites.now) }
+{
+    sites.iter().position(|site| is_at(site, at))
+}
+
+// Whether a site is at a point.
+fn is_at(site: &Site, at: usize) -> bool
+    ensures { result ≡ (site.now.at == at) }
+{
+    site.at == at
 }
 
 // Of a cast to a class.

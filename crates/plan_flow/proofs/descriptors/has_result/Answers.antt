@@ -1,6 +1,6 @@
-use Rattle.std.proofs.Common.{not, is_some, ◌≡◌, ℕ, true, false, List, drop, take, length, bytes_eq, codes, sym, ap, subst, ◌∙◌, rules}
+use Rattle.std.proofs.Common.{not, ◌≡◌, ℕ, true, false, List, drop, take, length, bytes_eq, codes, sym, ap, subst, ◌∙◌, rules}
 use Rattle.class_model.specs.Descriptors.{field_type_text, type_len, type_of}
-use Rattle.plan_flow.proofs.ResultLens.{Passed, all_passed, none_passed, one_passed, read}
+use Rattle.plan_flow.proofs.ResultLens.{Passed, all_passed, none_passed, one_passed, read_some}
 use Rattle.plan_flow.proofs.descriptors.has_result.Goals as goal
 
 pub loop-types-init : goal.loop-types-init
@@ -26,4 +26,4 @@ returns c =
     let desc = c.args.desc.now in
     let result = c.loop-types.result.now in
     let void : bytes_eq result (codes "V") ≡ not c.ne.result = search rules in
-    ap is_some (read desc result (not c.ne.result) (all_passed desc c.loop-types.types.now result (sym c.begins_type.ensures ∙ c.loop-types-test.false) c.loop-types.invariant) void)
+    read_some desc result c.ne.result (all_passed desc c.loop-types.types.now result (sym c.begins_type.ensures ∙ c.loop-types-test.false) c.loop-types.invariant) void
