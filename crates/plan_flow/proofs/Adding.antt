@@ -1,10 +1,13 @@
 -- Sites that are added one by one.
 use Rattle.std.proofs.Common.{◌≡◌, ◌↔◌, ◌||◌, ◌==◌, ℕ, zero, suc, Bool, true, false, List, [], ◌∷◌, ◌++◌, Option, Some, None, IsTrue, IsFalse, refl, sym, ap, subst, ◌∙◌, inl, inr, ◌⊎◌}
 use Rattle.std.proofs.lemmas.Bool.{false≢true, or_cases, or_left, or_right, eq-eqb, eqb-true}
+use Rattle.class_model.specs.declared.frame.Frame.{Frame}
 use Rattle.plan_flow.specs.Inner.Asking.{HasAdded, IsAskedIn, IsTested}
 use Rattle.plan_flow.specs.Must.{AsksFor}
-use Rattle.plan_flow.specs.PlanRows.{Position}
+use Rattle.plan_flow.specs.PlanRows.{Position, any_object}
 use Rattle.plan_flow.specs.PlanScope.{PlanScope}
+use Rattle.plan_flow.specs.PlanSlots.{held}
+use Rattle.plan_flow.specs.PlanTable.{operand, operands_asked}
 use Rattle.plan_flow.proofs.Moving.{plain≢virt, same_site}
 use Rattle.plan_flow.proofs.Reached.{Reach, reach, reach_all}
 use Rattle.virtual_state.specs.Sites.{has, IsClosure}
@@ -151,6 +154,60 @@ added_first s state position others one other =
       | inl new ↦ inr new
       | inr old ↦ inl old
     ])
+
+-- ---- operands, one by one
+
+pub record HasOperands (before after : List ℕ) (state : State) (f : Frame) (count : ℕ) : Type 0 where
+  pub each : (s : PlanScope) → HasAdded before after (IsAskedIn s state (operands_asked f count))
+
+pub operands_none : (sites : List ℕ) (state : State) (f : Frame) → HasOperands sites sites state f 0
+operands_none sites state f = record { each = λ s. added_none sites (IsAskedIn s state []) (λ site asked. asked) }
+
+pub operands_next :
+    {first middle last : List ℕ} (state : State) (f : Frame) (number next : ℕ) (slot : Slot)
+    → next ≡ suc number
+    → slot ≡ held state (operand f number)
+    → HasOperands first middle state f number
+    → HasAdded middle last (IsTested slot true)
+    → HasOperands first last state f next
+operands_next {first} {middle} {last} state f number next slot is holds has added = record {
+  each = λ s.
+      subst (λ (count : ℕ). HasAdded first last (IsAskedIn s state (operands_asked f count))) (sym is)
+      (added_first s state (any_object (operand f number)) (operands_asked f number) (has.each s)
+      (added_as (IsTested slot true) (AsksFor s state (any_object (operand f number))) added
+      (λ site tested. sym holds ∙ tested.0)
+      (λ site asked. (holds ∙ asked, refl))));
+}
+
+-- ---- what is added of the rest is added of all
+
+pub record AddsAll (start now : List ℕ) (All Rest : ℕ → Type 0) : Type 0 where
+  pub then : (after : List ℕ) → HasAdded now after Rest → HasAdded start after All
+
+pub adds_start : (start : List ℕ) (All : ℕ → Type 0) → AddsAll start start All All
+adds_start start All = record { then = λ after added. added }
+
+pub adds_more :
+    {start now next : List ℕ} {All : ℕ → Type 0} (Before One Rest : ℕ → Type 0)
+    → AddsAll start now All Before
+    → HasAdded now next One
+    → ((site : ℕ) → Before site → One site ⊎ Rest site)
+    → ((site : ℕ) → One site → Before site)
+    → ((site : ℕ) → Rest site → Before site)
+    → AddsAll start next All Rest
+adds_more Before One Rest adds one parts here later = record {
+  then = λ after rest.
+      adds.then after
+      (added_as (λ site. One site ⊎ Rest site) Before (added_both One Rest one rest)
+      (λ site either. elim either [
+        | inl now ↦ here site now
+        | inr then ↦ later site then
+      ])
+      parts);
+}
+
+pub adds_end : {start now : List ℕ} {All : ℕ → Type 0} (Rest : ℕ → Type 0) → AddsAll start now All Rest → ((site : ℕ) → Rest site → ⊥) → HasAdded start now All
+adds_end {start} {now} Rest adds none = adds.then now (added_none now Rest none)
 
 -- ---- what reaches a site
 

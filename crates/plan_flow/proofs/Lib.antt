@@ -21,3 +21,4 @@ pub mod ResultLens
 pub mod FieldNumbers
 pub mod Adding
 pub mod RowUpdates
+pub mod Opening

@@ -3,10 +3,9 @@ ghost use Rattle.std.specs.Prelude.{◌≡◌, ◌↔◌, ◌⊎◌, ◌++◌, �
 ghost use Rattle.class_tree.specs.Headers.{headers_of};
 ghost use Rattle.member_link.specs.Machine.Links.{AreLinksOf};
 ghost use Rattle.member_link.specs.Machine.Programs.{Links};
-ghost use Rattle.plan_flow.specs.Inner.Asking.{HasAdded, IsAskedIn, IsTested};
+ghost use Rattle.plan_flow.specs.Inner.Asking.{HasAdded, IsAskedIn, IsAtDepth, IsTested};
 ghost use Rattle.plan_flow.specs.Inner.RowViews.{asked_by, change_of, plan_row};
-ghost use Rattle.plan_flow.specs.Must.{AsksFor, CannotBePut};
-ghost use Rattle.plan_flow.specs.PlanRows.{any_object, object_at_depth, object_not_below, object_of_site, object_put_into};
+ghost use Rattle.plan_flow.specs.Must.{CannotBePut};
 ghost use Rattle.plan_flow.specs.Narrow.{HasFewLocals};
 ghost use Rattle.plan_flow.specs.PlanScope.{PlanScope, is_site_below, scope_of};
 ghost use Rattle.plan_flow.specs.PlanTable.{change_asks, operands_asked, positions};
@@ -119,16 +118,18 @@ fn add_at_depth(
     depth: u16,
     state: &VState,
 ) -> Result<(), NoMemory>
-    ensures { OnOk result ((s : PlanScope)
-        → HasAdded sites.old sites.new (AsksFor s state.now (object_at_depth place depth))) }
+    ensures { OnOk result (HasAdded sites.old sites.new (IsAtDepth state.now place depth)) }
 {
     let slot = held(state, place);
     let asked = is_at_depth(state, slot, depth);
     add_tested(sites, slot, asked)
 }
 
-// Adds the site whose object a slot holds, where a test is passed.
-fn add_tested(sites: &mut SiteSet, slot: Slot, test: bool) -> Result<(), NoMemory>
+/// Adds the site whose object a slot holds, where a test is passed.
+///
+/// # Errors
+/// `NoMemory`, where memory runs out.
+pub(crate) fn add_tested(sites: &mut SiteSet, slot: Slot, test: bool) -> Result<(), NoMemory>
     ensures { OnOk result (HasAdded sites.old sites.new (IsTested slot test)) }
 {
     if !test {

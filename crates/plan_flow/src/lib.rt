@@ -5,18 +5,23 @@
 
 mod arithmetic;
 mod asked;
+mod beneath;
 mod constants;
 mod descriptors;
 mod edge;
 mod edge_states;
+mod edges;
 mod fields;
 mod laws;
+mod must;
 mod numbers;
 mod reference;
 mod rows;
 mod shuffles;
 mod slots;
+mod sources;
 mod table;
 
 pub use edge::{Edge, EdgeKind, EdgeList};
+pub use must::must;
 pub use laws::{effect_grows, flat_code_has_one_least_plan, must_grows, no_valid_plan_keeps_more};

@@ -9,6 +9,7 @@ use Rattle.class_model.specs.declared.pool.Const.TheVariants as consts
 use Rattle.class_tree.specs.Headers.{Name}
 use Rattle.member_link.specs.Rows.ShuffleRows as meant
 use Rattle.plan_flow.specs.PlanRows.{Source, plain_value, from_place, from_field, from_new, Change, no_change, new_object, put_field, enter_monitor, leave_monitor, Guard, in_each_state, where_plain, where_may_be_same, where_may_differ, Position, PlanRow}
+use Rattle.plan_flow.specs.PlanSlots.{held}
 use Rattle.plan_flow.specs.PlanTable.{operand, held_from, held_locals, throwing, operands_asked, failing_cast, calling, picked_operands}
 use Rattle.plan_flow.specs.declared.rows.Asks.{Asks}
 use Rattle.plan_flow.specs.declared.rows.Asks.TheVariants as asked
@@ -24,6 +25,8 @@ use Rattle.plan_flow.specs.declared.rows.Source.TheVariants as sources
 use Rattle.plan_flow.specs.declared.shuffles.Form.{Form}
 use Rattle.plan_flow.specs.declared.shuffles.Width.{Width}
 use Rattle.plan_flow.specs.declared.shuffles.Width.TheVariants as widths
+use Rattle.virtual_state.specs.States.{State}
+use Rattle.virtual_state.specs.declared.slot.Slot.{Slot}
 
 -- ---- forms of instructions that move stack entries
 
@@ -105,3 +108,9 @@ dynamic_desc pool constant = None
 abbrev pub described_row : Frame → Option (List ℕ) → PlanRow
 described_row f None = throwing f 0 []
 described_row f (Some desc) = calling f (length (parameters_of desc)) desc
+
+-- ---- local units that are stored into
+
+abbrev pub stored_slots : State → Frame → Option ℕ → List Slot → List Slot
+stored_slots state f None slots = slots
+stored_slots state f (Some local) slots = slice_set slots local (held state (operand f 0))

@@ -1,8 +1,8 @@
 use Rattle.std.proofs.Common.{option_and_then, sym, ap, ◌∙◌}
 use Rattle.plan_flow.proofs.fields.field_of.Goals as goal
 
-pub returns-in-Some : goal.returns-in-Some
-returns-in-Some c = λ links flat are.
+pub returns-in_ok-field-in-Some : goal.returns-in_ok-field-in-Some
+returns-in_ok-field-in-Some c = λ links flat are.
     c.in_ok-field.ensures links are
     ∙ ap (option_and_then links.field) (sym c.in-Some.is ∙ c.in_ok-named.ensures links flat)
 

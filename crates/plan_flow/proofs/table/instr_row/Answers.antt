@@ -41,3 +41,11 @@ returns-in-Dynamic c = λ links are.
     ∙ ap (described_row f) (c.dynamic_descriptor.ensures links c.args.flat.now)
     ∙ dynamic_is pool f (constant_at pool c.in-Dynamic.index)
     ∙ ap (instr_row s c.args.at f c.args.class) (sym c.in-Dynamic.is)
+
+pub returns-in_ok-cast_row-in-Cast : goal.returns-in_ok-cast_row-in-Cast
+returns-in_ok-cast_row-in-Cast c = λ links are.
+    let f = c.args.types.now in
+    let s = scope_of c.args.tree.now links c.args.flat.now in
+    c.in_ok-cast_row-in-Cast.ensures
+    ∙ ap (cast_row f) (c.class_named.ensures links c.args.flat.now)
+    ∙ ap (instr_row s c.args.at f c.args.class) (sym c.in-Cast.is)
