@@ -22,3 +22,5 @@ pub mod FieldNumbers
 pub mod Adding
 pub mod RowUpdates
 pub mod Opening
+pub mod Beneath
+pub mod Gathering

@@ -1,15 +1,17 @@
 -- Edges that are taken one after the other.
-use Rattle.std.proofs.Common.{◌≡◌, ◌+◌, ℕ, zero, suc, Bool, true, false, List, [], ◌∷◌, ◌++◌, map, drop, length, slice_get, Option, Some, None, refl, sym, ap, ◌∙◌, append_assoc, arith}
+use Rattle.std.proofs.Common.{◌≡◌, ◌+◌, ℕ, zero, suc, Bool, true, false, List, [], ◌∷◌, ◌++◌, map, drop, length, slice_get, Option, Some, None, refl, sym, ap, subst, ◌∙◌, append_assoc, arith}
 use Rattle.std.specs.List.{filter}
 use Rattle.std.proofs.lemmas.List.{append-nil}
 use Rattle.std.proofs.lemmas.List.Elements.{filter-append}
 use Rattle.flow_code.specs.declared.handlers.FlatHandler.{FlatHandler}
 use Rattle.plan_flow.specs.Inner.EdgeViews.{IsOpened, row_edge}
+use Rattle.plan_flow.specs.Inner.RowViews.{guard_of}
 use Rattle.plan_flow.specs.PlanRows.{Guard, PlanRow, RowEdge}
 use Rattle.plan_flow.specs.PlanSlots.{is_open}
 use Rattle.plan_flow.specs.PlanTable.{handler_edges, jump_edges}
 use Rattle.plan_flow.specs.declared.edge.EdgeKind.TheVariants as kinds
 use Rattle.plan_flow.specs.declared.edges.GuardedEdge.{GuardedEdge}
+use Rattle.plan_flow.specs.declared.rows.Guard.{Guard as CodeGuard}
 use Rattle.virtual_state.specs.States.{State}
 
 pub opened_none : (state : State) (edges : List GuardedEdge) → IsOpened state edges edges []
@@ -57,3 +59,70 @@ opens_more edge rest opens one = record { then = λ after opened. opens.then aft
 
 pub opens_end : {state : State} {start now : List GuardedEdge} {all : List RowEdge} → OpensAll state start now all [] → IsOpened state start now all
 opens_end {state} {start} {now} opens = opens.then now (opened_none state now)
+
+pub record JumpsLeft (state : State) (start now : List GuardedEdge) (guard : CodeGuard) (targets : List ℕ) (number : ℕ) : Type 0 where
+  pub each : (row : PlanRow) → row.jump ≡ guard_of guard → OpensAll state start now (jump_edges row 0 targets) (jump_edges row number (drop number targets))
+
+pub jumps_start : (state : State) (start : List GuardedEdge) (guard : CodeGuard) (targets : List ℕ) → JumpsLeft state start start guard targets 0
+jumps_start state start guard targets = record { each = λ row is. opens_start state start (jump_edges row 0 targets) }
+
+pub jumps_next :
+    {state : State} {start now next : List GuardedEdge} {guard : CodeGuard} (targets : List ℕ) (number behind to : ℕ)
+    → JumpsLeft state start now guard targets number
+    → slice_get targets number ≡ Some to
+    → IsOpened state now next (row_edge (record { by = kinds.Jump number; to = to; guard = guard }) ∷ [])
+    → behind ≡ number + 1
+    → JumpsLeft state start next guard targets behind
+jumps_next {state} {start} {now} {next} {guard} targets number behind to left is opened one =
+    subst (λ (n : ℕ). JumpsLeft state start next guard targets n) (sym one) (record {
+      each = λ row same.
+          let edge : RowEdge = record { by = kinds.Jump number; to = to; guard = guard_of guard } in
+          let first : jump_edges row number (drop number targets) ≡ edge ∷ jump_edges row (number + 1) (drop (number + 1) targets) =
+          ap (jump_edges row number) (dropped targets number to is)
+          ∙ ap (λ (g : Guard). (let e : RowEdge = record { by = kinds.Jump number; to = to; guard = g } in e) ∷ jump_edges row (number + 1) (drop (number + 1) targets)) same in
+          opens_more edge (jump_edges row (number + 1) (drop (number + 1) targets))
+          (subst (λ (list : List RowEdge). OpensAll state start now (jump_edges row 0 targets) list) first (left.each row same)) opened;
+    })
+
+pub jumps_end :
+    {state : State} {start now : List GuardedEdge} {guard : CodeGuard} (targets : List ℕ) (number : ℕ)
+    → JumpsLeft state start now guard targets number
+    → slice_get targets number ≡ None
+    → (row : PlanRow)
+    → row.jump ≡ guard_of guard
+    → IsOpened state start now (jump_edges row 0 targets)
+jumps_end {state} {start} {now} targets number left is row same =
+    opens_end (subst (λ (list : List RowEdge). OpensAll state start now (jump_edges row 0 targets) list) (ap (jump_edges row number) (dropped_all targets number is)) (left.each row same))
+
+pub record HandlersLeft (state : State) (start now : List GuardedEdge) (guard : CodeGuard) (handlers : List FlatHandler) (at number : ℕ) : Type 0 where
+  pub same : number ≡ at
+  pub opens : OpensAll state start now (handler_edges (guard_of guard) 0 handlers) (handler_edges (guard_of guard) at (drop at handlers))
+
+pub handlers_start : (state : State) (start : List GuardedEdge) (guard : CodeGuard) (handlers : List FlatHandler) → HandlersLeft state start start guard handlers 0 0
+handlers_start state start guard handlers = record { same = refl; opens = opens_start state start (handler_edges (guard_of guard) 0 handlers) }
+
+pub handlers_next :
+    {state : State} {start now next : List GuardedEdge} {guard : CodeGuard} (handlers : List FlatHandler) (at number behind more : ℕ) (handler : FlatHandler)
+    → HandlersLeft state start now guard handlers at number
+    → slice_get handlers at ≡ Some handler
+    → IsOpened state now next (row_edge (record { by = kinds.Handler number; to = handler.to; guard = guard }) ∷ [])
+    → behind ≡ at + 1
+    → more ≡ number + 1
+    → HandlersLeft state start next guard handlers behind more
+handlers_next {state} {start} {now} {next} {guard} handlers at number behind more handler left is opened one also =
+    subst (λ (n : ℕ). HandlersLeft state start next guard handlers n more) (sym one) (record {
+      same = also ∙ ap (λ (n : ℕ). n + 1) left.same;
+      opens =
+          let edge : RowEdge = record { by = kinds.Handler at; to = handler.to; guard = guard_of guard } in
+          opens_more edge (handler_edges (guard_of guard) (at + 1) (drop (at + 1) handlers))
+          (subst (λ (list : List RowEdge). OpensAll state start now (handler_edges (guard_of guard) 0 handlers) list) (ap (handler_edges (guard_of guard) at) (dropped handlers at handler is)) left.opens)
+          (subst (λ (n : ℕ). IsOpened state now next (row_edge (record { by = kinds.Handler n; to = handler.to; guard = guard }) ∷ [])) left.same opened);
+    })
+
+pub handlers_end :
+    {state : State} {start now : List GuardedEdge} {guard : CodeGuard} (handlers : List FlatHandler) (at number : ℕ)
+    → HandlersLeft state start now guard handlers at number
+    → slice_get handlers at ≡ None
+    → IsOpened state start now (handler_edges (guard_of guard) 0 handlers)
+handlers_end {state} {start} {now} {guard} handlers at number left is =
+    opens_end (subst (λ (list : List RowEdge). OpensAll state start now (handler_edges (guard_of guard) 0 handlers) list) (ap (handler_edges (guard_of guard) at) (dropped_all handlers at is)) left.opens)

@@ -13,7 +13,7 @@ mod edge_states;
 mod edges;
 mod fields;
 mod laws;
-mod must;
+mod needs;
 mod numbers;
 mod reference;
 mod rows;
@@ -23,5 +23,5 @@ mod sources;
 mod table;
 
 pub use edge::{Edge, EdgeKind, EdgeList};
-pub use must::must;
+pub use needs::must;
 pub use laws::{effect_grows, flat_code_has_one_least_plan, must_grows, no_valid_plan_keeps_more};

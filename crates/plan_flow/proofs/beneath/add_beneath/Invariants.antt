@@ -1,0 +1,5 @@
+use Rattle.plan_flow.proofs.Beneath.{EdgesLeft}
+use Rattle.plan_flow.proofs.beneath.add_beneath.Given as goal
+
+abbrev pub invariant-loop-edge : goal.invariant-loop-edge
+invariant-loop-edge l = EdgesLeft l.initial.sites l.sites l.tree l.flat l.types l.row l.edges l.state l.edge-index
