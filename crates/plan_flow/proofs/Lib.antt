@@ -22,5 +22,8 @@ pub mod FieldNumbers
 pub mod Adding
 pub mod RowUpdates
 pub mod Opening
-pub mod Beneath
+pub mod TopEntries
 pub mod Gathering
+pub mod TreeLinks
+pub mod AskedSites
+pub mod DoneEdges

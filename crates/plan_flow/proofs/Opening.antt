@@ -1,7 +1,7 @@
 -- Edges that are taken one after the other.
-use Rattle.std.proofs.Common.{◌≡◌, ◌+◌, ℕ, zero, suc, Bool, true, false, List, [], ◌∷◌, ◌++◌, map, drop, length, slice_get, Option, Some, None, refl, sym, ap, subst, ◌∙◌, append_assoc, arith}
+use Rattle.std.proofs.Common.{◌≡◌, ◌+◌, ℕ, zero, suc, Bool, true, false, cond, List, [], ◌∷◌, ◌++◌, map, drop, length, slice_get, Option, Some, None, refl, sym, ap, subst, ◌∙◌, append_assoc, arith}
 use Rattle.std.specs.List.{filter}
-use Rattle.std.proofs.lemmas.List.{append-nil}
+use Rattle.std.proofs.lemmas.List.{append-nil, map-append}
 use Rattle.std.proofs.lemmas.List.Elements.{filter-append}
 use Rattle.flow_code.specs.declared.handlers.FlatHandler.{FlatHandler}
 use Rattle.plan_flow.specs.Inner.EdgeViews.{IsOpened, row_edge}
@@ -28,6 +28,18 @@ opened_both {state} {first} front back one other = record {
       ∙ ap (λ (list : List RowEdge). list ++ filter (λ edge. is_open state edge.guard) back) one.same
       ∙ append_assoc (map row_edge first) (filter (λ edge. is_open state edge.guard) front) (filter (λ edge. is_open state edge.guard) back)
       ∙ ap (λ (list : List RowEdge). map row_edge first ++ list) (sym (filter-append (λ (edge : RowEdge). is_open state edge.guard) front back));
+}
+
+pub opened_one : (state : State) (before : List GuardedEdge) (edge : GuardedEdge) → is_open state (guard_of edge.guard) ≡ true → IsOpened state before (before ++ edge ∷ []) (row_edge edge ∷ [])
+opened_one state before edge is = record {
+  same =
+      map-append row_edge before (edge ∷ [])
+      ∙ ap (λ (b : Bool). map row_edge before ++ cond b (row_edge edge ∷ []) []) (sym is);
+}
+
+pub opened_not : (state : State) (before : List GuardedEdge) (edge : GuardedEdge) → is_open state (guard_of edge.guard) ≡ false → IsOpened state before before (row_edge edge ∷ [])
+opened_not state before edge is = record {
+  same = sym (append-nil (map row_edge before)) ∙ ap (λ (b : Bool). map row_edge before ++ cond b (row_edge edge ∷ []) []) (sym is);
 }
 
 -- ---- targets and handlers, one by one

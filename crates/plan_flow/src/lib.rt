@@ -6,13 +6,16 @@
 mod arithmetic;
 mod asked;
 mod beneath;
+mod changes;
 mod constants;
 mod descriptors;
 mod edge;
 mod edge_states;
 mod edges;
+mod effects;
 mod fields;
 mod laws;
+mod links_laws;
 mod needs;
 mod numbers;
 mod reference;
@@ -23,5 +26,6 @@ mod sources;
 mod table;
 
 pub use edge::{Edge, EdgeKind, EdgeList};
-pub use needs::must;
+pub use effects::effect;
 pub use laws::{effect_grows, flat_code_has_one_least_plan, must_grows, no_valid_plan_keeps_more};
+pub use needs::must;

@@ -37,15 +37,16 @@ pub fn must(
         → AreLinksOf (headers_of tree.now) links
         → IsMust (scope_of tree.now links flat.now) at state.now sites) }
 {
-    match (flat.instr(at), flat.typed(at)) {
-        (Some(instr), Some(types)) => {
-            let asked = asked_at(alloc, tree, flat, at, types, instr, state)?;
-            let sites = closure(alloc, state, &asked)?;
-            let _order = sites.as_slice();
-            Ok(sites)
-        }
-        _ => Ok(SiteSet::new(alloc)),
-    }
+    let Some(instr) = flat.instr(at) else {
+        return Ok(SiteSet::new(alloc));
+    };
+    let Some(types) = flat.typed(at) else {
+        return Ok(SiteSet::new(alloc));
+    };
+    let asked = asked_at(alloc, tree, flat, at, types, instr, state)?;
+    let sites = closure(alloc, state, &asked)?;
+    let _order = sites.as_slice();
+    Ok(sites)
 }
 
 // The sites for which it asks.

@@ -1,4 +1,4 @@
-use Rattle.plan_flow.proofs.Beneath.{EdgesLeft}
+use Rattle.plan_flow.proofs.TopEntries.{EdgesLeft}
 use Rattle.plan_flow.proofs.beneath.add_beneath.Given as goal
 
 abbrev pub invariant-loop-edge : goal.invariant-loop-edge

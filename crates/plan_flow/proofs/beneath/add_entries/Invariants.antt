@@ -1,5 +1,5 @@
 use Rattle.std.proofs.Common.{◌-◌, length}
-use Rattle.plan_flow.proofs.Beneath.{Entries}
+use Rattle.plan_flow.proofs.TopEntries.{Entries}
 use Rattle.plan_flow.proofs.beneath.add_entries.Given as goal
 
 abbrev pub decreases-loop-at : goal.decreases-loop-at
