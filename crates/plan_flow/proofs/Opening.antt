@@ -1,5 +1,5 @@
 -- Edges that are taken one after the other.
-use Rattle.std.proofs.Common.{◌≡◌, ◌+◌, ℕ, zero, suc, Bool, true, false, cond, List, [], ◌∷◌, ◌++◌, map, drop, length, slice_get, Option, Some, None, refl, sym, ap, subst, ◌∙◌, append_assoc, arith}
+use Rattle.std.proofs.Common.{◌≡◌, ◌+◌, ◌<◌, ℕ, zero, suc, Bool, true, false, cond, List, [], ◌∷◌, ◌++◌, map, drop, length, slice_get, Option, Some, None, refl, sym, ap, subst, ◌∙◌, append_assoc, arith}
 use Rattle.std.specs.List.{filter}
 use Rattle.std.proofs.lemmas.List.{append-nil, map-append}
 use Rattle.std.proofs.lemmas.List.Elements.{filter-append}
@@ -47,7 +47,14 @@ opened_not state before edge is = record {
 pub dropped : {A : Type 0} (list : List A) (at : ℕ) (item : A) → slice_get list at ≡ Some item → drop at list ≡ item ∷ drop (at + 1) list
 dropped [] at item is = absurd cc
 dropped (first ∷ list) zero item is = let same : first ≡ item = cc in ap (λ one. one ∷ list) same
-dropped (first ∷ list) (suc at) item is = dropped list at item is
+dropped (first ∷ list) (suc at) item is =
+    let number : suc (at + 1) ≡ suc at + 1 = omega arith in
+    dropped list at item is ∙ ap (λ (n : ℕ). item ∷ drop n (first ∷ list)) number
+
+pub got_inside : {A : Type 0} (list : List A) (at : ℕ) (item : A) → slice_get list at ≡ Some item → at < length list
+got_inside [] at item is = absurd cc
+got_inside (first ∷ list) zero item is = omega arith
+got_inside (first ∷ list) (suc at) item is = let low = got_inside list at item is in omega (arith, low)
 
 pub dropped_all : {A : Type 0} (list : List A) (at : ℕ) → slice_get list at ≡ None → drop at list ≡ []
 dropped_all [] zero is = refl

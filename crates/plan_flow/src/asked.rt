@@ -61,7 +61,7 @@ fn add_operands_asked(
         (IsAskedIn (scope_of tree.now links flat.now) state.now (asked_by types.now asks.now))) }
 {
     match asks {
-        Asks::Operands(count) => add_operands(sites, types, *count, state),
+        Asks::Operands(count) => Ok(add_operands(sites, types, *count, state)?),
         Asks::NotBelow(class) => {
             let slot = held(state, operand(types, 0));
             let fails = fails_cast(tree, flat, slot, class);

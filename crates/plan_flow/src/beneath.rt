@@ -1,5 +1,5 @@
 //! Virtual objects that come to lie at or below a stack entry whose type is Top, which no instruction takes away.
-ghost use Rattle.std.specs.Prelude.{◌≡◌, ℕ, map, IsTrue, OnOk};
+ghost use Rattle.std.specs.Prelude.{◌≡◌, ℕ, drop, map, OnOk};
 ghost use Rattle.std.specs.List.{list_any};
 ghost use Rattle.class_model.specs.Frames.{is_top};
 ghost use Rattle.member_link.specs.Machine.Programs.{Links};
@@ -87,12 +87,23 @@ fn add_entries(
         (IsBeneath state.now types.now (fitted_stack types.now entries.now))) }
 {
     let mut at = 0;
-    while has_top(&types[at..]) {
+    while has_top_from(types, at) {
         let slot = or_plain(slot_at(entries, at));
         add_tested(sites, slot, is_present(state, slot))?;
         at += 1;
     }
     Ok(())
+}
+
+// Whether one of these types is Top, from an index on.
+fn has_top_from(types: &[VType], at: usize) -> bool
+    ensures { result ≡ list_any is_top (drop at types.now) }
+{
+    if at < types.len() {
+        has_top(&types[at..])
+    } else {
+        false
+    }
 }
 
 // Whether one of these types is Top.

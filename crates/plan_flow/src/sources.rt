@@ -1,8 +1,8 @@
 //! What places hold behind an edge, before it is known which of them are unusable there.
-ghost use Rattle.std.specs.Prelude.{◌≡◌, ◌++◌, ℕ, Option, Some, length, IfOk, OnOk};
+ghost use Rattle.std.specs.Prelude.{◌≡◌, ◌++◌, ◌∷◌, [], ℕ, Option, Some, length, IfOk, OnOk};
 ghost use Rattle.member_link.specs.Machine.Programs.{Links};
 ghost use Rattle.plan_flow.specs.Inner.FieldWords.{capped};
-ghost use Rattle.plan_flow.specs.Inner.RowViews.{change_of, given_by, plan_row, source_of, stored_slots};
+ghost use Rattle.plan_flow.specs.Inner.RowViews.{change_of, given_by, plan_row, source_of, stored_by, stored_slots};
 ghost use Rattle.plan_flow.specs.Narrow.{HasFewLocals};
 ghost use Rattle.plan_flow.specs.PlanRows.{Change as RowChange};
 ghost use Rattle.plan_flow.specs.PlanScope.{PlanScope, scope_of};
@@ -39,11 +39,19 @@ pub(crate) fn edge_locals(
 {
     let mut list = Vec::new(alloc);
     push_held(&mut list, state, 0, types.locals.len())?;
-    match by {
-        EdgeKind::Handler(_) => {}
-        EdgeKind::Next | EdgeKind::Jump(_) => store(&mut list, state, types, row.stored),
-    }
+    store(&mut list, state, types, stored_by(row.stored, by));
     Ok(list)
+}
+
+// The local unit that is stored into: a handler begins with those before the instruction.
+fn stored_by(stored: Option<u16>, by: EdgeKind) -> Option<u16>
+    ensures { result ≡ stored_by stored by }
+{
+    match by {
+        EdgeKind::Next => stored,
+        EdgeKind::Jump(_) => stored,
+        EdgeKind::Handler(_) => None,
+    }
 }
 
 // Puts what the topmost operand is into a local unit, if one is stored into.
@@ -77,14 +85,39 @@ pub(crate) fn edge_stack(
         ≡ slots.slots_from (scope_of tree.now links flat.now) state.now (change_of row.now.change)
         (slots.edge_stack (plan_row types.now row.now) by)) }
 {
-    let mut list = Vec::new(alloc);
     match by {
-        EdgeKind::Handler(_) => list.push(Slot::Plain)?,
-        EdgeKind::Next | EdgeKind::Jump(_) => {
-            push_held(&mut list, state, types.locals.len(), row.kept)?;
-            push_given(&mut list, tree, flat, state, types, row)?;
-        }
+        EdgeKind::Next => Ok(pushed_stack(alloc, tree, flat, state, types, row)?),
+        EdgeKind::Jump(_) => Ok(pushed_stack(alloc, tree, flat, state, types, row)?),
+        EdgeKind::Handler(_) => Ok(thrown_stack(alloc)?),
     }
+}
+
+// What was thrown.
+fn thrown_stack(alloc: Global) -> Result<Vec<Slot>, NoMemory>
+    ensures { IfOk result (λ list. list.items ≡ Slot.Plain ∷ []) }
+{
+    let mut list = Vec::new(alloc);
+    list.push(Slot::Plain)?;
+    Ok(list)
+}
+
+// The entries that stay, and above them what the instruction pushes.
+fn pushed_stack(
+    alloc: Global,
+    tree: &Tree,
+    flat: &Flat,
+    state: &VState,
+    types: &Frame,
+    row: &Row,
+) -> Result<Vec<Slot>, NoMemory>
+    requires { HasFewLocals types.now }
+    ensures { IfOk result (λ list. (links : Links) → list.items
+        ≡ slots.slots_from (scope_of tree.now links flat.now) state.now (change_of row.now.change)
+        (plan_row types.now row.now).stack) }
+{
+    let mut list = Vec::new(alloc);
+    push_held(&mut list, state, types.locals.len(), row.kept)?;
+    push_given(&mut list, tree, flat, state, types, row)?;
     Ok(list)
 }
 
@@ -109,7 +142,7 @@ fn push_given(
             list.push(slot_from(tree, flat, state, &row.change, source))?;
             Ok(())
         }
-        Gives::Operands(form) => push_operands(list, state, types, *form),
+        Gives::Operands(form) => Ok(push_operands(list, state, types, *form)?),
     }
 }
 

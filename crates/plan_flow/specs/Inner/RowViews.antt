@@ -11,6 +11,8 @@ use Rattle.member_link.specs.Rows.ShuffleRows as meant
 use Rattle.plan_flow.specs.PlanRows.{Source, plain_value, from_place, from_field, from_new, Change, no_change, new_object, put_field, enter_monitor, leave_monitor, Guard, in_each_state, where_plain, where_may_be_same, where_may_differ, Position, PlanRow}
 use Rattle.plan_flow.specs.PlanSlots.{held}
 use Rattle.plan_flow.specs.PlanTable.{operand, held_from, held_locals, throwing, operands_asked, failing_cast, calling, picked_operands}
+use Rattle.plan_flow.specs.declared.edge.EdgeKind.{EdgeKind}
+use Rattle.plan_flow.specs.declared.edge.EdgeKind.TheVariants as kinds
 use Rattle.plan_flow.specs.declared.rows.Asks.{Asks}
 use Rattle.plan_flow.specs.declared.rows.Asks.TheVariants as asked
 use Rattle.plan_flow.specs.declared.rows.Change.{Change as CodeChange}
@@ -110,6 +112,11 @@ described_row f None = throwing f 0 []
 described_row f (Some desc) = calling f (length (parameters_of desc)) desc
 
 -- ---- local units that are stored into
+
+-- a handler begins with the local units before the instruction
+abbrev pub stored_by : Option ℕ → EdgeKind → Option ℕ
+stored_by stored (kinds.Handler number) = None
+stored_by stored by = stored
 
 abbrev pub stored_slots : State → Frame → Option ℕ → List Slot → List Slot
 stored_slots state f None slots = slots

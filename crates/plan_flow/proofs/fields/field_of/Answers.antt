@@ -3,7 +3,7 @@ use Rattle.plan_flow.proofs.fields.field_of.Goals as goal
 
 pub returns-in_ok-field-in-Some : goal.returns-in_ok-field-in-Some
 returns-in_ok-field-in-Some c = λ links flat are.
-    c.in_ok-field.ensures links are
+    c.in_ok-field-in-Some.ensures links are
     ∙ ap (option_and_then links.field) (sym c.in-Some.is ∙ c.in_ok-named.ensures links flat)
 
 pub returns-in-None : goal.returns-in-None
