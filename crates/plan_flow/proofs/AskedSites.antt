@@ -61,7 +61,7 @@ module _ (s : PlanScope) (at : ℕ) (point : Point) (state : State) where
       → HasAdded middle last (IsBeneathAny s state (row_of_point s at point) (open_edges s at point state))
       → AreAsked s at point state last
   all_asked {middle} {last} one other = record {
-    all = λ site asked. all site asked;
+    all = λ site asked. all asked;
     only = λ site there. elim (other.only site there) [
       | inr lies ↦
           let by = beneath_by s state (row_of_point s at point) (open_edges s at point state) site lies in
@@ -74,9 +74,9 @@ module _ (s : PlanScope) (at : ℕ) (point : Point) (state : State) where
       ]
     ];
   } where
-    all : (site : ℕ) → IsAsked s at point state site → IsTrue (has last site)
-    all site (by_position number position site is asks) = other.kept site (one.asked site (asked_at s state (positions (row_of_point s at point)) number position site is asks))
-    all site (beneath number edge site is named present) = other.asked site (beneath_at s state (row_of_point s at point) (open_edges s at point state) number edge site is (named, present))
+    all : {site : ℕ} → IsAsked s at point state site → IsTrue (has last site)
+    all (by_position number position site is asks) = other.kept site (one.asked site (asked_at s state (positions (row_of_point s at point)) number position site is asks))
+    all (beneath number edge site is named present) = other.asked site (beneath_at s state (row_of_point s at point) (open_edges s at point state) number edge site is (named, present))
 
   pub are_asked :
       {middle last : List ℕ} (row : PlanRow) (edges : List RowEdge)

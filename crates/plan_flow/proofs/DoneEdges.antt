@@ -176,3 +176,19 @@ done_more {classes} {flat} {at} {types} {row} {state} taken edges count next edg
       (subst (λ (list : List RowEdge). AreEdges s point at state list (edges ++ made ∷ []))
       (sym (ap (map row_edge) (taken_more taken count edge is) ∙ map-append row_edge (take count taken) (edge ∷ []))) more);
 }
+
+take_all : (taken : List GuardedEdge) (count : ℕ) → slice_get taken count ≡ None → take count taken ≡ taken
+take_all [] zero none = refl
+take_all [] (suc count) none = refl
+take_all (first ∷ taken) zero none = absurd cc
+take_all (first ∷ taken) (suc count) none = λ i. first ∷ take_all taken count none i
+
+pub done_all :
+    {classes : Classes} {flat : FlatCode} {at : ℕ} {types : Frame} {row : Row} {state : State} (taken : List GuardedEdge) {edges : List Edge} (count : ℕ)
+    → EdgesDone classes flat at types row state taken edges count
+    → slice_get taken count ≡ None
+    → (links : Links) (point : Point)
+    → IsRowOf (scope_of classes links flat) at point types row
+    → AreEdges (scope_of classes links flat) point at state (map row_edge taken) edges
+done_all {classes} {flat} {at} {types} {row} {state} taken {edges} count done none links point row_of =
+    subst (λ (list : List GuardedEdge). AreEdges (scope_of classes links flat) point at state (map row_edge list) edges) (take_all taken count none) (done.each links point row_of)

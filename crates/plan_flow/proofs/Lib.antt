@@ -27,3 +27,4 @@ pub mod Gathering
 pub mod TreeLinks
 pub mod AskedSites
 pub mod DoneEdges
+pub mod Narrows

@@ -4,11 +4,13 @@ use Rattle.std.specs.List.{filter}
 use Rattle.std.proofs.lemmas.List.{append-nil, map-append}
 use Rattle.std.proofs.lemmas.List.Elements.{filter-append}
 use Rattle.flow_code.specs.declared.handlers.FlatHandler.{FlatHandler}
+use Rattle.flow_code.specs.declared.point.FlatInstr.{FlatInstr}
+use Rattle.flow_code.specs.declared.point.Point.{Point}
 use Rattle.plan_flow.specs.Inner.EdgeViews.{IsOpened, row_edge}
 use Rattle.plan_flow.specs.Inner.RowViews.{guard_of}
 use Rattle.plan_flow.specs.PlanRows.{Guard, PlanRow, RowEdge}
 use Rattle.plan_flow.specs.PlanSlots.{is_open}
-use Rattle.plan_flow.specs.PlanTable.{handler_edges, jump_edges}
+use Rattle.plan_flow.specs.PlanTable.{edges_of, falls_on, handler_edges, jump_edges, next_edges, targets_at, thrown_edges}
 use Rattle.plan_flow.specs.declared.edge.EdgeKind.TheVariants as kinds
 use Rattle.plan_flow.specs.declared.edges.GuardedEdge.{GuardedEdge}
 use Rattle.plan_flow.specs.declared.rows.Guard.{Guard as CodeGuard}
@@ -41,6 +43,20 @@ pub opened_not : (state : State) (before : List GuardedEdge) (edge : GuardedEdge
 opened_not state before edge is = record {
   same = sym (append-nil (map row_edge before)) ∙ ap (λ (b : Bool). map row_edge before ++ cond b (row_edge edge ∷ []) []) (sym is);
 }
+
+pub opened_all :
+    {first second third last : List GuardedEdge} (state : State) (at : ℕ) (point : Point) (row : PlanRow) (instr : FlatInstr) (handlers : List FlatHandler)
+    → point.instr ≡ instr
+    → point.handlers ≡ handlers
+    → IsOpened state first second (next_edges at row (falls_on instr))
+    → IsOpened state second third (jump_edges row 0 (targets_at instr))
+    → IsOpened state third last (thrown_edges row.throws handlers)
+    → IsOpened state first last (edges_of at point row)
+opened_all {first} {second} {third} {last} state at point row instr handlers same also next jumps thrown =
+    subst (λ (list : List RowEdge). IsOpened state first last list)
+    (λ i. next_edges at row (falls_on (sym same i)) ++ jump_edges row 0 (targets_at (sym same i)) ++ thrown_edges row.throws (sym also i))
+    (opened_both (next_edges at row (falls_on instr) ++ jump_edges row 0 (targets_at instr)) (thrown_edges row.throws handlers)
+    (opened_both (next_edges at row (falls_on instr)) (jump_edges row 0 (targets_at instr)) next jumps) thrown)
 
 -- ---- targets and handlers, one by one
 

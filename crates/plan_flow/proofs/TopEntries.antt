@@ -20,7 +20,7 @@ use Rattle.plan_flow.specs.declared.rows.Row.{Row}
 use Rattle.plan_flow.proofs.Adding.{AddsAll, adds_start, adds_more, adds_end}
 use Rattle.plan_flow.proofs.Changing.{virtual_is}
 use Rattle.plan_flow.proofs.Moving.{virtual_itself}
-use Rattle.plan_flow.proofs.Opening.{dropped}
+use Rattle.plan_flow.proofs.Opening.{dropped, dropped_all}
 use Rattle.virtual_state.specs.States.{State, is_present, is_virtual, names}
 use Rattle.virtual_state.specs.declared.slot.Slot.{Slot}
 use Rattle.virtual_state.specs.declared.slot.Slot.TheVariants.{Plain, Virt, Unusable}
@@ -42,12 +42,6 @@ any_inside test zero [] some = absurd (false≢true some)
 any_inside test zero (first ∷ list) some = omega arith
 any_inside test (suc at) [] some = absurd (false≢true some)
 any_inside test (suc at) (first ∷ list) some = let rest = any_inside test at list some in omega (arith, rest)
-
-drop_past : {A : Type 0} (at : ℕ) (list : List A) → length list ≤ at → drop at list ≡ []
-drop_past zero [] past = refl
-drop_past zero (first ∷ list) past = absurd (omega (arith, past))
-drop_past (suc at) [] past = refl
-drop_past (suc at) (first ∷ list) past = drop_past at list (omega (arith, past))
 
 -- ---- where no type is Top
 
@@ -204,10 +198,10 @@ edges_next {start} {now} {next} {classes} {flat} {types} {row} edges {state} at 
 pub edges_end :
     {start now : List ℕ} {classes : Classes} {flat : FlatCode} {types : Frame} {row : Row} (edges : List GuardedEdge) {state : State} (at : ℕ)
     → EdgesLeft start now classes flat types row edges state at
-    → length edges ≤ at
+    → slice_get edges at ≡ None
     → (links : Links)
     → HasAdded start now (IsBeneathAny (scope_of classes links flat) state (plan_row types row) (map row_edge edges))
 edges_end {start} {now} {classes} {flat} {types} {row} edges {state} at left past links =
     let s = scope_of classes links flat in
     let Rest : List GuardedEdge → ℕ → Type 0 = λ list site. IsBeneathAny s state (plan_row types row) (map row_edge list) site in
-    adds_end (Rest []) (subst (λ (list : List GuardedEdge). AddsAll start now (Rest edges) (Rest list)) (drop_past at edges past) (left.each links)) (λ site none. none)
+    adds_end (Rest []) (subst (λ (list : List GuardedEdge). AddsAll start now (Rest edges) (Rest list)) (dropped_all edges at past) (left.each links)) (λ site none. none)

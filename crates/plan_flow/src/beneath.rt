@@ -12,7 +12,7 @@ ghost use Rattle.plan_flow.specs.PlanSlots.{fit_stack as fitted_stack, stack_slo
 ghost use Rattle.virtual_state.specs.States.{is_present};
 
 use crate::asked::add_tested;
-use crate::edges::GuardedEdge;
+use crate::edges::{GuardedEdge, edge_at};
 use crate::rows::Row;
 use crate::slots::{or_plain, slot_at};
 use crate::sources::edge_stack;
@@ -41,8 +41,10 @@ pub(crate) fn add_beneath(
         (IsBeneathAny (scope_of tree.now links flat.now) state.now (plan_row types.now row.now)
         (map row_edge edges.now))) }
 {
-    for edge in edges {
-        add_behind(sites, alloc, tree, flat, types, row, *edge, state)?;
+    let mut at = 0;
+    while let Some(edge) = edge_at(edges, at) {
+        add_behind(sites, alloc, tree, flat, types, row, edge, state)?;
+        at += 1;
     }
     Ok(())
 }

@@ -1,5 +1,5 @@
 //! The edges that control may take from a point in a state.
-ghost use Rattle.std.specs.Prelude.{◌≡◌, ◌<◌, ◌-◌, ◌^◌, ◌∷◌, [], Some, length, slice_get, IfOk, OnOk};
+ghost use Rattle.std.specs.Prelude.{◌≡◌, ◌<◌, ◌-◌, ◌^◌, ◌∷◌, [], Some, length, slice_get, option_map, IfOk, OnOk};
 ghost use Rattle.class_model.specs.Instructions.{targets};
 ghost use Rattle.class_model.specs.declared.frame.Frame.{Frame};
 ghost use Rattle.flow_code.specs.FlatCode.{point_at};
@@ -11,7 +11,7 @@ ghost use Rattle.plan_flow.specs.Narrow.{IsNarrow};
 ghost use Rattle.plan_flow.specs.PlanRows.{PlanRow};
 ghost use Rattle.plan_flow.specs.PlanSlots as slots;
 ghost use Rattle.plan_flow.specs.PlanTable as tables;
-ghost use Rattle.plan_flow.specs.PlanTable.{edges_of, handler_edges, jump_edges, next_edges, targets_at};
+ghost use Rattle.plan_flow.specs.PlanTable.{edges_of, handler_edges, jump_edges, next_edges, targets_at, thrown_edges};
 
 use crate::edge::EdgeKind;
 use crate::rows::{Guard, Row};
@@ -42,22 +42,47 @@ pub(crate) fn open_edges(
     row: &Row,
     state: &VState,
 ) -> Result<Vec<GuardedEdge>, NoMemory>
-    requires { IsNarrow flat.now }
+    requires narrow { IsNarrow flat.now }
+    requires instr { option_map (λ point. point.instr) (point_at flat.now at) ≡ Some instr.now }
     ensures { IfOk result (λ edges. (types : Frame) (point : Point)
         → point_at flat.now at ≡ Some point
         → point.instr ≡ instr.now
         → IsOpened state.now [] edges.items (edges_of at point (plan_row types row.now))) }
 {
+    let _end = flat.len();
     let mut edges = Vec::new(alloc);
     let Some(handlers) = flat.handlers(at) else {
         return Ok(edges);
     };
     push_next(&mut edges, at, instr, row.next, state)?;
     push_jumps(&mut edges, instr, row.jump, state)?;
-    if let Some(guard) = row.throws {
-        push_handlers(&mut edges, handlers.as_slice(), guard, state)?;
-    }
+    push_thrown(&mut edges, handlers.as_slice(), row.throws, state)?;
     Ok(edges)
+}
+
+// Adds the edges to handlers, if the instruction may throw.
+fn push_thrown(
+    edges: &mut Vec<GuardedEdge>,
+    handlers: &[FlatHandler],
+    throws: Option<Guard>,
+    state: &VState,
+) -> Result<(), NoMemory>
+    requires { length handlers.now < 2 ^ 32 }
+    ensures { OnOk result
+        (IsOpened state.now edges.old.items edges.new.items
+        (thrown_edges (option_map guard_of throws) handlers.now)) }
+{
+    match throws {
+        Some(guard) => Ok(push_handlers(edges, handlers, guard, state)?),
+        None => Ok(()),
+    }
+}
+
+/// The edge at an index, if there is one.
+pub(crate) fn edge_at(edges: &[GuardedEdge], at: usize) -> Option<GuardedEdge>
+    ensures { result ≡ slice_get edges.now at }
+{
+    edges.get(at).copied()
 }
 
 // Adds the edge to the next point, if control may fall through.

@@ -16,7 +16,7 @@ ghost use Rattle.plan_flow.specs.PlanScope.{scope_of};
 use crate::changes::front_objects;
 use crate::edge::{Edge, EdgeList};
 use crate::edge_states::state_behind;
-use crate::edges::{GuardedEdge, open_edges};
+use crate::edges::{GuardedEdge, edge_at, open_edges};
 use crate::links_laws::a_tree_has_links;
 use crate::rows::Row;
 use crate::sources::{edge_locals, edge_stack};
@@ -106,13 +106,16 @@ fn edges_over(
         (map row_edge taken.now) edges) }
 {
     let mut edges = EdgeList::new(alloc);
-    for edge in taken {
-        let behind = state_over(alloc, tree, flat, at, types, row, *edge, state)?;
-        edges.push(Edge {
+    let mut number = 0;
+    while let Some(edge) = edge_at(taken, number) {
+        let behind = state_over(alloc, tree, flat, at, types, row, edge, state)?;
+        let made = Edge {
             to: edge.to,
             by: edge.by,
             state: behind,
-        })?;
+        };
+        edges.push(made)?;
+        number += 1;
     }
     Ok(edges)
 }

@@ -12,7 +12,17 @@ use Rattle.plan_flow.specs.PlanTable.{edges_of, positions}
 use Rattle.plan_flow.specs.declared.edges.GuardedEdge.{GuardedEdge}
 use Rattle.plan_flow.proofs.AskedSites.{are_asked}
 use Rattle.plan_flow.proofs.DoneEdges.{row_is}
+use Rattle.plan_flow.proofs.Narrows.{narrow_types}
 use Rattle.plan_flow.proofs.needs.asked_at.Goals as goal
+
+pub row_at-requires-types : goal.row_at-requires-types
+row_at-requires-types c = narrow_types c.args.flat.now c.args.at c.args.types.now c.requires.narrow c.requires.types
+
+pub add_asked-requires : goal.add_asked-requires
+add_asked-requires c = narrow_types c.args.flat.now c.args.at c.args.types.now c.requires.narrow c.requires.types
+
+pub add_beneath-requires : goal.add_beneath-requires
+add_beneath-requires c = narrow_types c.args.flat.now c.args.at c.args.types.now c.requires.narrow c.requires.types
 
 pub returns : goal.returns
 returns c = λ links point are is.
@@ -27,4 +37,4 @@ returns c = λ links point are is.
     are_asked s c.args.at point state row (map row_edge c.in_ok-edges.edges.items) row_of.same_row
     (opened.same ∙ ap (λ (r : PlanRow). filter (λ (edge : RowEdge). is_open state edge.guard) (edges_of c.args.at point r)) row_of.same_row)
     (subst (λ (list : List ℕ). HasAdded list c.add_asked.new.sites (IsAskedIn s state (positions row))) c.new-asked.ensures (c.in_ok-add_asked.ensures links are))
-    (subst (λ (list : List GuardedEdge). HasAdded c.add_asked.new.sites c.add_beneath.new.sites (IsBeneathAny s state row (map row_edge list))) c.as_slice.ensures (c.in_ok-add_beneath.ensures links))
+    (subst (λ (list : List GuardedEdge). HasAdded c.add_asked.new.sites c.add_beneath.new.sites (IsBeneathAny s state row (map row_edge list))) c.as_slice.ensures.value (c.in_ok-add_beneath.ensures links))
