@@ -1,6 +1,7 @@
-use Rattle.std.proofs.Common.{◌≡◌, ◌<◌, List, option_map, sym, ap, subst, ◌∙◌, refl, arith, rules}
+use Rattle.std.proofs.Common.{◌≡◌, ◌<◌, ◌^◌, List, length, option_map, sym, ap, subst, ◌∙◌, refl, arith, rules}
 use Rattle.std.specs.Option.{option_copied}
 use Rattle.std.proofs.lemmas.Option.{none-some, same_Some}
+use Rattle.flow_code.specs.declared.handlers.FlatHandler.{FlatHandler}
 use Rattle.flow_code.specs.declared.point.Point.{Point}
 use Rattle.plan_flow.specs.Inner.EdgeViews.{IsOpened}
 use Rattle.plan_flow.specs.Inner.RowViews.{plan_row}
@@ -17,14 +18,16 @@ returns-in_default c = λ types point is same.
 pub push_next-requires : goal.push_next-requires
 push_next-requires c =
     let low = point_inside c.args.flat.now c.args.at c.args.instr.now c.requires.instr in
-    let end = c.len-_end.ensures.len in
+    let end = c.len-end.ensures.len in
     search rules
 
 pub push_jumps-requires : goal.push_jumps-requires
 push_jumps-requires c = narrow_targets c.args.flat.now c.args.at c.args.instr.now c.requires.narrow c.requires.instr
 
 pub push_thrown-requires : goal.push_thrown-requires
-push_thrown-requires c = narrow_handlers c.args.flat.now c.args.at c.as_slice.result.now c.requires.narrow (sym c.handlers.ensures ∙ ap option_copied c.in-Some.is)
+push_thrown-requires c =
+    subst (λ (list : List FlatHandler). length list < 2 ^ 32) (sym c.as_slice.ensures)
+    (narrow_handlers c.args.flat.now c.args.at c.in-Some.handlers.now c.requires.narrow (sym c.handlers.ensures ∙ ap option_copied c.in-Some.is))
 
 pub returns : goal.returns
 returns c = λ types point is same.

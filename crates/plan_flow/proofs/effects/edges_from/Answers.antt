@@ -17,14 +17,14 @@ use Rattle.plan_flow.proofs.DoneEdges.{row_is}
 use Rattle.plan_flow.proofs.Narrows.{narrow_types}
 use Rattle.plan_flow.proofs.effects.edges_from.Goals as goal
 
-pub edges_over-requires-types : goal.edges_over-requires-types
-edges_over-requires-types c = narrow_types c.args.flat.now c.args.at c.args.types.now c.requires.narrow c.requires.types
+pub edges_over-requires-clause-types : goal.edges_over-requires-clause-types
+edges_over-requires-clause-types c = narrow_types c.args.flat.now c.args.at c.args.types.now c.requires.narrow c.requires.types
 
-pub row_at-requires-types : goal.row_at-requires-types
-row_at-requires-types c = narrow_types c.args.flat.now c.args.at c.args.types.now c.requires.narrow c.requires.types
+pub row_at-requires-clause-types : goal.row_at-requires-clause-types
+row_at-requires-clause-types c = narrow_types c.args.flat.now c.args.at c.args.types.now c.requires.narrow c.requires.types
 
-pub edges_over-requires-done : goal.edges_over-requires-done
-edges_over-requires-done c =
+pub edges_over-requires-clause-done : goal.edges_over-requires-clause-done
+edges_over-requires-clause-done c =
     let links = c.a_tree_has_links.ensures in
     let s = scope_of c.args.tree.now links.0 c.args.flat.now in
     let types = c.args.types.now in

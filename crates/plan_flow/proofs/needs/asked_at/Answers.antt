@@ -15,8 +15,8 @@ use Rattle.plan_flow.proofs.DoneEdges.{row_is}
 use Rattle.plan_flow.proofs.Narrows.{narrow_types}
 use Rattle.plan_flow.proofs.needs.asked_at.Goals as goal
 
-pub row_at-requires-types : goal.row_at-requires-types
-row_at-requires-types c = narrow_types c.args.flat.now c.args.at c.args.types.now c.requires.narrow c.requires.types
+pub row_at-requires-clause-types : goal.row_at-requires-clause-types
+row_at-requires-clause-types c = narrow_types c.args.flat.now c.args.at c.args.types.now c.requires.narrow c.requires.types
 
 pub add_asked-requires : goal.add_asked-requires
 add_asked-requires c = narrow_types c.args.flat.now c.args.at c.args.types.now c.requires.narrow c.requires.types
