@@ -440,4 +440,3 @@ pub climbing_all :
     → number ≡ capped (2 ^ 64 - 1) (number_in headers field (superclasses headers name))
 climbing_all headers field class number hierarchy climbing name is =
     climbed_all headers field hierarchy (2 ^ 64 - 1) name number (climbing.climbed name hierarchy is)
-

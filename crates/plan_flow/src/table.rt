@@ -220,11 +220,7 @@ fn is_object_init(method: &Reference) -> bool
 fn receivers(opcode: u8) -> usize
     ensures { result ≡ tables.receivers opcode }
 {
-    if opcode == INVOKESTATIC {
-        0
-    } else {
-        1
-    }
+    if opcode == INVOKESTATIC { 0 } else { 1 }
 }
 
 // Of a call of so many operands, with the result of a descriptor.
