@@ -1,5 +1,5 @@
 -- Sites that are added one by one.
-use Rattle.std.proofs.Common.{◌≡◌, ◌↔◌, ◌||◌, ◌==◌, ℕ, zero, suc, Bool, true, false, List, [], ◌∷◌, ◌++◌, Option, Some, None, IsTrue, IsFalse, refl, sym, ap, subst, ◌∙◌, inl, inr, ◌⊎◌}
+use Rattle.std.proofs.Common.{◌≡◌, ◌↔◌, ◌||◌, ◌==◌, ℕ, suc, Bool, true, false, List, [], ◌∷◌, ◌++◌, IsTrue, refl, sym, ap, subst, ◌∙◌, inl, inr, ◌⊎◌}
 use Rattle.std.proofs.lemmas.Bool.{false≢true, or_cases, or_left, or_right, eq-eqb, eqb-true}
 use Rattle.class_model.specs.declared.frame.Frame.{Frame}
 use Rattle.plan_flow.specs.Inner.Asking.{HasAdded, IsAskedIn, IsTested}
@@ -8,13 +8,13 @@ use Rattle.plan_flow.specs.PlanRows.{Position, any_object}
 use Rattle.plan_flow.specs.PlanScope.{PlanScope}
 use Rattle.plan_flow.specs.PlanSlots.{held}
 use Rattle.plan_flow.specs.PlanTable.{operand, operands_asked}
-use Rattle.plan_flow.proofs.Moving.{plain≢virt, same_site}
-use Rattle.plan_flow.proofs.Reached.{Reach, reach, reach_all}
+use Rattle.plan_flow.proofs.Moving.{same_site}
+use Rattle.plan_flow.proofs.Reached.{Reach, reach}
 use Rattle.virtual_state.specs.Sites.{has, IsClosure}
 use Rattle.virtual_state.specs.States.{State, IsPath, one_edge, edge_and_path, IsReached, from_slot, from_field, names}
 use Rattle.virtual_state.specs.Without.{IsClosed}
 use Rattle.virtual_state.specs.declared.slot.Slot.{Slot}
-use Rattle.virtual_state.specs.declared.slot.Slot.TheVariants.{Plain, Virt, Unusable}
+use Rattle.virtual_state.specs.declared.slot.Slot.TheVariants.{Virt}
 use Rattle.virtual_state.specs.declared.slot.VObject.{VObject}
 
 -- ---- nothing more, one more

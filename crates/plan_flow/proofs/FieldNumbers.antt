@@ -1,18 +1,16 @@
 -- The number of a field of an object, class by class upwards.
-use Rattle.std.proofs.Common.{◌≡◌, ◌+◌, ◌-◌, ◌^◌, ◌<◌, ◌≤◌, ◌&&◌, min, ℕ, zero, suc, Bool, true, false, cond, List, [], ◌∷◌, ◌++◌, length, map, filter, reverse, bytes_eq, slice_get, count_by, Option, Some, None, IsSome, IfSome, is_some, option_map, option_and_then, refl, sym, ap, subst, ◌∙◌, arith, append_assoc}
+use Rattle.std.proofs.Common.{◌≡◌, ◌+◌, ◌-◌, ◌^◌, ◌≤◌, ◌&&◌, ℕ, zero, suc, Bool, true, false, cond, List, [], ◌∷◌, ◌++◌, length, map, filter, reverse, bytes_eq, slice_get, count_by, Option, Some, None, IsSome, IfSome, is_some, option_map, option_and_then, refl, sym, ap, subst, ◌∙◌, arith, append_assoc}
 use Rattle.std.specs.List.{flat_map, position_from}
-use Rattle.std.proofs.lemmas.Bool.{false≢true}
 use Rattle.std.proofs.lemmas.List.{append-nil, reverse-append}
 use Rattle.std.proofs.lemmas.List.Concat.{flat_map-cons}
 use Rattle.std.proofs.lemmas.List.Sums.{length-filter}
-use Rattle.std.proofs.lemmas.Option.{none-some, same_Some}
 use Rattle.class_model.specs.declared.header.Header.{Header}
 use Rattle.class_model.specs.declared.header.Member.{Member}
 use Rattle.class_tree.specs.Headers.{Name, Headers, all_headers, class_named, named}
 use Rattle.class_tree.specs.Hierarchy.{IsHierarchy, climb, height, superclass_of}
 use Rattle.class_tree.specs.Laws.FirstPlaces.{first_at, first_there}
 use Rattle.class_tree.specs.Laws.Headers.{class_there, header_there, no_superclass, super_is_there, superclass_is, superclass_there}
-use Rattle.class_tree.specs.Layouts.{classes_up, own_fields, superclasses}
+use Rattle.class_tree.specs.Layouts.{classes_up, superclasses}
 use Rattle.class_tree.specs.Names.{is_member}
 use Rattle.class_tree.specs.Order.{first_place, header_at, place_of}
 use Rattle.class_tree.specs.declared.place.Place.{Place}

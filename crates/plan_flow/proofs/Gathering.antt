@@ -1,9 +1,9 @@
 -- Operands that are gathered one by one.
-use Rattle.std.proofs.Common.{◌≡◌, ◌+◌, ◌-◌, ◌<◌, ◌≤◌, ℕ, zero, suc, List, [], ◌∷◌, ◌++◌, map, take, length, get_or, slice_set, Option, Some, None, refl, sym, ap, subst, ◌∙◌, arith, append_assoc}
+use Rattle.std.proofs.Common.{◌≡◌, ◌+◌, ◌-◌, ◌<◌, ◌≤◌, ℕ, zero, suc, List, [], ◌∷◌, ◌++◌, take, length, get_or, Option, Some, None, refl, sym, ap, ◌∙◌, arith, append_assoc}
 use Rattle.std.proofs.lemmas.List.{append-nil, map-append, map-set, take_more}
 use Rattle.class_model.specs.declared.frame.Frame.{Frame}
 use Rattle.plan_flow.specs.Inner.RowViews.{locals_behind, plan_row, stored_by, stored_slots}
-use Rattle.plan_flow.specs.PlanRows.{Change, Source, from_place}
+use Rattle.plan_flow.specs.PlanRows.{Change, from_place}
 use Rattle.plan_flow.specs.PlanScope.{PlanScope}
 use Rattle.plan_flow.specs.PlanSlots.{edge_locals, held, slot_from, slots_from}
 use Rattle.plan_flow.specs.PlanTable.{held_locals, operand, picked_operands}

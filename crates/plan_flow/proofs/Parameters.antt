@@ -1,11 +1,8 @@
 -- The parameters of a descriptor, cut off one by one.
-use Rattle.std.proofs.Common.{◌≡◌, ◌+◌, ◌-◌, ◌==◌, ◌<◌, ◌≤◌, not, ℕ, zero, suc, Bool, true, false, cond, List, [], ◌∷◌, ◌++◌, length, map, take, drop, take_while, refl, sym, ap, subst, ◌∙◌, arith, append_assoc, length-drop, zero-add}
+use Rattle.std.proofs.Common.{◌≡◌, ◌+◌, ◌==◌, ◌<◌, ◌≤◌, not, ℕ, zero, suc, Bool, true, false, cond, List, [], ◌∷◌, length, take, drop, take_while, refl, sym, ap, subst, ◌∙◌, arith, length-drop, zero-add}
 use Rattle.std.proofs.Math.Seq.{drop-nil}
 use Rattle.std.proofs.lemmas.List.Sums.{take_while-cons}
-use Rattle.std.proofs.lemmas.List.{append-nil}
 use Rattle.class_model.specs.Descriptors.{brackets, element_len, kind_of, parameters_of, type_len, type_of, types_before}
-use Rattle.class_model.specs.declared.descriptor.FieldType.{FieldType}
-use Rattle.class_model.specs.declared.descriptor.Kind.{Kind}
 use Rattle.plan_flow.specs.Inner.ParameterWords.{begins_type}
 
 pub drop_more : (n m : ℕ) (xs : List ℕ) → drop m (drop n xs) ≡ drop (n + m) xs

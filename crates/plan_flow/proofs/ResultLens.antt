@@ -1,5 +1,5 @@
 -- The result of a descriptor, found by the lengths of the texts of its parameters.
-use Rattle.std.proofs.Common.{not, is_some, ◌≡◌, ◌==◌, ◌+◌, ◌-◌, ◌≤◌, ℕ, zero, suc, Bool, true, false, List, [], ◌∷◌, ◌++◌, length, take, drop, if◌then◌else◌, bytes_eq, codes, Option, Some, None, refl, sym, ap, ◌∙◌, arith, length-append, length-drop}
+use Rattle.std.proofs.Common.{not, is_some, ◌≡◌, ◌==◌, ◌+◌, ◌≤◌, ℕ, zero, suc, Bool, true, false, List, [], ◌∷◌, ◌++◌, length, take, drop, if◌then◌else◌, bytes_eq, codes, Option, Some, None, refl, sym, ap, ◌∙◌, arith, length-append, length-drop}
 use Rattle.std.specs.List.{flat_map}
 use Rattle.class_model.specs.Descriptors.{field_type_text, kind_of, named_text, parameters_of, type_len, type_of, types_before}
 use Rattle.class_model.specs.declared.descriptor.FieldType.{FieldType}

@@ -1,5 +1,5 @@
 -- Rows that are changed in some parts.
-use Rattle.std.proofs.Common.{◌≡◌, ℕ, List, [], Option, Some, None, refl}
+use Rattle.std.proofs.Common.{◌≡◌, ℕ, List, Option, Some, None, refl}
 use Rattle.class_model.specs.Pool.{Constants}
 use Rattle.class_model.specs.PoolChecks.{descriptor_at}
 use Rattle.class_model.specs.declared.frame.Frame.{Frame}

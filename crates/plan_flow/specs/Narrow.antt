@@ -1,5 +1,5 @@
 -- How wide flat code may be. It is this project's profile.
-use Rattle.std.specs.Prelude.{◌≤◌, ◌<◌, ◌^◌, ℕ, length}
+use Rattle.std.specs.Prelude.{◌≤◌, ◌<◌, ◌^◌, length}
 use Rattle.std.specs.List.{AllByRecursion}
 use Rattle.class_model.specs.declared.frame.Frame.{Frame}
 use Rattle.flow_code.specs.FlatCode.{FlatCode}

@@ -7,7 +7,7 @@ use Rattle.flow_code.specs.declared.point.Point.{Point}
 use Rattle.member_link.specs.Machine.Programs.{Links}
 use Rattle.plan_flow.specs.Inner.RowViews.{plan_row}
 use Rattle.plan_flow.specs.Must.{IsMustOf, row_of_point}
-use Rattle.plan_flow.specs.PlanRows.{Change, no_change, new_object, put_field, enter_monitor, leave_monitor}
+use Rattle.plan_flow.specs.PlanRows.{Change, enter_monitor}
 use Rattle.plan_flow.specs.PlanScope.{PlanScope, scope_of}
 use Rattle.plan_flow.specs.PlanSlots.{changed, held}
 use Rattle.plan_flow.specs.declared.edge.EdgeKind.{EdgeKind}

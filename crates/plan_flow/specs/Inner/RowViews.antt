@@ -6,7 +6,6 @@ use Rattle.class_model.specs.PoolChecks.{descriptor_at}
 use Rattle.class_model.specs.declared.frame.Frame.{Frame}
 use Rattle.class_model.specs.declared.pool.Const.{Const as PoolConst}
 use Rattle.class_model.specs.declared.pool.Const.TheVariants as consts
-use Rattle.class_tree.specs.Headers.{Name}
 use Rattle.member_link.specs.Rows.ShuffleRows as meant
 use Rattle.plan_flow.specs.PlanRows.{Source, plain_value, from_place, from_field, from_new, Change, no_change, new_object, put_field, enter_monitor, leave_monitor, Guard, in_each_state, where_plain, where_may_be_same, where_may_differ, Position, PlanRow}
 use Rattle.plan_flow.specs.PlanSlots.{held}

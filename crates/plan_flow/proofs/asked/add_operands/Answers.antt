@@ -1,8 +1,8 @@
-use Rattle.std.proofs.Common.{◌≡◌, ℕ, List, ap, subst, ◌∙◌, arith}
+use Rattle.std.proofs.Common.{◌≡◌, ℕ, ap, subst, ◌∙◌, arith}
 use Rattle.plan_flow.specs.Inner.Asking.{HasAdded, IsAskedIn}
 use Rattle.plan_flow.specs.PlanSlots.{held}
 use Rattle.plan_flow.specs.PlanTable.{operands_asked}
-use Rattle.plan_flow.proofs.Adding.{HasOperands, operands_none, operands_next}
+use Rattle.plan_flow.proofs.Adding.{operands_none, operands_next}
 use Rattle.plan_flow.proofs.asked.add_operands.Goals as goal
 
 pub loop-number-init : goal.loop-number-init

@@ -1,4 +1,4 @@
-use Rattle.std.proofs.Common.{◌≡◌, ◌+◌, ◌-◌, ◌<◌, ℕ, length, slice_get, Some, sym, ◌∙◌, refl, arith, rules}
+use Rattle.std.proofs.Common.{sym, ◌∙◌, refl, arith, rules}
 use Rattle.plan_flow.proofs.Opening.{got_inside}
 use Rattle.plan_flow.proofs.TopEntries.{edges_start, edges_next, edges_end}
 use Rattle.plan_flow.proofs.beneath.add_beneath.Goals as goal

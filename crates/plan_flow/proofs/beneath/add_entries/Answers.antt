@@ -1,4 +1,4 @@
-use Rattle.std.proofs.Common.{◌≡◌, ◌-◌, ◌<◌, ℕ, length, slice_get, sym, ap, ◌∙◌, arith, rules}
+use Rattle.std.proofs.Common.{sym, ap, ◌∙◌, arith, rules}
 use Rattle.class_model.specs.Frames.{is_top}
 use Rattle.plan_flow.specs.Inner.Fitting.{or_plain}
 use Rattle.plan_flow.proofs.TopEntries.{any_inside, entries_start, entries_next, entries_end}

@@ -1,4 +1,4 @@
-use Rattle.std.proofs.Common.{◌≡◌, ◌∷◌, ℕ, List, ap, ◌∙◌, rules}
+use Rattle.std.proofs.Common.{◌≡◌, ◌∷◌, ℕ, ap, ◌∙◌, rules}
 use Rattle.plan_flow.proofs.Parameters.{name_dropped}
 use Rattle.plan_flow.proofs.descriptors.after_element.Goals as goal
 

@@ -1,4 +1,4 @@
-use Rattle.std.proofs.Common.{not, ◌≡◌, ℕ, true, false, List, drop, take, length, bytes_eq, codes, sym, ap, subst, ◌∙◌, rules}
+use Rattle.std.proofs.Common.{not, ◌≡◌, ℕ, List, drop, take, length, bytes_eq, codes, sym, ap, subst, ◌∙◌, rules}
 use Rattle.class_model.specs.Descriptors.{field_type_text, type_len, type_of}
 use Rattle.plan_flow.proofs.ResultLens.{Passed, all_passed, none_passed, one_passed, read_some}
 use Rattle.plan_flow.proofs.descriptors.has_result.Goals as goal

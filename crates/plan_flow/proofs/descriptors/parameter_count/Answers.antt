@@ -1,7 +1,5 @@
-use Rattle.std.proofs.Common.{◌+◌, ◌<◌, ◌≤◌, ℕ, List, [], ◌∷◌, true, length, drop, sym, subst, ◌∙◌, arith, rules}
-use Rattle.class_model.specs.Descriptors.{type_len}
+use Rattle.std.proofs.Common.{◌+◌, ℕ, List, sym, subst, ◌∙◌, arith, rules}
 use Rattle.plan_flow.proofs.Parameters.{Read, not_empty, read_none, read_more, read_all}
-use Rattle.plan_flow.specs.Inner.ParameterWords.{begins_type}
 use Rattle.plan_flow.proofs.descriptors.parameter_count.Goals as goal
 
 pub loop-rest-init : goal.loop-rest-init

@@ -1,4 +1,4 @@
-use Rattle.std.proofs.Common.{◌≡◌, ◌<◌, ◌^◌, List, length, option_map, sym, ap, subst, ◌∙◌, refl, arith, rules}
+use Rattle.std.proofs.Common.{◌<◌, ◌^◌, List, length, option_map, sym, ap, subst, ◌∙◌, refl, rules}
 use Rattle.std.specs.Option.{option_copied}
 use Rattle.std.proofs.lemmas.Option.{none-some, same_Some}
 use Rattle.flow_code.specs.declared.handlers.FlatHandler.{FlatHandler}

@@ -1,4 +1,3 @@
-use Rattle.std.proofs.Common.{◌≡◌}
 use Rattle.plan_flow.proofs.Opening.{HandlersLeft}
 use Rattle.plan_flow.proofs.edges.push_handlers.Given as goal
 

@@ -1,4 +1,4 @@
-use Rattle.std.proofs.Common.{◌≡◌, ◌+◌, ◌-◌, ◌<◌, ℕ, length, slice_get, Some, sym, ap, ◌∙◌, refl, arith, rules}
+use Rattle.std.proofs.Common.{sym, ◌∙◌, refl, arith, rules}
 use Rattle.plan_flow.specs.PlanTable.{targets_at}
 use Rattle.plan_flow.proofs.Opening.{got_inside, jumps_start, jumps_next, jumps_end}
 use Rattle.plan_flow.proofs.edges.push_jumps.Goals as goal

@@ -1,17 +1,15 @@
-use Rattle.std.proofs.Common.{◌≡◌, List, [], Option, map, option_map, sym, ap, subst, ◌∙◌}
+use Rattle.std.proofs.Common.{List, [], Option, map, option_map, sym, ap, subst, ◌∙◌}
 use Rattle.std.specs.List.{filter}
 use Rattle.std.proofs.lemmas.Option.{same_Some}
 use Rattle.flow_code.specs.FlatCode.{point_at}
 use Rattle.flow_code.specs.declared.point.Point.{Point}
 use Rattle.plan_flow.specs.Effect.{AreEdges}
-use Rattle.plan_flow.specs.Inner.Doing.{IsRowOf}
 use Rattle.plan_flow.specs.Inner.EdgeViews.{row_edge}
 use Rattle.plan_flow.specs.Must.{IsMustIn}
 use Rattle.plan_flow.specs.PlanRows.{PlanRow, RowEdge}
 use Rattle.plan_flow.specs.PlanScope.{scope_of}
 use Rattle.plan_flow.specs.PlanSlots.{is_open}
 use Rattle.plan_flow.specs.PlanTable.{edges_of}
-use Rattle.plan_flow.specs.declared.edges.GuardedEdge.{GuardedEdge}
 use Rattle.plan_flow.proofs.AskedSites.{found_point}
 use Rattle.plan_flow.proofs.DoneEdges.{row_is}
 use Rattle.plan_flow.proofs.Narrows.{narrow_types}

@@ -1,4 +1,4 @@
-use Rattle.std.proofs.Common.{◌≡◌, ◌+◌, ◌-◌, ◌<◌, ◌++◌, ◌∷◌, [], ℕ, List, length, slice_get, Some, sym, ap, subst, ◌∙◌, refl, arith, rules}
+use Rattle.std.proofs.Common.{◌+◌, List, sym, subst, ◌∙◌, refl, arith, rules}
 use Rattle.plan_flow.specs.declared.edge.Edge.{Edge}
 use Rattle.plan_flow.proofs.DoneEdges.{EdgesDone, done_none, done_more, done_all}
 use Rattle.plan_flow.proofs.Opening.{got_inside}

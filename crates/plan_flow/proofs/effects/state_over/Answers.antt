@@ -1,4 +1,4 @@
-use Rattle.std.proofs.Common.{ap, refl, ◌∙◌}
+use Rattle.std.proofs.Common.{◌∙◌}
 use Rattle.std.specs.Option.{option_copied}
 use Rattle.plan_flow.specs.PlanScope.{scope_of}
 use Rattle.plan_flow.proofs.DoneEdges.{can_be, is_behind, not_full, target_is}

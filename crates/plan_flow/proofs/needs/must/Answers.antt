@@ -1,10 +1,10 @@
-use Rattle.std.proofs.Common.{Option, option_map, sym, ap, subst, ◌∙◌}
+use Rattle.std.proofs.Common.{Option, sym, ap, subst, ◌∙◌}
 use Rattle.std.specs.Option.{option_copied}
 use Rattle.flow_code.specs.FlatCode.{point_at}
 use Rattle.flow_code.specs.declared.point.Point.{Point}
 use Rattle.plan_flow.specs.Must.{IsMustIn}
 use Rattle.plan_flow.specs.PlanScope.{scope_of}
-use Rattle.plan_flow.proofs.AskedSites.{found_point, must_is, no_point}
+use Rattle.plan_flow.proofs.AskedSites.{found_point, must_is}
 use Rattle.plan_flow.proofs.needs.must.Goals as goal
 
 pub returns : goal.returns

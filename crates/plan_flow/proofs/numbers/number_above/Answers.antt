@@ -1,4 +1,4 @@
-use Rattle.std.proofs.Common.{◌<◌, Option, ℕ, IsSome, IfSome, sym, subst}
+use Rattle.std.proofs.Common.{◌<◌, Option, sym, subst}
 use Rattle.class_tree.specs.Headers.{headers_of}
 use Rattle.class_tree.specs.Hierarchy.{height, superclass_of}
 use Rattle.class_tree.specs.Laws.Headers.{header_there}

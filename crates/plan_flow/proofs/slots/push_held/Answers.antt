@@ -1,6 +1,4 @@
-use Rattle.std.proofs.Common.{◌≡◌, ◌≤◌, ◌∙◌, ◌++◌, ◌∷◌, ◌+◌, [], ℕ, List, ap, subst, arith}
-use Rattle.plan_flow.specs.PlanRows.{Change}
-use Rattle.plan_flow.specs.PlanScope.{PlanScope}
+use Rattle.std.proofs.Common.{◌≡◌, ◌∙◌, ◌++◌, ◌∷◌, [], ℕ, ap, subst, arith}
 use Rattle.plan_flow.specs.PlanSlots.{slots_from}
 use Rattle.plan_flow.specs.PlanTable.{held_from}
 use Rattle.plan_flow.proofs.Fitting.{held_next}

@@ -1,4 +1,4 @@
-use Rattle.std.proofs.Common.{◌≡◌, ◌++◌, length, ap, ◌∙◌}
+use Rattle.std.proofs.Common.{◌≡◌, ◌++◌, ap, ◌∙◌}
 use Rattle.plan_flow.specs.Inner.RowViews.{change_of, stored_by, stored_slots}
 use Rattle.plan_flow.specs.PlanSlots.{slots_from}
 use Rattle.plan_flow.specs.PlanTable.{held_from, held_locals}

@@ -1,4 +1,4 @@
-use Rattle.std.proofs.Common.{◌≡◌, ◌++◌, List, length, sym, ap, ◌∙◌}
+use Rattle.std.proofs.Common.{◌++◌, List, length, sym, ap, ◌∙◌}
 use Rattle.std.proofs.lemmas.List.{map-append}
 use Rattle.plan_flow.specs.Inner.RowViews.{change_of, given_by}
 use Rattle.plan_flow.specs.PlanScope.{scope_of}

@@ -1,7 +1,6 @@
-use Rattle.std.proofs.Common.{◌≡◌, ℕ, [], ◌∷◌, Option, Some, sym, ap, subst, ◌∙◌}
-use Rattle.member_link.specs.References.{Reference}
+use Rattle.std.proofs.Common.{ℕ, [], ◌∷◌, Some, sym, ap, ◌∙◌}
 use Rattle.plan_flow.specs.Inner.RowViews.{asked_by, plan_row}
-use Rattle.plan_flow.specs.PlanRows.{from_field, where_plain, Source, Guard, PlanRow}
+use Rattle.plan_flow.specs.PlanRows.{from_field, where_plain, PlanRow}
 use Rattle.plan_flow.specs.PlanScope.{scope_of}
 use Rattle.plan_flow.specs.PlanTable.{moving, operand, library_operands, get_field_row}
 use Rattle.plan_flow.proofs.RowUpdates.{updated}

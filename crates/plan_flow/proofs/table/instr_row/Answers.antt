@@ -1,8 +1,6 @@
-use Rattle.std.proofs.Common.{◌≡◌, ℕ, List, Option, sym, ap, subst, ◌∙◌}
+use Rattle.std.proofs.Common.{sym, ap, ◌∙◌}
 use Rattle.class_model.specs.Pool.{constant_at}
-use Rattle.class_model.specs.declared.instr.Instr.{Instr}
-use Rattle.member_link.specs.References.{Reference}
-use Rattle.plan_flow.specs.Inner.RowViews.{described_row, plan_row}
+use Rattle.plan_flow.specs.Inner.RowViews.{described_row}
 use Rattle.plan_flow.specs.PlanScope.{pool_of, scope_of}
 use Rattle.plan_flow.specs.PlanTable.{call_row, cast_row, get_field_row, instr_row, put_field_row}
 use Rattle.plan_flow.proofs.RowUpdates.{dynamic_is}

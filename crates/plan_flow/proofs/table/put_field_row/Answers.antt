@@ -1,6 +1,6 @@
-use Rattle.std.proofs.Common.{◌≡◌, ℕ, [], ◌∷◌, Option, Some, sym, ap, subst, ◌∙◌}
+use Rattle.std.proofs.Common.{ℕ, [], Some, sym, ap, ◌∙◌}
 use Rattle.plan_flow.specs.Inner.RowViews.{asked_by, plan_row}
-use Rattle.plan_flow.specs.PlanRows.{put_field, where_plain, Change, Guard, PlanRow}
+use Rattle.plan_flow.specs.PlanRows.{put_field, where_plain}
 use Rattle.plan_flow.specs.PlanScope.{scope_of}
 use Rattle.plan_flow.specs.PlanTable.{moving, operand, library_operands, put_field_row}
 use Rattle.plan_flow.proofs.RowUpdates.{updated_all}

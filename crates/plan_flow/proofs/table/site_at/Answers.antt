@@ -1,4 +1,4 @@
-use Rattle.std.proofs.Common.{◌≡◌, ◌==◌, ◌<◌, ◌≤◌, ℕ, List, Option, Some, None, IfSome, length, sym, ap, subst, ◌∙◌, arith, rules}
+use Rattle.std.proofs.Common.{◌==◌, sym, ap, ◌∙◌}
 use Rattle.flow_code.specs.declared.point.Site.{Site}
 use Rattle.member_link.specs.Machine.Programs.{number_of_first}
 use Rattle.plan_flow.proofs.FieldNumbers.{from_start}
