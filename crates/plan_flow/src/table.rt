@@ -53,7 +53,7 @@ pub(crate) fn row_at(
     }
 }
 
-// The row of an instruction of a class, by the class's number: of one that names a constant.
+// The row of an instruction of a class, by the class's number.
 fn instr_row(
     tree: &Tree,
     flat: &Flat,
