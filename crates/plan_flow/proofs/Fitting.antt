@@ -1,6 +1,5 @@
 -- Slots that are appended one by one.
-use Rattle.std.proofs.Common.{◌≡◌, ℕ, ◌+◌, ◌<◌, zero, suc, Bool, List, [], ◌∷◌, ◌++◌, map, length, take, slice_get, Option, Some, None, refl, sym, ap, ◌∙◌, arith, append_assoc}
-use Rattle.class_model.specs.Frames.{is_top}
+use Rattle.std.proofs.Common.{◌≡◌, ℕ, ◌+◌, ◌<◌, zero, suc, List, [], ◌∷◌, ◌++◌, length, take, slice_get, Some, None, refl, sym, ap, ◌∙◌, arith, append_assoc}
 use Rattle.class_model.specs.declared.frame.VType.{VType}
 use Rattle.plan_flow.specs.Inner.Fitting.{or_plain, local_of}
 use Rattle.plan_flow.specs.PlanRows.{Change}
@@ -9,7 +8,7 @@ use Rattle.plan_flow.specs.PlanSlots.{held, slots_from, fit_locals, fit_stack}
 use Rattle.plan_flow.specs.PlanTable.{held_from}
 use Rattle.virtual_state.specs.States.{State}
 use Rattle.virtual_state.specs.declared.slot.Slot.{Slot}
-use Rattle.virtual_state.specs.declared.slot.Slot.TheVariants.{Plain, Virt, Unusable}
+use Rattle.virtual_state.specs.declared.slot.Slot.TheVariants.{Plain}
 
 -- what so many places hold, and the next one
 pub held_more :

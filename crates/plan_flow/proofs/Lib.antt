@@ -16,3 +16,15 @@ pub mod Raising
 pub mod Iterating
 pub mod LeastPlans
 pub mod Fitting
+pub mod Parameters
+pub mod ResultLens
+pub mod FieldNumbers
+pub mod Adding
+pub mod RowUpdates
+pub mod Opening
+pub mod TopEntries
+pub mod Gathering
+pub mod TreeLinks
+pub mod AskedSites
+pub mod DoneEdges
+pub mod Narrows

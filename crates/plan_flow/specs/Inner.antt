@@ -1,1 +1,7 @@
+pub mod Asking
+pub mod Doing
+pub mod EdgeViews
+pub mod FieldWords
 pub mod Fitting
+pub mod ParameterWords
+pub mod RowViews

@@ -2,6 +2,7 @@ pub mod PlanScope
 pub mod PlanRows
 pub mod PlanTable
 pub mod PlanSlots
+pub mod Narrow
 pub mod Must
 pub mod Effect
 pub mod Plans

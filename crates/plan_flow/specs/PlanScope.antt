@@ -95,3 +95,9 @@ stack_types flat at = of_point (point_at flat at) where
   of_point : Option Point → List VType
   of_point None = []
   of_point (Some point) = point.typed.stack
+
+-- ---- scopes
+
+-- what plans of a flat code read: the classes of a folder, and their links
+abbrev pub scope_of : Classes → Links → FlatCode → PlanScope
+scope_of classes links flat = record { classes = classes; links = links; flat = flat }

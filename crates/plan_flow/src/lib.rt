@@ -3,10 +3,31 @@
 //! project's profile).
 #![tactic(auto)]
 
+mod arithmetic;
+mod asked;
+mod beneath;
+mod changes;
+mod constants;
+mod descriptors;
 mod edge;
 mod edge_states;
+mod edges;
+mod effects;
+mod fields;
 mod laws;
+mod links_laws;
+mod needs;
+mod numbers;
+mod plan;
+mod reference;
+mod rows;
+mod shuffles;
 mod slots;
+mod sources;
+mod table;
 
 pub use edge::{Edge, EdgeKind, EdgeList};
+pub use effects::effect;
 pub use laws::{effect_grows, flat_code_has_one_least_plan, must_grows, no_valid_plan_keeps_more};
+pub use needs::must;
+pub use plan::Plan;

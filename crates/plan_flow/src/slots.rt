@@ -67,16 +67,25 @@ pub(crate) fn push_held(
     first: usize,
     count: usize,
 ) -> Result<(), NoMemory>
-    requires { first + count ≤ length state.now.slots }
     ensures { OnOk result
         ((s : PlanScope) (by : Change)
         → slots.new.items ≡ slots.old.items ++ slots_from s state.now by (held_from first count)) }
 {
-    let _end = state.slots().len();
     for at in 0..count {
-        slots.push(held(state, first + at))?;
+        slots.push(held_behind(state, first, at))?;
     }
     Ok(())
+}
+
+// What the place that is so far behind one holds.
+fn held_behind(state: &VState, first: usize, at: usize) -> Slot
+    ensures { result ≡ held_slot state.now (first + at) }
+{
+    if at < state.slots().len() {
+        held(state, first.saturating_add(at))
+    } else {
+        Slot::Plain
+    }
 }
 
 /// The slots of a point with these types: the local units, of which those that are Top become unusable, and behind them the
@@ -129,15 +138,15 @@ fn push_stack(slots: &mut Vec<Slot>, stack: &[Slot], types: &[VType]) -> Result<
     Ok(())
 }
 
-// The slot at an index, if there is one.
-fn slot_at(slots: &[Slot], at: usize) -> Option<Slot>
+/// The slot at an index, if there is one.
+pub(crate) fn slot_at(slots: &[Slot], at: usize) -> Option<Slot>
     ensures { result ≡ slice_get slots.now at }
 {
     slots.get(at).copied()
 }
 
-// A slot that may be missing.
-fn or_plain(slot: Option<Slot>) -> Slot
+/// A slot that may be missing.
+pub(crate) fn or_plain(slot: Option<Slot>) -> Slot
     ensures { result ≡ slot_or_plain slot }
 {
     match slot {

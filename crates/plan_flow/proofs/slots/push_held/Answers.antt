@@ -1,6 +1,4 @@
-use Rattle.std.proofs.Common.{◌≡◌, ◌≤◌, ◌∙◌, ◌++◌, ◌∷◌, ◌+◌, [], ℕ, List, ap, subst, arith}
-use Rattle.plan_flow.specs.PlanRows.{Change}
-use Rattle.plan_flow.specs.PlanScope.{PlanScope}
+use Rattle.std.proofs.Common.{◌≡◌, ◌∙◌, ◌++◌, ◌∷◌, [], ℕ, ap, subst, arith}
 use Rattle.plan_flow.specs.PlanSlots.{slots_from}
 use Rattle.plan_flow.specs.PlanTable.{held_from}
 use Rattle.plan_flow.proofs.Fitting.{held_next}
@@ -10,7 +8,7 @@ use Rattle.plan_flow.proofs.slots.push_held.Goals as goal
 pub loop-at-preserved : goal.loop-at-preserved
 loop-at-preserved c =
     held_next c.args.slots.now.items c.loop-at.slots.items c.push.new.self.items c.args.state.now c.args.first c.loop-at.at _ c.loop-at.invariant (omega arith)
-    (c.in_ok-push.ensures.items ∙ ap (λ (one : Slot). c.loop-at.slots.items ++ one ∷ []) c.held.ensures)
+    (c.in_ok-push.ensures.items ∙ ap (λ (one : Slot). c.loop-at.slots.items ++ one ∷ []) c.held_behind.ensures)
 
 pub returns : goal.returns
 returns c = λ s by.

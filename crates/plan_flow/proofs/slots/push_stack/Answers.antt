@@ -1,5 +1,4 @@
-use Rattle.std.proofs.Common.{rules, ◌≡◌, ◌∙◌, ◌++◌, ◌∷◌, [], List, length, slice_get, ap, refl, arith}
-use Rattle.std.proofs.lemmas.Grind.{common_steps}
+use Rattle.std.proofs.Common.{◌≡◌, ◌∙◌, ◌++◌, ◌∷◌, [], slice_get, ap, arith}
 use Rattle.plan_flow.specs.Inner.Fitting.{or_plain}
 use Rattle.plan_flow.proofs.Fitting.{stack_next}
 use Rattle.virtual_state.specs.declared.slot.Slot.{Slot}
