@@ -1,5 +1,5 @@
 -- The exception handlers in force along the code of a method.
-use Rattle.std.specs.Prelude.{◌≡◌, ◌⊎◌, ◌+◌, ◌<◌, ◌≤◌, ℕ, true, List, [], ◌∷◌, slice_get, Option, Some, None, IsPermutation}
+use Rattle.std.specs.Prelude.{◌≡◌, ◌⊎◌, ◌+◌, ◌<◌, ◌≤◌, ℕ, true, List, [], slice_get, Option, Some, None, IsPermutation}
 use Rattle.std.specs.List.{Contains}
 use Rattle.std.specs.List.Sorted.{IsNonDecreasingBy}
 use Rattle.class_model.specs.declared.class_file.Handler.{Handler}

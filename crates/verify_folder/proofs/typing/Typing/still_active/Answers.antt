@@ -1,8 +1,7 @@
-use Rattle.std.proofs.Common.{List, take, ◌+◌, subst, sym, ap, ◌∙◌, arith}
-use Rattle.std.proofs.lemmas.Bool.{iff_false}
+use Rattle.std.proofs.Common.{take, ◌+◌, subst, sym, arith}
 use Rattle.class_model.specs.declared.class_file.Handler.{Handler}
 use Rattle.verify_folder.specs.Inner.Active.{AreStill}
-use Rattle.verify_folder.proofs.InForce.{one_goes_on, one_has_ended, one_stops}
+use Rattle.verify_folder.proofs.InForce.{one_goes_on, one_has_ended}
 use Rattle.verify_folder.proofs.typing.Typing.still_active.Goals as goal
 use Rattle.verify_folder.proofs.typing.Typing.still_active.Goals.{then-at-from+in_ok-may_catch+else-not-branch+in_ok-push_active, else-at-from}
 
