@@ -5,3 +5,4 @@ pub mod Walking
 pub mod MethodWalk
 pub mod ClassWalk
 pub mod HandlerWalk
+pub mod InForce

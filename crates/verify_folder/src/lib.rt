@@ -2,6 +2,7 @@
 //! first failure.
 #![tactic(auto)]
 
+mod active;
 mod before;
 mod flow;
 mod folder;

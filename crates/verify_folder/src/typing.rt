@@ -1,5 +1,5 @@
 //! The frames of a method's instructions, found in one pass by offset (JVM Specification SE 8, 4.10.1.6).
-ghost use Rattle.std.specs.Prelude.{◌≡◌, ◌↔◌, [], ◌∷◌, map, None, Some, IfOk, IsTrue, if◌then◌else◌};
+ghost use Rattle.std.specs.Prelude.{◌≡◌, ◌↔◌, ◌≤◌, ◌+◌, [], ◌∷◌, map, slice_get, None, Some, IfOk, IfSome, IfNone, OnOk, IsTrue, IsFalse, if◌then◌else◌};
 ghost use Rattle.std.specs.Option.{option_copied};
 ghost use Rattle.class_model.specs.Instructions.{targets};
 ghost use Rattle.class_tree.specs.Names.{throwable};
@@ -12,8 +12,10 @@ ghost use Rattle.type_rules.specs.MethodBodies.{body_of};
 ghost use Rattle.type_rules.specs.Rule.{FitsPool};
 ghost use Rattle.member_link.specs.Scope.{row_scope};
 ghost use Rattle.type_rules.specs.Stated.{stated_at};
+ghost use Rattle.verify_folder.specs.Inner.Active.{AreCheckedAt, AreInForce, AreStill, NoneBegins, OneFails, OneStops};
 ghost use Rattle.verify_folder.specs.Inner.Steps.{BeforeAnswers, ChecksAnswer, RowAnswers, StepAnswers, TypingAnswers, WalkAnswers};
 
+use crate::active::{ActiveHandlers, push_active};
 use crate::flow::falls_through;
 use crate::handlers::{caught_frame, check_catch_types, covers};
 use crate::stop::Stop;
@@ -34,7 +36,8 @@ pub(crate) fn type_method(alloc: Global, rules: &MethodRules<'_>) -> Result<Type
         rules,
         all: &all,
     };
-    typing.walk()
+    let mut active = ActiveHandlers::new(alloc, rules)?;
+    typing.walk(&mut active)
 }
 
 /// What flows into the instruction of a method at an offset, in bytes, where each before it is typed.
@@ -49,7 +52,8 @@ pub(crate) fn flows_before(
         rules,
         all: &all,
     };
-    typing.flows_before(offset)
+    let mut active = ActiveHandlers::new(alloc, rules)?;
+    typing.flows_before(&mut active, offset)
 }
 
 // The name of all throwables.
@@ -81,14 +85,15 @@ impl<'a> Model for Typing<'a> {
 
 impl Typing<'_> {
     // The frames of all instructions.
-    fn walk(&self) -> Result<TypedMethod, Stop>
+    fn walk(&self, active: &mut ActiveHandlers) -> Result<TypedMethod, Stop>
+        requires { AreInForce self.now active.old }
         ensures { WalkAnswers self.now result }
     {
         let rules = self.rules;
         let mut frames = TypedMethod::new(self.alloc);
         let mut flows = Some(rules.entry().copy(self.alloc)?);
         for placed in rules.instructions().as_slice() {
-            let (before, next) = self.step(flows, placed)?;
+            let (before, next) = self.step(active, flows, placed)?;
             frames.push(before)?;
             flows = next;
         }
@@ -99,26 +104,35 @@ impl Typing<'_> {
     }
 
     // What flows into the instruction at an offset.
-    fn flows_before(&self, offset: u32) -> Result<Option<Frame>, Stop> {
+    fn flows_before(&self, active: &mut ActiveHandlers, offset: u32) -> Result<Option<Frame>, Stop>
+        requires { AreInForce self.now active.old }
+    {
         let rules = self.rules;
         let mut flows = Some(rules.entry().copy(self.alloc)?);
         for placed in rules.instructions().as_slice() {
             if placed.at >= offset {
                 break;
             }
-            let (_, next) = self.step(flows, placed)?;
+            let (_, next) = self.step(active, flows, placed)?;
             flows = next;
         }
         Ok(flows)
     }
 
     // The frame of an instruction behind what flows into it, and what flows into the next.
-    fn step(&self, flows: Option<Frame>, placed: &Placed) -> Result<(Frame, Option<Frame>), Stop>
-        requires { FitsPool self.now placed.now.instr }
-        ensures { StepAnswers self.now flows placed.now result }
+    fn step(
+        &self,
+        active: &mut ActiveHandlers,
+        flows: Option<Frame>,
+        placed: &Placed,
+    ) -> Result<(Frame, Option<Frame>), Stop>
+        requires fits { FitsPool self.now placed.now.instr }
+        requires in_force { AreInForce self.now active.old }
+        ensures told { StepAnswers self.now flows placed.now result }
+        ensures in_force { OnOk result (AreInForce self.now active.new) }
     {
         let before = self.before(flows, placed.at)?;
-        self.check_handlers(placed.at, &before)?;
+        self.check_handlers(active, placed.at, &before)?;
         let ruled = self.rule(placed, &before)?;
         self.check_targets(placed, ruled.next.as_ref())?;
         Ok((before, flows_on(placed, ruled.next)))
@@ -138,7 +152,129 @@ impl Typing<'_> {
     }
 
     // Asks that the handlers whose range has an offset may begin with these locals.
-    fn check_handlers(&self, at: u32, before: &Frame) -> Result<(), Stop>
+    fn check_handlers(
+        &self,
+        active: &mut ActiveHandlers,
+        at: u32,
+        before: &Frame,
+    ) -> Result<(), Stop>
+        requires { AreInForce self.now active.old }
+        ensures told { ChecksAnswer at
+            (handler_checks (body_of self.now) before.now
+            (catches_at self.now at self.now.part.handlers)) result }
+        ensures in_force { OnOk result (AreInForce self.now active.new) }
+    {
+        active.come_to(at);
+        if active.is_idle(at) {
+            return Ok(());
+        }
+        if self.recheck(active, at, before)? && self.begin(active, at, before)? {
+            return Ok(());
+        }
+        match self.check_table(at, before) {
+            Err(stop) => Err(stop),
+            Ok(()) => unreachable!(),
+        }
+    }
+
+    // Whether the active handlers may begin with these locals. Those whose range has ended at the offset are dropped. The
+    // others are asked again only where the locals are not those that they were asked about last.
+    fn recheck(
+        &self,
+        active: &mut ActiveHandlers,
+        at: u32,
+        before: &Frame,
+    ) -> Result<bool, NoMemory>
+        requires in_force { AreInForce self.now active.old }
+        requires later { active.old.at ≤ at }
+        ensures all { IfOk result (λ may.
+            IsTrue may → AreCheckedAt self.now before.now.locals at active.new) }
+        ensures one { IfOk result (λ may. IsFalse may → OneFails self.now before.now.locals at) }
+    {
+        if active.were_checked_with(&before.locals) {
+            active.set_at(at);
+            return Ok(true);
+        }
+        let still = self.still_active(active.active.as_slice(), &mut active.hints, at, before)?;
+        let Some(still) = still else {
+            return Ok(false);
+        };
+        active.set_checked(still, before.locals.copy(self.alloc)?, at);
+        Ok(true)
+    }
+
+    // The active handlers whose range goes on at an offset, if all of them may begin with these locals.
+    fn still_active(
+        &self,
+        active: &[Handler],
+        hints: &mut Vec<usize>,
+        at: u32,
+        before: &Frame,
+    ) -> Result<Option<Vec<Handler>>, NoMemory>
+        ensures all { IfOk result (λ found. IfSome found (λ still.
+            AreStill self.now before.now.locals at active.now still.items)) }
+        ensures one { IfOk result (λ found. IfNone found
+            (OneStops self.now before.now.locals at active.now)) }
+    {
+        let mut still = Vec::new(self.alloc);
+        for handler in active {
+            if at < u32::from(handler.end) {
+                if !self.may_catch(before, handler)? {
+                    return Ok(None);
+                }
+                push_active(&mut still, hints, *handler)?;
+            }
+        }
+        Ok(Some(still))
+    }
+
+    // Whether the handlers whose range begins up to an offset may begin with these locals. They become active.
+    fn begin(&self, active: &mut ActiveHandlers, at: u32, before: &Frame) -> Result<bool, NoMemory>
+        requires { AreCheckedAt self.now before.now.locals at active.old }
+        ensures all { IfOk result (λ may.
+            IsTrue may → AreCheckedAt self.now before.now.locals at active.new) }
+        ensures none { IfOk result (λ may. IsTrue may → NoneBegins active.new at) }
+        ensures one { IfOk result (λ may. IsFalse may → OneFails self.now before.now.locals at) }
+    {
+        while let Some(handler) = active.next(at) {
+            if !self.begin_next(active, at, before, handler)? {
+                return Ok(false);
+            }
+        }
+        Ok(true)
+    }
+
+    // Whether the next handler, which is this one, may begin with these locals. It becomes active, unless its range has ended.
+    fn begin_next(
+        &self,
+        active: &mut ActiveHandlers,
+        at: u32,
+        before: &Frame,
+        handler: Handler,
+    ) -> Result<bool, NoMemory>
+        requires checked { AreCheckedAt self.now before.now.locals at active.old }
+        requires next { slice_get active.old.table.items active.old.begun ≡ Some handler }
+        requires from { handler.start ≤ at }
+        ensures all { IfOk result (λ may.
+            IsTrue may → AreCheckedAt self.now before.now.locals at active.new) }
+        ensures table { IfOk result (λ may.
+            IsTrue may → active.new.table.items ≡ active.old.table.items) }
+        ensures begun { IfOk result (λ may. IsTrue may → active.new.begun ≡ active.old.begun + 1) }
+        ensures one { IfOk result (λ may. IsFalse may → OneFails self.now before.now.locals at) }
+    {
+        if at >= u32::from(handler.end) {
+            active.skip_next();
+            return Ok(true);
+        }
+        if !self.may_catch(before, &handler)? {
+            return Ok(false);
+        }
+        active.begin_next(handler)?;
+        Ok(true)
+    }
+
+    // Asks, in table order, that the handlers whose range has an offset may begin with these locals.
+    fn check_table(&self, at: u32, before: &Frame) -> Result<(), Stop>
         ensures { ChecksAnswer at
             (handler_checks (body_of self.now) before.now
             (catches_at self.now at self.now.part.handlers)) result }

@@ -5,16 +5,14 @@ use Rattle.class_model.specs.Checks.{AllHold, Check, IsFirstFault}
 use Rattle.class_model.specs.declared.class_file.Handler.{Handler}
 use Rattle.class_model.specs.declared.frame.Frame.{Frame}
 use Rattle.class_model.specs.declared.instr.Placed.{Placed}
-use Rattle.class_tree.specs.Headers.{Name}
-use Rattle.class_tree.specs.Names.{throwable}
 use Rattle.member_link.specs.Bodies.{flows_on}
 use Rattle.member_link.specs.Rows.Table.{row_of}
 use Rattle.type_rules.specs.Checks.{FailsAt, IsTypedAt, MayFlowIn, frame_before}
 use Rattle.type_rules.specs.Handlers.{caught_in}
 use Rattle.type_rules.specs.MethodBodies.{body_of, point_of}
 use Rattle.type_rules.specs.Rule.{row_checks, ruled}
-use Rattle.member_link.specs.Scope.{Scope, instructions, row_scope}
-use Rattle.type_rules.specs.Stated.{entry, stated, stated_at}
+use Rattle.member_link.specs.Scope.{Scope, row_scope}
+use Rattle.type_rules.specs.Stated.{entry, stated_at}
 use Rattle.type_rules.specs.Typed.{AreTyped, CaughtIsThrowable, FailsIn, FailsInTable, IsFirstFailure, Typed}
 use Rattle.type_rules.specs.declared.fault.TypeRule.{TypeRule}
 use Rattle.type_rules.specs.declared.fault.TypeRule.TheVariants as rules

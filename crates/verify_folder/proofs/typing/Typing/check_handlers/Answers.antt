@@ -1,29 +1,33 @@
-use Rattle.std.proofs.Common.{List, Err, ap, subst, ◌∙◌}
-use Rattle.std.proofs.lemmas.Result.{err_from_is_err_and}
-use Rattle.class_model.specs.declared.class_file.CodePart.{CodePart}
-use Rattle.class_model.specs.declared.class_file.Handler.{Handler}
-use Rattle.type_rules.specs.Checks.{handler_checks}
-use Rattle.type_rules.specs.Handlers.{catches_at}
-use Rattle.type_rules.specs.MethodBodies.{body_of}
-use Rattle.member_link.specs.Scope.{Scope}
-use Rattle.verify_folder.proofs.HandlerWalk.{one_fails, one_holds}
-use Rattle.verify_folder.specs.Inner.Steps.{ChecksAnswer}
+use Rattle.std.proofs.Common.{arith}
+use Rattle.verify_folder.specs.Inner.Active.{OneFails}
+use Rattle.verify_folder.proofs.InForce.{checked_hold, none_fails, none_holds}
 use Rattle.verify_folder.proofs.typing.Typing.check_handlers.Goals as goal
+use Rattle.verify_folder.proofs.typing.Typing.check_handlers.Goals.{else-branch-via-then-branch+in_ok-begin+else-branch-2, else-branch-via-else-branch}
 
-pub loop-handler-preserved : goal.loop-handler-preserved
-loop-handler-preserved c =
-    let none : Handler = record { start = 0; end = 0; at = 0; catch_type = 0 } in
-    one_holds c.args.self.now c.args.at c.args.before.now c.as_slice-handler-items.result.now c.loop-handler.handler-index none c.loop-handler-test.true
-    c.loop-handler.invariant c.in_ok-check_handler.ensures
+pub returns-then-is_idle-clause-told : goal.returns-then-is_idle-clause-told
+returns-then-is_idle-clause-told c =
+    none_holds c.args.self.now c.args.before.now c.args.at c.come_to.new.self (c.come_to.ensures.kept c.args.self.now c.requires) c.come_to.ensures.later
+    (c.is_idle.ensures.none c.if-is_idle.true) (c.is_idle.ensures.active c.if-is_idle.true)
 
-pub returns-in_err-check_handler : goal.returns-in_err-check_handler
-returns-in_err-check_handler c =
+pub returns-then-is_idle-clause-in_force : goal.returns-then-is_idle-clause-in_force
+returns-then-is_idle-clause-in_force c = c.come_to.ensures.kept c.args.self.now c.requires
+
+pub recheck-requires-clause-in_force : goal.recheck-requires-clause-in_force
+recheck-requires-clause-in_force c = c.come_to.ensures.kept c.args.self.now c.requires
+
+pub returns-then-branch-2-clause-told : goal.returns-then-branch-2-clause-told
+returns-then-branch-2-clause-told c =
+    let are = c.in_ok-begin.ensures.all c.if-branch-2.true in
+    checked_hold c.args.self.now c.args.before.now c.args.at c.begin.new.active are.in_force (omega (arith, are.at_is)) (c.in_ok-begin.ensures.none c.if-branch-2.true) are.locals_are
+
+pub unreachable-requires : goal.unreachable-requires
+unreachable-requires c =
     let s = c.args.self.now in
-    let none : Handler = record { start = 0; end = 0; at = 0; catch_type = 0 } in
-    let are = c.as_slice-handler-items.ensures ∙ ap (λ (part : CodePart). part.handlers) c.part.ensures ∙ ap (λ (s : Scope). s.part.handlers) c.self.view_is in
-    let p = err_from_is_err_and c.from_residual.result c.from_residual.ensures.1 in
-    rw (p.1, p.2) (
-    subst (λ (handlers : List Handler). ChecksAnswer c.args.at (handler_checks (body_of s) c.args.before.now (catches_at s c.args.at handlers)) (Err c.in_err-check_handler.field-0.0)) are
-    (one_fails s c.args.at c.args.before.now c.as_slice-handler-items.result.now c.loop-handler.handler-index none c.loop-handler-test.true
-    c.loop-handler.invariant c.in_err-check_handler.field-0.0 c.in_err-check_handler.ensures)
-    )
+    let before = c.args.before.now in
+    let fails : OneFails s before.locals c.args.at =
+    elim c.else-branch.branch [
+      | else-branch-via-then-branch+in_ok-begin+else-branch-2 w ↦ w.in_ok-begin.ensures.one w.if-branch-2.false
+      | else-branch-via-else-branch w ↦ c.in_ok-recheck.ensures.one w.if-branch.false
+    ]
+    in
+    none_fails s before c.args.at fails c.in-Ok.ensures
