@@ -5,13 +5,14 @@ use Rattle.std.proofs.lemmas.Bool.Decides.{nat_tests}
 use Rattle.std.proofs.lemmas.List.{take_at, drop_at, length-replicate}
 use Rattle.std.proofs.lemmas.List.Sums.{take_while-cons}
 use Rattle.std.specs.List.{flat_map, AllByRecursion}
-use Rattle.class_model.specs.Laws.Descriptors.{class_text, array_head}
+use Rattle.class_model.specs.Laws.Descriptors.{class_text, array_head, bytes_spell}
 use Rattle.class_model.specs.Names.{IsClassName}
-use Rattle.class_model.specs.Descriptors.{named_text, field_type_text, IsElementType, IsArrayType, IsFieldType, SpellsDescriptor, result_text, descriptor_text, brackets, element_len, type_len, type_of, types_before, parameters_of}
+use Rattle.class_model.specs.Descriptors.{named_text, field_type_text, IsElementType, IsArrayType, SpellsDescriptor, result_text, descriptor_text, brackets, element_len, type_len, type_of, types_before, parameters_of}
+use Rattle.class_model.specs.PoolChecks.{IsTypeName, BytesSpell}
 use Rattle.class_model.specs.declared.descriptor.FieldType.{FieldType}
 use Rattle.class_model.specs.declared.descriptor.FieldType.TheVariants.{Byte, Char, Short, Bool as Boolean, Int, Long, Float, Double, Named}
 use Rattle.class_model.specs.declared.descriptor.Descriptor.{Descriptor}
-use Rattle.class_model.proofs.DescriptorGrammar.{LacksSemicolon, name_lacks, LacksBracket, element_lacks, FieldForm, field_form, begins_type, begins}
+use Rattle.class_model.proofs.DescriptorGrammar.{LacksSemicolon, name_lacks, LacksBracket, element_lacks, FieldForm, name_form, begins_type, begins}
 
 -- ---- how long a type is
 
@@ -112,23 +113,26 @@ first_cut left type more form =
     let cut = front_cut left head.first (head.more ++ more) (field_type_text type) more other (sym bytes) (ap type_len (sym bytes) ∙ type_cut type more form) in
     ap (types_before (suc left)) bytes ∙ cut ∙ ap (λ (t : FieldType). t ∷ types_before left more) (type_back type form)
 
-types_cut : (left : ℕ) (types : List FieldType) (rest : List ℕ) → AllByRecursion IsFieldType types → length types < left → types_before left (flat_map field_type_text types ++ 41 ∷ rest) ≡ types
+types_cut : (left : ℕ) (types : List FieldType) (rest : List ℕ) → AllByRecursion IsTypeName types → length types < left → types_before left (flat_map field_type_text types ++ 41 ∷ rest) ≡ types
 unfolding types_before
 types_cut zero types rest each lt = absurd (omega (arith, lt))
 types_cut (suc left) [] rest each lt = refl
 types_cut (suc left) (type ∷ types) rest each lt =
     let more = flat_map field_type_text types ++ 41 ∷ rest in
     let parts : flat_map field_type_text (type ∷ types) ++ 41 ∷ rest ≡ field_type_text type ++ more = append_assoc (field_type_text type) (flat_map field_type_text types) (41 ∷ rest) in
-    ap (types_before (suc left)) parts ∙ first_cut left type more (field_form type each.0) ∙ ap (λ (ts : List FieldType). type ∷ ts) (types_cut left types rest each.1 (omega (arith, lt)))
+    ap (types_before (suc left)) parts ∙ first_cut left type more (name_form type each.0) ∙ ap (λ (ts : List FieldType). type ∷ ts) (types_cut left types rest each.1 (omega (arith, lt)))
 
-enough : (types : List FieldType) → AllByRecursion IsFieldType types → length types ≤ length (flat_map field_type_text types)
+enough : (types : List FieldType) → AllByRecursion IsTypeName types → length types ≤ length (flat_map field_type_text types)
 enough [] each = omega arith
 enough (type ∷ types) each =
-    let head = begins type (field_form type each.0) in
+    let head = begins type (name_form type each.0) in
     omega (arith, enough types each.1, ap length head.text, length-append (field_type_text type) (flat_map field_type_text types))
 
-pub parameters_are : (text : List ℕ) (d : Descriptor) → SpellsDescriptor text d → parameters_of text ≡ d.params
-parameters_are text d s =
-    let few = enough d.params s.is_descriptor.params in
+pub parameters_of_bytes : (text : List ℕ) (d : Descriptor) → BytesSpell text d → parameters_of text ≡ d.params
+parameters_of_bytes text d s =
+    let few = enough d.params s.params in
     let types = flat_map field_type_text d.params in
-    ap parameters_of s.spelled ∙ types_cut (length (descriptor_text d)) d.params (result_text d.result) s.is_descriptor.params (omega (arith, few, length-append types (41 ∷ result_text d.result)))
+    ap parameters_of s.spelled ∙ types_cut (length (descriptor_text d)) d.params (result_text d.result) s.params (omega (arith, few, length-append types (41 ∷ result_text d.result)))
+
+pub parameters_are : (text : List ℕ) (d : Descriptor) → SpellsDescriptor text d → parameters_of text ≡ d.params
+parameters_are text d s = parameters_of_bytes text d (bytes_spell text d s)

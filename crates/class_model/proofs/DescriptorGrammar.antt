@@ -5,9 +5,10 @@ use Rattle.std.proofs.lemmas.Bool.{eqb-true}
 use Rattle.std.proofs.lemmas.Bool.Decides.{nat_tests}
 use Rattle.std.specs.List.{AllByRecursion, join_with_byte}
 use Rattle.class_model.specs.ModifiedUtf8.{IsText}
-use Rattle.class_model.specs.Laws.Descriptors.{class_text, array_head, array_text}
+use Rattle.class_model.specs.Laws.Descriptors.{class_text, array_head, array_text, named}
 use Rattle.class_model.specs.Names.{IsNameByte, IsUnqualifiedName, IsClassName}
 use Rattle.class_model.specs.Descriptors.{named_text, field_type_text, IsElementType, IsArrayType, IsReferenceName, IsFieldType, SpellsFieldType}
+use Rattle.class_model.specs.PoolChecks.{IsTypeName}
 use Rattle.class_model.specs.Inner.DescriptorParts.{base_type_of, ClassNameAt, ElementAt, BracketsAt, ArrayAt, FieldTypeAt}
 use Rattle.class_model.specs.declared.descriptor.FieldType.{FieldType}
 use Rattle.class_model.specs.declared.descriptor.FieldType.TheVariants.{Byte, Char, Short, Bool as Boolean, Int, Long, Float, Double, Named}
@@ -157,16 +158,19 @@ pub named_form : (name : List ℕ) → IsReferenceName name → FieldForm (Named
 named_form name (inl class) = inl class
 named_form name (inr array) = inr (name, array, refl, array_text name array)
 
+pub name_form : (type : FieldType) → IsTypeName type → FieldForm type
+name_form Byte h = inl tt
+name_form Char h = inl tt
+name_form Double h = inl tt
+name_form Float h = inl tt
+name_form Int h = inl tt
+name_form Long h = inl tt
+name_form Short h = inl tt
+name_form Boolean h = inl tt
+name_form (Named name) h = named_form name h
+
 pub field_form : (type : FieldType) → IsFieldType type → FieldForm type
-field_form Byte h = inl tt
-field_form Char h = inl tt
-field_form Double h = inl tt
-field_form Float h = inl tt
-field_form Int h = inl tt
-field_form Long h = inl tt
-field_form Short h = inl tt
-field_form Boolean h = inl tt
-field_form (Named name) h = named_form name h.1
+field_form type h = name_form type (named type h)
 
 not_both : (element : FieldType) (text rest last : List ℕ) → IsElementType element → IsArrayType text → field_type_text element ++ rest ≡ text ++ last → ⊥
 not_both element text rest last is_element array e = let head = array_head text array in element_lacks element rest is_element (head.0 ++ last) (e ∙ ap (λ (t : List ℕ). t ++ last) head.1)

@@ -41,6 +41,13 @@ pub fn parameters_are_spelled()
         → parameters_of text ≡ descriptor.params }
 {}
 
+/// So are those of any bytes that spell one, whether they are a text or not.
+pub fn parameters_of_bytes_are_spelled()
+    ensures { (text : List ℕ) (descriptor : Descriptor)
+        → BytesSpell text descriptor
+        → parameters_of text ≡ descriptor.params }
+{}
+
 /// Bytes at an offset of a code spell at most one instruction, and no bytes of one are the front of others.
 pub fn a_spelling_is_one_instruction()
     ensures { (at : ℕ) (one other : Instr) (a b x y : List ℕ)

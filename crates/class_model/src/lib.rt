@@ -57,7 +57,7 @@ pub use laws::{
     a_spelling_is_one_instruction, a_text_spells_one_descriptor, a_text_spells_one_field_type,
     another_version_is_no_class_file, bytes_are_one_class_file, constants_compare_by_value,
     each_file_is_told, each_library_file_is_told, each_pool_is_decided, one_first_fault,
-    parameters_are_spelled,
+    parameters_are_spelled, parameters_of_bytes_are_spelled,
 };
 pub use list::{ByteList, ListOf};
 pub use local_types::LocalTypeList;

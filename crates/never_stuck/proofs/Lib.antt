@@ -1,10 +1,12 @@
 mod Folders
+mod PlainFolders
 mod Bases
 mod FileClasses
 mod PlacedFrames
 mod TypedCode
 mod TypedMethods
 mod KnownRows
+mod VoidResults
 mod LinkedOps
 mod SomeDimensions
 mod LinkedInstrs
@@ -12,3 +14,6 @@ mod LinkedCode
 mod VerifiedPrograms
 mod PoolNames
 mod LibraryAlone
+mod Turns
+mod TypedRuns
+mod TypedSteps

@@ -29,6 +29,7 @@ use Rattle.class_tree.specs.Hierarchy.{IsHierarchy}
 use Rattle.class_tree.specs.Names.{method_handle, method_type}
 use Rattle.class_tree.specs.Steps.{has_constant, is_method_handle, is_method_type, needed_class_checks}
 use Rattle.class_tree.specs.Trees.{IsTree}
+use Rattle.class_tree.specs.declared.place.Place.TheVariants as places
 use Rattle.code_bytes.specs.Codes.{HasOperands, HaveOperands, HasReadOperands}
 use Rattle.machine_step.specs.Programs.{IsProgram}
 use Rattle.member_link.specs.Bodies.{item_instr}
@@ -46,13 +47,13 @@ use Rattle.member_link.specs.Uses.{instr_use_checks}
 use Rattle.never_stuck.proofs.Bases.{BaseHolds, base_holds, has_base}
 use Rattle.never_stuck.proofs.Folders.{some_of, headers_are, outside_folder}
 use Rattle.never_stuck.proofs.LinkedInstrs.{new_found, instr_linked}
-use Rattle.never_stuck.proofs.LinkedOps.{ReferenceLaws, Around}
+use Rattle.never_stuck.proofs.LinkedOps.{ReferenceLaws, Around, IsLinkedAt}
 use Rattle.never_stuck.proofs.PlacedFrames.{Ascend}
+use Rattle.never_stuck.proofs.PlainFolders.{IsPlainFolder}
 use Rattle.never_stuck.proofs.PoolNames.{constant_holds}
 use Rattle.never_stuck.proofs.SomeDimensions.{SomeIn, ListSome, instrs_some}
 use Rattle.never_stuck.proofs.TypedMethods.{scope_with}
-use Rattle.never_stuck.specs.PlainFolders.{IsPlainFolder}
-use Rattle.typed_runs.specs.TypedPoints.{IsOfLibrary, IsLinkedOp}
+use Rattle.typed_runs.specs.TypedPoints.{IsOfLibrary}
 
 -- what the laws of linking and reading say
 pub record LinkLaws : Type 0 where
@@ -121,7 +122,7 @@ pub linked_instr : LinkLaws → (classes : Classes) (P : Program) (is : IsProgra
     → slice_get (instructions (scope_with classes file m part)) number ≡ Some placed
     → (frame : Frame) → RowHolds (row_scope (scope_with classes file m part)) frame
     (access_aside (row_of (row_scope (scope_with classes file m part)) frame placed.at placed.instr))
-    → IsLinkedOp (program_of classes is.links) (row_scope (scope_with classes file m part)) placed.at
+    → IsLinkedAt (program_of classes is.links) (row_scope (scope_with classes file m part)) placed.at
     (item_op is.links (number_at (code_points (scope_with classes file m part))) (row_scope (scope_with classes file m part))
     (item_instr placed.instr))
 linked_instr laws classes P is hierarchy tree linked plain at file m part of_file of_method of_code order number placed there frame holds
@@ -148,18 +149,20 @@ linked_instr laws classes P is hierarchy tree linked plain at file m part of_fil
         outside = outside_folder classes Q same name outside;
       }
 
-      around : Around Q (headers_of classes) file.major file.pool
+      around : Around Q (headers_of classes) file.major file.pool (header_of file)
       around = record {
         same = headers_are classes Q same;
         base = has_base classes Q same tree hierarchy plain;
+        own_named = (hierarchy.of_place (places.Folder at.class) (header_of file)
+            (slice_get-map header_of classes.folder at.class ∙ (rw of_file refl))).found;
         each = constant_holds file.major file.pool (subst (λ (f : ClassFile). AllHold (entries_checks f.major f.pool 10 f.pool))
             (sym read.is) (parts_hold read.cut read.holds).pool);
         handles = λ index kind reference e. is_of_library method_handle
             (needed_there classes is_method_handle method_handle base.handles at.class file of_file
-            (has_constant_at is_method_handle file index (consts.MethodHandle kind reference) e refl)) plain.no_handles;
+            (has_constant_at is_method_handle file index (consts.MethodHandle kind reference) e refl)) plain.no_own.no_handles;
         types = λ index desc e. is_of_library method_type
             (needed_there classes is_method_type method_type base.types at.class file of_file
-            (has_constant_at is_method_type file index (consts.MethodType desc) e refl)) plain.no_types;
+            (has_constant_at is_method_type file index (consts.MethodType desc) e refl)) plain.no_own.no_types;
       }
 
       d : DecodedAt part number placed

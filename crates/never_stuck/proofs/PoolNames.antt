@@ -75,6 +75,7 @@ module _ (major : ℕ) (pool : Constants) (holds : HoldsEach major pool) where
     pub reference : Reference
     pub is : reference_at pool class member ≡ Some reference
     pub is_name : name_at pool member ≡ Some reference.name
+    pub is_desc : descriptor_at pool member ≡ Some reference.desc
 
   pub reference_text : (class member : ℕ) → IsClassAt pool class → IsNameAndTypeAt pool member → ReferenceText class member
   reference_text class member of_class of_member =
@@ -83,6 +84,6 @@ module _ (major : ℕ) (pool : Constants) (holds : HoldsEach major pool) where
       record {
         reference = record { class = c.0; name = t.name; desc = t.desc };
         is = rw c.1 (rw t.is_name (rw t.is_desc refl));
-        is_name =
-            t.is_name;
+        is_name = t.is_name;
+        is_desc = t.is_desc;
       }

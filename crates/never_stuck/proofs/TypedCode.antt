@@ -22,13 +22,14 @@ use Rattle.member_link.specs.Rows.Row.{access_aside}
 use Rattle.member_link.specs.Rows.Table.{row_of}
 use Rattle.member_link.specs.Scope.{Scope, instructions, row_scope}
 use Rattle.never_stuck.proofs.Folders.{some_of}
+use Rattle.never_stuck.proofs.LinkedOps.{IsLinkedAt}
 use Rattle.never_stuck.proofs.PlacedFrames.{Ascend, ascend, code_point, number_found, FrameThere, frame_there, frame_placed}
 use Rattle.type_rules.specs.Checks.{IsTypedAt, MayFlowIn, frame_before}
 use Rattle.type_rules.specs.Handlers as handlers
 use Rattle.type_rules.specs.MethodBodies.{body_of, point_of}
 use Rattle.type_rules.specs.Stated.{stated_at}
 use Rattle.type_rules.specs.Typed.{flows_into}
-use Rattle.typed_runs.specs.TypedPoints.{Typing, LeadsTo, LeadsToHandler, IsLinkedOp, TypedPoint}
+use Rattle.typed_runs.specs.TypedPoints.{Typing, LeadsTo, LeadsToHandler, TypedPoint}
 
 -- what the laws of typing say of a method's code
 pub record IsTypedCode (s : Scope) (frames : List Frame) : Type 0 where
@@ -179,7 +180,7 @@ module _ (s : Scope) (frames : List Frame) (typed : IsTypedCode s frames) where
   abbrev pub IsLinkedInstr : Program → Links → Placed → Type 0
   IsLinkedInstr P links placed =
       (frame : Frame) → RowHolds (row_scope s) frame (access_aside (row_of (row_scope s) frame placed.at placed.instr))
-      → IsLinkedOp P (row_scope s) placed.at (item_op links (number_at (code_points s)) (row_scope s) (item_instr placed.instr))
+      → IsLinkedAt P (row_scope s) placed.at (item_op links (number_at (code_points s)) (row_scope s) (item_instr placed.instr))
 
   pub point_fits : (P : Program) (number : ℕ) (placed : Placed) → slice_get (instructions s) number ≡ Some placed
       → IsLinkedInstr P P.links placed → TypedPoint P t number (run_point P.links placed)
@@ -193,7 +194,8 @@ module _ (s : Scope) (frames : List Frame) (typed : IsTypedCode s frames) where
     is_op = refl;
     reads = record { headers = refl; news = λ at. refl; own = inl refl };
     row = row;
-    linked = linked fits.frame row;
+    linked = (linked fits.frame row).linked;
+    call = (linked fits.frame row).call;
     next = next_leads number placed fits.frame is there;
     targets = AllByRecursion-weaker (GoesInto (body_of s) frames (frame_behind (point_of s placed) fits.frame))
         (λ target. IfSome (frame_behind (point_of s placed) fits.frame) (LeadsTo t (number_at (code_points s) target)))

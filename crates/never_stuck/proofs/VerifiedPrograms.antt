@@ -29,9 +29,9 @@ use Rattle.never_stuck.proofs.FileClasses.{class_typed}
 use Rattle.never_stuck.proofs.Folders.{some_of, headers_are, links_are}
 use Rattle.never_stuck.proofs.LinkedCode.{LinkLaws, linked_instr}
 use Rattle.never_stuck.proofs.PlacedFrames.{ascend}
+use Rattle.never_stuck.proofs.PlainFolders.{IsPlainFolder}
 use Rattle.never_stuck.proofs.TypedCode.{IsTypedCode}
 use Rattle.never_stuck.proofs.TypedMethods.{scope_with, method_typed}
-use Rattle.never_stuck.specs.PlainFolders.{IsPlainFolder}
 use Rattle.type_rules.specs.Checks.{IsTypedAt}
 use Rattle.type_rules.specs.MethodBodies.{body_of}
 use Rattle.type_rules.specs.Typed.{Typed, TypesBody, flows_into}

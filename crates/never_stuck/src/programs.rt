@@ -1,10 +1,12 @@
 //! The program of a folder that verifies.
+ghost use Rattle.std.specs.Prelude.{◌<◌, length};
 ghost use Rattle.machine_step.specs.Programs.{IsProgram};
 ghost use Rattle.member_link.specs.Machine.Programs.{Program};
-ghost use Rattle.never_stuck.specs.PlainFolders.{IsPlainFolder};
+ghost use Rattle.never_stuck.specs.PlainFolders.{HasNoOwnHandles};
 ghost use Rattle.type_rules.specs.Verified.{IsVerified};
 ghost use Rattle.typed_runs.specs.TypedPrograms.{IsTypedProgram, Typings};
 
+use class_model::parameters_of_bytes_are_spelled;
 use class_tree::{Tree, a_tree_is_a_hierarchy};
 use code_bytes::a_class_file_has_read_methods;
 use member_link::{
@@ -22,7 +24,8 @@ pub fn a_verified_folder_is_a_typed_program(tree: &Tree)
     ensures { (P : Program)
         → IsProgram tree.now P
         → IsVerified tree.now
-        → IsPlainFolder tree.now
+        → 0 < length tree.now.folder
+        → HasNoOwnHandles tree.now
         → (T : Typings) × IsTypedProgram P T }
 {
     a_tree_is_a_hierarchy(tree);
@@ -36,4 +39,5 @@ pub fn a_verified_folder_is_a_typed_program(tree: &Tree)
     a_field_reference_passes();
     a_method_reference_passes();
     a_class_file_has_read_methods();
+    parameters_of_bytes_are_spelled();
 }

@@ -2,7 +2,7 @@ use Rattle.never_stuck.proofs.VerifiedPrograms.{program_typed}
 use Rattle.never_stuck.proofs.programs.a_verified_folder_is_a_typed_program.Goals as goal
 
 pub returns : goal.returns
-returns c = λ P is verified plain.
+returns c = λ P is verified some no_own.
     program_typed
     (record {
       methods = c.a_typed_folder_types_each_method.ensures;
@@ -20,7 +20,8 @@ returns c = λ P is verified plain.
         static_field = λ s r. (c.a_field_reference_passes.ensures.of_static s r).0;
         instance_field = λ s r. (c.a_field_reference_passes.ensures.of_instance s r).0;
         call = λ s opcode constant r. (c.a_method_reference_passes.ensures.of_call s opcode constant r).0;
+        parameters = record { are = c.parameters_of_bytes_are_spelled.ensures };
       };
       by_place = λ classes. (c.a_linked_folder_passes_by_place.ensures classes).0;
       operands = c.a_class_file_has_read_methods.ensures.operands;
-    }) c.args.tree.now P is c.a_tree_is_a_hierarchy.ensures verified plain
+    }) c.args.tree.now P is c.a_tree_is_a_hierarchy.ensures verified (record { some = some; no_own = no_own })

@@ -1,0 +1,101 @@
+//! Steps of a run, and actions of its library, that keep a typed world typed.
+ghost use Rattle.std.specs.Prelude.{◌≡◌, ◌≢◌, ◌↔◌, ◌<◌, ◌-◌, ◌^◌, true, false, IfOk, OnOk, OnErr};
+ghost use Rattle.machine_run.specs.Outcomes.{ended, halt_behind, halt_of};
+ghost use Rattle.machine_step.specs.Programs.{IsProgram};
+ghost use Rattle.member_link.specs.Machine.Acting.{act};
+ghost use Rattle.member_link.specs.Machine.Programs.{Program};
+ghost use Rattle.member_link.specs.Machine.Stepping.{is_library_turn, step};
+ghost use Rattle.member_link.specs.Machine.Worlds.{going};
+ghost use Rattle.typed_runs.specs.Families.{NamesElement};
+ghost use Rattle.typed_runs.specs.TypedPrograms.{Typings};
+ghost use Rattle.typed_runs.specs.TypedWorlds.{TypedWorld};
+
+use class_model::NoMemory;
+use class_tree::Tree;
+use machine_run::{act, step};
+use machine_step::{Acted, Outcome, World, WorldState};
+use machine_values::Action;
+use std::alloc::Global;
+use type_rules::TypedFolder;
+use typed_runs::{a_step_stays_typed, an_action_stays_typed};
+
+/// One step of a run of a tree's folder, as `machine_run::step` makes it. A typed world stays typed, and from one the outcome is not
+/// `Stuck`.
+///
+/// # Errors
+///
+/// `NoMemory` where memory runs out, and on a world that is spent; the world is then spent.
+pub fn stays_typed(
+    alloc: Global,
+    tree: &Tree,
+    _typed: &TypedFolder,
+    world: &mut World,
+) -> Result<Outcome, NoMemory>
+    requires { world.old.world.steps < 2 ^ 64 - 1 }
+    ensures stepped { IfOk result (λ outcome. (P : Program) → IsProgram tree.now P
+        → ended (halt_of outcome) world.new.world ≡ step P world.old.world) }
+    ensures turn { IfOk result (λ outcome.
+        (outcome ≡ Outcome.LibraryTurn) ↔ (is_library_turn world.old.world.frames ≡ true)) }
+    ensures unspent { OnOk result (world.old.spent ≡ false) }
+    ensures unspent_behind { OnOk result (world.new.spent ≡ false) }
+    ensures spent { OnErr result (world.new.spent ≡ true) }
+    ensures typed { OnOk result ((P : Program) (T : Typings) → IsProgram tree.now P
+        → TypedWorld P T world.old.world
+        → TypedWorld P T world.new.world) }
+    ensures not_stuck { IfOk result (λ outcome. (P : Program) (T : Typings) → IsProgram tree.now P
+        → TypedWorld P T world.old.world
+        → outcome ≢ Outcome.Stuck) }
+{
+    a_world_goes_on(world);
+    a_step_stays_typed();
+    step(alloc, tree, world)
+}
+
+/// Takes an action of the library, whose frame is on top, as `machine_run::act` does. A typed world stays typed, and from one the answer is
+/// not `Stuck`; an array that the library makes is of an element that is there.
+///
+/// # Errors
+///
+/// `NoMemory` where memory runs out, and on a world that is spent; the world is then spent.
+pub fn acts_typed(
+    alloc: Global,
+    tree: &Tree,
+    _typed: &TypedFolder,
+    world: &mut World,
+    action: &Action,
+) -> Result<Acted, NoMemory>
+    requires few { world.old.world.steps < 2 ^ 64 - 1 }
+    requires turn { is_library_turn world.old.world.frames ≡ true }
+    ensures acted { IfOk result (λ acted. (P : Program) → IsProgram tree.now P
+        → ended (halt_behind acted) world.new.world ≡ act P action.now world.old.world) }
+    ensures unspent { OnOk result (world.old.spent ≡ false) }
+    ensures unspent_behind { OnOk result (world.new.spent ≡ false) }
+    ensures spent { OnErr result (world.new.spent ≡ true) }
+    ensures typed { OnOk result ((P : Program) (T : Typings) → IsProgram tree.now P
+        → TypedWorld P T world.old.world
+        → NamesElement P action.now
+        → TypedWorld P T world.new.world) }
+    ensures not_stuck { IfOk result (λ acted. (P : Program) (T : Typings) → IsProgram tree.now P
+        → TypedWorld P T world.old.world
+        → NamesElement P action.now
+        → acted ≢ Acted.Stuck) }
+{
+    a_world_goes_on(world);
+    an_action_stays_typed();
+    act(alloc, tree, world, action)
+}
+
+// The state of a world goes on: how a run ends is told beside it.
+fn a_world_goes_on(world: &World)
+    ensures { world.now.world.halt ≡ going }
+{
+    a_state_goes_on(&world.state);
+}
+
+// So does the state.
+fn a_state_goes_on(w: &WorldState)
+    ensures { w.now.halt ≡ going }
+{
+    // its model says so
+    let _ = &w.steps;
+}
