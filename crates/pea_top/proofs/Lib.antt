@@ -1,3 +1,4 @@
+pub mod Kept
 pub mod Puts
 pub mod NamesInOrder
 pub mod Copying

@@ -16,7 +16,7 @@ use Rattle.script_text.specs.Events.{events_text}
 use Rattle.pea_top.specs.Answer.{AreRead, IsFirstOf, IsScriptThere, HasScript, CanDo, IsAnswer, CauseOf}
 use Rattle.pea_top.specs.Inner.CommandEffects.{some_files, all_files, LeavesWritten, LeavesPrinted}
 use Rattle.pea_top.specs.Inner.Deciding.{AreInput, IsWork, IsPrepared, AreReady, IsShown, IsOutcome, Stands, IsStop}
-use Rattle.pea_top.specs.Effects.{DoneFiles, LeavesDone, LeavesPart, IsRunText, IsDoneText, IsSummary, PrintsPart, PrintsLine, before_work, in_refusal, in_writes, in_print, Leaves}
+use Rattle.pea_top.specs.Effects.{DoneFiles, IsNeverStuck, LeavesDone, LeavesPart, IsRunText, IsDoneText, IsSummary, PrintsPart, PrintsLine, before_work, in_refusal, in_writes, in_print, Leaves}
 use Rattle.pea_top.specs.Folders.{HasClassFiles}
 use Rattle.pea_top.specs.Inner.Reading.{AreGoodFiles, StopsAt, status_of}
 use Rattle.pea_top.specs.Status.{Ending, completed, refused, failed, out_of_memory, ending, is_refused, line_of}
@@ -205,6 +205,7 @@ module _ (words : List Word) (old new : Files) {files : List NamedFile} {tree : 
     program = shown.program;
     is_program = shown.is_program;
     is = subst (λ (count : ℕ). text ≡ events_text (shown_after shown.program actions count)) same shown.is;
+    not_stuck = subst (λ (count : ℕ). IsNeverStuck tree shown.program actions count) same shown.not_stuck;
   }
 
   -- the work of a command was carried out, or that stopped

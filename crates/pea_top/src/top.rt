@@ -12,7 +12,7 @@ ghost use Rattle.pea_top.specs.Status.{ending};
 ghost use Rattle.pea_top.specs.Inner.Ended.{ended};
 ghost use Rattle.pea_top.specs.Answer.{HasCause};
 ghost use Rattle.pea_top.specs.Effects.{IsWriting, SpellNoWrite, Leaves};
-ghost use Rattle.pea_top.specs.Inner.Verifying.{verify_status};
+ghost use Rattle.pea_top.specs.Inner.Verifying.{IsVerifiedFor, verify_status};
 ghost use Rattle.pea_top.specs.Inner.Deciding.{AreInput, WritesFiles, IsPrepared, AreArranged, IsOutcome, IsStop};
 
 use crate::explaining::{
@@ -30,8 +30,8 @@ use class_tree::Tree;
 use explain::Outlines;
 use host_tree::{Host, HostFail};
 use std::alloc::Global;
-use type_rules::VerifyFault;
-use verify_folder::check_all;
+use type_rules::{TypedFolder, VerifyFault};
+use verify_folder::{check_all, verify_all};
 
 /// Does what the words behind the program's name ask for, on a host.
 ///
@@ -240,12 +240,33 @@ fn verify<H: Host>(
         → IsStop words (H.file host.old) (H.file host.new) (H.printed host.old) (H.printed host.new)
         (ended result) }
 {
-    match check_all(alloc, tree) {
-        Ok(()) => carry_out(alloc, host, tree, files, work),
+    match verify_for(alloc, tree, work) {
+        Ok(typed) => carry_out(alloc, host, tree, typed.as_ref(), files, work),
         Err(fault) => {
             explain_verifying(alloc, host, tree, &fault);
             Err(verify_status(fault))
         }
+    }
+}
+
+/// Verifies a hierarchy. The frames are kept for a run alone.
+fn verify_for(
+    alloc: Global,
+    tree: &Tree,
+    work: &Work<'_>,
+) -> Result<Option<TypedFolder>, VerifyFault>
+    requires { IsLinked tree.now }
+    ensures { IsVerifiedFor tree.now work.now result }
+{
+    match work {
+        Work::Run { .. } => match verify_all(alloc, tree) {
+            Ok(typed) => Ok(Some(typed)),
+            Err(fault) => Err(fault),
+        },
+        Work::Write { .. } | Work::Print { .. } => match check_all(alloc, tree) {
+            Ok(()) => Ok(None),
+            Err(fault) => Err(fault),
+        },
     }
 }
 

@@ -8,7 +8,11 @@ ghost use Rattle.pea_top.specs.CommandView.{command_view};
 ghost use Rattle.pea_top.specs.Status.{ending};
 ghost use Rattle.pea_top.specs.Effects.{method_count, IsWriting};
 ghost use Rattle.pea_top.specs.Inner.CommandEffects.{LeavesWritten, LeavesPrinted};
-ghost use Rattle.pea_top.specs.Inner.Deciding.{AreReady, IsShown, IsWork, WritesFiles, IsStop};
+ghost use Rattle.std.specs.Option.{option_copied};
+ghost use Rattle.member_link.specs.Linked.{IsLinked};
+ghost use Rattle.type_rules.specs.Verified.{TypesFolder};
+ghost use Rattle.pea_top.specs.Inner.Verifying.{IsKept};
+ghost use Rattle.pea_top.specs.Inner.Deciding.{LeavesShown, AreReady, IsShown, IsWork, WritesFiles, IsStop};
 ghost use Rattle.pea_top.specs.Inner.Ended.{ended};
 ghost use Rattle.pea_top.specs.Inner.Scripts.{IsCommandStop};
 
@@ -22,10 +26,12 @@ use crate::writing::write_files;
 use class_model::{ByteList, ClassFile, NoMemory};
 use class_tree::Tree;
 use host_tree::{Host, HostCall, HostFail};
-use machine_run::{a_tree_has_a_program, run};
+use machine_run::a_tree_has_a_program;
 use machine_values::ActionList;
+use never_stuck::run_verified;
 use script_text::print_events;
 use std::alloc::Global;
+use type_rules::TypedFolder;
 
 /// What is left to do of a command, once its class files are linked and verified.
 #[derive(Debug, Drop)]
@@ -85,9 +91,12 @@ pub(crate) fn carry_out<H: Host>(
     alloc: Global,
     host: &mut H,
     tree: &Tree,
+    typed: Option<&TypedFolder>,
     files: &[NamedFile],
     work: &Work<'_>,
 ) -> Result<(), Status>
+    requires linked { IsLinked tree.now }
+    requires kept { IsKept tree.now work.now (option_copied typed) }
     ensures not_usage { ¬ IsErrOf result Status.Usage }
     ensures not_absent { (name : Bytes) → ¬ IsErrOf result (Status.Absent name) }
     ensures fault { (call : HostCall)
@@ -107,10 +116,37 @@ pub(crate) fn carry_out<H: Host>(
     match work {
         Work::Write { output, line } => write_out(alloc, host, output, files, line.as_slice()),
         Work::Print { line } => finish(alloc, host, line.as_slice()),
-        Work::Run { actions, steps } => match run_text(alloc, tree, actions, *steps) {
-            Ok(text) => finish(alloc, host, text.as_slice()),
-            Err(NoMemory) => Err(Status::NoMemory),
+        Work::Run { actions, steps } => match typed {
+            Some(typed) => show_run(alloc, host, tree, typed, actions, *steps),
+            None => unreachable!(),
         },
+    }
+}
+
+/// Runs a folder by these actions, in at most so many steps, and prints what the run shows.
+fn show_run<H: Host>(
+    alloc: Global,
+    host: &mut H,
+    tree: &Tree,
+    typed: &TypedFolder,
+    actions: &ActionList,
+    steps: u64,
+) -> Result<(), Status>
+    requires linked { IsLinked tree.now }
+    requires types { TypesFolder tree.now typed.now }
+    ensures not_usage { ¬ IsErrOf result Status.Usage }
+    ensures not_absent { (name : Bytes) → ¬ IsErrOf result (Status.Absent name) }
+    ensures fault { (call : HostCall)
+        → IsErrOf result (Status.HostFault call)
+        → Rose (H.faults host.old call) (H.faults host.new call) }
+    ensures counts { CountsOnly HostCall.Print (H.faults host.old) (H.faults host.new) }
+    ensures left { IsTrue H.tells
+        → LeavesShown tree.now actions.now steps (H.file host.old) (H.file host.new)
+        (H.printed host.old) (H.printed host.new) (ending (ended result)) }
+{
+    match run_text(alloc, tree, typed, actions, steps) {
+        Ok(text) => finish(alloc, host, text.as_slice()),
+        Err(NoMemory) => Err(Status::NoMemory),
     }
 }
 
@@ -118,13 +154,16 @@ pub(crate) fn carry_out<H: Host>(
 fn run_text(
     alloc: Global,
     tree: &Tree,
+    typed: &TypedFolder,
     actions: &ActionList,
     steps: u64,
 ) -> Result<ByteList, NoMemory>
+    requires linked { IsLinked tree.now }
+    requires types { TypesFolder tree.now typed.now }
     ensures { IfOk result (IsShown tree.now actions.now steps) }
 {
     a_tree_has_a_program(tree);
-    let shown = run(alloc, tree, actions, steps)?;
+    let shown = run_verified(alloc, tree, typed, actions, steps)?;
     print_events(alloc, &shown)
 }
 

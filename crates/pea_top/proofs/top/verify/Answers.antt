@@ -1,11 +1,12 @@
 -- what was linked verifies, or does not
 use Rattle.pea_top.proofs.Outcomes.{input_read, prepared_script}
+use Rattle.pea_top.proofs.Kept.{kept_types}
 use Rattle.pea_top.proofs.Stopping.{stop_verifying}
 use Rattle.pea_top.proofs.top.verify.Goals as goal
 
 pub returns-in-Ok-clause-stop : goal.returns-in-Ok-clause-stop
 returns-in-Ok-clause-stop g c = λ command words spelled tells found.
-    let typed = c.in-Ok.ensures in
+    let typed = kept_types c.args.tree.now c.args.work.now _ c.in-Ok.ensures in
     c.carry_out.ensures.stop command words spelled tells
     (record {
       classes = found.classes;
