@@ -29,4 +29,5 @@ bench: bin/pea
 	bash bench/library.sh
 	bash bench/verify.sh
 	bash bench/sizes.sh
+	bash bench/run.sh
 	bash bench/jar.sh

@@ -19,7 +19,7 @@ work=$(mktemp -d)
 trap 'rm -rf "$work"' EXIT
 
 source "$root/scripts/acceptance/checks.sh"
-for part in folders refusals words library java damaged jars; do
+for part in folders refusals words library java methods damaged jars; do
     source "$root/scripts/acceptance/$part.sh"
 done
 

@@ -20,7 +20,7 @@ run() {
 explained() {
     local said='pea: note: '
     case $status in
-        1 | 2 | 3 | 4 | 5) said='pea: error: ' ;;
+        1 | 2 | 3 | 4 | 5 | 7 | 12) said='pea: error: ' ;;
         6) said='pea: cannot ' ;;
     esac
     if [ "$said" != 'pea: note: ' ]; then grep -q "^$said" "$work/errors" || return 1; fi

@@ -20,6 +20,7 @@ pub mod PreparedPoints
 pub mod ProgramClasses
 pub mod ProgramLinks
 pub mod Returns
+pub mod RunTurns
 pub mod StackUnseen
 pub mod StepParts
 pub mod Throws

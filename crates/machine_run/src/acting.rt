@@ -118,8 +118,8 @@ fn act_on(
     }
 }
 
-// Whether the library may not take an action.
-fn is_fault(acted: Acted) -> bool
+/// Whether the library may not take an action.
+pub(crate) fn is_fault(acted: Acted) -> bool
     ensures { result ≡ is_fault (halt_behind acted) }
 {
     matches!(acted, Acted::Fault)

@@ -16,7 +16,7 @@ ghost use Rattle.machine_step.specs.RunOps.{IsResolved, op_of};
 ghost use Rattle.machine_run.specs.Inner.Performed.{TopHasNext};
 
 use class_tree::{Tree, a_tree_is_a_hierarchy};
-use machine_step::{RunOp, WorldState, arity};
+use machine_step::{RunOp, World as RunWorld, WorldState, arity};
 use member_link::a_hierarchy_has_links;
 
 /// The classes of a tree have a program.
@@ -33,6 +33,13 @@ pub(crate) fn a_state_goes_on(w: &WorldState)
 {
     // its model says so
     let _ = &w.steps;
+}
+
+/// So does the state of a world that may be spent.
+pub(crate) fn a_world_goes_on(world: &RunWorld)
+    ensures { world.now.world.halt ≡ going }
+{
+    a_state_goes_on(&world.state);
 }
 
 /// A class that an operation begins is not begun.

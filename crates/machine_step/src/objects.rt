@@ -9,7 +9,7 @@ ghost use Rattle.member_link.specs.Machine.Completions.{Completion, gives, raise
 ghost use Rattle.member_link.specs.Machine.FieldSteps.{begun_first};
 ghost use Rattle.member_link.specs.Machine.ObjectSteps.{check_cast_work, enter_monitor_work, if_there, instance_of_work, leave_monitor_work, new_object_work, throw_work, with_entered};
 ghost use Rattle.member_link.specs.Machine.Programs.{Program, folder_number};
-ghost use Rattle.member_link.specs.Machine.Shapes.{is_instance};
+ghost use Rattle.member_link.specs.Machine.Shapes.{is_instance, shape_conforms};
 ghost use Rattle.machine_step.specs.Completing.{Completes};
 ghost use Rattle.machine_step.specs.Inner.Works.{or_begins};
 ghost use Rattle.machine_step.specs.RunOps.{IsCastOp, IsNewOp};
@@ -18,7 +18,7 @@ ghost use Rattle.machine_step.specs.Room.{HasRoom};
 
 use crate::completed::Completed;
 use crate::memory::Memory;
-use crate::questions::shapes::is_instance;
+use crate::questions::shapes::{is_instance, shape_conforms};
 use crate::run_op::{CastOp, NewOp, SeenAnswer, Throwable};
 use class_model::{NoMemory, Text, TextList};
 use class_tree::Tree;
@@ -195,7 +195,7 @@ pub(crate) fn throw(
         [Value::Null] => Ok(Completed::Raises(Throwable::NullPointer)),
         [Value::Ref(at)] => match memory.heap().object(*at) {
             Some(object) => {
-                if is_throwable(alloc, tree, &object.shape)? {
+                if conforms_to_throwable(alloc, tree, &object.shape)? {
                     Ok(Completed::Throws(*at))
                 } else {
                     Ok(Completed::Stuck)
@@ -207,13 +207,13 @@ pub(crate) fn throw(
     }
 }
 
-// Whether an object of a shape is a throwable.
-fn is_throwable(alloc: Global, tree: &Tree, shape: &Shape) -> Result<bool, NoMemory>
+// Whether an object of a shape conforms to java/lang/Throwable.
+fn conforms_to_throwable(alloc: Global, tree: &Tree, shape: &Shape) -> Result<bool, NoMemory>
     ensures { IfOk result (λ answer. (P : Program) → IsProgram tree.now P
-        → answer ≡ is_instance P shape.now throwable) }
+        → answer ≡ shape_conforms P shape.now throwable) }
 {
     let throwable = Text::of_plain(alloc, b"java/lang/Throwable")?;
-    Ok(is_instance(tree, shape, throwable.bytes()))
+    Ok(shape_conforms(tree, shape, throwable.bytes()))
 }
 
 // ---- objects that are made

@@ -1,134 +1,157 @@
--- Which words complete a command behind given folders and values of the option.
-use Rattle.std.proofs.Common.{◌≡◌, ◌≢◌, ◌≤◌, List, [], ◌∷◌, ◌++◌, length, length-append, refl, sym, ap, ◌∙◌, append_assoc, arith}
+-- Which words complete a command behind given positional words and values of options.
+use Rattle.std.proofs.Common.{◌≡◌, ◌≢◌, ◌≤◌, List, [], ◌∷◌, ◌++◌, length, length-append, refl, sym, ap, subst, ◌∙◌, append_assoc, arith}
 use Rattle.std.proofs.lemmas.List.{append-nil}
-use Rattle.std.specs.Prelude.{codes}
+use Rattle.std.specs.Prelude.{◌↔◌}
 use Rattle.std.specs.List.{flat_map, AllByRecursion}
-use Rattle.pea_top.specs.Words.{Word, Command, Optimise, Verify, name_of, folders_of, library_of, IsApart, Part, Positional, Separate, Joined, words_of, IsOperand, IsPart, positionals, libraries, Spells}
-use Rattle.pea_top.specs.Seen.{Completes}
-use Rattle.pea_top.proofs.WordGrammar.{not_dashed, not_empty}
+use Rattle.pea_top.specs.Words.{Word, Command, Optimise, Verify, Run, name_of, positionals_of, HasSteps, CommandOption, lib_option, steps_option, Part, Positional, Separate, Joined, words_of, IsPart, positionals, values_of, Spells}
+use Rattle.pea_top.specs.Seen.{AreOf, Completes, AreBehindName}
+use Rattle.pea_top.proofs.WordGrammar.{same_part, not_empty}
 
--- with which part such words begin
-pub data Begins (seen_folders seen_libraries : List Word) (word : Word) (rest : List Word) (command : Command) : Type 0 where
-  ByFolder : IsOperand word → Completes (seen_folders ++ word ∷ []) seen_libraries rest command → Begins seen_folders seen_libraries word rest command
-  ByOption : (value : Word) (tail : List Word) → word ≡ codes "--lib" → rest ≡ value ∷ tail → IsOperand value → Completes seen_folders (seen_libraries ++ value ∷ []) tail command → Begins seen_folders seen_libraries word rest command
-  ByJoined : (value : Word) → word ≡ codes "--lib=" ++ value → value ≢ [] → Completes seen_folders (seen_libraries ++ value ∷ []) rest command → Begins seen_folders seen_libraries word rest command
+-- equal words and values are of the same command
+pub same_are_of : (command : Command) (ps qs : List Word) (vs ws : CommandOption → List Word) → ps ≡ qs
+    → ((asked : CommandOption) → vs asked ≡ ws asked) → AreOf command ps vs → AreOf command qs ws
+same_are_of command ps qs vs ws positional values h = record {
+  positional_are = sym positional ∙ h.positional_are;
+  library_is = sym (values lib_option) ∙ h.library_is;
+  steps_are = subst (λ words. HasSteps command words) (values steps_option) h.steps_are;
+  apart = h.apart;
+}
 
-module _ (seen_folders seen_libraries : List Word) (word : Word) (rest : List Word) (command : Command) where
-  begins_by : (parts : List Part) → word ∷ rest ≡ flat_map words_of parts → AllByRecursion IsPart parts → seen_folders ++ positionals parts ≡ folders_of command → seen_libraries ++ libraries parts ≡ library_of command ∷ [] → IsApart command → Begins seen_folders seen_libraries word rest command
-  begins_by [] e each f l a = cc
-  begins_by (Positional value ∷ parts) e each f l a =
-      let same : word ≡ value = cc in
-      let rests : rest ≡ flat_map words_of parts = cc in
-      ByFolder (rw same each.0) (record { parts = parts; spelled = rests; each = each.1; folders = rw same (append_assoc seen_folders (value ∷ []) (positionals parts) ∙ f); option = l; apart = a })
-  begins_by (Separate value ∷ parts) e each f l a =
-      ByOption value (flat_map words_of parts) (cc) (cc) each.0 (record { parts = parts; spelled = refl; each = each.1; folders = f; option = append_assoc seen_libraries (value ∷ []) (libraries parts) ∙ l; apart = a })
-  begins_by (Joined value ∷ parts) e each f l a =
-      let rests : rest ≡ flat_map words_of parts = cc in
-      ByJoined value (cc) each.0 (record { parts = parts; spelled = rests; each = each.1; folders = f; option = append_assoc seen_libraries (value ∷ []) (libraries parts) ∙ l; apart = a })
+-- what the first part adds, and then the others
+positionals_first : (part : Part) (parts : List Part) → positionals (part ∷ parts) ≡ positionals (part ∷ []) ++ positionals parts
+positionals_first (Positional word) parts = refl
+positionals_first (Separate option value) parts = refl
+positionals_first (Joined option value) parts = refl
 
-  -- words that complete the command begin with a part
-  pub begins : Completes seen_folders seen_libraries (word ∷ rest) command → Begins seen_folders seen_libraries word rest command
-  begins h = begins_by h.parts h.spelled h.each h.folders h.option h.apart
+values_first : (asked : CommandOption) (part : Part) (parts : List Part)
+    → values_of asked (part ∷ parts) ≡ values_of asked (part ∷ []) ++ values_of asked parts
+values_first asked (Positional word) parts = refl
+values_first lib_option (Separate lib_option value) parts = refl
+values_first lib_option (Separate steps_option value) parts = refl
+values_first steps_option (Separate lib_option value) parts = refl
+values_first steps_option (Separate steps_option value) parts = refl
+values_first lib_option (Joined lib_option value) parts = refl
+values_first lib_option (Joined steps_option value) parts = refl
+values_first steps_option (Joined lib_option value) parts = refl
+values_first steps_option (Joined steps_option value) parts = refl
 
-  -- what completes the command behind the folder completes it with the folder
-  pub folder_first : IsOperand word → Completes (seen_folders ++ word ∷ []) seen_libraries rest command → Completes seen_folders seen_libraries (word ∷ rest) command
-  folder_first operand h = record {
-    parts = Positional word ∷ h.parts;
-    spelled = ap (λ (words : List Word). word ∷ words) h.spelled;
-    each = (operand, h.each);
-    folders = sym (append_assoc seen_folders (word ∷ []) (positionals h.parts)) ∙ h.folders;
-    option = h.option;
-    apart = h.apart;
-  }
+module _ (ps : List Word) (vs : CommandOption → List Word) (part : Part)
+    (next_ps : List Word) (next_vs : CommandOption → List Word)
+    (positional : next_ps ≡ ps ++ positionals (part ∷ []))
+    (values : (asked : CommandOption) → next_vs asked ≡ vs asked ++ values_of asked (part ∷ []))
+  where
+    -- the words and values with a part more are those of the part in front of the others
+    one_more : (parts : List Part) → next_ps ++ positionals parts ≡ ps ++ positionals (part ∷ parts)
+    one_more parts =
+        ap (λ words. words ++ positionals parts) positional
+        ∙ append_assoc ps (positionals (part ∷ [])) (positionals parts)
+        ∙ ap (λ words. ps ++ words) (sym (positionals_first part parts))
 
-  pub folder_behind : IsOperand word → Completes seen_folders seen_libraries (word ∷ rest) command → Completes (seen_folders ++ word ∷ []) seen_libraries rest command
-  folder_behind operand h =
-      elim (begins h) [
-        | ByFolder _ more ↦ more
-        | ByOption value tail is _ _ _ ↦ absurd (not_dashed word (codes "-lib") operand is)
-        | ByJoined value is _ _ ↦ absurd (not_dashed word (codes "-lib=" ++ value) operand is)
-      ]
+    one_value_more : (parts : List Part) (asked : CommandOption)
+        → next_vs asked ++ values_of asked parts ≡ vs asked ++ values_of asked (part ∷ parts)
+    one_value_more parts asked =
+        ap (λ words. words ++ values_of asked parts) (values asked)
+        ∙ append_assoc (vs asked) (values_of asked (part ∷ [])) (values_of asked parts)
+        ∙ ap (λ words. vs asked ++ words) (sym (values_first asked part parts))
 
-module _ (seen_folders seen_libraries : List Word) (value : Word) (rest : List Word) (command : Command) where
-  -- the same of the option and its value
-  pub option_first : IsOperand value → Completes seen_folders (seen_libraries ++ value ∷ []) rest command → Completes seen_folders seen_libraries (codes "--lib" ∷ value ∷ rest) command
-  option_first operand h = record {
-    parts = Separate value ∷ h.parts;
-    spelled = ap (λ (words : List Word). codes "--lib" ∷ value ∷ words) h.spelled;
-    each = (operand, h.each);
-    folders = h.folders;
-    option = sym (append_assoc seen_libraries (value ∷ []) (libraries h.parts)) ∙ h.option;
-    apart = h.apart;
-  }
+    -- what completes the command behind the part completes it with the part
+    pub part_first : (rest : List Word) (command : Command) → IsPart part → Completes next_ps next_vs rest command
+        → Completes ps vs (words_of part ++ rest) command
+    part_first rest command is_part h = record {
+      parts = part ∷ h.parts;
+      spelled = ap (λ words. words_of part ++ words) h.spelled;
+      each = (is_part, h.each);
+      whole = same_are_of command _ _ _ _ (one_more h.parts) (one_value_more h.parts) h.whole;
+    }
 
-  pub option_behind : Completes seen_folders seen_libraries (codes "--lib" ∷ value ∷ rest) command → Completes seen_folders (seen_libraries ++ value ∷ []) rest command
-  option_behind h =
-      elim (begins seen_folders seen_libraries (codes "--lib") (value ∷ rest) command h) [
-        | ByFolder operand _ ↦ absurd (operand refl)
-        | ByOption folder tail _ rests _ more ↦ (let same : value ≡ folder = cc in let tails : rest ≡ tail = cc in rw (same, tails) more)
-        | ByJoined folder is _ _ ↦ cc
-      ]
+    behind_by : (rest : List Word) (command : Command) → IsPart part → (parts : List Part)
+        → words_of part ++ rest ≡ flat_map words_of parts → AllByRecursion IsPart parts
+        → AreOf command (ps ++ positionals parts) (λ asked. vs asked ++ values_of asked parts) → Completes next_ps next_vs rest command
+    behind_by rest command is_part [] spelled each whole = absurd (not_empty part rest spelled)
+    behind_by rest command is_part (first ∷ parts) spelled each whole =
+        let same : (part ≡ first) × (rest ≡ flat_map words_of parts) = same_part part first rest (flat_map words_of parts) is_part each.0 spelled in
+        record {
+          parts = parts;
+          spelled = same.1;
+          each = each.1;
+          whole = same_are_of command _ _ _ _
+              (ap (λ (p : Part). ps ++ positionals (p ∷ parts)) (sym same.0) ∙ sym (one_more parts))
+              (λ asked. ap (λ (p : Part). vs asked ++ values_of asked (p ∷ parts)) (sym same.0) ∙ sym (one_value_more parts asked))
+              whole;
+        }
 
-  -- the same of the option with its value in one word
-  pub joined_first : value ≢ [] → Completes seen_folders (seen_libraries ++ value ∷ []) rest command → Completes seen_folders seen_libraries ((codes "--lib=" ++ value) ∷ rest) command
-  joined_first some h = record {
-    parts = Joined value ∷ h.parts;
-    spelled = ap (λ (words : List Word). (codes "--lib=" ++ value) ∷ words) h.spelled;
-    each = (some, h.each);
-    folders = h.folders;
-    option = sym (append_assoc seen_libraries (value ∷ []) (libraries h.parts)) ∙ h.option;
-    apart = h.apart;
-  }
+    pub part_behind : (rest : List Word) (command : Command) → IsPart part → Completes ps vs (words_of part ++ rest) command
+        → Completes next_ps next_vs rest command
+    part_behind rest command is_part h = behind_by rest command is_part h.parts h.spelled h.each h.whole
 
-  pub joined_behind : Completes seen_folders seen_libraries ((codes "--lib=" ++ value) ∷ rest) command → Completes seen_folders (seen_libraries ++ value ∷ []) rest command
-  joined_behind h =
-      elim (begins seen_folders seen_libraries (codes "--lib=" ++ value) rest command h) [
-        | ByFolder operand _ ↦ absurd (operand refl)
-        | ByOption folder tail is _ _ _ ↦ cc
-        | ByJoined folder is _ more ↦ (let same : value ≡ folder = cc in rw same more)
-      ]
+-- words complete a command only where a part stands first
+pub no_part_first : (ps : List Word) (vs : CommandOption → List Word) (word : Word) (rest : List Word) (command : Command)
+    → ((part : Part) (tail : List Word) → IsPart part → word ∷ rest ≢ words_of part ++ tail) → ¬ Completes ps vs (word ∷ rest) command
+no_part_first ps vs word rest command none h = none_by h.parts h.spelled h.each
+  where
+    none_by : (parts : List Part) → word ∷ rest ≡ flat_map words_of parts → AllByRecursion IsPart parts → ⊥
+    none_by [] e each = cc
+    none_by (part ∷ parts) e each = none part (flat_map words_of parts) each.0 e
 
--- one more word than a list has does not fit into it
-pub too_many : (xs : List Word) (x : Word) (more ys : List Word) → length ys ≤ length xs → (xs ++ x ∷ []) ++ more ≢ ys
-too_many xs x more ys short e = absurd (omega (arith, simp length-append at (ap length e)))
+-- a command has two positional words and a value of each option at most
+two_at_most : (command : Command) → length (positionals_of command) ≤ 2
+two_at_most (Optimise input output library) = omega arith
+two_at_most (Verify input library) = omega arith
+two_at_most (Run input script library steps) = omega arith
 
-module _ (seen_folders seen_libraries : List Word) (command : Command) where
-  ended_by : (parts : List Part) → [] ≡ flat_map words_of parts → seen_folders ++ positionals parts ≡ folders_of command → seen_libraries ++ libraries parts ≡ library_of command ∷ [] → (seen_folders ≡ folders_of command) × (seen_libraries ≡ library_of command ∷ [])
-  ended_by [] e f l = (sym (append-nil seen_folders) ∙ f, sym (append-nil seen_libraries) ∙ l)
-  ended_by (part ∷ parts) e f l = absurd (not_empty part _ (sym e))
+one_at_most : (command : Command) (values : List Word) → HasSteps command values → length values ≤ 1
+one_at_most (Optimise input output library) values h = omega (arith, ap length h)
+one_at_most (Verify input library) values h = omega (arith, ap length h)
+one_at_most (Run input script library steps) [] h = omega arith
+one_at_most (Run input script library steps) (word ∷ []) h = omega arith
+one_at_most (Run input script library steps) (first ∷ second ∷ values) h = absurd h
 
-  -- where no word is left, the command's folders were seen
-  pub none_left : Completes seen_folders seen_libraries [] command → (seen_folders ≡ folders_of command) × (seen_libraries ≡ library_of command ∷ [])
-  none_left h = ended_by h.parts h.spelled h.folders h.option
+pub few_positional : (ps : List Word) (vs : CommandOption → List Word) (words : List Word) (command : Command)
+    → Completes ps vs words command → length ps ≤ 2
+few_positional ps vs words command h =
+    omega (arith, two_at_most command, simp length-append at (ap length h.whole.positional_are))
 
-  -- the option needs a value
-  pub no_value : ¬ Completes seen_folders seen_libraries (codes "--lib" ∷ []) command
-  no_value h =
-      elim (begins seen_folders seen_libraries (codes "--lib") [] command h) [
-        | ByFolder operand _ ↦ operand refl
-        | ByOption value tail _ rests _ _ ↦ cc
-        | ByJoined value is _ _ ↦ cc
-      ]
+pub few_values : (ps : List Word) (vs : CommandOption → List Word) (asked : CommandOption) (words : List Word) (command : Command)
+    → Completes ps vs words command → length (vs asked) ≤ 1
+few_values ps vs lib_option words command h = omega (arith, simp length-append at (ap length h.whole.library_is))
+few_values ps vs steps_option words command h =
+    let few : length (vs steps_option ++ values_of steps_option h.parts) ≤ 1 = one_at_most command _ h.whole.steps_are in
+    omega (arith, simp length-append at few)
+
+-- the same with the part that stands first
+pub few_with_first : (ps : List Word) (vs : CommandOption → List Word) (part : Part) (rest : List Word) (command : Command)
+    → IsPart part → Completes ps vs (words_of part ++ rest) command
+    → (length (ps ++ positionals (part ∷ [])) ≤ 2) × ((asked : CommandOption) → length (vs asked ++ values_of asked (part ∷ [])) ≤ 1)
+few_with_first ps vs part rest command is_part h =
+    let next_vs : CommandOption → List Word = λ asked. vs asked ++ values_of asked (part ∷ []) in
+    let more = part_behind ps vs part (ps ++ positionals (part ∷ [])) next_vs refl (λ asked. refl) rest command is_part h in
+    (few_positional _ _ rest command more, λ asked. few_values _ _ asked rest command more)
+
+-- where no word is left, all were seen
+pub none_left : (ps : List Word) (vs : CommandOption → List Word) (command : Command) → Completes ps vs [] command ↔ AreOf command ps vs
+none_left ps vs command = (
+  λ h. all_by h.parts h.spelled h.whole,
+  λ h. record {
+    parts = [];
+    spelled = refl;
+    each = tt;
+    whole = same_are_of command _ _ _ _ (sym (append-nil ps)) (λ asked. sym (append-nil (vs asked))) h;
+  },
+)
+  where
+    all_by : (parts : List Part) → [] ≡ flat_map words_of parts
+        → AreOf command (ps ++ positionals parts) (λ asked. vs asked ++ values_of asked parts) → AreOf command ps vs
+    all_by [] e h = same_are_of command _ _ _ _ (append-nil ps) (λ asked. append-nil (vs asked)) h
+    all_by (part ∷ parts) e h = absurd (not_empty part _ (sym e))
 
 -- what is behind the command's name completes the command
-pub behind_name : (name : Word) (rest : List Word) (command : Command) → Spells command (name ∷ rest) → Completes [] [] rest command
+pub behind_name : (name : Word) (rest : List Word) (command : Command) → Spells command (name ∷ rest) → AreBehindName rest command
 behind_name name rest command h = record {
   parts = h.parts;
   spelled = cc (h.spelled);
   each = h.each;
-  folders = h.folders;
-  option = h.option;
-  apart = h.apart;
+  whole = record { positional_are = h.positional; library_is = h.library; steps_are = h.steps; apart = h.apart };
 }
 
 pub name_spelled : (name : Word) (rest : List Word) (command : Command) → Spells command (name ∷ rest) → name ≡ name_of command
 name_spelled name rest command h = cc (h.spelled)
-
--- a name is that of one command
-pub only_optimise : (P : Command → Type 0) → ((input output library : Word) → ¬ P (Optimise input output library)) → (command : Command) → codes "optimise" ≡ name_of command → ¬ P command
-only_optimise P none (Optimise input output library) named p = none input output library p
-only_optimise P none (Verify input library) named p = cc
-
-pub only_verify : (P : Command → Type 0) → ((input library : Word) → ¬ P (Verify input library)) → (command : Command) → codes "verify" ≡ name_of command → ¬ P command
-only_verify P none (Optimise input output library) named p = cc
-only_verify P none (Verify input library) named p = none input library p

@@ -1,101 +1,118 @@
 -- What one more word means behind the words seen.
-use Rattle.std.proofs.Common.{◌≡◌, ◌≢◌, ℕ, ◌+◌, ◌<◌, ◌≤◌, List, [], ◌∷◌, ◌++◌, length, get_or, drop, map, refl, arith}
+use Rattle.std.proofs.Common.{◌≡◌, ◌≢◌, ℕ, ◌+◌, ◌<◌, ◌≤◌, List, [], ◌∷◌, ◌++◌, length, length-append, get_or, drop, map, refl, sym, ap, ◌∙◌, append_assoc, arith}
 use Rattle.std.proofs.lemmas.List.{drop_more}
 use Rattle.std.specs.Prelude.{codes, ◌↔◌, IfNone, Option, None, Some}
-use Rattle.std.specs.Borrow.{Bor}
-use Rattle.pea_top.specs.Words.{Word, Command, Optimise, Verify, folders_of, library_of, IsOperand}
-use Rattle.pea_top.specs.Seen.{folder_words, library_words, awaiting, Completes, EndsCommand, Leads, Fails, MayBeFolder}
+use Rattle.pea_top.specs.Words.{Word, Command, CommandOption, lib_option, steps_option, option_name, Part, Positional, Separate, Joined, words_of, IsOperand, IsPart, positionals, values_of, IsUsage}
+use Rattle.pea_top.specs.Seen.{option_view, positional_words, values_seen, awaiting, Makes, MakesNone, AreBehindName, EndsCommand, Leads, Fails, Adds, IsTooMany}
+use Rattle.pea_top.specs.declared.words.OptionName.{OptionName}
+use Rattle.pea_top.specs.declared.words.Arguments.{Arguments}
 use Rattle.pea_top.specs.declared.words.Seen.{Seen}
-use Rattle.pea_top.specs.declared.words.Folders.{Folders}
-use Rattle.pea_top.specs.declared.words.Folders.TheVariants.{Neither, Input, Both}
-use Rattle.pea_top.specs.declared.words.Library.{Library}
-use Rattle.pea_top.specs.declared.words.Library.TheVariants.{Missing, Awaited, Given}
-use Rattle.pea_top.proofs.Completing.{ByFolder, ByOption, ByJoined, begins, folder_first, folder_behind, option_first, option_behind, joined_first, joined_behind, too_many, none_left, no_value}
+use Rattle.pea_top.proofs.Completing.{part_first, part_behind, no_part_first, few_with_first, none_left, behind_name, name_spelled}
+use Rattle.pea_top.proofs.WordGrammar.{not_name, name_not_joined}
 
--- one more folder
-pub folder_leads : (seen next : Seen) (word : Word) → MayBeFolder seen word → IsOperand word → folder_words next.folders ≡ folder_words seen.folders ++ word ∷ [] → next.library ≡ seen.library → Leads seen word next
-folder_leads seen next word may operand folders library rest command =
-    let none : awaiting seen.library ≡ [] = may.none_awaited in (
-      λ h. rw none (folder_first (folder_words seen.folders) (library_words seen.library) word rest command operand (rw (folders, library, none) at h)),
-      λ h. rw (folders, library, none) (folder_behind (folder_words seen.folders) (library_words seen.library) word rest command operand (rw none at h)),
-    )
+-- a part more than a command has
+no_more : (seen : Arguments) (part : Part) → IsTooMany seen part
+    → length (positional_words seen.positional ++ positionals (part ∷ [])) ≤ 2
+    → ((asked : CommandOption) → length (values_seen seen asked ++ values_of asked (part ∷ [])) ≤ 1) → ⊥
+no_more seen (Positional word) many words values = omega (arith, many, simp length-append at words)
+no_more seen (Separate lib_option value) many words values = omega (arith, many, simp length-append at (values lib_option))
+no_more seen (Separate steps_option value) many words values = omega (arith, many, simp length-append at (values steps_option))
+no_more seen (Joined lib_option value) many words values = omega (arith, many, simp length-append at (values lib_option))
+no_more seen (Joined steps_option value) many words values = omega (arith, many, simp length-append at (values steps_option))
 
--- a command has two positional words at most
-two_at_most : (command : Command) → length (folders_of command) ≤ 2
-two_at_most (Optimise input output library) = omega arith
-two_at_most (Verify input library) = omega arith
+-- the word is the value of the option that awaits one
+pub value_ends : (awaited : Option OptionName) (option : OptionName) (word : Word) → awaited ≡ Some option
+    → awaiting awaited ++ word ∷ [] ≡ words_of (Separate (option_view option) word)
+value_ends awaited option word is = rw is refl
 
--- no folder can follow, and no option
-pub folder_fails : (seen : Seen) (word : Word) → MayBeFolder seen word → (IsOperand word → length (folder_words seen.folders) ≡ 2) → Fails seen word
-folder_fails seen word may two rest command h =
-    elim (begins (folder_words seen.folders) (library_words seen.library) word rest command (rw may.none_awaited at h)) [
-      | ByFolder operand more ↦ too_many _ _ _ _ (omega (arith, two operand, two_at_most command)) more.folders
-      | ByOption value tail is _ _ more ↦ too_many _ _ _ _ (omega (arith, may.separate is)) more.option
-      | ByJoined value is some more ↦ too_many _ _ _ _ (omega (arith, may.joined value some is)) more.option
-    ]
+-- no option awaits a value
+pub word_ends : (awaited : Option OptionName) (word : Word) (words : List Word) → awaited ≡ None → word ∷ [] ≡ words
+    → awaiting awaited ++ word ∷ [] ≡ words
+word_ends awaited word words none is = rw none is
 
--- the value of the option
-pub value_leads : (seen next : Seen) (word : Word) → seen.library ≡ Awaited → IsOperand word → next.folders ≡ seen.folders → library_words next.library ≡ word ∷ [] → awaiting next.library ≡ [] → Leads seen word next
-value_leads seen next word awaited operand folders library none rest command = (
-  λ h. rw awaited (option_first (folder_words seen.folders) [] word rest command operand (rw (folders, library, none) at h)),
-  λ h. rw (folders, library, none) (option_behind (folder_words seen.folders) [] word rest command (rw awaited at h)),
-)
+-- the word behind the words seen, with the option that awaits its value, is a part
+module _ (seen : Seen) (word : Word) (part : Part) (ends : awaiting seen.awaited ++ word ∷ [] ≡ words_of part) (is_part : IsPart part) where
+  spelled : (rest : List Word) → words_of part ++ rest ≡ awaiting seen.awaited ++ word ∷ rest
+  spelled rest = ap (λ words. words ++ rest) (sym ends) ∙ append_assoc (awaiting seen.awaited) (word ∷ []) rest
 
--- no value of the option can follow
-pub value_fails : (seen : Seen) (word : Word) → seen.library ≡ Awaited → ¬ IsOperand word → Fails seen word
-value_fails seen word awaited no_operand rest command h =
-    elim (begins (folder_words seen.folders) [] (codes "--lib") (word ∷ rest) command (rw awaited at h)) [
-      | ByFolder operand _ ↦ operand refl
-      | ByOption value tail _ rests operand _ ↦ (let same : word ≡ value = cc in no_operand (rw same operand))
-      | ByJoined value is _ _ ↦ cc
-    ]
+  -- the arguments have one part more
+  pub part_leads : (next : Seen) → next.awaited ≡ None → Adds seen.arguments part next.arguments → Leads seen word next
+  part_leads next none adds rest command =
+      let first = part_first _ _ part _ _ adds.positional adds.values rest command is_part in
+      let behind = part_behind _ _ part _ _ adds.positional adds.values rest command is_part in (
+        λ h. rw (spelled rest) at (first (rw none at h)),
+        λ h. rw none (behind (rw (spelled rest) h)),
+      )
 
--- the option with its value in one word
-pub joined_leads : (seen next : Seen) (word value : Word) → seen.library ≡ Missing → word ≡ codes "--lib=" ++ value → value ≢ [] → next.folders ≡ seen.folders → library_words next.library ≡ value ∷ [] → awaiting next.library ≡ [] → Leads seen word next
-joined_leads seen next word value missing is some folders library none rest command = (
-  λ h. rw (missing, is) (joined_first (folder_words seen.folders) [] value rest command some (rw (folders, library, none) at h)),
-  λ h. rw (folders, library, none) (joined_behind (folder_words seen.folders) [] value rest command (rw (missing, is) at h)),
-)
+  -- no command has this part
+  pub part_fails : IsTooMany seen.arguments part → Fails seen word
+  part_fails many rest command h =
+      let few = few_with_first _ _ part rest command is_part (rw (spelled rest) h) in
+      no_more seen.arguments part many few.0 few.1
 
-ended_libraries : (seen_folders : List Word) (library : Library) (command : Command) → Completes seen_folders (library_words library) (awaiting library ++ []) command → (seen_folders ≡ folders_of command) × (library_words library ≡ library_of command ∷ [])
-ended_libraries seen_folders Missing command h = none_left seen_folders [] command h
-ended_libraries seen_folders Awaited command h = absurd (no_value seen_folders [] command h)
-ended_libraries seen_folders (Given folder) command h = none_left seen_folders (folder.now ∷ []) command h
+-- the word is no value of the option that awaits one
+pub value_fails : (seen : Seen) (option : OptionName) (word : Word) → seen.awaited ≡ Some option → ¬ IsOperand word → Fails seen word
+value_fails seen option word awaited no_operand rest command h =
+    no_part_first _ _ (option_name (option_view option)) (word ∷ rest) command none (rw awaited at h)
+  where
+    none : (part : Part) (tail : List Word) → IsPart part → option_name (option_view option) ∷ word ∷ rest ≢ words_of part ++ tail
+    none (Positional first) tail operand e = not_name (option_view option) first operand cc
+    none (Separate other value) tail operand e = (let same : word ≡ value = cc in no_operand (rw same operand))
+    none (Joined other value) tail some e = name_not_joined (option_view option) other value cc
 
--- where no word is left, the command's folders were seen
-pub ended : (seen : Seen) (command : Command) → EndsCommand seen [] command → (folder_words seen.folders ≡ folders_of command) × (library_words seen.library ≡ library_of command ∷ [])
-ended seen command h = ended_libraries (folder_words seen.folders) seen.library command h
+-- the word begins no part
+pub word_fails : (seen : Seen) (word : Word) → seen.awaited ≡ None → ((option : CommandOption) → word ≢ option_name option)
+    → ((option : CommandOption) (value : Word) → value ≢ [] → word ≢ option_name option ++ codes "=" ++ value) → ¬ IsOperand word
+    → Fails seen word
+word_fails seen word awaited no_name no_joined no_operand rest command h =
+    no_part_first _ _ word rest command none (rw awaited at h)
+  where
+    none : (part : Part) (tail : List Word) → IsPart part → word ∷ rest ≢ words_of part ++ tail
+    none (Positional first) tail operand e = (let same : word ≡ first = cc in no_operand (rw same operand))
+    none (Separate option value) tail operand e = no_name option cc
+    none (Joined option value) tail some e = no_joined option value some cc
 
--- two folders are both folders
-pub not_two : (folders : Folders) (input output : Word) → ((x y : Bor Word) → folders ≢ Both x y) → folder_words folders ≢ input ∷ output ∷ []
-not_two Neither input output none e = cc
-not_two (Input folder) input output none e = cc
-not_two (Both one other) input output none e = none one other refl
+-- where no word is left, the arguments seen make the command
+pub ended : (P : Command → Type 0) (seen : Seen) → seen.awaited ≡ None → ((command : Command) → EndsCommand seen [] command ↔ P command)
+    → (command : Command) → Makes seen.arguments command ↔ P command
+ended P seen none same command =
+    let whole = none_left (positional_words seen.arguments.positional) (values_seen seen.arguments) command in
+    (λ h. (same command).0 (rw none (whole.1 h)), λ p. whole.0 (rw none at ((same command).1 p)))
 
--- and one is the input
-pub not_input : (folders : Folders) (input : Word) → ((x : Bor Word) → folders ≢ Input x) → folder_words folders ≢ input ∷ []
-not_input Neither input none e = cc
-not_input (Input folder) input none e = none folder refl
-not_input (Both one other) input none e = cc
-
--- a value of the option was given
-pub not_one : (library : Library) (folder : Word) → ((x : Bor Word) → library ≢ Given x) → library_words library ≢ folder ∷ []
-not_one Missing folder none e = cc
-not_one Awaited folder none e = cc
-not_one (Given value) folder none e = none value refl
+-- an option that awaits its value ends no command
+pub unended : (P : Command → Type 0) (seen : Seen) (option : OptionName) → seen.awaited ≡ Some option
+    → ((command : Command) → EndsCommand seen [] command ↔ P command) → (command : Command) → ¬ P command
+unended P seen option awaited same command p =
+    no_part_first _ _ (option_name (option_view option)) [] command none (rw awaited at ((same command).1 p))
+  where
+    none : (part : Part) (tail : List Word) → IsPart part → option_name (option_view option) ∷ [] ≢ words_of part ++ tail
+    none (Positional first) tail operand e = not_name (option_view option) first operand cc
+    none (Separate other value) tail operand e = cc
+    none (Joined other value) tail some e = name_not_joined (option_view option) other value cc
 
 -- the words behind the first k, of which the next is seen
-pub next_word : {A : Type 0} (view : A → Word) (xs : List A) (k : ℕ) (item : A) (word : Word) → k < length xs → item ≡ get_or xs k item → word ≡ view item → map view (drop k xs) ≡ word ∷ map view (drop (k + 1) xs)
+pub next_word : {A : Type 0} (view : A → Word) (xs : List A) (k : ℕ) (item : A) (word : Word) → k < length xs → item ≡ get_or xs k item
+    → word ≡ view item → map view (drop k xs) ≡ word ∷ map view (drop (k + 1) xs)
 next_word view xs k item word within is same = rw (drop_more xs k item within, ← is, same) refl
 
 -- what the words complete is what the words seen and the rest complete, and so with one more word seen
-pub follows : (P : Command → Type 0) (seen next : Seen) (word : Word) (before rest : List Word) → before ≡ word ∷ rest → Leads seen word next → ((command : Command) → EndsCommand seen before command ↔ P command) → (command : Command) → EndsCommand next rest command ↔ P command
+pub follows : (P : Command → Type 0) (seen next : Seen) (word : Word) (before rest : List Word) → before ≡ word ∷ rest
+    → Leads seen word next → ((command : Command) → EndsCommand seen before command ↔ P command) → (command : Command)
+    → EndsCommand next rest command ↔ P command
 follows P seen next word before rest split leads same command =
     (λ h. (same command).0 (rw split ((leads rest command).0 h)), λ p. (leads rest command).1 (rw split at ((same command).1 p)))
 
 -- what the words complete is nothing, where no more word can be seen
-pub stops : (P : Command → Type 0) (seen : Seen) (word : Word) (before rest : List Word) → before ≡ word ∷ rest → Fails seen word → ((command : Command) → EndsCommand seen before command ↔ P command) → (command : Command) → ¬ P command
+pub stops : (P : Command → Type 0) (seen : Seen) (word : Word) (before rest : List Word) → before ≡ word ∷ rest → Fails seen word
+    → ((command : Command) → EndsCommand seen before command ↔ P command) → (command : Command) → ¬ P command
 stops P seen word before rest split fails same command p = fails rest command (rw split at ((same command).1 p))
+
+-- words of this name spell no command where the arguments behind it make none
+pub unspelled : (name first : Word) (rest words : List Word) (seen : Arguments) → words ≡ first ∷ rest → first ≡ name
+    → ((command : Command) → Makes seen command ↔ AreBehindName rest command) → MakesNone seen name → IsUsage words
+unspelled name first rest words seen split is same none command h =
+    let spelled = rw split at h in
+    none command (sym (name_spelled first rest command spelled) ∙ is) ((same command).1 (behind_name first rest command spelled))
 
 -- what follows where a call gives nothing
 pub none_then : {X P Q : Type 0} (r : Option X) → (P → Q) → IfNone r P → IfNone r Q

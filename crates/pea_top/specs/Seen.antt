@@ -1,46 +1,81 @@
 -- What the words seen so far say of a command, and which words complete it.
-use Rattle.std.specs.Prelude.{◌≡◌, ◌≢◌, ◌↔◌, List, [], ◌∷◌, ◌++◌, codes, length}
+use Rattle.std.specs.Prelude.{◌≡◌, ◌↔◌, Option, Some, None, List, [], ◌∷◌, ◌++◌, length}
+use Rattle.std.specs.Borrow.{Bor}
 use Rattle.std.specs.List.{flat_map, AllByRecursion}
-use Rattle.pea_top.specs.Words.{Word, Command, Part, words_of, IsPart, positionals, libraries, library_of, folders_of, IsApart}
-use Rattle.pea_top.specs.declared.words.Folders.{Folders}
-use Rattle.pea_top.specs.declared.words.Folders.TheVariants.{Neither, Input, Both}
-use Rattle.pea_top.specs.declared.words.Library.{Library}
-use Rattle.pea_top.specs.declared.words.Library.TheVariants.{Missing, Awaited, Given}
+use Rattle.pea_top.specs.Words.{Word, Command, CommandOption, lib_option, steps_option, option_name, Part, Positional, Separate, Joined, words_of, IsPart, positionals, values_of, name_of, positionals_of, library_of, HasSteps, IsApart}
+use Rattle.pea_top.specs.declared.words.OptionName.{OptionName}
+use Rattle.pea_top.specs.declared.words.OptionName.TheVariants.{Lib, Steps}
+use Rattle.pea_top.specs.declared.words.Positionals.{Positionals}
+use Rattle.pea_top.specs.declared.words.Positionals.TheVariants.{Zero, One, Two}
+use Rattle.pea_top.specs.declared.words.Arguments.{Arguments}
 use Rattle.pea_top.specs.declared.words.Seen.{Seen}
 
+-- the option as the grammar sees it
+abbrev pub option_view : OptionName → CommandOption
+option_view Lib = lib_option
+option_view Steps = steps_option
+
 -- the positional words seen, in order
-abbrev pub folder_words : Folders → List Word
-folder_words Neither = []
-folder_words (Input input) = input.now ∷ []
-folder_words (Both input output) = input.now ∷ output.now ∷ []
+abbrev pub positional_words : Positionals → List Word
+positional_words Zero = []
+positional_words (One word) = word.now ∷ []
+positional_words (Two first second) = first.now ∷ second.now ∷ []
 
--- the values seen of the option
-abbrev pub library_words : Library → List Word
-library_words Missing = []
-library_words Awaited = []
-library_words (Given folder) = folder.now ∷ []
+-- the value of an option, where it was seen
+abbrev pub value_words : Option (Bor Word) → List Word
+value_words None = []
+value_words (Some value) = value.now ∷ []
 
--- the option, where it was seen and its value is the next word
-abbrev pub awaiting : Library → List Word
-awaiting Missing = []
-awaiting Awaited = codes "--lib" ∷ []
-awaiting (Given folder) = []
+-- the values seen of an option
+abbrev pub values_seen : Arguments → CommandOption → List Word
+values_seen seen lib_option = value_words seen.library
+values_seen seen steps_option = value_words seen.steps
 
--- Behind these positional words and these values of the option, the words complete the command.
-pub record Completes (seen_folders seen_libraries words : List Word) (command : Command)
+-- the option whose value is the next word
+abbrev pub awaiting : Option OptionName → List Word
+awaiting None = []
+awaiting (Some option) = option_name (option_view option) ∷ []
+
+-- These positional words and these values of the options are those of the command.
+pub record AreOf (command : Command) (positional : List Word) (values : CommandOption → List Word)
+    : Type 0 where
+  pub positional_are : positional ≡ positionals_of command
+  pub library_is : values lib_option ≡ library_of command ∷ []
+  pub steps_are : HasSteps command (values steps_option)
+  pub apart : IsApart command
+
+-- the arguments seen are all of the command's
+abbrev pub Makes : Arguments → Command → Type 0
+Makes seen command = AreOf command (positional_words seen.positional) (values_seen seen)
+
+-- the arguments seen make no command of this name
+abbrev pub MakesNone : Arguments → Word → Type 0
+MakesNone seen name = (command : Command) → name_of command ≡ name → ¬ Makes seen command
+
+-- Behind these positional words and these values of the options, the words complete the command.
+pub record Completes (positional : List Word) (values : CommandOption → List Word)
+    (words : List Word) (command : Command)
     : Type 0 where
   pub parts : List Part
   pub spelled : words ≡ flat_map words_of parts
   pub each : AllByRecursion IsPart parts
-  pub folders : seen_folders ++ positionals parts ≡ folders_of command
-  pub option : seen_libraries ++ libraries parts ≡ library_of command ∷ []
-  pub apart : IsApart command
+  pub whole :
+      AreOf command (positional ++ positionals parts)
+      (λ asked. values asked ++ values_of asked parts)
 
 -- Behind the words seen, the rest completes the command.
 abbrev pub EndsCommand : Seen → List Word → Command → Type 0
 EndsCommand seen rest command =
-    Completes (folder_words seen.folders) (library_words seen.library)
-    (awaiting seen.library ++ rest) command
+    Completes (positional_words seen.arguments.positional) (values_seen seen.arguments)
+    (awaiting seen.awaited ++ rest) command
+
+-- no value of an option is given
+abbrev pub no_values : CommandOption → List Word
+no_values asked = []
+
+-- the words are those behind the name of the command
+abbrev pub AreBehindName : List Word → Command → Type 0
+AreBehindName words command = Completes [] no_values words command
 
 -- With this word behind the words seen, the words seen are next.
 abbrev pub Leads : Seen → Word → Seen → Type 0
@@ -52,12 +87,17 @@ Leads seen word next =
 abbrev pub Fails : Seen → Word → Type 0
 Fails seen word = (rest : List Word) (command : Command) → ¬ EndsCommand seen (word ∷ rest) command
 
--- the word is not the value of the option, and is the option only where its value was seen before
-pub record MayBeFolder (seen : Seen) (word : Word) : Type 0 where
-  pub none_awaited : awaiting seen.library ≡ []
-  pub separate : word ≡ codes "--lib" → length (library_words seen.library) ≡ 1
-  pub joined :
-      (value : Word)
-      → value ≢ []
-      → word ≡ codes "--lib=" ++ value
-      → length (library_words seen.library) ≡ 1
+-- With this part behind the arguments seen, the arguments seen are next.
+pub record Adds (seen : Arguments) (part : Part) (next : Arguments) : Type 0 where
+  pub positional :
+      positional_words next.positional
+      ≡ positional_words seen.positional ++ positionals (part ∷ [])
+  pub values :
+      (asked : CommandOption)
+      → values_seen next asked ≡ values_seen seen asked ++ values_of asked (part ∷ [])
+
+-- no command has this part behind the arguments seen
+abbrev pub IsTooMany : Arguments → Part → Type 0
+IsTooMany seen (Positional word) = length (positional_words seen.positional) ≡ 2
+IsTooMany seen (Separate option value) = length (values_seen seen option) ≡ 1
+IsTooMany seen (Joined option value) = length (values_seen seen option) ≡ 1

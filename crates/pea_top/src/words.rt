@@ -1,12 +1,13 @@
 //! The grammar of the words.
-ghost use Rattle.std.specs.Prelude.{◌≡◌, ◌≢◌, List, [], ◌∷◌, ◌++◌, ◌↔◌, codes, map, length, string_bytes, IfSome, IfNone};
-ghost use Rattle.pea_top.specs.Words.{Word, IsOperand, name_of, input_of, library_of, Spells, IsUsage};
-ghost use Rattle.pea_top.specs.Words.{Command as grammar_command, Optimise as grammar_optimise, Verify as grammar_verify};
+ghost use Rattle.std.specs.Prelude.{◌≡◌, ◌≢◌, ℕ, [], ◌++◌, ◌↔◌, codes, map, string_bytes, IfSome, IfNone};
+ghost use Rattle.pea_top.specs.Words.{Word, IsOperand, AreSteps, CommandOption, option_name, Positional, Joined};
+ghost use Rattle.pea_top.specs.Words.{name_of, input_of, library_of, Spells, IsUsage};
+ghost use Rattle.pea_top.specs.Words.{Command as grammar_command};
 ghost use Rattle.pea_top.specs.CommandView.{command_view};
-ghost use Rattle.pea_top.specs.Seen.{folder_words, library_words, awaiting, Completes, EndsCommand, Leads, Fails, MayBeFolder};
+ghost use Rattle.pea_top.specs.Seen.{option_view, Makes, MakesNone, EndsCommand, AreBehindName, Leads, Fails, Adds, IsTooMany};
 
 /// What the words ask for: to optimise the folder `input` into the folder `output`, to verify the folder `input`, or to run it by
-/// the script of this name in at most so many steps, with the folder of the library.
+/// the file `script` for at most `steps` steps. Each uses the folder of the library.
 #[derive(Clone, Copy, Debug)]
 pub(crate) enum Command<'a> {
     Optimise {
@@ -50,28 +51,43 @@ impl<'a> Command<'a> {
     }
 }
 
-/// The positional words seen so far.
+/// The steps of a run where --steps is absent.
+const DEFAULT_STEPS: u64 = 1_000_000;
+
+/// The most steps that --steps may give.
+const MOST_STEPS: u64 = 10_000_000;
+
+/// An option of a command.
 #[derive(Clone, Copy)]
-enum Folders<'a> {
-    Neither,
-    Input(&'a str),
-    Both { input: &'a str, output: &'a str },
+enum OptionName {
+    /// `--lib`, the folder of the library.
+    Lib,
+    /// `--steps`, the most steps of a run.
+    Steps,
 }
 
-/// What was seen of the option --lib.
+/// The positional words seen so far.
 #[derive(Clone, Copy)]
-enum Library<'a> {
-    Missing,
-    /// The option was the last word, and its value is the next.
-    Awaited,
-    Given(&'a str),
+enum Positionals<'a> {
+    Zero,
+    One(&'a str),
+    Two(&'a str, &'a str),
+}
+
+/// The positional words and the values of options seen so far.
+#[derive(Clone, Copy)]
+struct Arguments<'a> {
+    positional: Positionals<'a>,
+    library: Option<&'a str>,
+    steps: Option<&'a str>,
 }
 
 /// What the words seen so far say of a command.
 #[derive(Clone, Copy)]
 struct Seen<'a> {
-    folders: Folders<'a>,
-    library: Library<'a>,
+    arguments: Arguments<'a>,
+    /// The option that was the last word, whose value is the next one.
+    awaited: Option<OptionName>,
 }
 
 /// The command that the words spell.
@@ -81,11 +97,27 @@ pub(crate) fn command_of(words: &[String]) -> Option<Command<'_>>
     ensures none { IfNone result (IsUsage (map string_bytes words.now)) }
 {
     let (name, rest) = words.split_first()?;
-    let seen = seen_in(rest)?;
+    let arguments = arguments_in(rest)?;
     match name.as_str() {
-        "optimise" => seen.optimise(),
-        "verify" => seen.verify(),
+        "optimise" => arguments.optimise(),
+        "verify" => arguments.verify(),
+        "run" => arguments.run(),
         _ => None,
+    }
+}
+
+/// The arguments in the words behind a command's name.
+fn arguments_in(words: &[String]) -> Option<Arguments<'_>>
+    ensures some { IfSome result (λ arguments.
+        (command : grammar_command)
+        → Makes arguments command ↔ AreBehindName (map string_bytes words.now) command) }
+    ensures none { IfNone result
+        ((command : grammar_command) → ¬ AreBehindName (map string_bytes words.now) command) }
+{
+    let seen = seen_in(words)?;
+    match seen.awaited {
+        Some(_) => None,
+        None => Some(seen.arguments),
     }
 }
 
@@ -93,36 +125,22 @@ pub(crate) fn command_of(words: &[String]) -> Option<Command<'_>>
 fn seen_in(words: &[String]) -> Option<Seen<'_>>
     ensures some { IfSome result (λ seen.
         (command : grammar_command)
-        → EndsCommand seen [] command ↔ Completes [] [] (map string_bytes words.now) command) }
+        → EndsCommand seen [] command ↔ AreBehindName (map string_bytes words.now) command) }
     ensures none { IfNone result
-        ((command : grammar_command) → ¬ Completes [] [] (map string_bytes words.now) command) }
+        ((command : grammar_command) → ¬ AreBehindName (map string_bytes words.now) command) }
 {
     let mut seen = Seen {
-        folders: Folders::Neither,
-        library: Library::Missing,
+        arguments: Arguments {
+            positional: Positionals::Zero,
+            library: None,
+            steps: None,
+        },
+        awaited: None,
     };
     for word in words {
         seen = seen.with(word.as_str())?;
     }
     Some(seen)
-}
-
-impl<'a> Folders<'a> {
-    /// One more positional word, of which there are two at most.
-    fn with(self, word: &'a str) -> Option<Self>
-        ensures some { IfSome result
-            (λ next. folder_words next ≡ folder_words self.entry ++ word.now ∷ []) }
-        ensures none { IfNone result (length (folder_words self.entry) ≡ 2) }
-    {
-        match self {
-            Folders::Neither => Some(Folders::Input(word)),
-            Folders::Input(input) => Some(Folders::Both {
-                input,
-                output: word,
-            }),
-            Folders::Both { .. } => None,
-        }
-    }
 }
 
 impl<'a> Seen<'a> {
@@ -131,69 +149,93 @@ impl<'a> Seen<'a> {
         ensures some { IfSome result (λ next. Leads self.entry word.now next) }
         ensures none { IfNone result (Fails self.entry word.now) }
     {
-        match self.library {
-            Library::Missing => self.with_word(word),
-            Library::Awaited => Some(self.with_library(operand(word)?)),
-            Library::Given(_) => self.with_folder(word),
+        match self.awaited {
+            Some(option) => self.with_value(option, word),
+            None => self.with_word(word),
         }
     }
 
-    /// The same, where nothing was seen of the option.
-    fn with_word(self, word: &'a str) -> Option<Self>
-        requires { self.library ≡ Library.Missing }
+    /// The same, where the word is the value of this option.
+    fn with_value(self, option: OptionName, word: &'a str) -> Option<Self>
+        requires { self.awaited ≡ Some option }
         ensures some { IfSome result (λ next. Leads self.entry word.now next) }
         ensures none { IfNone result (Fails self.entry word.now) }
     {
-        if word == "--lib" {
+        let arguments = self.arguments.with_option(option, operand(word)?)?;
+        Some(Seen {
+            arguments,
+            awaited: None,
+        })
+    }
+
+    /// The same, where the word is the value of no option.
+    fn with_word(self, word: &'a str) -> Option<Self>
+        requires { self.awaited ≡ None }
+        ensures some { IfSome result (λ next. Leads self.entry word.now next) }
+        ensures none { IfNone result (Fails self.entry word.now) }
+    {
+        if let Some(option) = option_of(word) {
             return Some(Seen {
-                library: Library::Awaited,
+                awaited: Some(option),
                 ..self
             });
         }
-        match joined_value(word) {
-            Some(folder) => Some(self.with_library(folder)),
-            None => self.with_folder(word),
+        let arguments = match joined_value(word) {
+            Some((option, value)) => self.arguments.with_option(option, value)?,
+            None => self.arguments.with_positional(operand(word)?)?,
+        };
+        Some(Seen {
+            arguments,
+            awaited: None,
+        })
+    }
+}
+
+impl<'a> Arguments<'a> {
+    /// With one more positional word, of which there are two at most.
+    fn with_positional(self, word: &'a str) -> Option<Self>
+        ensures some { IfSome result (λ next. Adds self.entry (Positional word.now) next) }
+        ensures none { IfNone result (IsTooMany self.entry (Positional word.now)) }
+    {
+        let positional = match self.positional {
+            Positionals::Zero => Positionals::One(word),
+            Positionals::One(first) => Positionals::Two(first, word),
+            Positionals::Two(..) => return None,
+        };
+        Some(Arguments { positional, ..self })
+    }
+
+    /// With the value of an option, which is given once at most.
+    fn with_option(self, option: OptionName, value: &'a str) -> Option<Self>
+        ensures some { IfSome result
+            (λ next. Adds self.entry (Joined (option_view option) value.now) next) }
+        ensures none { IfNone result (IsTooMany self.entry (Joined (option_view option) value.now)) }
+    {
+        match option {
+            OptionName::Lib if self.library.is_none() => Some(Arguments {
+                library: Some(value),
+                ..self
+            }),
+            OptionName::Steps if self.steps.is_none() => Some(Arguments {
+                steps: Some(value),
+                ..self
+            }),
+            _ => None,
         }
     }
 
-    /// With the value of the option.
-    fn with_library(self, folder: &'a str) -> Self
-        ensures folders { result.folders ≡ self.entry.folders }
-        ensures library { library_words result.library ≡ folder.now ∷ [] }
-        ensures none_awaited { awaiting result.library ≡ [] }
-    {
-        Seen {
-            library: Library::Given(folder),
-            ..self
-        }
-    }
-
-    /// With one more folder.
-    fn with_folder(self, word: &'a str) -> Option<Self>
-        requires { MayBeFolder self word.now }
-        ensures some { IfSome result (λ next. Leads self.entry word.now next) }
-        ensures none { IfNone result (Fails self.entry word.now) }
-    {
-        let folders = self.folders.with(operand(word)?)?;
-        Some(Seen { folders, ..self })
-    }
-
-    /// The command that optimises, where no word is missing.
+    /// The command that optimises, where these are its arguments.
     fn optimise(self) -> Option<Command<'a>>
         ensures name { IfSome result
             (λ command. name_of (command_view command) ≡ codes "optimise") }
-        ensures some { IfSome result (λ command. EndsCommand self.entry [] (command_view command)) }
-        ensures none { IfNone result
-            ((input output library : Word)
-            → ¬ EndsCommand self.entry [] (grammar_optimise input output library)) }
+        ensures some { IfSome result (λ command. Makes self.entry (command_view command)) }
+        ensures none { IfNone result (MakesNone self.entry (codes "optimise")) }
     {
-        let Folders::Both { input, output } = self.folders else {
+        let Positionals::Two(input, output) = self.positional else {
             return None;
         };
-        let Library::Given(library) = self.library else {
-            return None;
-        };
-        if output == input || output == library {
+        let library = self.library?;
+        if self.steps.is_some() || output == input || output == library {
             return None;
         }
         Some(Command::Optimise {
@@ -203,20 +245,42 @@ impl<'a> Seen<'a> {
         })
     }
 
-    /// The command that verifies, where no word is missing.
+    /// The command that verifies, where these are its arguments.
     fn verify(self) -> Option<Command<'a>>
         ensures name { IfSome result (λ command. name_of (command_view command) ≡ codes "verify") }
-        ensures some { IfSome result (λ command. EndsCommand self.entry [] (command_view command)) }
-        ensures none { IfNone result
-            ((input library : Word) → ¬ EndsCommand self.entry [] (grammar_verify input library)) }
+        ensures some { IfSome result (λ command. Makes self.entry (command_view command)) }
+        ensures none { IfNone result (MakesNone self.entry (codes "verify")) }
     {
-        let Folders::Input(input) = self.folders else {
+        let Positionals::One(input) = self.positional else {
             return None;
         };
-        let Library::Given(library) = self.library else {
+        let library = self.library?;
+        if self.steps.is_some() {
             return None;
-        };
+        }
         Some(Command::Verify { input, library })
+    }
+
+    /// The command that runs, where these are its arguments.
+    fn run(self) -> Option<Command<'a>>
+        ensures name { IfSome result (λ command. name_of (command_view command) ≡ codes "run") }
+        ensures some { IfSome result (λ command. Makes self.entry (command_view command)) }
+        ensures none { IfNone result (MakesNone self.entry (codes "run")) }
+    {
+        let Positionals::Two(input, script) = self.positional else {
+            return None;
+        };
+        let library = self.library?;
+        let steps = match self.steps {
+            Some(word) => steps_of(word)?,
+            None => DEFAULT_STEPS,
+        };
+        Some(Command::Run {
+            input,
+            script,
+            library,
+            steps,
+        })
     }
 }
 
@@ -232,13 +296,47 @@ fn operand(word: &str) -> Option<&str>
     }
 }
 
-/// The value behind `--lib=`, where it is not empty.
-fn joined_value(word: &str) -> Option<&str>
-    ensures some { IfSome result
-        (λ value. (word.now ≡ codes "--lib=" ++ value.now) × (value.now ≢ [])) }
-    ensures none { IfNone result
-        ((value : Word) → value ≢ [] → word.now ≢ codes "--lib=" ++ value) }
+/// The option of this name.
+fn option_of(name: &str) -> Option<OptionName>
+    ensures some { IfSome result (λ option. name.now ≡ option_name (option_view option)) }
+    ensures none { IfNone result ((option : CommandOption) → name.now ≢ option_name option) }
 {
-    let value = word.strip_prefix("--lib=")?;
-    if value.is_empty() { None } else { Some(value) }
+    match name {
+        "--lib" => Some(OptionName::Lib),
+        "--steps" => Some(OptionName::Steps),
+        _ => None,
+    }
+}
+
+/// An option and the value behind its equals sign, where the word is these and the value is not empty.
+fn joined_value(word: &str) -> Option<(OptionName, &str)>
+    ensures some { IfSome result (λ joined.
+        (word.now ≡ option_name (option_view joined.0) ++ codes "=" ++ joined.1.now)
+        × (joined.1.now ≢ [])) }
+    ensures none { IfNone result
+        ((option : CommandOption) (value : Word)
+        → value ≢ []
+        → word.now ≢ option_name option ++ codes "=" ++ value) }
+{
+    let (name, value) = word.split_once('=')?;
+    let option = option_of(name)?;
+    if value.is_empty() {
+        None
+    } else {
+        Some((option, value))
+    }
+}
+
+/// The number of steps that a word gives.
+fn steps_of(word: &str) -> Option<u64>
+    ensures some { IfSome result (λ steps. AreSteps steps word.now) }
+    ensures none { IfNone result ((steps : ℕ) → ¬ AreSteps steps word.now) }
+{
+    if word.len() > 20 || word.starts_with('+') {
+        return None;
+    }
+    match word.parse::<u64>() {
+        Ok(steps) if steps <= MOST_STEPS => Some(steps),
+        _ => None,
+    }
 }

@@ -11,3 +11,7 @@ mod GivenWords
 mod EachWord
 mod ActionLines
 mod ScriptLines
+mod SpacedLines
+mod VisibleWords
+mod PrintedActions
+mod OneScript

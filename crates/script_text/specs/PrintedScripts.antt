@@ -1,7 +1,9 @@
 -- The text of a script: one line for each action.
-use Rattle.std.specs.Prelude.{ℕ, List, [], ◌∷◌, ◌++◌, codes, map, decimal, None, Some}
+use Rattle.std.specs.Prelude.{◌<◌, ◌^◌, ℕ, List, [], ◌∷◌, ◌++◌, codes, map, decimal, FitsSigned, None, Some}
 use Rattle.std.specs.Fmt.{signed_decimal}
-use Rattle.std.specs.List.{flat_map, join_with_byte}
+use Rattle.std.specs.Int.{w32, w64}
+use Rattle.std.specs.List.{flat_map, join_with_byte, AllByRecursion}
+use Rattle.class_model.specs.ModifiedUtf8.{IsText}
 use Rattle.machine_values.specs.declared.action.Action.{Action}
 use Rattle.machine_values.specs.declared.action.Action.TheVariants.{Call, Construct, Return, Throw, ArrayGet, ArraySet, ArrayLength, NewArray, NewExternal, Stop}
 use Rattle.machine_values.specs.declared.action.Given.{Given}
@@ -45,3 +47,35 @@ printed_action action = join_with_byte space (action_words action) ++ line_feed 
 
 abbrev pub printed_script : List Action → Bytes
 printed_script actions = flat_map printed_action actions
+
+-- ---- the values of the types
+
+-- a number of a known reference
+abbrev pub IsKnown : ℕ → Type 0
+IsKnown number = number < 2 ^ 64
+
+-- numbers and bits fit the type of the value
+abbrev pub IsGiven : Given → Type 0
+IsGiven (Int number) = FitsSigned w32 number
+IsGiven (Long number) = FitsSigned w64 number
+IsGiven (Float bits) = bits < 2 ^ 32
+IsGiven (Double bits) = bits < 2 ^ 64
+IsGiven Null = Unit {0}
+IsGiven (Known number) = IsKnown number
+
+-- names and descriptors are texts, and numbers fit
+abbrev pub IsAction : Action → Type 0
+IsAction (Call class name desc values) =
+    IsText class × IsText name × IsText desc × AllByRecursion IsGiven values
+IsAction (Construct class desc values) =
+    IsText class × IsText desc × AllByRecursion IsGiven values
+IsAction (Return None) = Unit {0}
+IsAction (Return (Some value)) = IsGiven value
+IsAction (Throw number) = IsKnown number
+IsAction (ArrayGet number index) = IsKnown number × FitsSigned w32 index
+IsAction (ArraySet number index value) =
+    IsKnown number × FitsSigned w32 index × IsGiven value
+IsAction (ArrayLength number) = IsKnown number
+IsAction (NewArray desc len) = IsText desc × FitsSigned w32 len
+IsAction (NewExternal class also) = IsText class × AllByRecursion IsText also
+IsAction Stop = Unit {0}

@@ -1,6 +1,7 @@
 //! The kinds of events, printed.
 ghost use Rattle.std.specs.Prelude.{◌≡◌, ◌∷◌, [], ◌++◌, OnOk, codes, decimal, map};
 ghost use Rattle.std.specs.Option.{option_copied};
+ghost use Rattle.class_model.specs.ModifiedUtf8.{IsText};
 ghost use Rattle.script_text.specs.PrintedTexts.{printed_text};
 ghost use Rattle.script_text.specs.Events.{spaced, seen_text, seen_words, reference_text, kind_words};
 
@@ -91,16 +92,17 @@ fn push_shown(
 }
 
 /// Appends the name of a kind, and a member of a class.
-fn push_member(
+pub(crate) fn push_member(
     line: &mut Vec<u8>,
     kind: &[u8],
     class: &Text,
     name: &Text,
     desc: &Text,
 ) -> Result<(), NoMemory>
-    ensures { OnOk result (line.new.items
+    ensures printed { OnOk result (line.new.items
         ≡ line.old.items ++ (kind.now ++ spaced
         (printed_text class.now ∷ printed_text name.now ∷ printed_text desc.now ∷ []))) }
+    ensures texts { OnOk result (IsText class.now × IsText name.now × IsText desc.now) }
 {
     line.extend_from_slice(kind)?;
     push_name(line, class)?;
@@ -131,8 +133,9 @@ fn push_call_site(
 }
 
 /// Appends a space and a text as it is printed.
-fn push_name(line: &mut Vec<u8>, name: &Text) -> Result<(), NoMemory>
-    ensures { OnOk result (line.new.items ≡ line.old.items ++ (32 ∷ printed_text name.now)) }
+pub(crate) fn push_name(line: &mut Vec<u8>, name: &Text) -> Result<(), NoMemory>
+    ensures printed { OnOk result (line.new.items ≡ line.old.items ++ (32 ∷ printed_text name.now)) }
+    ensures text { OnOk result (IsText name.now) }
 {
     line.push(b' ')?;
     push_text(line, name.bytes())

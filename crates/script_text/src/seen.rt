@@ -25,7 +25,12 @@ pub(crate) fn push_seen(alloc: Global, line: &mut Vec<u8>, seen: &Seen) -> Resul
 }
 
 /// Appends what names the kind of a number, and the number in decimal.
-fn push_tagged(alloc: Global, line: &mut Vec<u8>, tag: &[u8], number: i64) -> Result<(), NoMemory>
+pub(crate) fn push_tagged(
+    alloc: Global,
+    line: &mut Vec<u8>,
+    tag: &[u8],
+    number: i64,
+) -> Result<(), NoMemory>
     ensures { OnOk result (line.new.items ≡ line.old.items ++ (tag.now ++ signed_decimal number)) }
 {
     line.extend_from_slice(tag)?;
@@ -33,7 +38,12 @@ fn push_tagged(alloc: Global, line: &mut Vec<u8>, tag: &[u8], number: i64) -> Re
 }
 
 /// Appends what names the kind of a number, and so many hexadecimal digits of it.
-fn push_bits(line: &mut Vec<u8>, tag: &[u8], count: u8, bits: u64) -> Result<(), NoMemory>
+pub(crate) fn push_bits(
+    line: &mut Vec<u8>,
+    tag: &[u8],
+    count: u8,
+    bits: u64,
+) -> Result<(), NoMemory>
     ensures { OnOk result (line.new.items ≡ line.old.items ++ (tag.now ++ hex_text count bits)) }
 {
     line.extend_from_slice(tag)?;

@@ -1,4 +1,5 @@
 use Rattle.std.specs.Prelude.{List, [], ◌∷◌, Option}
+use Rattle.std.specs.List.{AllByRecursion}
 use Rattle.class_model.specs.declared.frame.VType.{VType}
 use Rattle.class_tree.specs.Headers.{Name}
 use Rattle.machine_values.specs.Heaps.{Heap}
@@ -24,6 +25,10 @@ conforms_in_heap null_object = tt
 conforms_in_heap (an_object shape is) = there shape
 conforms_in_heap (of_new new shape class) = there shape
 conforms_in_heap (of_this shape below) = there shape
+
+pub all_in_heap : {P : Program} {s : RowScope} {h : Heap} {ts : List VType} {vs : List Value} → AllConform P s h ts vs → AllByRecursion (IsValueInHeap h) vs
+all_in_heap no_values = tt
+all_in_heap (and_value c others) = (conforms_in_heap c, all_in_heap others)
 
 pub shape_assigned : (P : Program) (T : Typings) → IsTypedProgram P T → {shape : Shape} (low high : Name)
     → IsNameAssignable (headers_in P) low high → ShapeConforms P shape low → ShapeConforms P shape high

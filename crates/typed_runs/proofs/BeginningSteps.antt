@@ -60,8 +60,10 @@ class_there P name n is = let f = first_found (λ (class : RunClass). bytes_eq n
 -- a method that is found by its reference
 pub record MethodFound (P : Program) (r : Reference) (at : MethodAt) : Type 0 where
   pub class : RunClass
+  pub class_number : folder_number P r.class ≡ Some at.class
   pub is_class : slice_get P.classes at.class ≡ Some class
   pub method : RunMethod
+  pub method_number : number_of_first (λ (m : RunMethod). member_of r m.member) class.methods ≡ Some at.method
   pub is_method : slice_get class.methods at.method ≡ Some method
   pub run : run_method P at ≡ Some method
   pub name : method.member.name ≡ r.name
@@ -81,8 +83,10 @@ method_found P r at is =
     subst (λ (x : MethodAt). MethodFound P r x) m.2
     (record {
       class = d.0;
+      class_number = c.1;
       is_class = d.1;
       method = f.item;
+      method_number = m.1;
       is_method = f.is_there;
       run = ap (λ o. option_and_then (λ (class : RunClass). slice_get class.methods m.0) o) d.1 ∙ f.is_there;
       name = sym ((bytes_eq-Decides r.name f.item.member.name).0 (and_first (bytes_eq r.name f.item.member.name) (bytes_eq r.desc f.item.member.desc) f.passed));

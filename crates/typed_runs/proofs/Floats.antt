@@ -1,12 +1,9 @@
 use Rattle.std.specs.Prelude.{◌≡◌, ◌&&◌, refl, ℕ, Bool, true, false, List, [], ◌∷◌, map, length, drop, take, reverse, Option, Some, None}
-use Rattle.std.specs.List.{AllByRecursion}
 use Rattle.std.proofs.Common.{ap, sym, ◌∙◌}
 use Rattle.std.proofs.lemmas.List.{length-map}
 use Rattle.class_model.specs.declared.descriptor.Kind.{Kind}
 use Rattle.class_model.specs.declared.frame.Frame.{Frame}
-use Rattle.class_model.specs.declared.frame.VType.{VType}
 use Rattle.machine_values.specs.Frames.{MethodState}
-use Rattle.machine_values.specs.Heaps.{Heap}
 use Rattle.machine_values.specs.Values.{has_kind}
 use Rattle.machine_values.specs.declared.frame.RunFrame.{RunFrame}
 use Rattle.machine_values.specs.declared.value.Value.{Value}
@@ -21,11 +18,10 @@ use Rattle.member_link.specs.Rows.ArithmeticRows.{Operation, float_operations, o
 use Rattle.member_link.specs.Rows.Operands.{of_kind, topmost}
 use Rattle.member_link.specs.Rows.Row.{access_aside}
 use Rattle.typed_runs.proofs.Arithmetic.{AreOfKinds, of_kinds}
-use Rattle.typed_runs.proofs.Assigned.{conforms_in_heap}
+use Rattle.typed_runs.proofs.Assigned.{all_in_heap}
 use Rattle.typed_runs.proofs.Taken.{takes_nothing}
 use Rattle.typed_runs.proofs.Here.{Here, operands_here, worked}
 use Rattle.typed_runs.proofs.Performing.{asks_goes}
-use Rattle.typed_runs.specs.Conforming.{AllConform, no_values, and_value, IsValueInHeap}
 use Rattle.typed_runs.specs.TypedFrames.{ShowsEvent}
 use Rattle.typed_runs.specs.TypedPrograms.{Typings}
 use Rattle.typed_runs.specs.TypedWorlds.{StaysTyped}
@@ -40,10 +36,6 @@ have_of_kinds [] [] are = refl
 have_of_kinds (k ∷ ks) (v ∷ vs) are = rw are.0 (have_of_kinds ks vs are.1)
 have_of_kinds [] (v ∷ vs) are = absurd are
 have_of_kinds (k ∷ ks) [] are = absurd are
-
-pub all_in_heap : {P : Program} {s : RowScope} {h : Heap} {ts : List VType} {vs : List Value} → AllConform P s h ts vs → AllByRecursion (IsValueInHeap h) vs
-all_in_heap no_values = tt
-all_in_heap (and_value c others) = (conforms_in_heap c, all_in_heap others)
 
 module _ {P : Program} {T : Typings} {w : World} {f : MethodState} {rest : List RunFrame} {s : RowScope} {frame : Frame} {place : ℕ} {numbered : ℕ → ℕ} where
   pub float_stays : (opcode : ℕ) → Here P T w f rest s frame place numbered (access_aside (operation_row frame (operation_in float_operations opcode))) (float_arithmetic opcode) true []

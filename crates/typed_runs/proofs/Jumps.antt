@@ -1,6 +1,5 @@
 use Rattle.std.specs.Prelude.{◌≡◌, ◌⊎◌, ◌+◌, ◌-◌, ◌<◌, ◌&&◌, ◌==◌, not, refl, ℕ, ℤ, pos, zero, suc, Bool, true, false, List, [], ◌∷◌, length, reverse, nat_le, Some, if◌then◌else◌}
 use Rattle.std.proofs.Common.{arith, inl, inr, sym, subst}
-use Rattle.std.proofs.lemmas.Bool.{leb-true}
 use Rattle.class_model.specs.declared.descriptor.Kind.TheVariants as kinds
 use Rattle.class_model.specs.declared.frame.Frame.{Frame}
 use Rattle.class_model.specs.declared.opcodes.TheConstants.{IFEQ, IFLE, IF_ICMPEQ, IF_ICMPLE, IF_ACMPEQ, IF_ACMPNE, IFNULL, IFNONNULL}
@@ -19,6 +18,7 @@ use Rattle.member_link.specs.RowScope.{RowScope}
 use Rattle.member_link.specs.Rows.Operands.{Need, of_kind, topmost, under}
 use Rattle.member_link.specs.Rows.Row.{access_aside, plain}
 use Rattle.member_link.specs.Rows.Table.{jump_row}
+use Rattle.typed_runs.proofs.Basics.{within}
 use Rattle.typed_runs.proofs.Here.{Here, goes, operands_here, pushed, tested}
 use Rattle.typed_runs.proofs.Stacks.{Operands}
 use Rattle.typed_runs.proofs.Taken.{one_of, two_of, an_int_value, a_reference_value}
@@ -109,9 +109,6 @@ module _ {P : Program} {T : Typings} {w : World} {f : MethodState} {rest : List 
         by_value v others o.rest (a_reference_value one.fits one.conforms)
 
 -- ---- the jumps behind their tests
-
-pub within : (low high opcode n : ℕ) → (nat_le low opcode && nat_le opcode high) ≡ true → high - low < n → opcode - low < n
-within low high opcode n test few = grind (arith, leb-true)
 
 module _ {P : Program} {T : Typings} {w : World} {f : MethodState} {rest : List RunFrame} {s : RowScope} {frame : Frame} {place : ℕ} {numbered : ℕ → ℕ} where
   pub if_stays : (opcode target : ℕ)

@@ -15,7 +15,7 @@ use Rattle.typed_runs.proofs.Here.{stays}
 use Rattle.typed_runs.proofs.Kept.{Keeps, keeps_same, keeps_through, known_kept, frames_kept, units_kept, stands_kept, in_heap_kept, there}
 use Rattle.typed_runs.proofs.Memories.{made_keeps, made_shape, made_typed}
 use Rattle.typed_runs.proofs.Shown.{reference_known, showing_stays}
-use Rattle.typed_runs.proofs.Unwinding.{IsThrown, CanUnwind, LandsTyped, unwinds}
+use Rattle.typed_runs.proofs.Unwinding.{IsThrown, CanUnwind, LandsTyped, instance_conforms, unwinds}
 use Rattle.typed_runs.specs.Conforming.{IsInHeap, HasShape, IsTypedMemory}
 use Rattle.typed_runs.specs.TypedPoints.{IsOfLibrary}
 use Rattle.typed_runs.specs.TypedPrograms.{Typings, IsTypedProgram}
@@ -74,7 +74,7 @@ raised_stays P T w name fs typed is can =
     let memory : IsTypedMemory P (with_heap w.memory made.heap) =
     made_typed P w.memory (shapes.External name []) [] typed.memory (record { is_there = is.library.is_there; of_library = is.library.outside; interfaces = tt }) in
     thrown_in_stays P T w made.reference fs (with_heap w.memory made.heap) typed keep memory
-    (record { object = shape.object; is_there = shape.is_there; is_throwable = subst (λ s. is_instance P s throwable ≡ true) (sym shape.same) (rw is.is_throwable refl) })
+    (record { object = shape.object; is_there = shape.is_there; is_throwable = instance_conforms P shape.object.shape throwable (subst (λ s. is_instance P s throwable ≡ true) (sym shape.same) (rw is.is_throwable refl)) })
     (can_kept P T w.memory.heap made.heap keep fs can)
 
 module _ (P : Program) (T : Typings) (program : IsTypedProgram P T) where

@@ -32,7 +32,7 @@ use Rattle.typed_runs.specs.TypedPrograms.{Typings, IsTypedProgram}
 pub record IsThrown (P : Program) (h : Heap) (r : ℕ) : Type 0 where
   pub object : Object
   pub is_there : object_at h r ≡ Some object
-  pub is_throwable : is_instance P object.shape throwable ≡ true
+  pub is_throwable : ShapeConforms P object.shape throwable
 
 pub among : (P : Program) (name : Name) (also : List Name) → list_any (λ interface. P.links.below interface name) also ≡ true → (n : ℕ) × (one : Name) × (slice_get also n ≡ Some one) × (P.links.below one name ≡ true)
 among P name [] is = cc
@@ -54,7 +54,7 @@ instance_conforms P (shapes.External class also) name is = by (P.links.below cla
 pub thrown_kept : (P : Program) (h k : Heap) (r : ℕ) → Keeps h k → IsThrown P h r → IsThrown P k r
 thrown_kept P h k r keep is =
     let s = keep.keeps r is.object is.is_there in
-    record { object = s.object; is_there = s.is_there; is_throwable = subst (λ x. is_instance P x throwable ≡ true) (sym s.same) is.is_throwable }
+    record { object = s.object; is_there = s.is_there; is_throwable = subst (λ x. ShapeConforms P x throwable) (sym s.same) is.is_throwable }
 
 -- ---- handlers
 
@@ -70,7 +70,7 @@ caught_by P (Some name) None = false
 caught_by P (Some name) (Some object) = is_instance P object.shape name
 
 pub caught_conforms : (P : Program) (h : Heap) (r : ℕ) (c : Option Name) (t : IsThrown P h r) → caught_by P c (object_at h r) ≡ true → ShapeConforms P t.object.shape (caught_name c)
-caught_conforms P h r None t is = instance_conforms P t.object.shape throwable t.is_throwable
+caught_conforms P h r None t is = t.is_throwable
 caught_conforms P h r (Some name) t is = instance_conforms P t.object.shape name (subst (λ o. caught_by P (Some name) o ≡ true) t.is_there is)
 
 pub handler_found : (P : Program) (h : Heap) (Q : Catch → Type 0) (cs : List Catch) (r to : ℕ) → AllByRecursion Q cs → (t : IsThrown P h r) → handler_for P h cs r ≡ Some to → Caught P Q t.object.shape to

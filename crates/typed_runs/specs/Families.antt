@@ -2,7 +2,7 @@
 use Rattle.std.specs.Prelude.{List, ◌∷◌, IfSome}
 use Rattle.machine_values.specs.declared.frame.RunFrame.{RunFrame}
 use Rattle.machine_values.specs.declared.frame.RunFrame.TheVariants.{Beginning, Method}
-use Rattle.member_link.specs.Machine.Ops.{Op, no_operation, push_value, push_constant, load_local, store_local, increment_local, shuffle_stack, pure_arithmetic, jump_by_int, jump_by_ints, jump_by_references, jump_by_null, jump_to, table_switch, lookup_switch, division, float_arithmetic, test_local, check_cast, instance_of, enter_monitor, leave_monitor}
+use Rattle.member_link.specs.Machine.Ops.{Op, no_operation, push_value, push_constant, load_local, store_local, increment_local, shuffle_stack, pure_arithmetic, jump_by_int, jump_by_ints, jump_by_references, jump_by_null, jump_to, table_switch, lookup_switch, division, float_arithmetic, test_local, check_cast, instance_of, enter_monitor, leave_monitor, new_object, new_array, new_arrays, load_element, store_element, array_length, get_static, put_static, get_field, put_field, return_nothing, return_value, throw_reference, call_static, call_virtual, call_interface, call_special, call_dynamic}
 use Rattle.member_link.specs.Machine.Programs.{Program, point_at}
 
 -- what a family says of an operation holds of the one at which the top frame stands
@@ -42,3 +42,45 @@ WorksOnOperands (instance_of name) = Unit {0}
 WorksOnOperands enter_monitor = Unit {0}
 WorksOnOperands leave_monitor = Unit {0}
 WorksOnOperands op = ⊥
+
+-- it makes an array, reads or writes an element, or gives an array's length
+abbrev pub WorksOnArrays : Op → Type 0
+WorksOnArrays (new_array desc) = Unit {0}
+WorksOnArrays (new_arrays desc dimensions) = Unit {0}
+WorksOnArrays (load_element opcode) = Unit {0}
+WorksOnArrays (store_element opcode) = Unit {0}
+WorksOnArrays array_length = Unit {0}
+WorksOnArrays op = ⊥
+
+-- it makes an object of a class
+abbrev pub MakesObject : Op → Type 0
+MakesObject (new_object name) = Unit {0}
+MakesObject op = ⊥
+
+-- it reads or writes a field
+abbrev pub NamesField : Op → Type 0
+NamesField (get_static r) = Unit {0}
+NamesField (put_static r initialises) = Unit {0}
+NamesField (get_field r) = Unit {0}
+NamesField (put_field r initialises) = Unit {0}
+NamesField op = ⊥
+
+-- it ends its method with a value or without one
+abbrev pub EndsMethod : Op → Type 0
+EndsMethod return_nothing = Unit {0}
+EndsMethod (return_value type) = Unit {0}
+EndsMethod op = ⊥
+
+-- it throws a reference
+abbrev pub ThrowsReference : Op → Type 0
+ThrowsReference throw_reference = Unit {0}
+ThrowsReference op = ⊥
+
+-- it calls a method
+abbrev pub Calls : Op → Type 0
+Calls (call_static r) = Unit {0}
+Calls (call_virtual r) = Unit {0}
+Calls (call_interface r) = Unit {0}
+Calls (call_special r from) = Unit {0}
+Calls (call_dynamic class bootstrap name desc) = Unit {0}
+Calls op = ⊥

@@ -1,5 +1,6 @@
 pub mod Conforming
 pub mod TypedPoints
+pub mod LinkedCalls
 pub mod TypedPrograms
 pub mod TypedFrames
 pub mod TypedWorlds

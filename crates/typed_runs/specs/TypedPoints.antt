@@ -23,6 +23,7 @@ use Rattle.member_link.specs.RowScope.{RowScope}
 use Rattle.member_link.specs.Rows.Assigning.{IsFrameAssignableIn}
 use Rattle.member_link.specs.Rows.MemberRows.{NoUninitThis}
 use Rattle.member_link.specs.Rows.Row.{Row, access_aside, row_frame}
+use Rattle.typed_runs.specs.LinkedCalls.{IsLinkedCall}
 
 -- How a code is typed: what the rows of its method read, and a frame for each of its points.
 pub record Typing : Type 0 where
@@ -118,6 +119,7 @@ pub record TypedPoint (P : Program) (t : Typing) (number : ℕ) (point : Point) 
   pub reads : ReadsAs scope t.scope frame
   pub row : RowHolds scope frame (access_aside (item_row scope frame place item))
   pub linked : IsLinkedOp P t.scope place point.op
+  pub call : IsLinkedCall P scope point.op
   pub next :
       IfSome
       (if item_falls_through item then row_frame frame (item_row scope frame place item) else None)

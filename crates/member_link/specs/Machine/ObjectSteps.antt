@@ -11,7 +11,7 @@ use Rattle.member_link.specs.Machine.Completions.{Completion, gives, raises, thr
 use Rattle.machine_values.specs.Heaps.{Heap, Made, object_at, allocated, external, entered, left}
 use Rattle.member_link.specs.Machine.FieldSteps.{begun_first}
 use Rattle.member_link.specs.Machine.Programs.{Program, headers_in, folder_number, name_of_class}
-use Rattle.member_link.specs.Machine.Shapes.{is_instance}
+use Rattle.member_link.specs.Machine.Shapes.{is_instance, shape_conforms}
 use Rattle.member_link.specs.Machine.Throwables.{null_pointer, class_cast, illegal_monitor}
 use Rattle.machine_values.specs.Values.{blank_values}
 use Rattle.member_link.specs.Machine.Worlds.{Memory, with_heap, stuck}
@@ -91,5 +91,5 @@ abbrev pub throw_work : Program → Memory → List Value → Completion
 throw_work P memory (Null ∷ []) = raises null_pointer
 throw_work P memory (Ref reference ∷ []) =
     if_there memory reference
-    (λ object. if is_instance P object.shape throwable then throws reference else ends stuck)
+    (λ object. if shape_conforms P object.shape throwable then throws reference else ends stuck)
 throw_work P memory operands = ends stuck

@@ -1,22 +1,29 @@
--- Behind the name, words that spell a command complete it, and the name is that of one command.
-use Rattle.std.proofs.Common.{sym, ◌∙◌, []}
-use Rattle.pea_top.specs.Seen.{EndsCommand}
-use Rattle.pea_top.proofs.Completing.{behind_name, name_spelled, only_optimise, only_verify}
-use Rattle.pea_top.proofs.WordsSeen.{none_then}
+-- Words that spell a command are its name and its arguments behind that.
+use Rattle.std.proofs.Common.{sym, ap, map, ◌∙◌}
+use Rattle.std.specs.Prelude.{string_bytes}
+use Rattle.pea_top.proofs.Completing.{behind_name}
+use Rattle.pea_top.proofs.WordsSeen.{unspelled, none_then}
 use Rattle.pea_top.proofs.words.command_of.Goals as goal
 
-pub returns-in_err-seen-clause-none : goal.returns-in_err-seen-clause-none
-returns-in_err-seen-clause-none c =
-    rw c.from_residual-in_err-seen.ensures (λ command h. c.in_err-seen.ensures.none command (behind_name _ _ command (rw c.in_ok-name.ensures.cases.0 at h)))
+pub returns-in_err-arguments-clause-none : goal.returns-in_err-arguments-clause-none
+returns-in_err-arguments-clause-none c =
+    rw c.from_residual-in_err-arguments.ensures (λ command h.
+    c.in_err-arguments.ensures.none command (behind_name _ _ command (rw c.in_ok-name.ensures.cases.0 at h)))
 
 pub returns-in-optimise-clause-none : goal.returns-in-optimise-clause-none
 returns-in-optimise-clause-none c =
-    none_then c.optimise.result (λ none command h.
-    let spelled = rw c.in_ok-name.ensures.cases.0 at h in
-    only_optimise (λ command. EndsCommand c.in_ok-seen.seen [] command) none command (sym c.in-optimise.is ∙ c.as_str.ensures.value ∙ name_spelled _ _ command spelled) ((c.in_ok-seen.ensures.some command).1 (behind_name _ _ command spelled))) c.optimise.ensures.none
+    let split = ap (λ words. map string_bytes words) c.in_ok-name.ensures.cases.0 in
+    let named = sym c.as_str.ensures.value ∙ c.in-optimise.is in
+    none_then c.optimise.result (unspelled _ _ _ _ _ split named c.in_ok-arguments.ensures.some) c.optimise.ensures.none
 
 pub returns-in-verify-clause-none : goal.returns-in-verify-clause-none
 returns-in-verify-clause-none c =
-    none_then c.verify.result (λ none command h.
-    let spelled = rw c.in_ok-name.ensures.cases.0 at h in
-    only_verify (λ command. EndsCommand c.in_ok-seen.seen [] command) none command (sym c.in-verify.is ∙ c.as_str.ensures.value ∙ name_spelled _ _ command spelled) ((c.in_ok-seen.ensures.some command).1 (behind_name _ _ command spelled))) c.verify.ensures.none
+    let split = ap (λ words. map string_bytes words) c.in_ok-name.ensures.cases.0 in
+    let named = sym c.as_str.ensures.value ∙ c.in-verify.is in
+    none_then c.verify.result (unspelled _ _ _ _ c.in_ok-arguments.arguments split named c.in_ok-arguments.ensures.some) c.verify.ensures.none
+
+pub returns-in-run-clause-none : goal.returns-in-run-clause-none
+returns-in-run-clause-none c =
+    let split = ap (λ words. map string_bytes words) c.in_ok-name.ensures.cases.0 in
+    let named = sym c.as_str.ensures.value ∙ c.in-run.is in
+    none_then c.run.result (unspelled _ _ _ _ c.in_ok-arguments.arguments split named c.in_ok-arguments.ensures.some) c.run.ensures.none
