@@ -162,7 +162,10 @@ fn push_load(out: &mut Vec<u8>, pool: &mut PoolBytes, constant: &[&str]) -> Resu
     let (opcode, index) = match constant {
         ["int"] => (LDC_W, pool.number(3, &[0; 4])?),
         ["float"] => (LDC_W, pool.number(4, &[0; 4])?),
-        ["float", bits] => (LDC_W, pool.number(4, &bits.parse::<u32>().unwrap_or(0).to_be_bytes())?),
+        ["float", bits] => (
+            LDC_W,
+            pool.number(4, &bits.parse::<u32>().unwrap_or(0).to_be_bytes())?,
+        ),
         ["long"] => (LDC2_W, pool.number(5, &[0; 8])?),
         ["double"] => (LDC2_W, pool.number(6, &[0; 8])?),
         ["string", text] => (LDC_W, pool.string(text.as_bytes())?),
