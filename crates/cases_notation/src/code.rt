@@ -26,8 +26,8 @@ struct Code {
 
 /// Appends a Code attribute whose instructions are `nop`, those of these uses and `return`. A use is an instruction with the
 /// member, class, descriptor or handle that it names, as `getstatic A x I`, `new A` or `ldc class A`; a `!` behind a call's
-/// name makes an InterfaceMethodref, and a number behind a descriptor is the count of an invokeinterface, which is else 1. A
-/// number that is loaded is 0; `ldc float 1` has these bits in decimal.
+/// name makes an InterfaceMethodref, and a number behind a descriptor is the count of an invokeinterface, which is else 1.
+/// `ldc int` and its like load 0, and `ldc float 1` loads the float of these bits, in decimal.
 /// Any other instruction has its operand bytes in decimal, as `iinc 1 255`. `limits 3 4` are the greatest depth of the stack
 /// and the number of locals, which are else 9. With `open` the code has no `return` at its end, and with `exact` in front it has
 /// neither that nor the `nop`. `dynamic get (LP;)LF;` is a dynamic call of this name and descriptor, and without a name of `run`.
