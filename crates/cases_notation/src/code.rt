@@ -27,6 +27,7 @@ struct Code {
 /// Appends a Code attribute whose instructions are `nop`, those of these uses and `return`. A use is an instruction with the
 /// member, class, descriptor or handle that it names, as `getstatic A x I`, `new A` or `ldc class A`; a `!` behind a call's
 /// name makes an InterfaceMethodref, and a number behind a descriptor is the count of an invokeinterface, which is else 1.
+/// `ldc int` and its like load 0, and `ldc float 1` loads the float of these bits, in decimal.
 /// Any other instruction has its operand bytes in decimal, as `iinc 1 255`. `limits 3 4` are the greatest depth of the stack
 /// and the number of locals, which are else 9. With `open` the code has no `return` at its end, and with `exact` in front it has
 /// neither that nor the `nop`. `dynamic get (LP;)LF;` is a dynamic call of this name and descriptor, and without a name of `run`.
@@ -161,6 +162,10 @@ fn push_load(out: &mut Vec<u8>, pool: &mut PoolBytes, constant: &[&str]) -> Resu
     let (opcode, index) = match constant {
         ["int"] => (LDC_W, pool.number(3, &[0; 4])?),
         ["float"] => (LDC_W, pool.number(4, &[0; 4])?),
+        ["float", bits] => (
+            LDC_W,
+            pool.number(4, &bits.parse::<u32>().unwrap_or(0).to_be_bytes())?,
+        ),
         ["long"] => (LDC2_W, pool.number(5, &[0; 8])?),
         ["double"] => (LDC2_W, pool.number(6, &[0; 8])?),
         ["string", text] => (LDC_W, pool.string(text.as_bytes())?),

@@ -1,7 +1,8 @@
 //! Class files in a small notation. A class is `FLAGS NAME SUPERCLASS INTERFACES` and then its members, with ` / ` between
 //! them: `field FLAGS NAME DESC`, or `method FLAGS NAME DESC` with what its code uses behind it, with `, ` between. Flags
 //! are words with `+` between, and `-` for none; `-` is no superclass, and `Object` is java/lang/Object. A method that is
-//! neither abstract nor native has code. A `51:` in front of a class is its version, which is else 52.
+//! neither abstract nor native has code, and `, constant 300` behind a field is its ConstantValue, an int. A `51:` in front
+//! of a class is its version, which is else 52.
 use crate::code::push_code;
 use crate::counted::Counted;
 use crate::head::Head;
@@ -123,12 +124,29 @@ fn push_member(
     push_u2(bytes, flags)?;
     push_u2(bytes, pool.utf8(name.as_bytes())?)?;
     push_u2(bytes, pool.utf8(desc.as_bytes())?)?;
-    let has_code = is_method && flags & 0x0500 == 0;
-    push_u2(bytes, has_code as u16)?;
-    if has_code {
-        push_code(alloc, bytes, pool, uses)?;
+    if is_method && flags & 0x0500 == 0 {
+        push_u2(bytes, 1)?;
+        push_code(alloc, bytes, pool, uses)
+    } else {
+        push_constant_value(bytes, pool, uses)
     }
-    Ok(())
+}
+
+// Appends the attributes of a member without code: the ConstantValue that it has, if it has one.
+fn push_constant_value(
+    out: &mut Vec<u8>,
+    pool: &mut PoolBytes,
+    uses: &[&str],
+) -> Result<(), NoMemory> {
+    let word = uses.first().and_then(|used| used.strip_prefix("constant "));
+    let Some(value) = word.and_then(|word| word.parse::<i32>().ok()) else {
+        return push_u2(out, 0);
+    };
+    let value = pool.number(3, &value.to_be_bytes())?;
+    push_u2(out, 1)?;
+    push_u2(out, pool.utf8(b"ConstantValue")?)?;
+    push_u4(out, 2)?;
+    push_u2(out, value)
 }
 
 // Appends the attributes of the class: where its code has dynamic calls, the bootstrap method that they take. It is of a
@@ -162,6 +180,7 @@ fn flag(word: &str) -> u16 {
         "protected" => 0x0004,
         "static" => 0x0008,
         "final" => 0x0010,
+        "synchronized" => 0x0020,
         "native" => 0x0100,
         "interface" => 0x0600,
         "abstract" => 0x0400,
