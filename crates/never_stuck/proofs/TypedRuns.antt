@@ -1,4 +1,4 @@
-use Rattle.std.specs.Prelude.{◌≡◌, ◌≢◌, ◌<◌, refl, ℕ, true, List, [], ◌∷◌, length}
+use Rattle.std.specs.Prelude.{◌≡◌, ◌≢◌, ◌<◌, refl, ℕ, true, List, [], ◌∷◌, length, Result, Ok, Err, IfOk}
 use Rattle.std.specs.List.{AllByRecursion}
 use Rattle.std.proofs.Common.{arith, ap, sym, ◌∙◌, subst}
 use Rattle.class_model.specs.declared.class_file.ClassFile.{ClassFile}
@@ -6,6 +6,7 @@ use Rattle.class_tree.specs.Headers.{Classes}
 use Rattle.machine_step.specs.Programs.{IsProgram}
 use Rattle.machine_values.specs.declared.action.Action.{Action}
 use Rattle.machine_values.specs.declared.event.End.TheVariants as ends
+use Rattle.machine_values.specs.declared.event.Shown.{Shown}
 use Rattle.member_link.specs.Machine.Acting.{act}
 use Rattle.member_link.specs.Machine.Programs.{Program}
 use Rattle.member_link.specs.Machine.Runs.{shown_after}
@@ -13,7 +14,7 @@ use Rattle.member_link.specs.Machine.Stepping.{is_library_turn, step}
 use Rattle.member_link.specs.Machine.Worlds.{World, start, stuck}
 use Rattle.never_stuck.proofs.LibraryAlone.{act_alone, step_alone}
 use Rattle.never_stuck.proofs.Turns.{run_not_stuck}
-use Rattle.never_stuck.specs.PlainFolders.{LibraryAlone}
+use Rattle.never_stuck.specs.PlainFolders.{HasNoOwnHandles, LibraryAlone}
 use Rattle.typed_runs.specs.Families.{NamesElement}
 use Rattle.typed_runs.specs.TypedPrograms.{Typings, IsTypedProgram}
 use Rattle.typed_runs.specs.TypedWorlds.{TypedWorld, StaysTyped}
@@ -61,3 +62,14 @@ verified_not_stuck laws classes P is typed actions names count = by classes.fold
       let some : 0 < length classes.folder = rw e (omega arith) in
       let t = typed some in
       typed_not_stuck laws P t.0 t.1 actions names count
+
+pub shown_not_stuck : {E : Type 0} (classes : Classes) (actions : List Action) (count : ℕ)
+    → ((P : Program) → IsProgram classes P → HasNoOwnHandles classes → AllByRecursion (NamesElement P) actions
+    → (shown_after P actions count).end ≢ ends.Stuck)
+    → (r : Result Shown E)
+    → IfOk r (λ shown. (P : Program) → IsProgram classes P → shown ≡ shown_after P actions count)
+    → IfOk r (λ shown. (P : Program) → IsProgram classes P → HasNoOwnHandles classes → AllByRecursion (NamesElement P) actions
+    → shown.end ≢ ends.Stuck)
+shown_not_stuck classes actions count never (Ok shown) is = λ P program no_own names.
+    subst (λ (s : Shown). s.end ≢ ends.Stuck) (sym (is P program)) (never P program no_own names)
+shown_not_stuck classes actions count never (Err e) is = tt
