@@ -12,7 +12,7 @@ ghost use Rattle.std.specs.Option.{option_copied};
 ghost use Rattle.member_link.specs.Linked.{IsLinked};
 ghost use Rattle.type_rules.specs.Verified.{TypesFolder};
 ghost use Rattle.pea_top.specs.Inner.Verifying.{IsKept};
-ghost use Rattle.pea_top.specs.Inner.Deciding.{LeavesShown, AreReady, IsShown, IsWork, WritesFiles, IsStop};
+ghost use Rattle.pea_top.specs.Inner.Deciding.{AreReady, IsShown, IsWork, WritesFiles, IsStop};
 ghost use Rattle.pea_top.specs.Inner.Ended.{ended};
 ghost use Rattle.pea_top.specs.Inner.Scripts.{IsCommandStop};
 
@@ -117,36 +117,12 @@ pub(crate) fn carry_out<H: Host>(
         Work::Write { output, line } => write_out(alloc, host, output, files, line.as_slice()),
         Work::Print { line } => finish(alloc, host, line.as_slice()),
         Work::Run { actions, steps } => match typed {
-            Some(typed) => show_run(alloc, host, tree, typed, actions, *steps),
+            Some(typed) => match run_text(alloc, tree, typed, actions, *steps) {
+                Ok(text) => finish(alloc, host, text.as_slice()),
+                Err(NoMemory) => Err(Status::NoMemory),
+            },
             None => unreachable!(),
         },
-    }
-}
-
-/// Runs a folder by these actions, in at most so many steps, and prints what the run shows.
-fn show_run<H: Host>(
-    alloc: Global,
-    host: &mut H,
-    tree: &Tree,
-    typed: &TypedFolder,
-    actions: &ActionList,
-    steps: u64,
-) -> Result<(), Status>
-    requires linked { IsLinked tree.now }
-    requires types { TypesFolder tree.now typed.now }
-    ensures not_usage { ¬ IsErrOf result Status.Usage }
-    ensures not_absent { (name : Bytes) → ¬ IsErrOf result (Status.Absent name) }
-    ensures fault { (call : HostCall)
-        → IsErrOf result (Status.HostFault call)
-        → Rose (H.faults host.old call) (H.faults host.new call) }
-    ensures counts { CountsOnly HostCall.Print (H.faults host.old) (H.faults host.new) }
-    ensures left { IsTrue H.tells
-        → LeavesShown tree.now actions.now steps (H.file host.old) (H.file host.new)
-        (H.printed host.old) (H.printed host.new) (ending (ended result)) }
-{
-    match run_text(alloc, tree, typed, actions, steps) {
-        Ok(text) => finish(alloc, host, text.as_slice()),
-        Err(NoMemory) => Err(Status::NoMemory),
     }
 }
 

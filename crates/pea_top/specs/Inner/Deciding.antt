@@ -15,7 +15,6 @@ use Rattle.type_rules.specs.Verified.{IsVerified}
 use Rattle.pea_top.specs.Answer.{HasCause, IsScriptThere}
 use Rattle.pea_top.specs.Effects.{IsNeverStuck, method_count, Leaves}
 use Rattle.pea_top.specs.Folders.{HasClassFiles}
-use Rattle.pea_top.specs.Inner.CommandEffects.{LeavesPrinted}
 use Rattle.pea_top.specs.Inner.Reading.{AreGoodFiles}
 use Rattle.pea_top.specs.Lines.{summary_line, verified_line}
 use Rattle.pea_top.specs.Status.{Ending, completed, refused, failed, out_of_memory, ending}
@@ -55,13 +54,6 @@ pub record IsShown (tree : Classes) (actions : List Action) (steps : ℕ) (text 
   pub is_program : IsProgram tree program
   pub is : text ≡ events_text (shown_after program actions steps)
   pub not_stuck : IsNeverStuck tree program actions steps
-
--- such a text was printed, or of one what a failed print leaves
-abbrev pub LeavesShown :
-    Classes → List Action → ℕ → Files → Files → Bytes → Bytes → Ending → Type 0
-LeavesShown tree actions steps old new before after end =
-    (text : Bytes)
-    × (IsShown tree actions steps text × LeavesPrinted text old new before after end)
 
 -- what was read for a command, and what is left to do
 pub record IsPrepared (command : Command) (old : Files) (files : List NamedFile)
