@@ -1,5 +1,5 @@
 -- The world behind an operation of the top frame, by the frames and the memory as they are then.
-use Rattle.std.proofs.Common.{◌≡◌, ◌∷◌, ℕ, List, Result, Ok, Err, IfOk, sym, ap, subst, ◌∙◌}
+use Rattle.std.proofs.Common.{◌≡◌, ◌∷◌, List, Result, Ok, Err, IfOk, sym, ap, subst, ◌∙◌}
 use Rattle.machine_values.specs.Frames.{MethodState}
 use Rattle.machine_values.specs.declared.frame.RunFrame.{RunFrame}
 use Rattle.machine_values.specs.declared.frame.RunFrame.TheVariants.{Method}
@@ -40,14 +40,13 @@ pub operated_is :
     ≡ operated_world P w before now rest new operated
 operated_is P w before now rest old new fs Went kept memory top after =
     ap (λ (gs : List RunFrame). let v : World = record w { frames = gs; memory = new } in v) after
-    ∙ ap (λ (m : Memory). let v : World = record w { frames = Method now ∷ rest; memory = m } in v) (kept ∙ sym memory)
 operated_is P w before now rest old new fs Stuck kept memory top after =
     ap ends_stuck (same_world w fs new (after ∙ ap (λ (g : MethodState). Method g ∷ rest) kept.0 ∙ sym top) (kept.1 ∙ sym memory))
 operated_is P w before now rest old new fs (Returns value) kept memory top after =
     ap (λ (v : World). returned P v before rest (values_of value))
     (same_world w fs new (after ∙ ap (λ (g : MethodState). Method g ∷ rest) kept.0 ∙ sym top) (kept.1 ∙ sym memory))
 operated_is P w before now rest old new fs (Works completed count) kept memory top after =
-    ap (λ (gs : List RunFrame). performed P (record w { frames = gs; memory = new }) before rest count completed)
+    ap (λ (gs : List RunFrame). performed P (record w { frames = gs; memory = new }) before rest count completed.value)
     (after ∙ ap (λ (g : MethodState). Method g ∷ rest) kept ∙ sym top)
 
 pub can_finish_is :

@@ -1,18 +1,19 @@
 //! One step of a run (JVM Specification SE 8, 2.6, 2.11 and 5.5).
-ghost use Rattle.std.specs.Prelude.{◌≡◌, ◌∷◌, ◌↔◌, ◌<◌, ◌-◌, ◌^◌, List, length, true, false, IfOk, OnOk, OnErr};
+ghost use Rattle.std.specs.Prelude.{◌≡◌, ◌∷◌, ◌↔◌, ◌<◌, ◌≤◌, ◌-◌, ◌^◌, List, length, true, false, IfOk, OnOk, OnErr};
 ghost use Rattle.class_model.specs.declared.class_file.MethodAt.{MethodAt as Numbers};
 ghost use Rattle.machine_values.specs.Frames.{MethodState};
 ghost use Rattle.machine_values.specs.declared.frame.RunFrame.{RunFrame as Frame};
 ghost use Rattle.machine_values.specs.declared.frame.RunFrame.TheVariants.{Method};
 ghost use Rattle.member_link.specs.Machine.Programs.{Program, point_at};
 ghost use Rattle.member_link.specs.Machine.Stepping.{frames_step, is_library_turn, op_step, point_step, step, work_step};
+ghost use Rattle.member_link.specs.Machine.Worlds as Worlds;
 ghost use Rattle.member_link.specs.Machine.Worlds.{World as Before};
 ghost use Rattle.machine_step.specs.Bounded.{CanGoOn, IsBoundedWorld};
 ghost use Rattle.machine_step.specs.Prepared.{IsPrepared};
 ghost use Rattle.machine_step.specs.Programs.{IsProgram};
 ghost use Rattle.machine_step.specs.Room.{HasRoom};
 ghost use Rattle.machine_step.specs.RunOps.{IsResolved, op_of};
-ghost use Rattle.machine_run.specs.Inner.Performed.{CanFinish, CanFinishFrame, HasBoundedNext, IsFrameOf, IsNextBounded, IsKept, IsMethodOnTop, Stands, operated_world, top_of, world_operated};
+ghost use Rattle.machine_run.specs.Inner.Performed.{CanFinish, CanFinishFrame, CanPerform, HasBoundedNext, IsFrameOf, IsNextBounded, IsKept, IsMethodOnTop, Stands, operated_world, performed, top_of, world_operated};
 ghost use Rattle.machine_run.specs.Outcomes.{Steps, ended, halt_of};
 
 use crate::beginnings::step_beginning;
@@ -21,7 +22,7 @@ use crate::laws::{
     an_operation_has_few_dimensions, begun_classes_are_not_begun,
 };
 use crate::moves::{Moved, move_frame};
-use crate::performing::perform;
+use crate::performing::{perform, resume_frame};
 use crate::returning::return_value;
 use class_model::{MethodAt, NoMemory};
 use class_tree::Tree;
@@ -41,8 +42,8 @@ pub(crate) enum Operated {
     Stuck,
     // The method ends with a value or none.
     Returns(Option<Value>),
-    // It comes to this, with so many operands, which still stand on the stack.
-    Works(Completed, usize),
+    // It comes to this, with so many operands, which still stand on the stack. It is boxed, since most operations are done at once.
+    Works(Box<Completed>, usize),
 }
 
 /// One step of a run of a tree's folder: an instruction of the top frame, or one step of the beginning of a class. At the library's turn
@@ -270,7 +271,9 @@ fn finish(
         Operated::Went => Ok(Outcome::Running),
         Operated::Stuck => Ok(Outcome::Stuck),
         Operated::Returns(value) => return_value(alloc, prepared.tree(), w, value),
-        Operated::Works(completed, count) => perform(alloc, prepared, w, completed, count),
+        Operated::Works(completed, count) => {
+            perform(alloc, prepared, w, Box::into_inner(completed), count)
+        }
     }
 }
 
@@ -391,12 +394,12 @@ fn operate_op(
 fn operate_on_stack(
     alloc: Global,
     tree: &Tree,
-    frame: &MethodFrame,
+    frame: &mut MethodFrame,
     memory: &mut Memory,
     op: &mut RunOp,
 ) -> Result<Operated, NoMemory>
     requires room { HasRoom memory.old }
-    requires next { frame.now.place < 2 ^ 32 - 1 }
+    requires next { frame.old.place < 2 ^ 32 - 1 }
     ensures same { op_of op.new ≡ op_of op.old }
     ensures resolved { (P : Program) → IsProgram tree.now P → IsResolved P op.old
         → IsResolved P op.new }
@@ -404,22 +407,50 @@ fn operate_on_stack(
         → IsProgram tree.now P
         → IsResolved P op.old
         → w.memory ≡ memory.old
-        → operated_world P w frame.now frame.now rest memory.new operated
-        ≡ work_step P w frame.now rest (op_of op.old)) }
+        → operated_world P w frame.old frame.new rest memory.new operated
+        ≡ work_step P w frame.old rest (op_of op.old)) }
     ensures kept { IfOk result
-        (λ operated. IsKept frame.now frame.now memory.old memory.new operated) }
+        (λ operated. IsKept frame.old frame.new memory.old memory.new operated) }
     ensures can { IfOk result (λ operated. (P : Program)
         → IsProgram tree.now P
         → IsResolved P op.old
-        → CanFinishFrame frame.now memory.new operated) }
+        → CanFinishFrame frame.old memory.new operated) }
 {
     begun_classes_are_not_begun();
     let count = arity(op);
     match operands(&frame.stack, count) {
         Some(values) => {
             let completed = work(alloc, tree, memory, op, values)?;
-            Ok(Operated::Works(completed, count))
+            complete(alloc, frame, completed, count)
         }
         None => Ok(Operated::Stuck),
+    }
+}
+
+// Pushes what an operation with so many operands gives, and leaves to do what else it comes to.
+fn complete(
+    alloc: Global,
+    frame: &mut MethodFrame,
+    completed: Completed,
+    count: usize,
+) -> Result<Operated, NoMemory>
+    requires { frame.old.place < 2 ^ 32 - 1 }
+    ensures completed { IfOk result (λ operated. (P : Program) (w : Before) (rest : List Frame)
+        (memory : Worlds.Memory)
+        → operated_world P w frame.old frame.new rest memory operated
+        ≡ performed P (record w { memory = memory }) frame.old rest count completed) }
+    ensures kept { IfOk result (λ operated. (old new : Worlds.Memory)
+        → IsKept frame.old frame.new old new operated) }
+    ensures can { IfOk result (λ operated. (memory : Worlds.Memory)
+        → CanPerform memory completed
+        → count ≤ length frame.old.stack
+        → CanFinishFrame frame.old memory operated) }
+{
+    match completed {
+        Completed::Gives(value) => {
+            resume_frame(frame, count, value)?;
+            Ok(Operated::Went)
+        }
+        left => Ok(Operated::Works(Box::new(alloc, left)?, count)),
     }
 }
