@@ -1,5 +1,5 @@
 -- What performing a completion needs, and what an operation of the top frame comes to.
-use Rattle.std.specs.Prelude.{◌≡◌, ◌<◌, ◌≤◌, ◌-◌, ◌^◌, ℕ, false, List, [], ◌∷◌, length, reverse, take, drop, IfSome}
+use Rattle.std.specs.Prelude.{◌≡◌, ◌<◌, ◌≤◌, ◌-◌, ◌^◌, ℕ, false, List, [], ◌∷◌, length, reverse, take, drop, IfSome, None}
 use Rattle.class_model.specs.declared.class_file.MethodAt.{MethodAt}
 use Rattle.machine_values.specs.Frames.{MethodState}
 use Rattle.machine_values.specs.declared.frame.RunFrame.{RunFrame}
@@ -57,9 +57,9 @@ operated_world P w before now rest memory (Returns value) =
 operated_world P w before now rest memory (Works completed count) =
     performed P (record w { memory = memory }) before rest count completed.value
 
--- the frame changes only where the operation is done
+-- the frame changes only where the operation is done, and stays in its method
 abbrev pub IsKept : MethodState → MethodState → Memory → Memory → Operated → Type 0
-IsKept before now old new Went = Unit {0}
+IsKept before now old new Went = now.at ≡ before.at
 IsKept before now old new Stuck = (now ≡ before) × (new ≡ old)
 IsKept before now old new (Returns value) = (now ≡ before) × (new ≡ old)
 IsKept before now old new (Works completed count) = now ≡ before
@@ -84,12 +84,6 @@ CanFinish memory frames (Works completed count) =
     CanPerform memory completed.value × HasOperands count frames
 CanFinish memory frames operated = Unit {0}
 
--- a frame is still on top where something is left to do
-abbrev pub Stands : List RunFrame → MethodState → List RunFrame → Operated → Type 0
-Stands frames f rest (Returns value) = frames ≡ Method f ∷ rest
-Stands frames f rest (Works completed count) = frames ≡ Method f ∷ rest
-Stands frames f rest operated = Unit {0}
-
 -- the operation at a place makes few arrays, and there is a place behind it
 abbrev pub HasBoundedNext : Program → MethodState → Type 0
 HasBoundedNext P f =
@@ -106,8 +100,10 @@ TopHasNext P (Method f ∷ rest) =
     IfSome (point_at P f.at f.place) (λ point. f.place < 2 ^ 32 - 1)
 TopHasNext P frames = Unit {0}
 
-abbrev pub IsMethodOnTop : List RunFrame → Type 0
-IsMethodOnTop frames = (f : MethodState) × (rest : List RunFrame) × (frames ≡ Method f ∷ rest)
+-- where a method is on top, no operation stands at its place
+abbrev pub HasNoPoint : Program → List RunFrame → Type 0
+HasNoPoint P (Method f ∷ rest) = point_at P f.at f.place ≡ None
+HasNoPoint P frames = Unit {0}
 
 abbrev pub IsNextBounded : Program → List RunFrame → Type 0
 IsNextBounded P (Method f ∷ rest) = HasBoundedNext P f
