@@ -11,6 +11,7 @@ pub mod Going
 pub mod Handlers
 pub mod Interfaces
 pub mod Landings
+pub mod LedSteps
 pub mod Makers
 pub mod NamedHeaders
 pub mod NextPlaces

@@ -1,5 +1,5 @@
 -- The world behind an operation of the top frame, by the frames and the memory as they are then.
-use Rattle.std.proofs.Common.{◌≡◌, ◌∷◌, ℕ, List, Result, Ok, Err, IfOk, sym, ap, subst, ◌∙◌}
+use Rattle.std.proofs.Common.{◌≡◌, ◌∷◌, ℕ, List, Result, Ok, Err, IfOk, refl, sym, ap, subst, ◌∙◌}
 use Rattle.machine_values.specs.Frames.{MethodState}
 use Rattle.machine_values.specs.declared.frame.RunFrame.{RunFrame}
 use Rattle.machine_values.specs.declared.frame.RunFrame.TheVariants.{Method}
@@ -31,42 +31,45 @@ same_world w fs memory frames_are memory_is =
     ∙ ap (λ (m : Memory). let new : World = record w { memory = m } in new) memory_is
 
 pub operated_is :
-    (P : Program) (w : World) (before now : MethodState) (rest : List RunFrame) (old new : Memory) (fs : List RunFrame) (operated : Operated)
-    → IsKept before now old new operated
-    → w.memory ≡ old
+    (P : Program) (w : World) (before now : MethodState) (rest : List RunFrame) (new : Memory) (operated : Operated)
     → w.frames ≡ Method before ∷ rest
-    → fs ≡ Method now ∷ rest
-    → world_operated P (record w { frames = fs; memory = new }) before rest operated
+    → IsKept before now w.memory new operated
+    → world_operated P (record w { frames = Method now ∷ rest; memory = new }) now rest operated
     ≡ operated_world P w before now rest new operated
-operated_is P w before now rest old new fs Went kept memory top after =
-    ap (λ (gs : List RunFrame). let v : World = record w { frames = gs; memory = new } in v) after
-    ∙ ap (λ (m : Memory). let v : World = record w { frames = Method now ∷ rest; memory = m } in v) (kept ∙ sym memory)
-operated_is P w before now rest old new fs Stuck kept memory top after =
-    ap ends_stuck (same_world w fs new (after ∙ ap (λ (g : MethodState). Method g ∷ rest) kept.0 ∙ sym top) (kept.1 ∙ sym memory))
-operated_is P w before now rest old new fs (Returns value) kept memory top after =
-    ap (λ (v : World). returned P v before rest (values_of value))
-    (same_world w fs new (after ∙ ap (λ (g : MethodState). Method g ∷ rest) kept.0 ∙ sym top) (kept.1 ∙ sym memory))
-operated_is P w before now rest old new fs (Works completed count) kept memory top after =
-    ap (λ (gs : List RunFrame). performed P (record w { frames = gs; memory = new }) before rest count completed)
-    (after ∙ ap (λ (g : MethodState). Method g ∷ rest) kept ∙ sym top)
+operated_is P w before now rest new Went top kept = refl
+operated_is P w before now rest new Stuck top kept =
+    ap ends_stuck (same_world w (Method now ∷ rest) new (ap (λ (g : MethodState). Method g ∷ rest) kept.0 ∙ sym top) kept.1)
+operated_is P w before now rest new (Returns value) top kept =
+    ap (λ (v : World). returned P v now rest (values_of value))
+    (same_world w (Method now ∷ rest) new (ap (λ (g : MethodState). Method g ∷ rest) kept.0 ∙ sym top) kept.1)
+    ∙ ap (λ (g : MethodState). returned P w g rest (values_of value)) kept.0
+operated_is P w before now rest new (Works completed count) top kept =
+    ap (λ (gs : List RunFrame). performed P (record w { frames = gs; memory = new }) now rest count completed.value)
+    (ap (λ (g : MethodState). Method g ∷ rest) kept ∙ sym top)
+    ∙ ap (λ (g : MethodState). performed P (record w { memory = new }) g rest count completed.value) kept
 
-pub can_finish_is :
-    (before now : MethodState) (rest : List RunFrame) (old new : Memory) (fs : List RunFrame) (operated : Operated)
+-- what is left to do in the frame, which is as it was, can be done
+pub can_go_on :
+    (before now : MethodState) (old new : Memory) (operated : Operated)
     → IsKept before now old new operated
     → CanFinishFrame before new operated
-    → CanGoOn (Method before ∷ rest)
-    → fs ≡ Method now ∷ rest
-    → CanFinish new fs operated
-can_finish_is before now rest old new fs Went kept can places after = tt
-can_finish_is before now rest old new fs Stuck kept can places after = tt
-can_finish_is before now rest old new fs (Returns value) kept can places after = subst CanGoOn (sym after) places
-can_finish_is before now rest old new fs (Works completed count) kept can places after = (
+    → CanFinishFrame now new operated
+can_go_on before now old new Went kept can = tt
+can_go_on before now old new Stuck kept can = tt
+can_go_on before now old new (Returns value) kept can = tt
+can_go_on before now old new (Works completed count) kept can =
+    subst (λ (f : MethodState). CanFinishFrame f new (Works completed count)) (sym kept) can
+
+pub can_finish_is :
+    (f : MethodState) (rest : List RunFrame) (memory : Memory) (fs : List RunFrame) (operated : Operated)
+    → CanFinishFrame f memory operated
+    → CanGoOn (Method f ∷ rest)
+    → fs ≡ Method f ∷ rest
+    → CanFinish memory fs operated
+can_finish_is f rest memory fs Went can places is = tt
+can_finish_is f rest memory fs Stuck can places is = tt
+can_finish_is f rest memory fs (Returns value) can places is = subst CanGoOn (sym is) places
+can_finish_is f rest memory fs (Works completed count) can places is = (
   can.0,
-  record {
-    top = before;
-    rest = rest;
-    same = after ∙ ap (λ (g : MethodState). Method g ∷ rest) kept;
-    enough = can.1;
-    next = can.2;
-  },
+  record { top = f; rest = rest; same = is; enough = can.1; next = can.2 },
 )

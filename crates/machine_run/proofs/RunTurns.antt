@@ -8,8 +8,11 @@ use Rattle.member_link.specs.Machine.Programs.{Program}
 use Rattle.member_link.specs.Machine.Runs.{Run, at_library_turn, begins_with, behind_action, end_of, end_of_going, going_turn, shown, turn, turn_by, turns}
 use Rattle.member_link.specs.Machine.Stepping.{is_library_turn, step}
 use Rattle.member_link.specs.Machine.Worlds.{World, Halt, start, going, stopped, faulted, init_threw, array_too_long, stuck}
-use Rattle.machine_run.specs.Outcomes.{ended}
+use Rattle.machine_step.specs.declared.world.Outcome.{Outcome}
+use Rattle.machine_step.specs.declared.world.Outcome.TheVariants as outcomes
+use Rattle.machine_run.specs.Outcomes.{ended, halt_of}
 use Rattle.machine_run.specs.Inner.RunWords.{run_at, end_behind, HasEnded, IsTurned, HasRun}
+use Rattle.machine_run.specs.Inner.StepWords.{Leads}
 
 -- ---- how a run ends
 
@@ -36,12 +39,12 @@ goes_on w is = rw (← is) refl
 
 -- ---- one turn
 
-over : (P : Program) (actions : List Action) (before : World) (used : ℕ) (after : World) (more : ℕ) (halt : Halt) (end : End)
+over : (P : Program) (actions : List Action) (count : ℕ) (before : World) (used : ℕ) (after : World) (more : ℕ) (halt : Halt) (end : End)
     → end_behind halt ≡ Some end
-    → turn P (run_at before actions used) ≡ run_at (ended halt after) actions more
-    → HasEnded P (turn P (run_at before actions used)) after end
-over P actions before used after more halt end ends is =
-    let r = turn P (run_at before actions used) in
+    → turns P count (run_at before actions used) ≡ run_at (ended halt after) actions more
+    → HasEnded P (turns P count (run_at before actions used)) after end
+over P actions count before used after more halt end ends is =
+    let r = turns P count (run_at before actions used) in
     let halted : r.world.halt ≡ halt = ap (λ (s : Run). s.world.halt) is in
     record {
       stays = halted_stays P r halt end halted ends;
@@ -49,34 +52,46 @@ over P actions before used after more halt end ends is =
       ended = halted_ends r halt end halted ends;
     }
 
--- a turn by its world, where an end is told beside it
-pub turned_by : (P : Program) (actions : List Action) (before : World) (used : ℕ) (after : World) (more : ℕ) (halt : Halt)
+-- turns by their world, where an end is told beside it
+pub turned_by : (P : Program) (actions : List Action) (count : ℕ) (before : World) (used : ℕ) (after : World) (more : ℕ) (halt : Halt)
     → after.halt ≡ going
     → is_fault halt ≡ false
-    → turn P (run_at before actions used) ≡ run_at (ended halt after) actions more
-    → IsTurned P actions before used after more (end_behind halt)
-turned_by P actions before used after more going on fault is = is ∙ ap (λ (w : World). run_at w actions more) (goes_on after on)
-turned_by P actions before used after more stopped on fault is = over P actions before used after more stopped ends.Stopped refl is
-turned_by P actions before used after more faulted on fault is = absurd cc
-turned_by P actions before used after more init_threw on fault is = over P actions before used after more init_threw ends.InitThrew refl is
-turned_by P actions before used after more array_too_long on fault is = over P actions before used after more array_too_long ends.ArrayTooLong refl is
-turned_by P actions before used after more stuck on fault is = over P actions before used after more stuck ends.Stuck refl is
+    → turns P count (run_at before actions used) ≡ run_at (ended halt after) actions more
+    → IsTurned P actions count before used after more (end_behind halt)
+turned_by P actions count before used after more going on fault is = is ∙ ap (λ (w : World). run_at w actions more) (goes_on after on)
+turned_by P actions count before used after more stopped on fault is = over P actions count before used after more stopped ends.Stopped refl is
+turned_by P actions count before used after more faulted on fault is = absurd cc
+turned_by P actions count before used after more init_threw on fault is = over P actions count before used after more init_threw ends.InitThrew refl is
+turned_by P actions count before used after more array_too_long on fault is = over P actions count before used after more array_too_long ends.ArrayTooLong refl is
+turned_by P actions count before used after more stuck on fault is = over P actions count before used after more stuck ends.Stuck refl is
 
 turn_of_going : (P : Program) (r : Run) → r.world.halt ≡ going → turn P r ≡ going_turn P r
 turn_of_going P r is = rw is refl
 
 -- a step
-pub turned_by_step : (P : Program) (actions : List Action) (before after : World) (used : ℕ) (halt : Halt)
-    → before.halt ≡ going
+pub turn_of_step : (P : Program) (actions : List Action) (w : World) (used : ℕ)
+    → w.halt ≡ going
+    → is_library_turn w.frames ≡ false
+    → turn P (run_at w actions used) ≡ run_at (step P w) actions used
+turn_of_step P actions w used on own =
+    let stepped : going_turn P (run_at w actions used) ≡ run_at (step P w) actions used = rw own refl in
+    turn_of_going P (run_at w actions used) on ∙ stepped
+
+pub no_step_is_fault : (outcome : Outcome) → is_fault (halt_of outcome) ≡ false
+no_step_is_fault outcomes.Running = refl
+no_step_is_fault outcomes.LibraryTurn = refl
+no_step_is_fault outcomes.ArrayTooLong = refl
+no_step_is_fault outcomes.InitThrew = refl
+no_step_is_fault outcomes.Stuck = refl
+
+-- steps
+pub turned_by_steps : (P : Program) (actions : List Action) (count : ℕ) (before after : World) (used : ℕ) (halt : Halt)
     → after.halt ≡ going
-    → is_library_turn before.frames ≡ false
     → is_fault halt ≡ false
-    → ended halt after ≡ step P before
-    → IsTurned P actions before used after used (end_behind halt)
-turned_by_step P actions before after used halt now on own fault is =
-    let stepped : going_turn P (run_at before actions used) ≡ run_at (step P before) actions used = rw own refl in
-    turned_by P actions before used after used halt on fault
-    (turn_of_going P (run_at before actions used) now ∙ stepped ∙ ap (λ (w : World). run_at w actions used) (sym is))
+    → Leads P count before (ended halt after)
+    → IsTurned P actions count before used after used (end_behind halt)
+turned_by_steps P actions count before after used halt on fault leads =
+    turned_by P actions count before used after used halt on fault (leads.turned actions used)
 
 -- the library's turn without an action
 pub waits : (P : Program) (actions : List Action) (w : World) (used : ℕ)
@@ -123,12 +138,12 @@ pub turned_by_action : (P : Program) (actions : List Action) (action : Action) (
     → drop used actions ≡ action ∷ drop (used + 1) actions
     → is_fault halt ≡ false
     → ended halt after ≡ act P action before
-    → IsTurned P actions before used after (used + 1) (end_behind halt)
+    → IsTurned P actions 1 before used after (used + 1) (end_behind halt)
 turned_by_action P actions action before after used halt now on own next fault is =
     let r = run_at before actions used in
     let left = drop (used + 1) actions in
     let done : behind_action r left (ended halt after) ≡ run_at (ended halt after) actions (used + 1) = rw fault refl in
-    turned_by P actions before used after (used + 1) halt on fault
+    turned_by P actions 1 before used after (used + 1) halt on fault
     (action_turn P actions left action before used now own next ∙ ap (behind_action r left) (sym is) ∙ done)
 
 -- the actions from one on
@@ -163,18 +178,20 @@ turns_left P (suc done) left total r is =
     ap (λ n. turns P n r) e ∙ turns_left P done left (done + left) (turn P r) refl
 
 -- the run ended before its turns were used up
-pub ended_run : (P : Program) (actions : List Action) (done total : ℕ) (before after : World) (used : ℕ) (end : End)
-    → done < total
+pub ended_run : (P : Program) (actions : List Action) (done count total : ℕ) (before after : World) (used : ℕ) (end : End)
+    → done + count ≤ total
     → turns P done (begins_with actions) ≡ run_at before actions used
-    → HasEnded P (turn P (run_at before actions used)) after end
+    → HasEnded P (turns P count (run_at before actions used)) after end
     → HasRun P actions total after end
-ended_run P actions done total before after used end within is over =
-    let r = turn P (run_at before actions used) in
-    let parts : total ≡ suc done + (total - suc done) = omega (arith, within) in
+ended_run P actions done count total before after used end within is over =
+    let r = turns P count (run_at before actions used) in
+    let left = total - (done + count) in
+    let parts : total ≡ done + (count + left) = omega (arith, within) in
     let same : turns P total (begins_with actions) ≡ r =
-    turns_left P (suc done) (total - suc done) total (begins_with actions) parts
-    ∙ ap (turns P (total - suc done)) (one_more P done (begins_with actions) ∙ ap (turn P) is)
-    ∙ stays_on P (total - suc done) r over.stays
+    turns_left P done (count + left) total (begins_with actions) parts
+    ∙ ap (turns P (count + left)) is
+    ∙ turns_left P count left (count + left) (run_at before actions used) refl
+    ∙ stays_on P left r over.stays
     in
     ap shown same ∙ rw (over.events, over.ended) refl
 

@@ -6,10 +6,10 @@ use Rattle.machine_values.specs.declared.frame.RunFrame.{RunFrame}
 use Rattle.machine_values.specs.declared.frame.RunFrame.TheVariants.{Library, Beginning, Method}
 use Rattle.member_link.specs.Machine.Bounds.{HasFewDimensions, NextHasFewDimensions}
 use Rattle.member_link.specs.Machine.Programs.{Program, Code, Point, code_at, point_at}
-use Rattle.member_link.specs.Machine.Stepping.{frames_step, is_library_turn, step}
+use Rattle.member_link.specs.Machine.Stepping.{ends_stuck, frames_step, is_library_turn, point_step, step}
 use Rattle.member_link.specs.Machine.Worlds.{World}
 use Rattle.machine_step.specs.Bounded.{IsBoundedWorld}
-use Rattle.machine_run.specs.Inner.Performed.{HasBoundedNext, IsFrameOf, IsNextBounded, TopHasNext, top_of}
+use Rattle.machine_run.specs.Inner.Performed.{HasBoundedNext, HasNoPoint, IsFrameOf, IsNextBounded, TopHasNext, top_of}
 use Rattle.machine_run.specs.Outcomes.{ended}
 use Rattle.machine_run.specs.declared.stepping.Top.{Top}
 use Rattle.machine_run.specs.declared.stepping.Top.TheVariants as tops
@@ -21,6 +21,10 @@ always_ok (Err e) x = tt
 pub ok_with : {T E : Type 0} (r : Result T E) (A : T → Type 0) (B C : Type 0) → ((y : T) → A y → B → C) → IfOk r A → OnOk r B → OnOk r C
 ok_with (Ok y) A B C f a b = f y a b
 ok_with (Err e) A B C f a b = tt
+
+pub ok_gives : {T E X : Type 0} (r : Result T E) (A : T → Type 0) → ((y : T) → A y → X) → IfOk r A → OnOk r X
+ok_gives (Ok y) A f a = f y a
+ok_gives (Err e) A f a = tt
 
 pub same_top : (frames : List RunFrame) (f g : MethodState) (rest others : List RunFrame) → frames ≡ Method f ∷ rest → frames ≡ Method g ∷ others → f ≡ g
 same_top frames f g rest others is also = let both : Method f ∷ rest ≡ Method g ∷ others = sym is ∙ also in cc
@@ -54,6 +58,25 @@ library_top [] is = absurd cc
 library_top (Library made ∷ rest) is = refl
 library_top (Beginning class ∷ rest) is = absurd cc
 library_top (Method f ∷ rest) is = absurd cc
+
+-- ---- a method without code
+
+pub no_point_stuck :
+    (P : Program) (w : World) (frames : List RunFrame) (at : MethodAt)
+    → tops.Method at ≡ top_of frames
+    → HasNoPoint P frames
+    → frames_step P w frames ≡ ends_stuck w
+no_point_stuck P w [] at is none = absurd cc
+no_point_stuck P w (Library made ∷ rest) at is none = absurd cc
+no_point_stuck P w (Beginning class ∷ rest) at is none = absurd cc
+no_point_stuck P w (Method f ∷ rest) at is none = ap (point_step P w f rest) none
+
+pub no_point_bounded : (P : Program) (frames : List RunFrame) → HasNoPoint P frames → IsNextBounded P frames
+no_point_bounded P [] none = tt
+no_point_bounded P (Library made ∷ rest) none = tt
+no_point_bounded P (Beginning class ∷ rest) none = tt
+no_point_bounded P (Method f ∷ rest) none =
+    subst (λ (p : Option Point). IfSome p (λ point. HasFewDimensions point.op × (f.place < 2 ^ 32 - 1))) (sym none) tt
 
 -- ---- bounds of the next operation
 

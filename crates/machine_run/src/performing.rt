@@ -95,8 +95,16 @@ pub(crate) fn resume(
     }
 }
 
-// A frame takes so many operands off, pushes a value or none, and goes on behind its place.
-fn resume_frame(frame: &mut MethodFrame, count: usize, value: Option<Value>) -> Result<(), NoMemory>
+/// A frame takes so many operands off, pushes a value or none, and goes on behind its place.
+///
+/// # Errors
+///
+/// `NoMemory` where memory runs out.
+pub(crate) fn resume_frame(
+    frame: &mut MethodFrame,
+    count: usize,
+    value: Option<Value>,
+) -> Result<(), NoMemory>
     requires { frame.old.place < 2 ^ 32 - 1 }
     ensures { OnOk result
         (frame.new ≡ resumed (without_operands count frame.old) (values_of value)) }

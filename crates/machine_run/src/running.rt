@@ -1,5 +1,5 @@
 //! A run of a folder with a list of the library's actions.
-ghost use Rattle.std.specs.Prelude.{◌≡◌, ◌<◌, ◌≤◌, ◌-◌, ◌^◌, length, false, true, IfOk, OnOk};
+ghost use Rattle.std.specs.Prelude.{◌≡◌, ◌<◌, ◌≤◌, ◌+◌, ◌-◌, ◌^◌, length, false, true, IfOk, OnOk};
 ghost use Rattle.member_link.specs.Machine.Acting.{is_fault};
 ghost use Rattle.member_link.specs.Machine.Programs.{Program};
 ghost use Rattle.member_link.specs.Machine.Runs.{end_of_going, shown_after};
@@ -12,7 +12,7 @@ ghost use Rattle.machine_run.specs.Outcomes.{halt_behind, halt_of};
 
 use crate::acting::{act_with, is_fault};
 use crate::laws::{a_tree_has_a_program, a_world_goes_on};
-use crate::stepping::{is_library_turn, step_with};
+use crate::stepping::{is_library_turn, steps_with};
 use class_model::NoMemory;
 use class_tree::Tree;
 use machine_laws::a_run_takes_no_more_steps_than_turns;
@@ -57,37 +57,56 @@ fn take_turns(
     let mut used: usize = 0;
     let mut done: u64 = 0;
     while done < steps {
-        match take_turn(alloc, prepared, world, actions, &mut used)? {
+        let turned = take_some(alloc, prepared, world, actions, &mut used, steps - done)?;
+        done += turned.count;
+        match turned.end {
             Some(end) => return Ok(end),
-            None => done += 1,
+            None => {}
         }
     }
     a_world_goes_on(world);
     Ok(end_left(world, actions, used))
 }
 
-// One turn of a run of which so many actions are used. Where the run ends or waits behind it, it says how.
-fn take_turn(
+// What turns that follow each other come to.
+#[derive(Clone, Copy, Debug, PartialEq, Eq)]
+pub(crate) struct Turned {
+    // how many there were
+    count: u64,
+    // how the run ends behind them, if it ends or waits
+    end: Option<End>,
+}
+
+// Takes one turn or more, so many at most, of a run of which so many actions are used.
+fn take_some(
     alloc: Global,
     prepared: &mut Prepared<'_>,
     world: &mut World,
     actions: &ActionList,
     used: &mut usize,
-) -> Result<Option<End>, NoMemory>
-    requires few { world.old.world.steps < 2 ^ 64 - 1 }
+    left: u64,
+) -> Result<Turned, NoMemory>
+    requires some { 0 < left }
+    requires few { world.old.world.steps + left ≤ 2 ^ 64 - 1 }
     requires used { used.old ≤ length actions.now }
     ensures same { prepared.new ≡ prepared.old }
-    ensures turned { IfOk result (λ end. (P : Program) → IsProgram prepared.old P
-        → IsTurned P actions.now world.old.world used.old world.new.world used.new end) }
+    ensures turned { IfOk result (λ turned. (P : Program) → IsProgram prepared.old P
+        → IsTurned P actions.now turned.count world.old.world used.old world.new.world used.new
+        turned.end) }
     ensures used { OnOk result (used.new ≤ length actions.now) }
+    ensures some { IfOk result (λ turned. 0 < turned.count) }
+    ensures few { IfOk result (λ turned. turned.count ≤ left) }
 {
     if is_library_turn(&world.state.frames) {
-        return take_next(alloc, prepared, world, actions, used);
+        let end = take_next(alloc, prepared, world, actions, used)?;
+        return Ok(Turned { count: 1, end });
     }
+    let stepped = steps_with(alloc, prepared, world, left)?;
     a_world_goes_on(world);
-    let outcome = step_with(alloc, prepared, world)?;
-    a_world_goes_on(world);
-    Ok(end_of_step(outcome))
+    Ok(Turned {
+        count: stepped.count,
+        end: end_of_step(stepped.outcome),
+    })
 }
 
 // The library's turn: it takes the next action, if there is one.
@@ -103,7 +122,7 @@ fn take_next(
     requires used { used.old ≤ length actions.now }
     ensures same { prepared.new ≡ prepared.old }
     ensures turned { IfOk result (λ end. (P : Program) → IsProgram prepared.old P
-        → IsTurned P actions.now world.old.world used.old world.new.world used.new end) }
+        → IsTurned P actions.now 1 world.old.world used.old world.new.world used.new end) }
     ensures used { OnOk result (used.new ≤ length actions.now) }
 {
     a_world_goes_on(world);

@@ -1,27 +1,29 @@
 //! One step of a run (JVM Specification SE 8, 2.6, 2.11 and 5.5).
-ghost use Rattle.std.specs.Prelude.{◌≡◌, ◌∷◌, ◌↔◌, ◌<◌, ◌-◌, ◌^◌, List, length, true, false, IfOk, OnOk, OnErr};
+ghost use Rattle.std.specs.Prelude.{◌≡◌, ◌∷◌, ◌↔◌, ◌<◌, ◌≤◌, ◌+◌, ◌-◌, ◌^◌, List, length, true, false, IfOk, OnOk, OnErr};
 ghost use Rattle.class_model.specs.declared.class_file.MethodAt.{MethodAt as Numbers};
 ghost use Rattle.machine_values.specs.Frames.{MethodState};
 ghost use Rattle.machine_values.specs.declared.frame.RunFrame.{RunFrame as Frame};
 ghost use Rattle.machine_values.specs.declared.frame.RunFrame.TheVariants.{Method};
 ghost use Rattle.member_link.specs.Machine.Programs.{Program, point_at};
 ghost use Rattle.member_link.specs.Machine.Stepping.{frames_step, is_library_turn, op_step, point_step, step, work_step};
+ghost use Rattle.member_link.specs.Machine.Worlds as Worlds;
 ghost use Rattle.member_link.specs.Machine.Worlds.{World as Before};
 ghost use Rattle.machine_step.specs.Bounded.{CanGoOn, IsBoundedWorld};
 ghost use Rattle.machine_step.specs.Prepared.{IsPrepared};
 ghost use Rattle.machine_step.specs.Programs.{IsProgram};
 ghost use Rattle.machine_step.specs.Room.{HasRoom};
 ghost use Rattle.machine_step.specs.RunOps.{IsResolved, op_of};
-ghost use Rattle.machine_run.specs.Inner.Performed.{CanFinish, CanFinishFrame, HasBoundedNext, IsFrameOf, IsNextBounded, IsKept, IsMethodOnTop, Stands, operated_world, top_of, world_operated};
+ghost use Rattle.machine_run.specs.Inner.Performed.{CanFinish, CanFinishFrame, CanPerform, HasBoundedNext, HasNoPoint, IsFrameOf, IsKept, operated_world, performed, top_of, world_operated};
+ghost use Rattle.machine_run.specs.Inner.StepWords.{AreRunning, HasOperated, IsRunning, Leads, Runs, behind};
 ghost use Rattle.machine_run.specs.Outcomes.{Steps, ended, halt_of};
 
 use crate::beginnings::step_beginning;
 use crate::laws::{
-    a_state_goes_on, a_step_keeps_next_places, a_tree_has_a_program,
+    a_state_goes_on, a_step_keeps_next_places, a_tree_has_a_program, a_world_goes_on,
     an_operation_has_few_dimensions, begun_classes_are_not_begun,
 };
 use crate::moves::{Moved, move_frame};
-use crate::performing::perform;
+use crate::performing::{perform, resume_frame};
 use crate::returning::return_value;
 use class_model::{MethodAt, NoMemory};
 use class_tree::Tree;
@@ -41,8 +43,8 @@ pub(crate) enum Operated {
     Stuck,
     // The method ends with a value or none.
     Returns(Option<Value>),
-    // It comes to this, with so many operands, which still stand on the stack.
-    Works(Completed, usize),
+    // It comes to this, with so many operands, which still stand on the stack. It is boxed, since most operations are done at once.
+    Works(Box<Completed>, usize),
 }
 
 /// One step of a run of a tree's folder: an instruction of the top frame, or one step of the beginning of a class. At the library's turn
@@ -61,26 +63,50 @@ pub fn step(alloc: Global, tree: &Tree, world: &mut World) -> Result<Outcome, No
     ensures unspent_behind { OnOk result (world.new.spent ≡ false) }
     ensures spent { OnErr result (world.new.spent ≡ true) }
 {
+    if world.spent {
+        return Err(NoMemory);
+    }
+    a_world_goes_on(world);
+    if is_library_turn(&world.state.frames) {
+        return Ok(Outcome::LibraryTurn);
+    }
     let mut prepared = Prepared::new(alloc, tree);
-    step_with(alloc, &mut prepared, world)
+    match steps_with(alloc, &mut prepared, world, 1) {
+        Ok(stepped) => Ok(stepped.outcome),
+        Err(NoMemory) => Err(NoMemory),
+    }
 }
 
-/// One step with the methods that are prepared so far.
+// What steps that follow each other come to.
+#[derive(Clone, Copy, Debug, PartialEq, Eq)]
+pub(crate) struct Stepped {
+    // how many there were
+    pub(crate) count: u64,
+    // what the last one comes to
+    pub(crate) outcome: Outcome,
+}
+
+/// Makes one step or more, so many at most, with the methods that are prepared so far: operations of the top frame, up to one that
+/// calls, returns, throws, begins a class or asks the library.
 ///
 /// # Errors
 ///
 /// `NoMemory` where memory runs out, and on a world that is spent; the world is then spent.
-pub(crate) fn step_with(
+pub(crate) fn steps_with(
     alloc: Global,
     prepared: &mut Prepared<'_>,
     world: &mut World,
-) -> Result<Outcome, NoMemory>
-    requires { world.old.world.steps < 2 ^ 64 - 1 }
+    left: u64,
+) -> Result<Stepped, NoMemory>
+    requires some { 0 < left }
+    requires few { world.old.world.steps + left ≤ 2 ^ 64 - 1 }
+    requires turn { is_library_turn world.old.world.frames ≡ false }
     ensures same { prepared.new ≡ prepared.old }
-    ensures stepped { IfOk result (λ outcome. (P : Program) → IsProgram prepared.old P
-        → ended (halt_of outcome) world.new.world ≡ step P world.old.world) }
-    ensures turn { IfOk result (λ outcome.
-        (outcome ≡ Outcome.LibraryTurn) ↔ (is_library_turn world.old.world.frames ≡ true)) }
+    ensures stepped { IfOk result (λ stepped. (P : Program) → IsProgram prepared.old P
+        → Leads P stepped.count world.old.world (ended (halt_of stepped.outcome) world.new.world)) }
+    ensures some { IfOk result (λ stepped. 0 < stepped.count) }
+    ensures few { IfOk result (λ stepped. stepped.count ≤ left) }
+    ensures runs { IfOk result (λ stepped. Steps stepped.outcome) }
     ensures unspent { OnOk result (world.old.spent ≡ false) }
     ensures unspent_behind { OnOk result (world.new.spent ≡ false) }
     ensures spent { OnErr result (world.new.spent ≡ true) }
@@ -88,11 +114,8 @@ pub(crate) fn step_with(
     if world.spent {
         return Err(NoMemory);
     }
-    if is_library_turn(&world.state.frames) {
-        return Ok(Outcome::LibraryTurn);
-    }
-    match step_state(alloc, prepared, &mut world.state) {
-        Ok(outcome) => Ok(outcome),
+    match step_state(alloc, prepared, &mut world.state, left) {
+        Ok(stepped) => Ok(stepped),
         Err(NoMemory) => {
             spend(alloc, &mut world.state);
             world.spent = true;
@@ -118,26 +141,32 @@ pub(crate) fn is_library_turn(frames: &RunFrameList) -> bool
     matches!(frames.frames.last(), Some(RunFrame::Library { .. }))
 }
 
-// One step that is not the library's.
+// Makes one step or more, none of which is the library's.
 fn step_state(
     alloc: Global,
     prepared: &mut Prepared<'_>,
     w: &mut WorldState,
-) -> Result<Outcome, NoMemory>
-    requires few { w.old.steps < 2 ^ 64 - 1 }
+    left: u64,
+) -> Result<Stepped, NoMemory>
+    requires some { 0 < left }
+    requires few { w.old.steps + left ≤ 2 ^ 64 - 1 }
     requires bounded { IsBoundedWorld w.old }
     requires turn { is_library_turn w.old.frames ≡ false }
     ensures same { prepared.new ≡ prepared.old }
-    ensures stepped { IfOk result (λ outcome. (P : Program) → IsProgram prepared.old P
-        → ended (halt_of outcome) w.new ≡ step P w.old) }
+    ensures stepped { IfOk result (λ stepped. (P : Program) → IsProgram prepared.old P
+        → Leads P stepped.count w.old (ended (halt_of stepped.outcome) w.new)) }
     ensures bounded { OnOk result (IsBoundedWorld w.new) }
-    ensures runs { IfOk result Steps }
+    ensures some { IfOk result (λ stepped. 0 < stepped.count) }
+    ensures few { IfOk result (λ stepped. stepped.count ≤ left) }
+    ensures runs { IfOk result (λ stepped. Steps stepped.outcome) }
 {
     a_tree_has_a_program(prepared.tree());
-    a_step_keeps_counts_within_bounds();
-    a_step_keeps_next_places();
-    w.steps += 1;
-    step_top(alloc, prepared, w)
+    match top_of(&w.frames) {
+        Top::Method(at) => step_method(alloc, prepared, w, at, left),
+        Top::Beginning => step_once(alloc, prepared, w),
+        Top::Nothing => step_once(alloc, prepared, w),
+        Top::Library => step_once(alloc, prepared, w),
+    }
 }
 
 // What is on top of the frames.
@@ -161,93 +190,114 @@ fn top_of(frames: &RunFrameList) -> Top
     }
 }
 
-// One step of the top frame, which is counted already.
+// One step where no method with code is on top.
+fn step_once(
+    alloc: Global,
+    prepared: &mut Prepared<'_>,
+    w: &mut WorldState,
+) -> Result<Stepped, NoMemory>
+    requires few { w.old.steps < 2 ^ 64 - 1 }
+    requires bounded { IsBoundedWorld w.old }
+    requires turn { is_library_turn w.old.frames ≡ false }
+    requires no_code { (P : Program) → IsProgram prepared.old P → HasNoPoint P w.old.frames }
+    ensures same { prepared.new ≡ prepared.old }
+    ensures stepped { IfOk result (λ stepped. (P : Program) → IsProgram prepared.old P
+        → Leads P stepped.count w.old (ended (halt_of stepped.outcome) w.new)) }
+    ensures one { IfOk result (λ stepped. stepped.count ≡ 1) }
+    ensures runs { IfOk result (λ stepped. Steps stepped.outcome) }
+{
+    a_state_goes_on(w);
+    a_step_keeps_counts_within_bounds();
+    a_step_keeps_next_places();
+    w.steps += 1;
+    let outcome = step_top(alloc, prepared, w)?;
+    Ok(Stepped { count: 1, outcome })
+}
+
+// One step of the top frame, which is counted already: there is an operation only in a beginning.
 fn step_top(
     alloc: Global,
     prepared: &mut Prepared<'_>,
     w: &mut WorldState,
 ) -> Result<Outcome, NoMemory>
-    requires room { HasRoom w.old.memory }
-    requires places { CanGoOn w.old.frames }
+    requires { (P : Program) → IsProgram prepared.old P → HasNoPoint P w.old.frames }
     ensures same { prepared.new ≡ prepared.old }
     ensures stepped { IfOk result (λ outcome. (P : Program) → IsProgram prepared.old P
         → is_library_turn w.old.frames ≡ false
         → ended (halt_of outcome) w.new ≡ frames_step P w.old w.old.frames) }
-    ensures next { OnOk result ((P : Program) → IsProgram prepared.old P
-        → IsNextBounded P w.old.frames) }
     ensures runs { IfOk result Steps }
 {
     match top_of(&w.frames) {
         Top::Beginning => step_beginning(alloc, prepared, w),
-        Top::Method(at) => step_method(alloc, prepared, w, at),
+        Top::Method(_) => Ok(Outcome::Stuck),
         Top::Nothing => Ok(Outcome::Stuck),
         Top::Library => Ok(Outcome::Stuck),
     }
 }
 
-// One step of a method, whose frame is on top.
+// Makes one step or more of a method, whose frame is on top.
 fn step_method(
     alloc: Global,
     prepared: &mut Prepared<'_>,
     w: &mut WorldState,
     at: MethodAt,
-) -> Result<Outcome, NoMemory>
-    requires room { HasRoom w.old.memory }
-    requires places { CanGoOn w.old.frames }
+    left: u64,
+) -> Result<Stepped, NoMemory>
+    requires some { 0 < left }
+    requires few { w.old.steps + left ≤ 2 ^ 64 - 1 }
+    requires bounded { IsBoundedWorld w.old }
     requires top { IsFrameOf at w.old.frames }
     ensures same { prepared.new ≡ prepared.old }
-    ensures stepped { IfOk result (λ outcome. (P : Program) (f : MethodState) (rest : List Frame)
-        → IsProgram prepared.old P
-        → w.old.frames ≡ Method f ∷ rest
-        → ended (halt_of outcome) w.new
-        ≡ point_step P w.old f rest (point_at P f.at f.place)) }
-    ensures next { OnOk result ((P : Program) (f : MethodState) (rest : List Frame)
-        → IsProgram prepared.old P
-        → w.old.frames ≡ Method f ∷ rest
-        → HasBoundedNext P f) }
-    ensures runs { IfOk result Steps }
+    ensures stepped { IfOk result (λ stepped. (P : Program) → IsProgram prepared.old P
+        → Leads P stepped.count w.old (ended (halt_of stepped.outcome) w.new)) }
+    ensures some { IfOk result (λ stepped. 0 < stepped.count) }
+    ensures few { IfOk result (λ stepped. stepped.count ≤ left) }
+    ensures runs { IfOk result (λ stepped. Steps stepped.outcome) }
 {
     match prepared.take(alloc, at)? {
-        Some(method) => step_prepared(alloc, prepared, w, at, method),
-        None => Ok(Outcome::Stuck),
+        Some(method) => step_prepared(alloc, prepared, w, at, method, left),
+        None => step_once(alloc, prepared, w),
     }
 }
 
-// One step of a method whose code is prepared, and whose frame is on top.
+// Makes one step or more of a method whose code is prepared, and whose frame is on top.
 fn step_prepared(
     alloc: Global,
     prepared: &mut Prepared<'_>,
     w: &mut WorldState,
     at: MethodAt,
     method: Box<PreparedMethod>,
-) -> Result<Outcome, NoMemory>
-    requires room { HasRoom w.old.memory }
-    requires places { CanGoOn w.old.frames }
+    left: u64,
+) -> Result<Stepped, NoMemory>
+    requires some { 0 < left }
+    requires few { w.old.steps + left ≤ 2 ^ 64 - 1 }
+    requires bounded { IsBoundedWorld w.old }
     requires top { IsFrameOf at w.old.frames }
     requires prepared { (P : Program) → IsProgram prepared.old P → IsPrepared P at method.value }
     ensures same { prepared.new ≡ prepared.old }
-    ensures stepped { IfOk result (λ outcome. (P : Program) (f : MethodState) (rest : List Frame)
-        → IsProgram prepared.old P
-        → w.old.frames ≡ Method f ∷ rest
-        → ended (halt_of outcome) w.new
-        ≡ point_step P w.old f rest (point_at P f.at f.place)) }
-    ensures next { OnOk result ((P : Program) (f : MethodState) (rest : List Frame)
-        → IsProgram prepared.old P
-        → w.old.frames ≡ Method f ∷ rest
-        → HasBoundedNext P f) }
-    ensures runs { IfOk result Steps }
+    ensures stepped { IfOk result (λ stepped. (P : Program) → IsProgram prepared.old P
+        → Leads P stepped.count w.old (ended (halt_of stepped.outcome) w.new)) }
+    ensures some { IfOk result (λ stepped. 0 < stepped.count) }
+    ensures few { IfOk result (λ stepped. stepped.count ≤ left) }
+    ensures runs { IfOk result (λ stepped. Steps stepped.outcome) }
 {
-    a_tree_has_a_program(prepared.tree());
+    a_state_goes_on(w);
     let mut method = method;
-    let operated = operate(
+    let done = operate(
         alloc,
         prepared.tree(),
         &mut w.frames,
         &mut w.memory,
         &mut method,
+        left,
     )?;
     prepared.put(at, method);
-    finish(alloc, prepared, w, operated)
+    w.steps += done.count;
+    let outcome = finish(alloc, prepared, w, done.last)?;
+    Ok(Stepped {
+        count: done.count,
+        outcome,
+    })
 }
 
 // Does what an operation leaves to do.
@@ -261,7 +311,7 @@ fn finish(
     ensures same { prepared.new ≡ prepared.old }
     ensures finished { IfOk result (λ outcome. (P : Program) (f : MethodState) (rest : List Frame)
         → IsProgram prepared.old P
-        → Stands w.old.frames f rest operated
+        → w.old.frames ≡ Method f ∷ rest
         → ended (halt_of outcome) w.new ≡ world_operated P w.old f rest operated) }
     ensures runs { IfOk result Steps }
 {
@@ -270,52 +320,98 @@ fn finish(
         Operated::Went => Ok(Outcome::Running),
         Operated::Stuck => Ok(Outcome::Stuck),
         Operated::Returns(value) => return_value(alloc, prepared.tree(), w, value),
-        Operated::Works(completed, count) => perform(alloc, prepared, w, completed, count),
+        Operated::Works(completed, count) => {
+            perform(alloc, prepared, w, Box::into_inner(completed), count)
+        }
     }
 }
 
-// Does the operation at the place of the top frame.
+// What operations of one frame that follow each other have done.
+#[derive(Debug, Drop)]
+pub(crate) struct Operations {
+    // how many there were
+    count: u64,
+    // what the last one has done, or leaves to do
+    last: Operated,
+}
+
+// Does operations of the top frame, so many at most, up to one that leaves something to do.
 fn operate(
     alloc: Global,
     tree: &Tree,
     frames: &mut RunFrameList,
     memory: &mut Memory,
     method: &mut PreparedMethod,
-) -> Result<Operated, NoMemory>
-    requires room { HasRoom memory.old }
-    requires places { CanGoOn frames.old }
-    requires top { IsMethodOnTop frames.old }
-    requires few { length method.old.ops.items < 2 ^ 32 - 1 }
-    ensures prepared { (P : Program) (at : Numbers) → IsProgram tree.now P
-        → IsPrepared P at method.old → IsPrepared P at method.new }
-    ensures operated { IfOk result (λ operated. (P : Program) (w : Before) (f : MethodState)
+    left: u64,
+) -> Result<Operations, NoMemory>
+    requires running { AreRunning frames.old memory.old left }
+    requires prepared { (P : Program) (f : MethodState) (rest : List Frame) → IsProgram tree.now P
+        → frames.old ≡ Method f ∷ rest → IsPrepared P f.at method.old }
+    ensures prepared { (P : Program) (f : MethodState) (rest : List Frame) → IsProgram tree.now P
+        → frames.old ≡ Method f ∷ rest → IsPrepared P f.at method.new }
+    ensures operated { IfOk result (λ done. (P : Program) (w : Before) (f : MethodState)
         (rest : List Frame)
         → IsProgram tree.now P
-        → IsPrepared P f.at method.old
-        → w.memory ≡ memory.old
-        → w.frames ≡ Method f ∷ rest
         → frames.old ≡ Method f ∷ rest
-        → world_operated P (record w { frames = frames.new; memory = memory.new }) f rest operated
-        ≡ point_step P w f rest (point_at P f.at f.place)) }
-    ensures stands { IfOk result (λ operated. (f : MethodState) (rest : List Frame)
-        → frames.old ≡ Method f ∷ rest
-        → Stands frames.new f rest operated) }
-    ensures can { IfOk result (λ operated. (P : Program) (f : MethodState) (rest : List Frame)
-        → IsProgram tree.now P
-        → IsPrepared P f.at method.old
-        → frames.old ≡ Method f ∷ rest
-        → CanFinish memory.new frames.new operated) }
-    ensures next { (P : Program) (f : MethodState) (rest : List Frame)
-        → IsPrepared P f.at method.old
-        → frames.old ≡ Method f ∷ rest
-        → HasBoundedNext P f }
+        → Runs w rest f memory.old left
+        → HasOperated P w rest frames.new memory.new done.count done.last) }
+    ensures can { IfOk result (λ done. CanFinish memory.new frames.new done.last) }
+    ensures some { IfOk result (λ done. 0 < left → 0 < done.count) }
+    ensures few { IfOk result (λ done. done.count ≤ left) }
 {
     let top = frames.frames.len() - 1;
     match &mut frames.frames[top] {
-        RunFrame::Method(frame) => operate_frame(alloc, tree, frame, memory, method),
-        RunFrame::Library { .. } => Ok(Operated::Stuck),
-        RunFrame::Beginning(_) => Ok(Operated::Stuck),
+        RunFrame::Method(frame) => operate_in(alloc, tree, frame, memory, method, left),
+        RunFrame::Library { .. } => Ok(Operations {
+            count: 0,
+            last: Operated::Stuck,
+        }),
+        RunFrame::Beginning(_) => Ok(Operations {
+            count: 0,
+            last: Operated::Stuck,
+        }),
     }
+}
+
+// Does operations of a frame, so many at most, up to one that leaves something to do.
+fn operate_in(
+    alloc: Global,
+    tree: &Tree,
+    frame: &mut MethodFrame,
+    memory: &mut Memory,
+    method: &mut PreparedMethod,
+    left: u64,
+) -> Result<Operations, NoMemory>
+    requires running { IsRunning frame.old memory.old left }
+    requires prepared { (P : Program) → IsProgram tree.now P
+        → IsPrepared P frame.old.at method.old }
+    ensures prepared { (P : Program) → IsProgram tree.now P
+        → IsPrepared P frame.old.at method.new }
+    ensures operated { IfOk result (λ done. (P : Program) (w : Before) (rest : List Frame)
+        → IsProgram tree.now P
+        → Runs w rest frame.old memory.old left
+        → Leads P done.count w
+        (world_operated P (behind w rest frame.new memory.new done.count) frame.new rest done.last)) }
+    ensures can { IfOk result (λ done. CanFinishFrame frame.new memory.new done.last) }
+    ensures some { IfOk result (λ done. 0 < left → 0 < done.count) }
+    ensures few { IfOk result (λ done. done.count ≤ left) }
+{
+    a_tree_has_a_program(tree);
+    a_step_keeps_counts_within_bounds();
+    a_step_keeps_next_places();
+    let mut count: u64 = 0;
+    while count < left {
+        let operated = operate_frame(alloc, tree, frame, memory, method)?;
+        count += 1;
+        match operated {
+            Operated::Went => {}
+            last => return Ok(Operations { count, last }),
+        }
+    }
+    Ok(Operations {
+        count,
+        last: Operated::Went,
+    })
 }
 
 // Does the operation at the place of a frame.
@@ -391,12 +487,12 @@ fn operate_op(
 fn operate_on_stack(
     alloc: Global,
     tree: &Tree,
-    frame: &MethodFrame,
+    frame: &mut MethodFrame,
     memory: &mut Memory,
     op: &mut RunOp,
 ) -> Result<Operated, NoMemory>
     requires room { HasRoom memory.old }
-    requires next { frame.now.place < 2 ^ 32 - 1 }
+    requires next { frame.old.place < 2 ^ 32 - 1 }
     ensures same { op_of op.new ≡ op_of op.old }
     ensures resolved { (P : Program) → IsProgram tree.now P → IsResolved P op.old
         → IsResolved P op.new }
@@ -404,22 +500,50 @@ fn operate_on_stack(
         → IsProgram tree.now P
         → IsResolved P op.old
         → w.memory ≡ memory.old
-        → operated_world P w frame.now frame.now rest memory.new operated
-        ≡ work_step P w frame.now rest (op_of op.old)) }
+        → operated_world P w frame.old frame.new rest memory.new operated
+        ≡ work_step P w frame.old rest (op_of op.old)) }
     ensures kept { IfOk result
-        (λ operated. IsKept frame.now frame.now memory.old memory.new operated) }
+        (λ operated. IsKept frame.old frame.new memory.old memory.new operated) }
     ensures can { IfOk result (λ operated. (P : Program)
         → IsProgram tree.now P
         → IsResolved P op.old
-        → CanFinishFrame frame.now memory.new operated) }
+        → CanFinishFrame frame.old memory.new operated) }
 {
     begun_classes_are_not_begun();
     let count = arity(op);
     match operands(&frame.stack, count) {
         Some(values) => {
             let completed = work(alloc, tree, memory, op, values)?;
-            Ok(Operated::Works(completed, count))
+            complete(alloc, frame, completed, count)
         }
         None => Ok(Operated::Stuck),
+    }
+}
+
+// Pushes what an operation with so many operands gives, and leaves to do what else it comes to.
+fn complete(
+    alloc: Global,
+    frame: &mut MethodFrame,
+    completed: Completed,
+    count: usize,
+) -> Result<Operated, NoMemory>
+    requires { frame.old.place < 2 ^ 32 - 1 }
+    ensures completed { IfOk result (λ operated. (P : Program) (w : Before) (rest : List Frame)
+        (memory : Worlds.Memory)
+        → operated_world P w frame.old frame.new rest memory operated
+        ≡ performed P (record w { memory = memory }) frame.old rest count completed) }
+    ensures kept { IfOk result (λ operated. (old new : Worlds.Memory)
+        → IsKept frame.old frame.new old new operated) }
+    ensures can { IfOk result (λ operated. (memory : Worlds.Memory)
+        → CanPerform memory completed
+        → count ≤ length frame.old.stack
+        → CanFinishFrame frame.old memory operated) }
+{
+    match completed {
+        Completed::Gives(value) => {
+            resume_frame(frame, count, value)?;
+            Ok(Operated::Went)
+        }
+        left => Ok(Operated::Works(Box::new(alloc, left)?, count)),
     }
 }

@@ -22,9 +22,9 @@ world_moved P w rest before now op Stuck = ends_stuck w
 world_moved P w rest before now op (Returns value) = returned P w before rest (values_of value)
 world_moved P w rest before now op Works = work_step P w before rest op
 
--- only a move changes the frame
+-- a move stays in its method, and only a move changes the frame
 abbrev pub StaysUnlessWent : MethodState → MethodState → Moved → Type 0
-StaysUnlessWent before now Went = Unit {0}
+StaysUnlessWent before now Went = now.at ≡ before.at
 StaysUnlessWent before now moved = now ≡ before
 
 -- an operation comes to this

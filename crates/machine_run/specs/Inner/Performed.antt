@@ -1,5 +1,5 @@
 -- What performing a completion needs, and what an operation of the top frame comes to.
-use Rattle.std.specs.Prelude.{◌≡◌, ◌<◌, ◌≤◌, ◌-◌, ◌^◌, ℕ, false, List, [], ◌∷◌, length, reverse, take, drop, IfSome}
+use Rattle.std.specs.Prelude.{◌≡◌, ◌<◌, ◌≤◌, ◌-◌, ◌^◌, ℕ, false, List, [], ◌∷◌, length, reverse, take, drop, IfSome, None}
 use Rattle.class_model.specs.declared.class_file.MethodAt.{MethodAt}
 use Rattle.machine_values.specs.Frames.{MethodState}
 use Rattle.machine_values.specs.declared.frame.RunFrame.{RunFrame}
@@ -49,16 +49,17 @@ performed P w f rest count completed =
 -- the world behind an operation of the top frame, by the frame before it and as it is now, and the memory as it is now
 abbrev pub operated_world :
     Program → World → MethodState → MethodState → List RunFrame → Memory → Operated → World
-operated_world P w before now rest memory Went = record w { frames = Method now ∷ rest }
+operated_world P w before now rest memory Went =
+    record w { frames = Method now ∷ rest; memory = memory }
 operated_world P w before now rest memory Stuck = ends_stuck w
 operated_world P w before now rest memory (Returns value) =
     returned P w before rest (values_of value)
 operated_world P w before now rest memory (Works completed count) =
-    performed P (record w { memory = memory }) before rest count completed
+    performed P (record w { memory = memory }) before rest count completed.value
 
--- the frame changes by a move alone, and the memory by work alone
+-- the frame changes only where the operation is done, and stays in its method
 abbrev pub IsKept : MethodState → MethodState → Memory → Memory → Operated → Type 0
-IsKept before now old new Went = new ≡ old
+IsKept before now old new Went = now.at ≡ before.at
 IsKept before now old new Stuck = (now ≡ before) × (new ≡ old)
 IsKept before now old new (Returns value) = (now ≡ before) × (new ≡ old)
 IsKept before now old new (Works completed count) = now ≡ before
@@ -66,7 +67,7 @@ IsKept before now old new (Works completed count) = now ≡ before
 -- what is left to do in a frame can be done
 abbrev pub CanFinishFrame : MethodState → Memory → Operated → Type 0
 CanFinishFrame f memory (Works completed count) =
-    CanPerform memory completed × (count ≤ length f.stack) × (f.place < 2 ^ 32 - 1)
+    CanPerform memory completed.value × (count ≤ length f.stack) × (f.place < 2 ^ 32 - 1)
 CanFinishFrame f memory operated = Unit {0}
 
 -- the world behind an operation that stood on the top frame, by the state as it is now
@@ -74,20 +75,14 @@ abbrev pub world_operated : Program → World → MethodState → List RunFrame 
 world_operated P w f rest Went = w
 world_operated P w f rest Stuck = ends_stuck w
 world_operated P w f rest (Returns value) = returned P w f rest (values_of value)
-world_operated P w f rest (Works completed count) = performed P w f rest count completed
+world_operated P w f rest (Works completed count) = performed P w f rest count completed.value
 
 -- what is left to do can be done
 abbrev pub CanFinish : Memory → List RunFrame → Operated → Type 0
 CanFinish memory frames (Returns value) = CanGoOn frames
 CanFinish memory frames (Works completed count) =
-    CanPerform memory completed × HasOperands count frames
+    CanPerform memory completed.value × HasOperands count frames
 CanFinish memory frames operated = Unit {0}
-
--- a frame is still on top where something is left to do
-abbrev pub Stands : List RunFrame → MethodState → List RunFrame → Operated → Type 0
-Stands frames f rest (Returns value) = frames ≡ Method f ∷ rest
-Stands frames f rest (Works completed count) = frames ≡ Method f ∷ rest
-Stands frames f rest operated = Unit {0}
 
 -- the operation at a place makes few arrays, and there is a place behind it
 abbrev pub HasBoundedNext : Program → MethodState → Type 0
@@ -105,8 +100,10 @@ TopHasNext P (Method f ∷ rest) =
     IfSome (point_at P f.at f.place) (λ point. f.place < 2 ^ 32 - 1)
 TopHasNext P frames = Unit {0}
 
-abbrev pub IsMethodOnTop : List RunFrame → Type 0
-IsMethodOnTop frames = (f : MethodState) × (rest : List RunFrame) × (frames ≡ Method f ∷ rest)
+-- where a method is on top, no operation stands at its place
+abbrev pub HasNoPoint : Program → List RunFrame → Type 0
+HasNoPoint P (Method f ∷ rest) = point_at P f.at f.place ≡ None
+HasNoPoint P frames = Unit {0}
 
 abbrev pub IsNextBounded : Program → List RunFrame → Type 0
 IsNextBounded P (Method f ∷ rest) = HasBoundedNext P f

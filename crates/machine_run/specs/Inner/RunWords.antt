@@ -26,12 +26,13 @@ pub record HasEnded (P : Program) (r : Run) (w : World) (end : End) : Type 0 whe
   pub events : r.world.events ≡ w.events
   pub ended : end_of r ≡ end
 
--- one turn of a run: it goes on so, or ended
-abbrev pub IsTurned : Program → List Action → World → ℕ → World → ℕ → Option End → Type 0
-IsTurned P actions before used after more None =
-    turn P (run_at before actions used) ≡ run_at after actions more
-IsTurned P actions before used after more (Some end) =
-    HasEnded P (turn P (run_at before actions used)) after end
+-- so many turns of a run: it goes on so, or ended
+abbrev pub IsTurned :
+    Program → List Action → ℕ → World → ℕ → World → ℕ → Option End → Type 0
+IsTurned P actions count before used after more None =
+    turns P count (run_at before actions used) ≡ run_at after actions more
+IsTurned P actions count before used after more (Some end) =
+    HasEnded P (turns P count (run_at before actions used)) after end
 
 -- so many turns show the events of a world and an end
 abbrev pub HasRun : Program → List Action → ℕ → World → End → Type 0

@@ -1,5 +1,6 @@
 use Rattle.std.proofs.Common.{◌≡◌, ◌≤◌, ℕ, List, length, reverse, take, refl, sym, ap, subst, ◌∙◌}
 use Rattle.std.proofs.lemmas.List.{length-reverse}
+use Rattle.std.proofs.lemmas.Result.{IfOk-weaker}
 use Rattle.machine_values.specs.Frames.{MethodState}
 use Rattle.machine_values.specs.declared.value.Value.{Value}
 use Rattle.member_link.specs.Machine.Performing.{perform}
@@ -24,7 +25,8 @@ work-requires-clause-few c =
     c.arity-count.ensures.few
 
 pub returns-in_ok-completed-in-Some-clause-operated : goal.returns-in_ok-completed-in-Some-clause-operated
-returns-in_ok-completed-in-Some-clause-operated c = λ P w rest program resolved memory.
+returns-in_ok-completed-in-Some-clause-operated c = IfOk-weaker c.complete.result _ _
+    (λ operated completes P w rest program resolved memory.
     let f = c.args.frame.now in
     let op = op_of c.args.op.now in
     let count = c.arity-count.result in
@@ -33,30 +35,32 @@ returns-in_ok-completed-in-Some-clause-operated c = λ P w rest program resolved
     let enough : count ≤ length f.stack =
     subst (λ (n : ℕ). count ≤ n) (sym (length-reverse c.frame.inside.stack) ∙ ap length stack) (c.in-Some.ensures.enough.0 refl)
     in
-    let completes : Completes w.memory c.work.new.memory (operands_in count f) c.in_ok-completed-in-Some.completed (work P w.memory op (operands_in count f)) =
+    let comes_to : Completes w.memory c.work.new.memory (operands_in count f) c.in_ok-completed-in-Some.completed (work P w.memory op (operands_in count f)) =
     subst (λ (m : Memory). Completes m c.work.new.memory (operands_in count f) c.in_ok-completed-in-Some.completed (work P m op (operands_in count f))) (sym memory)
     (subst (λ (vs : List Value). Completes c.args.memory.now c.work.new.memory vs c.in_ok-completed-in-Some.completed (work P c.args.memory.now op vs)) values
     (c.in_ok-completed-in-Some.ensures.completed P program resolved))
     in
-    worked P w f rest op count c.work.new.memory c.in_ok-completed-in-Some.completed (c.arity-count.ensures.operands P resolved) enough completes
+    completes P w rest c.work.new.memory
+    ∙ worked P w f rest op count c.work.new.memory c.in_ok-completed-in-Some.completed (c.arity-count.ensures.operands P resolved) enough comes_to)
+    c.complete.ensures.completed
 
 pub returns-in_ok-completed-in-Some-clause-can : goal.returns-in_ok-completed-in-Some-clause-can
-returns-in_ok-completed-in-Some-clause-can c = λ P program resolved.
+returns-in_ok-completed-in-Some-clause-can c = IfOk-weaker c.complete.result _ _
+    (λ operated can P program resolved.
     let f = c.args.frame.now in
-    let op = op_of c.args.op.now in
     let count = c.arity-count.result in
     let stack : reverse c.frame.inside.stack ≡ f.stack = ap (λ (g : MethodState). g.stack) c.frame.view_is in
     let enough : count ≤ length f.stack =
     subst (λ (n : ℕ). count ≤ n) (sym (length-reverse c.frame.inside.stack) ∙ ap length stack) (c.in-Some.ensures.enough.0 refl)
-    in (
-      can_perform c.args.memory.now c.work.new.memory c.in-Some.values.now c.in_ok-completed-in-Some.completed
-          (work P c.args.memory.now op c.in-Some.values.now)
-          (c.in_ok-completed-in-Some.ensures.completed P program resolved)
-          c.requires.room
-          (λ class is. c.begun_classes_are_not_begun.ensures P c.args.memory.now op c.in-Some.values.now class is),
-      enough,
-      c.requires.next,
-    )
+    in
+    can c.work.new.memory
+    (can_perform c.args.memory.now c.work.new.memory c.in-Some.values.now c.in_ok-completed-in-Some.completed
+    (work P c.args.memory.now (op_of c.args.op.now) c.in-Some.values.now)
+    (c.in_ok-completed-in-Some.ensures.completed P program resolved)
+    c.requires.room
+    (λ class is. c.begun_classes_are_not_begun.ensures P c.args.memory.now (op_of c.args.op.now) c.in-Some.values.now class is))
+    enough)
+    c.complete.ensures.can
 
 pub returns-in-None-clause-operated : goal.returns-in-None-clause-operated
 returns-in-None-clause-operated c = λ P w rest program resolved memory.
