@@ -1,5 +1,5 @@
 -- An action as a step: where it is no fault it is counted, and a fault leaves the world as it was.
-use Rattle.std.proofs.Common.{◌≡◌, ◌+◌, Bool, true, false, cond, Result, Ok, Err, OnOk, refl, sym, ap, subst, ◌∙◌}
+use Rattle.std.proofs.Common.{◌≡◌, ◌+◌, Bool, true, false, cond, refl, sym, ap, subst, ◌∙◌}
 use Rattle.machine_values.specs.declared.action.Action.{Action}
 use Rattle.member_link.specs.Machine.Acting.{act, acted, fault, is_fault, unless_fault}
 use Rattle.member_link.specs.Machine.Programs.{Program}

@@ -1,19 +1,18 @@
 -- How several steps of a run are taken together.
-use Rattle.std.proofs.Common.{◌≡◌, ◌∷◌, ◌+◌, ◌<◌, ◌≤◌, ◌-◌, ◌^◌, ℕ, zero, suc, List, [], Bool, false, cond, IfSome, refl, sym, ap, subst, arith, ◌∙◌}
+use Rattle.std.proofs.Common.{◌≡◌, ◌∷◌, ◌+◌, ◌<◌, ◌≤◌, ℕ, suc, List, [], false, refl, sym, ap, subst, arith, ◌∙◌}
 use Rattle.machine_values.specs.Frames.{MethodState}
-use Rattle.machine_values.specs.declared.action.Action.{Action}
 use Rattle.machine_values.specs.declared.frame.RunFrame.{RunFrame}
 use Rattle.machine_values.specs.declared.frame.RunFrame.TheVariants.{Method}
 use Rattle.member_link.specs.Machine.Bounds.{HasBoundedCounts, NextHasFewDimensions}
 use Rattle.member_link.specs.Machine.Programs.{Program, point_at}
-use Rattle.member_link.specs.Machine.Runs.{Run, going_turn, turn, turns}
-use Rattle.member_link.specs.Machine.Stepping.{ends_stuck, frames_step, is_library_turn, point_step, step}
-use Rattle.member_link.specs.Machine.Worlds.{Halt, Memory, World, going, stuck}
+use Rattle.member_link.specs.Machine.Runs.{Run, turn, turns}
+use Rattle.member_link.specs.Machine.Stepping.{frames_step, is_library_turn, point_step, step}
+use Rattle.member_link.specs.Machine.Worlds.{Halt, Memory, World, going}
 use Rattle.machine_step.specs.Bounded.{CanGoOn, IsBoundedWorld}
 use Rattle.machine_step.specs.Room.{HasRoom}
 use Rattle.machine_run.specs.Inner.Performed.{HasBoundedNext, IsKept, IsNextBounded, TopHasNext, operated_world, world_operated}
 use Rattle.machine_run.specs.Inner.RunWords.{run_at}
-use Rattle.machine_run.specs.Inner.StepWords.{AreRunning, HasOperated, IsRunning, Leads, Runs, behind}
+use Rattle.machine_run.specs.Inner.StepWords.{Leads, Runs, behind}
 use Rattle.machine_run.specs.Outcomes.{ended}
 use Rattle.machine_run.specs.declared.stepping.Operated.{Operated}
 use Rattle.machine_run.proofs.OperatedWorlds.{operated_is}

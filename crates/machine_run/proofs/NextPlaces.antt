@@ -1,5 +1,5 @@
 -- Behind a step and behind an action there is a place behind the one of each frame below the top one.
-use Rattle.std.specs.Prelude.{◌≡◌, ◌<◌, ◌-◌, ◌^◌, ◌+◌, ◌&&◌, not, nat_le, All, IfSome, refl, ℕ, ℤ, pos, negsuc, Bool, true, false, List, [], ◌∷◌, length, take, drop, reverse, slice_get, Option, Some, None, is_some, option_map, option_and_then, if◌then◌else◌}
+use Rattle.std.specs.Prelude.{◌≡◌, ◌<◌, ◌-◌, ◌^◌, ◌+◌, ◌&&◌, not, nat_le, All, IfSome, ℕ, ℤ, pos, negsuc, Bool, true, false, List, [], ◌∷◌, length, take, drop, reverse, slice_get, Option, Some, None, is_some, option_map, option_and_then, if◌then◌else◌}
 use Rattle.std.specs.List.{list_any}
 use Rattle.std.proofs.Common.{arith}
 use Rattle.std.proofs.lemmas.List.Elements.{All-from_recursion, recursion_from_All}

@@ -7,7 +7,7 @@ use Rattle.class_model.specs.declared.class_file.MethodAt.{MethodAt}
 use Rattle.machine_values.specs.Frames.{MethodState}
 use Rattle.member_link.specs.Machine.Bounds.{HasFewDimensions}
 use Rattle.member_link.specs.Machine.Ops as ops
-use Rattle.member_link.specs.Machine.Programs.{Program, Code, Point, RunMethod, code_at, code_run, point_at, run_method}
+use Rattle.member_link.specs.Machine.Programs.{Program, Code, Point, code_at, code_run, point_at}
 use Rattle.machine_step.specs.Prepared.{IsPrepared, op_at}
 use Rattle.machine_step.specs.RunOps.{IsResolved, op_of}
 use Rattle.machine_step.specs.declared.prepared_method.PreparedMethod.{PreparedMethod}

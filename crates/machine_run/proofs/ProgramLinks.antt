@@ -1,13 +1,13 @@
 -- A hierarchy has links.
 use Rattle.std.specs.Prelude.{◌≡◌, ◌≢◌, ◌↔◌, IsTrue, Bool, true, false, cond, List, ℕ, Option, Some, None, option_map, bytes_eq, refl}
-use Rattle.std.proofs.Common.{sym, ap, subst, ◌∙◌}
+use Rattle.std.proofs.Common.{sym, ap, subst}
 use Rattle.std.proofs.lemmas.Slice.Eq.{bytes_eq-Decides}
 use Rattle.class_model.specs.Names.{init}
 use Rattle.class_tree.specs.Headers.{Name, Headers}
 use Rattle.class_tree.specs.Subtype.{IsSubtype}
 use Rattle.member_link.specs.DeclaredMembers.{Declared, own_method}
 use Rattle.member_link.specs.Fields.{FindsField}
-use Rattle.member_link.specs.Machine.Links.{AreLinksOf, IsLink, IsSelection, reference_to, chosen_by}
+use Rattle.member_link.specs.Machine.Links.{AreLinksOf, IsSelection, reference_to, chosen_by}
 use Rattle.member_link.specs.Machine.Programs.{Links, Chosen, abstract_method}
 use Rattle.member_link.specs.Methods.{FindsMethod}
 use Rattle.member_link.specs.References.{Reference}

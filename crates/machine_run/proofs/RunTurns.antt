@@ -1,13 +1,13 @@
 -- Turns of a run as the code takes them.
-use Rattle.std.proofs.Common.{◌≡◌, ◌+◌, ◌-◌, ◌<◌, ◌≤◌, ◌^◌, ℕ, Bool, zero, suc, List, [], ◌∷◌, length, drop, slice_get, Option, Some, None, true, false, refl, sym, ap, subst, arith, ◌∙◌}
+use Rattle.std.proofs.Common.{◌≡◌, ◌+◌, ◌-◌, ◌<◌, ◌≤◌, ℕ, zero, suc, List, [], ◌∷◌, length, drop, slice_get, Some, true, false, refl, sym, ap, subst, arith, ◌∙◌}
 use Rattle.machine_values.specs.declared.action.Action.{Action}
 use Rattle.machine_values.specs.declared.event.End.{End}
 use Rattle.machine_values.specs.declared.event.End.TheVariants as ends
 use Rattle.member_link.specs.Machine.Acting.{act, is_fault}
 use Rattle.member_link.specs.Machine.Programs.{Program}
-use Rattle.member_link.specs.Machine.Runs.{Run, at_library_turn, begins_with, behind_action, end_of, end_of_going, going_turn, shown, turn, turn_by, turns}
+use Rattle.member_link.specs.Machine.Runs.{Run, at_library_turn, begins_with, behind_action, end_of, end_of_going, going_turn, shown, turn, turns}
 use Rattle.member_link.specs.Machine.Stepping.{is_library_turn, step}
-use Rattle.member_link.specs.Machine.Worlds.{World, Halt, start, going, stopped, faulted, init_threw, array_too_long, stuck}
+use Rattle.member_link.specs.Machine.Worlds.{World, Halt, going, stopped, faulted, init_threw, array_too_long, stuck}
 use Rattle.machine_step.specs.declared.world.Outcome.{Outcome}
 use Rattle.machine_step.specs.declared.world.Outcome.TheVariants as outcomes
 use Rattle.machine_run.specs.Outcomes.{ended, halt_of}

@@ -8,10 +8,7 @@ use Rattle.member_link.specs.Machine.Bounds.{HasFewDimensions, NextHasFewDimensi
 use Rattle.member_link.specs.Machine.Programs.{Program, Code, Point, code_at, point_at}
 use Rattle.member_link.specs.Machine.Stepping.{ends_stuck, frames_step, is_library_turn, point_step, step}
 use Rattle.member_link.specs.Machine.Worlds.{World}
-use Rattle.machine_step.specs.Bounded.{IsBoundedWorld}
-use Rattle.machine_run.specs.Inner.Performed.{HasBoundedNext, HasNoPoint, IsFrameOf, IsNextBounded, TopHasNext, top_of}
-use Rattle.machine_run.specs.Outcomes.{ended}
-use Rattle.machine_run.specs.declared.stepping.Top.{Top}
+use Rattle.machine_run.specs.Inner.Performed.{HasNoPoint, IsFrameOf, IsNextBounded, TopHasNext, top_of}
 use Rattle.machine_run.specs.declared.stepping.Top.TheVariants as tops
 
 pub always_ok : {T E X : Type 0} (r : Result T E) → X → OnOk r X

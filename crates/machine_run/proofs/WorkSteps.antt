@@ -1,5 +1,5 @@
 -- A step of an operation that works on its operands.
-use Rattle.std.proofs.Common.{◌≡◌, ◌≤◌, ℕ, Bool, true, false, cond, List, ◌∷◌, length, take, drop, reverse, nat_le, refl, sym, ap, ◌∙◌, T, subst, leb→le}
+use Rattle.std.proofs.Common.{◌≡◌, ◌≤◌, ℕ, Bool, true, false, cond, List, length, take, reverse, nat_le, refl, sym, ap, ◌∙◌, T, subst, leb→le}
 use Rattle.std.proofs.lemmas.Bool.{le-leb}
 use Rattle.std.proofs.lemmas.List.{length-reverse, length-take-le}
 use Rattle.machine_values.specs.Frames.{MethodState}

@@ -1,4 +1,4 @@
-use Rattle.std.proofs.Common.{◌≡◌, ◌+◌, Bool, true, false, refl, sym, ap, subst, ◌∙◌}
+use Rattle.std.proofs.Common.{◌≡◌, ◌+◌, true, refl, sym, ap, subst, ◌∙◌}
 use Rattle.class_tree.specs.Headers.{Classes}
 use Rattle.member_link.specs.Machine.Acting.{act, acted, is_fault}
 use Rattle.member_link.specs.Machine.Programs.{Program}

@@ -1,7 +1,6 @@
-use Rattle.std.proofs.Common.{◌≡◌, ◌∷◌, List, None, drop, sym, ap, subst, ◌∙◌}
+use Rattle.std.proofs.Common.{◌≡◌, ◌∷◌, None, drop, sym, ap, subst, ◌∙◌}
 use Rattle.std.proofs.lemmas.Result.{IfOk-weaker}
 use Rattle.class_tree.specs.Headers.{Classes}
-use Rattle.machine_values.specs.declared.frame.RunFrame.{RunFrame as Frame}
 use Rattle.machine_values.specs.declared.frame.RunFrame.TheVariants.{Library, Method}
 use Rattle.member_link.specs.Machine.Beginnings.{begun_on}
 use Rattle.member_link.specs.Machine.Performing.{called, raised, thrown}
@@ -10,7 +9,6 @@ use Rattle.member_link.specs.Machine.Worlds.{Halt, World, going}
 use Rattle.machine_step.specs.Completing.{asked_of}
 use Rattle.machine_step.specs.Programs.{IsProgram}
 use Rattle.machine_step.specs.RunOps.{throwable_name}
-use Rattle.machine_step.specs.declared.completed.Completed.{Completed}
 use Rattle.machine_run.specs.Inner.Performed.{operands_in, performed, without_operands}
 use Rattle.machine_run.specs.Outcomes.{ended}
 use Rattle.machine_run.proofs.StackUnseen.{raised_same, thrown_same}

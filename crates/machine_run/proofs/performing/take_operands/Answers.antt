@@ -1,4 +1,4 @@
-use Rattle.std.proofs.Common.{◌≡◌, ◌∷◌, List, drop, length, reverse, sym, ap, ◌∙◌}
+use Rattle.std.proofs.Common.{◌≡◌, ◌∷◌, List, length, reverse, sym, ap, ◌∙◌}
 use Rattle.machine_values.specs.Frames.{MethodState}
 use Rattle.machine_values.specs.contracts.frame.RunFrameList.{the_view}
 use Rattle.machine_values.specs.declared.frame.RunFrame.{RunFrame as Frame}

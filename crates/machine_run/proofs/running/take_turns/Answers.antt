@@ -1,10 +1,9 @@
-use Rattle.std.proofs.Common.{rules, ◌≡◌, ◌<◌, ◌≤◌, ◌+◌, ◌-◌, ◌^◌, ℕ, Option, Some, None, length, refl, sym, ap, subst, arith, ◌∙◌}
+use Rattle.std.proofs.Common.{◌≤◌, ◌+◌, Option, Some, None, refl, sym, ap, subst, arith, ◌∙◌}
 use Rattle.class_tree.specs.Headers.{Classes}
 use Rattle.machine_values.specs.declared.event.End.{End}
-use Rattle.member_link.specs.Machine.Programs.{Program}
 use Rattle.member_link.specs.Machine.Runs.{Run, begins_with, turns}
 use Rattle.machine_step.specs.Programs.{IsProgram}
-use Rattle.machine_run.specs.Inner.RunWords.{HasEnded, IsTurned, run_at}
+use Rattle.machine_run.specs.Inner.RunWords.{IsTurned}
 use Rattle.machine_run.proofs.RunTurns.{ended_run, turns_left}
 use Rattle.machine_run.proofs.running.take_turns.Goals as goal
 

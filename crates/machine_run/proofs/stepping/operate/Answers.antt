@@ -1,4 +1,4 @@
-use Rattle.std.proofs.Common.{◌≡◌, ◌∷◌, ℕ, List, Result, IfOk, length, reverse, refl, sym, ap, subst, ◌∙◌}
+use Rattle.std.proofs.Common.{◌≡◌, ◌∷◌, ℕ, List, Result, IfOk, length, refl, sym, ap, subst, ◌∙◌}
 use Rattle.std.proofs.lemmas.Result.{IfOk-weaker}
 use Rattle.class_model.specs.declared.memory.NoMemory.{NoMemory}
 use Rattle.class_tree.specs.Headers.{Classes}

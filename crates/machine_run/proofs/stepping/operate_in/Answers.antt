@@ -1,12 +1,10 @@
-use Rattle.std.proofs.Common.{◌≡◌, ◌<◌, ◌≤◌, ◌+◌, ℕ, List, sym, subst, arith, ◌∙◌}
+use Rattle.std.proofs.Common.{◌≡◌, ◌+◌, sym, subst, arith, ◌∙◌}
 use Rattle.class_model.specs.declared.class_file.MethodAt.{MethodAt}
-use Rattle.machine_values.specs.declared.frame.RunFrame.{RunFrame as Frame}
 use Rattle.member_link.specs.Machine.Programs.{Program}
-use Rattle.member_link.specs.Machine.Worlds.{World}
 use Rattle.machine_step.specs.Prepared.{IsPrepared}
 use Rattle.machine_step.specs.Programs.{IsProgram}
 use Rattle.machine_run.specs.Inner.Performed.{IsKept, world_operated}
-use Rattle.machine_run.specs.Inner.StepWords.{Leads, Runs, behind}
+use Rattle.machine_run.specs.Inner.StepWords.{Leads, behind}
 use Rattle.machine_run.specs.declared.stepping.Operated.{Operated}
 use Rattle.machine_run.proofs.LedSteps.{KeepsBounds, operation_led_on, room_behind}
 use Rattle.machine_run.proofs.OperatedWorlds.{can_go_on}

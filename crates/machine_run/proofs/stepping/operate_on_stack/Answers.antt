@@ -3,9 +3,7 @@ use Rattle.std.proofs.lemmas.List.{length-reverse}
 use Rattle.std.proofs.lemmas.Result.{IfOk-weaker}
 use Rattle.machine_values.specs.Frames.{MethodState}
 use Rattle.machine_values.specs.declared.value.Value.{Value}
-use Rattle.member_link.specs.Machine.Performing.{perform}
-use Rattle.member_link.specs.Machine.Programs.{Program}
-use Rattle.member_link.specs.Machine.Work.{arity, work}
+use Rattle.member_link.specs.Machine.Work.{work}
 use Rattle.member_link.specs.Machine.Worlds.{Memory}
 use Rattle.machine_step.specs.Completing.{Completes}
 use Rattle.machine_step.specs.FewOperands.{HasFewOperands}

@@ -1,7 +1,7 @@
 use Rattle.std.proofs.Common.{◌≡◌, None, sym, ap, subst, ◌∙◌}
 use Rattle.std.proofs.lemmas.Result.{IfOk-weaker}
 use Rattle.class_tree.specs.Headers.{Classes}
-use Rattle.member_link.specs.Machine.Programs.{Program, code_at}
+use Rattle.member_link.specs.Machine.Programs.{code_at}
 use Rattle.machine_step.specs.Prepared.{IsPreparedIf}
 use Rattle.machine_step.specs.Programs.{IsProgram}
 use Rattle.machine_run.specs.Inner.Performed.{HasNoPoint}

@@ -1,4 +1,4 @@
-use Rattle.std.proofs.Common.{◌≡◌, ◌+◌, List, sym, ap, subst, ◌∙◌}
+use Rattle.std.proofs.Common.{◌+◌, List, sym, ap, subst, ◌∙◌}
 use Rattle.class_tree.specs.Headers.{Classes}
 use Rattle.machine_values.specs.declared.frame.RunFrame.{RunFrame as Frame}
 use Rattle.member_link.specs.Machine.Worlds.{World}
