@@ -37,24 +37,22 @@ range_to handler at is = ltb-true at handler.end (and_parts (nat_le handler.star
 
 -- the locals fit a target, and what a handler catches fits it too
 module _ (s : Scope) (locals last : List VType) (own handler : Handler) where
-  with_stated : (own_stated stated : Option Frame) → own_stated ≡ stated
-      → MayGoTo (row_scope s) (Some (caught_frame s (record { locals = locals; stack = [] }) own)) own_stated
-      → MayGoTo (row_scope s) (Some (caught_frame s (record { locals = last; stack = [] }) handler)) stated
-      → MayGoTo (row_scope s) (Some (caught_frame s (record { locals = locals; stack = [] }) handler)) stated
+  abbrev goes_to : List VType → Handler → Option Frame → Type 0
+  goes_to locals handler stated = MayGoTo (row_scope s) (Some (caught_frame s (record { locals = locals; stack = [] }) handler)) stated
+
+  with_stated : (own_stated stated : Option Frame) → own_stated ≡ stated → goes_to locals own own_stated → goes_to last handler stated
+      → goes_to locals handler stated
   with_stated None stated same fits fitted = absurd fits
   with_stated (Some one) None same fits fitted = fitted
   with_stated (Some one) (Some stated) same fits fitted =
-      let one_is : one ≡ stated = same_Some one stated same in
-      record {
-        locals = (subst (λ (frame : Frame). MayGoTo (row_scope s) (Some (caught_frame s (record { locals = locals; stack = [] }) own)) (Some frame)) one_is fits).locals;
-        stack = fitted.stack;
-        keeps_this = (subst (λ (frame : Frame). MayGoTo (row_scope s) (Some (caught_frame s (record { locals = locals; stack = [] }) own)) (Some frame)) one_is fits).keeps_this;
-      }
+      let own_fits = subst (λ (frame : Frame). goes_to locals own (Some frame)) (same_Some one stated same) fits in
+      record { locals = own_fits.locals; stack = fitted.stack; keeps_this = own_fits.keeps_this }
 
   same_target : own.at ≡ handler.at → MayCatch s locals own → MayCatch s last handler → MayCatch s locals handler
   same_target is fits fitted = with_stated (stated_at s own.at) (stated_at s handler.at) (ap (stated_at s) is) fits fitted
 
-checked_last : (s : Scope) (locals : List VType) (last : Option (List VType)) (own handler : Handler) → own.at ≡ handler.at → MayCatch s locals own → MayCatchLast s last handler → MayCatch s locals handler
+checked_last : (s : Scope) (locals : List VType) (last : Option (List VType)) (own handler : Handler) → own.at ≡ handler.at
+    → MayCatch s locals own → MayCatchLast s last handler → MayCatch s locals handler
 checked_last s locals None own handler is fits fitted = absurd fitted
 checked_last s locals (Some last) own handler is fits fitted = same_target s locals last own handler is fits fitted
 
@@ -62,27 +60,35 @@ checked_last s locals (Some last) own handler is fits fitted = same_target s loc
 
 -- all whose range has it may begin
 module _ (s : Scope) (before : Frame) (at : ℕ) where
-  pub all_hold : (handlers : List Handler) → ((handler : Handler) → Contains handlers handler → covers handler at ≡ true → MayCatch s before.locals handler) → AllHold (handler_checks (body_of s) before (catches_at s at handlers))
+  pub all_hold : (handlers : List Handler)
+      → ((handler : Handler) → Contains handlers handler → covers handler at ≡ true → MayCatch s before.locals handler)
+      → AllHold (handler_checks (body_of s) before (catches_at s at handlers))
   all_hold [] each = tt
   all_hold (handler ∷ handlers) each =
       by (covers handler at) (λ is. each handler (0, omega arith, refl) is) (all_hold handlers (λ other found. each other (suc found.0, suc-le-suc found.1, found.2)))
     where
-      by : (here : Bool) → (here ≡ true → MayCatch s before.locals handler) → AllHold (handler_checks (body_of s) before (catches_at s at handlers))
+      by : (here : Bool) → (here ≡ true → MayCatch s before.locals handler)
+          → AllHold (handler_checks (body_of s) before (catches_at s at handlers))
           → AllHold (handler_checks (body_of s) before (if here then catch_of s handler ∷ catches_at s at handlers else catches_at s at handlers))
       by true may rest = (may refl, rest)
       by false may rest = rest
 
-  first_holds : (first handler : Handler) (handlers : List Handler) (here : Bool) → covers first at ≡ here → covers handler at ≡ true → first ≡ handler
-      → AllHold (handler_checks (body_of s) before (if here then catch_of s first ∷ catches_at s at handlers else catches_at s at handlers)) → MayCatch s before.locals handler
+  first_holds : (first handler : Handler) (handlers : List Handler) (here : Bool) → covers first at ≡ here
+      → covers handler at ≡ true → first ≡ handler
+      → AllHold (handler_checks (body_of s) before (if here then catch_of s first ∷ catches_at s at handlers else catches_at s at handlers))
+      → MayCatch s before.locals handler
   first_holds first handler handlers true here is same holds = subst (MayCatch s before.locals) same holds.0
   first_holds first handler handlers false here is same holds = absurd (both_ways (covers first at) here (ap (λ (h : Handler). covers h at) same ∙ is))
 
   others_hold : (first : Handler) (handlers : List Handler) (here : Bool)
-      → AllHold (handler_checks (body_of s) before (if here then catch_of s first ∷ catches_at s at handlers else catches_at s at handlers)) → AllHold (handler_checks (body_of s) before (catches_at s at handlers))
+      → AllHold (handler_checks (body_of s) before (if here then catch_of s first ∷ catches_at s at handlers else catches_at s at handlers))
+      → AllHold (handler_checks (body_of s) before (catches_at s at handlers))
   others_hold first handlers true holds = holds.1
   others_hold first handlers false holds = holds
 
-  one_holds : (handlers : List Handler) (number : ℕ) (handler : Handler) → slice_get handlers number ≡ Some handler → covers handler at ≡ true → AllHold (handler_checks (body_of s) before (catches_at s at handlers)) → MayCatch s before.locals handler
+  one_holds : (handlers : List Handler) (number : ℕ) (handler : Handler) → slice_get handlers number ≡ Some handler
+      → covers handler at ≡ true → AllHold (handler_checks (body_of s) before (catches_at s at handlers))
+      → MayCatch s before.locals handler
   one_holds [] number handler found is holds = absurd cc
   one_holds (first ∷ handlers) zero handler found is holds = first_holds first handler handlers (covers first at) refl is (same_Some first handler found) holds
   one_holds (first ∷ handlers) (suc number) handler found is holds = one_holds handlers number handler found is (others_hold first handlers (covers first at) holds)
@@ -99,7 +105,8 @@ module _ (s : Scope) (locals : List VType) (at : ℕ) where
   pub none_still : AreStill s locals at [] []
   none_still = record { kept = λ handler found goes_on. found; from = λ handler found. found; may = λ handler found. absurd (omega (arith, found.1)) }
 
-  module _ (active still : List Handler) (i : ℕ) (none : Handler) (within : i < length active) (are : AreStill s locals at (take i active) still) where
+  module _ (active still : List Handler) (i : ℕ) (none : Handler) (within : i < length active)
+      (are : AreStill s locals at (take i active) still) where
     abbrev handler : Handler
     handler = get_or active i none
 
@@ -149,7 +156,8 @@ module _ (s : Scope) (locals : List VType) (at : ℕ) where
 -- ---- from one instruction to the next
 
 -- before any instruction
-pub none_begun : (s : Scope) (a : ActiveHandlers) → IsPermutation s.part.handlers a.table.items → IsNonDecreasingBy (λ (handler : Handler). handler.start) a.table.items → a.begun ≡ 0 → a.active.items ≡ [] → AreInForce s a
+pub none_begun : (s : Scope) (a : ActiveHandlers) → IsPermutation s.part.handlers a.table.items
+    → IsNonDecreasingBy (λ (handler : Handler). handler.start) a.table.items → a.begun ≡ 0 → a.active.items ≡ [] → AreInForce s a
 none_begun s a table by_start begun active = record {
   table = table;
   by_start = by_start;
@@ -166,7 +174,8 @@ restarted s old new are is =
     (subst (IsNonDecreasingBy (λ (handler : Handler). handler.start)) (sym is.table) are.by_start) is.begun is.active
 
 -- an active handler fails
-pub active_fails : (s : Scope) (locals : List VType) (at : ℕ) (a : ActiveHandlers) → AreInForce s a → a.at ≤ at → OneStops s locals at a.active.items → OneFails s locals at
+pub active_fails : (s : Scope) (locals : List VType) (at : ℕ) (a : ActiveHandlers) → AreInForce s a → a.at ≤ at
+    → OneStops s locals at a.active.items → OneFails s locals at
 active_fails s locals at a are later one = record {
   handler = one.handler;
   is_in = (are.active one.handler one.is_active).0;
@@ -174,8 +183,11 @@ active_fails s locals at a are later one = record {
   fails = one.fails;
 }
 
-module _ (s : Scope) (locals : List VType) (at : ℕ) (old new : ActiveHandlers) (are : AreInForce s old) (later : old.at ≤ at) (table : new.table.items ≡ old.table.items) (begun : new.begun ≡ old.begun) (at_is : new.at ≡ at) (locals_are : new.locals ≡ Some locals) where
-  was_checked : (number : ℕ) (handler : Handler) → number < new.begun → slice_get new.table.items number ≡ Some handler → new.at < handler.end → IsChecked s old handler
+module _ (s : Scope) (locals : List VType) (at : ℕ) (old new : ActiveHandlers) (are : AreInForce s old) (later : old.at ≤ at)
+    (table : new.table.items ≡ old.table.items) (begun : new.begun ≡ old.begun) (at_is : new.at ≡ at)
+    (locals_are : new.locals ≡ Some locals) where
+  was_checked : (number : ℕ) (handler : Handler) → number < new.begun → slice_get new.table.items number ≡ Some handler
+      → new.at < handler.end → IsChecked s old handler
   was_checked number handler below found goes_on =
       are.begun number handler (omega (arith, below, begun)) (subst (λ (l : List Handler). slice_get l number ≡ Some handler) table found) (omega (arith, later, at_is, goes_on))
 
@@ -219,18 +231,24 @@ module _ (s : Scope) (locals : List VType) (at : ℕ) (old new : ActiveHandlers)
       })
       still.from
 
-pub went_on : (s : Scope) (locals : List VType) (at : ℕ) (old new : ActiveHandlers) → AreInForce s old → old.at ≤ at → IsLater old at new → old.locals ≡ Some locals → AreCheckedAt s locals at new
+pub went_on : (s : Scope) (locals : List VType) (at : ℕ) (old new : ActiveHandlers) → AreInForce s old → old.at ≤ at
+    → IsLater old at new → old.locals ≡ Some locals → AreCheckedAt s locals at new
 went_on s locals at old new are later is last = same_locals s locals at old new are later is.table is.begun is.at_is (is.locals_are ∙ last) is.active last
 
-pub asked_again : (s : Scope) (locals : List VType) (at : ℕ) (old new : ActiveHandlers) (still : List Handler) → AreInForce s old → old.at ≤ at → IsCheckedAgain old still locals at new → AreStill s locals at old.active.items still → AreCheckedAt s locals at new
+pub asked_again : (s : Scope) (locals : List VType) (at : ℕ) (old new : ActiveHandlers) (still : List Handler) → AreInForce s old
+    → old.at ≤ at → IsCheckedAgain old still locals at new → AreStill s locals at old.active.items still
+    → AreCheckedAt s locals at new
 asked_again s locals at old new still are later is are_still =
     other_locals s locals at old new are later is.table is.begun is.at_is is.locals_are (subst (AreStill s locals at old.active.items) (sym is.active_is) are_still)
 
 -- ---- handlers that begin
 
-module _ (s : Scope) (locals : List VType) (at : ℕ) (old new : ActiveHandlers) (are : AreCheckedAt s locals at old) (table : new.table.items ≡ old.table.items) (begun : new.begun ≡ old.begun + 1) (at_is : new.at ≡ old.at) (locals_are : new.locals ≡ old.locals)
+module _ (s : Scope) (locals : List VType) (at : ℕ) (old new : ActiveHandlers) (are : AreCheckedAt s locals at old)
+    (table : new.table.items ≡ old.table.items) (begun : new.begun ≡ old.begun + 1) (at_is : new.at ≡ old.at)
+    (locals_are : new.locals ≡ old.locals)
     (next : Handler) (found : slice_get old.table.items old.begun ≡ Some next) where
-  before : (number : ℕ) (handler : Handler) → number < old.begun → slice_get new.table.items number ≡ Some handler → new.at < handler.end → IsChecked s old handler
+  before : (number : ℕ) (handler : Handler) → number < old.begun → slice_get new.table.items number ≡ Some handler
+      → new.at < handler.end → IsChecked s old handler
   before number handler below is goes_on =
       are.in_force.begun number handler below (subst (λ (l : List Handler). slice_get l number ≡ Some handler) table is) (omega (arith, at_is, goes_on))
 
@@ -241,7 +259,8 @@ module _ (s : Scope) (locals : List VType) (at : ℕ) (old new : ActiveHandlers)
   of_number handler P number below earlier last = elim (cases_lt number old.begun) [ inl less ↦ earlier less | inr more ↦ last (omega (arith, below, begun, more)) ]
 
   begins : ((number : ℕ) (handler : Handler) → number < new.begun → slice_get new.table.items number ≡ Some handler → new.at < handler.end → IsChecked s new handler)
-      → ((handler : Handler) → Contains new.active.items handler → Contains s.part.handlers handler × (handler.start ≤ new.at)) → AreCheckedAt s locals at new
+      → ((handler : Handler) → Contains new.active.items handler → Contains s.part.handlers handler × (handler.start ≤ new.at))
+      → AreCheckedAt s locals at new
   begins checked active = record {
     in_force = record {
       table = subst (IsPermutation s.part.handlers) (sym table) are.in_force.table;
@@ -302,14 +321,20 @@ module _ (s : Scope) (locals : List VType) (at : ℕ) (old new : ActiveHandlers)
           Contains-permutation old.table.items s.part.handlers handler (IsPermutation-sym s.part.handlers old.table.items are.in_force.table)
           (old.begun, slice_get_within old.table.items old.begun handler is, get_or_from_slice_get old.table.items old.begun handler handler is)
 
-pub one_is_over : (s : Scope) (locals : List VType) (at : ℕ) (old new : ActiveHandlers) → AreCheckedAt s locals at old → (next : Handler) → slice_get old.table.items old.begun ≡ Some next → next.end ≤ at → HasSkipped old new → AreCheckedAt s locals at new
+pub one_is_over : (s : Scope) (locals : List VType) (at : ℕ) (old new : ActiveHandlers) → AreCheckedAt s locals at old
+    → (next : Handler) → slice_get old.table.items old.begun ≡ Some next → next.end ≤ at → HasSkipped old new
+    → AreCheckedAt s locals at new
 one_is_over s locals at old new are next found over is = is_over s locals at old new are is.table is.begun is.at_is is.locals_are next found is.active over
 
-pub one_begins : (s : Scope) (locals : List VType) (at : ℕ) (old new : ActiveHandlers) → AreCheckedAt s locals at old → (next : Handler) → slice_get old.table.items old.begun ≡ Some next → next.start ≤ at → MayCatch s locals next → HasBegun old next new → AreCheckedAt s locals at new
+pub one_begins : (s : Scope) (locals : List VType) (at : ℕ) (old new : ActiveHandlers) → AreCheckedAt s locals at old
+    → (next : Handler) → slice_get old.table.items old.begun ≡ Some next → next.start ≤ at → MayCatch s locals next
+    → HasBegun old next new → AreCheckedAt s locals at new
 one_begins s locals at old new are next found from may is = is_begun s locals at old new are is.table is.begun is.at_is is.locals_are next found is.active from may
 
 -- one that begins and fails
-pub next_fails : (s : Scope) (locals : List VType) (at : ℕ) (a : ActiveHandlers) → AreCheckedAt s locals at a → (next : Handler) → slice_get a.table.items a.begun ≡ Some next → next.start ≤ at → at < next.end → (MayCatch s locals next → ⊥) → OneFails s locals at
+pub next_fails : (s : Scope) (locals : List VType) (at : ℕ) (a : ActiveHandlers) → AreCheckedAt s locals at a → (next : Handler)
+    → slice_get a.table.items a.begun ≡ Some next → next.start ≤ at → at < next.end → (MayCatch s locals next → ⊥)
+    → OneFails s locals at
 next_fails s locals at a are next found from to fails = record {
   handler = next;
   is_in = Contains-permutation a.table.items s.part.handlers next (IsPermutation-sym s.part.handlers a.table.items are.in_force.table)
@@ -320,7 +345,8 @@ next_fails s locals at a are next found from to fails = record {
 
 -- ---- all of an instruction
 
-module _ (s : Scope) (before : Frame) (at : ℕ) (a : ActiveHandlers) (are : AreInForce s a) (later : a.at ≤ at) (none : NoneBegins a at) where
+module _ (s : Scope) (before : Frame) (at : ℕ) (a : ActiveHandlers) (are : AreInForce s a) (later : a.at ≤ at)
+    (none : NoneBegins a at) where
   -- a handler whose range has the offset has begun
   has_begun : (handler : Handler) → Contains s.part.handlers handler → covers handler at ≡ true → IsChecked s a handler
   has_begun handler is_in covered =

@@ -12,19 +12,17 @@ use type_rules::MethodRules;
 /// The exception handlers of a method that are in force at an instruction. It is fast where instructions come by offset.
 #[derive(Drop)]
 pub(crate) struct ActiveHandlers {
-    /// The exception table, ordered by the start of the ranges.
-    pub(crate) table: Vec<Handler>,
-    /// How many of these ranges have begun.
-    pub(crate) begun: usize,
-    /// The offset, in bytes, of the instruction at which the active handlers were last checked.
-    pub(crate) at: u32,
+    // The exception table, ordered by the start of the ranges, and how many of these ranges have begun.
+    table: Vec<Handler>,
+    begun: usize,
+    // The offset, in bytes, and the locals that the active handlers were last checked with.
+    at: u32,
+    locals: Option<LocalTypeList>,
     /// Of the handlers whose range has begun, for each target the one whose range ends last. A range that has ended may be
     /// among them.
     pub(crate) active: Vec<Handler>,
-    /// For each target, where its handler may stand among the active ones.
+    /// For each target, the number that its handler may have among the active ones.
     pub(crate) hints: Vec<usize>,
-    /// The locals that the active handlers were last checked with.
-    pub(crate) locals: Option<LocalTypeList>,
 }
 
 impl ActiveHandlers {
