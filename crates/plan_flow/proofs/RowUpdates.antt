@@ -18,13 +18,13 @@ pub updated :
 updated one other asks also throws or rows positions guards = λ i. record (rows i) { asks = positions i; throws = guards i }
 
 pub updated_all :
-    (one other : PlanRow) (asks also : List Position) (throws or : Option Guard) (change by : Change)
+    (one other : PlanRow) (asks also : List Position) (throws or : Option Guard) (how by : Change)
     → one ≡ other
     → asks ≡ also
     → throws ≡ or
-    → change ≡ by
-    → (let changed : PlanRow = record one { asks = asks; change = change; throws = throws } in changed) ≡ record other { asks = also; change = by; throws = or }
-updated_all one other asks also throws or change by rows positions guards changes = λ i. record (rows i) { asks = positions i; change = changes i; throws = guards i }
+    → how ≡ by
+    → (let changed : PlanRow = record one { asks = asks; change = how; throws = throws } in changed) ≡ record other { asks = also; change = by; throws = or }
+updated_all one other asks also throws or how by rows positions guards changes = λ i. record (rows i) { asks = positions i; change = changes i; throws = guards i }
 
 -- the row of an invokedynamic by its descriptor
 pub dynamic_is : (pool : Constants) (f : Frame) (constant : Option Const) → described_row f (dynamic_desc pool constant) ≡ dynamic_row pool f constant

@@ -20,8 +20,8 @@ use Rattle.virtual_state.specs.declared.slot.VObject.{VObject}
 
 -- what stands in front of the objects behind an edge
 abbrev pub front_objects : PlanScope → State → Change → EdgeKind → List VObject
-front_objects s state change (kinds.Handler number) = []
-front_objects s state other by = changed s state other
+front_objects s state how (kinds.Handler number) = []
+front_objects s state how by = changed s state how
 
 -- a monitor that is entered can be counted once more
 abbrev pub IsNotFull : State → Change → Type 0
