@@ -6,6 +6,8 @@
 set -eu
 cd "$(dirname "$0")/.."
 . bench/measures.sh
+# short runs: the least of more of them
+runs=${RUNS:-15}
 in_memory
 
 for tool in javac java; do
