@@ -13,3 +13,5 @@ mod object_tests;
 mod script_tests;
 #[cfg(test)]
 mod trees;
+#[cfg(test)]
+mod world_tests;
