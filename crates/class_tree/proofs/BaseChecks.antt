@@ -10,7 +10,7 @@ use Rattle.class_model.specs.declared.class_file.ClassFile.{ClassFile}
 use Rattle.class_model.specs.declared.header.Header.{Header}
 use Rattle.class_model.specs.declared.pool.Const.{Const}
 use Rattle.class_tree.specs.Answers.{Answers}
-use Rattle.class_tree.specs.Headers.{Name, Headers, class_named, named, IsThere}
+use Rattle.class_tree.specs.Headers.{Name, Headers, class_named, named}
 use Rattle.class_tree.specs.Names.{object, throwable, serializable, cloneable, method_handle, method_type, base_names, machine_throwables, is_interface}
 use Rattle.class_tree.specs.Problems.{check, Problem}
 use Rattle.class_tree.specs.Steps.{base_checks, has_constant, is_method_handle, is_method_type, HasOneConstructor}
@@ -53,9 +53,9 @@ abbrev pub interfaces_checks : Headers → List (Check Problem)
 interfaces_checks headers =
     asked_each (λ name. check name rules.KindOfSuper (IfSome (class_named headers name) (λ header. IsTrue (is_interface header))) ∷ []) (serializable ∷ cloneable ∷ [])
 
--- a class is there if the folder has a constant that needs it
+-- a class is in the library if the folder has a constant that needs it
 abbrev pub need_checks : Headers → List ClassFile → (Const → Bool) → Name → List (Check Problem)
-need_checks headers folder test name = asked_if (list_any (has_constant test) folder) (check name rules.Missing (IsThere headers name) ∷ [])
+need_checks headers folder test name = asked_if (list_any (has_constant test) folder) (check name rules.Missing (IsSome (named name headers.library)) ∷ [])
 
 abbrev pub handle_checks : Headers → List ClassFile → List (Check Problem)
 handle_checks headers folder = need_checks headers folder is_method_handle method_handle
@@ -63,7 +63,7 @@ handle_checks headers folder = need_checks headers folder is_method_handle metho
 abbrev pub type_checks : Headers → List ClassFile → List (Check Problem)
 type_checks headers folder = need_checks headers folder is_method_type method_type
 
--- a class that is there answers what asks for it, whether it is needed or not
+-- a class that the library has answers what asks for it, whether it is needed or not
 there_told : {P : Type 0} (name : Name) (asked needed : Bool) (result : Result (Unit {0}) LinkFault) → P → Answers (asked_if needed (check name rules.Missing P ∷ [])) result → Answers (asked_if asked (check name rules.Missing P ∷ [])) result
 there_told name true needed (Ok x) h told = (h, tt)
 there_told name false needed (Ok x) h told = tt
@@ -72,10 +72,10 @@ there_told name asked true (Err (Unlinked class member rule)) h (inl here) = abs
 there_told name asked true (Err (Unlinked class member rule)) h (inr later) = absurd later.1
 there_told name asked false (Err (Unlinked class member rule)) h told = absurd told
 
-pub need_told : (headers : Headers) (folder : List ClassFile) (test : Const → Bool) (name : Name) (needed : Bool) (result : Result (Unit {0}) LinkFault) → IsThere headers name ⊎ (needed ≡ list_any (has_constant test) folder) → Answers (asked_if needed (check name rules.Missing (IsThere headers name) ∷ [])) result → Answers (need_checks headers folder test name) result
+pub need_told : (headers : Headers) (folder : List ClassFile) (test : Const → Bool) (name : Name) (needed : Bool) (result : Result (Unit {0}) LinkFault) → IsSome (named name headers.library) ⊎ (needed ≡ list_any (has_constant test) folder) → Answers (asked_if needed (check name rules.Missing (IsSome (named name headers.library)) ∷ [])) result → Answers (need_checks headers folder test name) result
 need_told headers folder test name needed result (inl there) told = there_told name (list_any (has_constant test) folder) needed result there told
 need_told headers folder test name needed result (inr is) told =
-    subst (λ (n : Bool). Answers (asked_if n (check name rules.Missing (IsThere headers name) ∷ [])) result) is told
+    subst (λ (n : Bool). Answers (asked_if n (check name rules.Missing (IsSome (named name headers.library)) ∷ [])) result) is told
 
 -- ---- the parts in turn
 

@@ -99,11 +99,11 @@ abbrev pub is_method_type : Const → Bool
 is_method_type (MethodType descriptor) = true
 is_method_type other = false
 
--- where a constant of the folder passes the test, a class is there
+-- where a constant of the folder passes the test, a class is in the library
 abbrev pub needed_class_checks : (Const → Bool) → Name → Classes → List (Check Problem)
 needed_class_checks test name classes =
     asked_if (list_any (has_constant test) classes.folder)
-    (check name rules.Missing (IsThere (headers_of classes) name) ∷ [])
+    (check name rules.Missing (IsSome (named name classes.library)) ∷ [])
 
 abbrev pub base_checks : Classes → List (Check Problem)
 base_checks classes =

@@ -261,27 +261,19 @@ impl Constants {
     }
 }
 
-// What constants of a folder need, as far as it matters: where the classes that they may need are there, no pool is read.
+// What constants of a folder need, as far as it matters: where the library has the classes that they may need, no pool is read.
 fn needs_of(headers: &Headers<'_>, folder: &[ClassFile]) -> Constants
     requires { IsInOrder headers.now }
-    ensures method_handle { IsThere headers.now names.method_handle
+    ensures method_handle { IsSome (named names.method_handle headers.now.library)
         ⊎ (result.method_handle ≡ list_any (has_constant is_method_handle) folder.now) }
-    ensures method_type { IsThere headers.now names.method_type
+    ensures method_type { IsSome (named names.method_type headers.now.library)
         ⊎ (result.method_type ≡ list_any (has_constant is_method_type) folder.now) }
 {
-    if is_there(headers, METHOD_HANDLE) && is_there(headers, METHOD_TYPE) {
+    if is_in_library(headers, METHOD_HANDLE) && is_in_library(headers, METHOD_TYPE) {
         Constants::none()
     } else {
         constants_of(folder)
     }
-}
-
-// Whether a class of this name is there.
-fn is_there(headers: &Headers<'_>, name: &[u8]) -> bool
-    requires { IsInOrder headers.now }
-    ensures { IsTrue result ↔ IsThere headers.now name.now }
-{
-    class_of(headers, name).is_some()
 }
 
 // Whether the pools of class files have such constants.
@@ -339,7 +331,7 @@ fn is_method_type(constant: &Const) -> bool
     matches!(constant, Const::MethodType(_))
 }
 
-// Asks for a class where it is needed.
+// Asks the library for a class where it is needed.
 fn check_need(
     alloc: Global,
     headers: &Headers<'_>,
@@ -349,11 +341,12 @@ fn check_need(
     requires in_order { IsInOrder headers.now }
     requires plain { IsTrue (is_plain_text name.now) }
     ensures { Answers
-        (asked_if is_needed (check name.now rules.Missing (IsThere headers.now name.now) ∷ []))
+        (asked_if is_needed
+        (check name.now rules.Missing (IsSome (named name.now headers.now.library)) ∷ []))
         result }
 {
     if !is_needed {
         return Ok(());
     }
-    ask_named(alloc, is_there(headers, name), name, LinkRule::Missing)
+    ask_named(alloc, is_in_library(headers, name), name, LinkRule::Missing)
 }
