@@ -13,7 +13,7 @@ ghost use Rattle.machine_step.specs.Programs.{IsProgram};
 
 use crate::questions::classes::{class_name, is_interface_named};
 use class_model::Text;
-use class_tree::{Tree, a_tree_is_a_hierarchy, innermost, is_above_arrays, is_array, is_below};
+use class_tree::{OBJECT, Tree, a_tree_is_a_hierarchy, innermost, is_above_arrays, is_array, is_below};
 use machine_values::Shape;
 
 /// Whether an object of a shape is an instance of a class or array type. It does not allocate.
@@ -47,12 +47,13 @@ pub(crate) fn shape_conforms(tree: &Tree, shape: &Shape, name: &[u8]) -> bool
     }
 }
 
-/// Whether a class or array conforms to another. It does not allocate.
+/// Whether a class or array conforms to another: to java/lang/Object each does, also a class that is
+/// nowhere. It does not allocate.
 pub(crate) fn class_conforms(tree: &Tree, low: &[u8], high: &[u8]) -> bool
     ensures { (P : Program) → IsProgram tree.now P
         → result ≡ class_conforms P low.now high.now }
 {
-    is_interface_named(tree, high) || is_type_below(tree, low, high)
+    is_interface_named(tree, high) || high == OBJECT || is_type_below(tree, low, high)
 }
 
 // Whether the one of these classes is below a type.

@@ -1,12 +1,13 @@
 -- What an object is below, and which values conform to a type (JVM Specification SE 8, 2.4, 4.10.1.2 and 6.5). Where a type is an
 -- interface each reference conforms to it, as the type checker takes it.
-use Rattle.std.specs.Prelude.{◌==◌, ◌-◌, ◌&&◌, ◌||◌, ℕ, Bool, true, false, List, [], ◌∷◌, length, take, Option, Some, None, if◌then◌else◌}
+use Rattle.std.specs.Prelude.{◌==◌, ◌-◌, ◌&&◌, ◌||◌, ℕ, Bool, true, false, List, [], ◌∷◌, length, take, bytes_eq, Option, Some, None, if◌then◌else◌}
 use Rattle.std.specs.List.{list_any}
 use Rattle.class_model.specs.Characters.{class_letter, left_bracket}
 use Rattle.class_model.specs.Descriptors.{kind_of}
 use Rattle.class_model.specs.declared.descriptor.FieldType.{FieldType}
 use Rattle.class_model.specs.declared.descriptor.FieldType.TheVariants.{Named}
 use Rattle.class_tree.specs.Headers.{Name}
+use Rattle.class_tree.specs.Names.{object}
 use Rattle.machine_values.specs.declared.object.Object.{Object}
 use Rattle.machine_values.specs.declared.object.Shape.{Shape}
 use Rattle.machine_values.specs.declared.object.Shape.TheVariants.{Folder, Array, External}
@@ -39,9 +40,14 @@ abbrev pub class_in : List ℕ → Option Name
 class_in [] = None
 class_in (first ∷ rest) = if first == class_letter then Some (take (length rest - 1) rest) else None
 
--- a class conforms to each interface, and to the classes above it; components of arrays conform by the same rule
+abbrev pub is_object : Name → Bool
+is_object name = bytes_eq name object
+
+-- a class conforms to each interface, to java/lang/Object, as a class that is nowhere does too, and to the classes above it;
+-- components of arrays conform by the same rule
 abbrev pub class_conforms : Program → Name → Name → Bool
-class_conforms P low high = is_interface_named P high || P.links.below low high
+class_conforms P low high =
+    is_interface_named P high || (is_object high || P.links.below low high)
 
 -- the component of an array of references as a class name or array type; of another array none
 abbrev pub component_named : List ℕ → Option Name
