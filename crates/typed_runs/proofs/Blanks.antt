@@ -15,8 +15,8 @@ use Rattle.machine_values.specs.declared.object.Shape.TheVariants as shapes
 use Rattle.machine_values.specs.declared.value.Value.{Value}
 use Rattle.member_link.specs.Machine.Layouts.{own_slots}
 use Rattle.member_link.specs.Machine.Programs.{Program, RunClass, headers_in, name_of_class}
-use Rattle.member_link.specs.References.{Reference, IsNamedThere}
-use Rattle.typed_runs.specs.Conforming.{to_none, FieldConforms, FitsDescriptor, FitSlots, HoldsShape}
+use Rattle.member_link.specs.References.{Reference}
+use Rattle.typed_runs.specs.Conforming.{to_none, FieldConforms, FitsDescriptor, FitSlots, HoldsShape, NamesNoArray}
 
 -- ---- zero and null conform
 
@@ -73,11 +73,11 @@ pub all_alike : {A : Type 0} (Q : A → Type 0) (n : ℕ) (x : A) → Q x → Al
 all_alike Q zero x is = tt
 all_alike Q (suc n) x is = (is, all_alike Q n x is)
 
-pub blank_array_holds : (P : Program) (h : Heap) (desc : Name) (count : ℕ) → IsArray desc → IsNamedThere (headers_in P) desc
+pub blank_array_holds : (P : Program) (h : Heap) (desc : Name) (count : ℕ) → IsArray desc → NamesNoArray desc
     → HoldsShape P h (shapes.Array desc count) (replicate count (blank_value (component_text desc)))
 blank_array_holds P h desc count is named = record {
   is_array = is;
-  element_there = named;
+  of_element = named;
   as_long = length-replicate count (blank_value (component_text desc));
   elements = all_alike (FitsDescriptor P h (component_text desc)) count (blank_value (component_text desc))
       (blank_fits P h (component_text desc));

@@ -72,7 +72,7 @@ element_set P m a at y typed fits =
       typed = object_typed P m a.reference old (changed a at y) typed a.is_there refl
           (record {
             is_array = a.holds.is_array;
-            element_there = a.holds.element_there;
+            of_element = a.holds.of_element;
             as_long = set_length a.elements at y ∙ a.holds.as_long;
             elements = AllByRecursion-weaker (FitsDescriptor P m.heap text) (FitsDescriptor P after text)
                 (λ x is. field_kept P keep (type_of text) x is) (slice_set a.elements at y)

@@ -1,24 +1,21 @@
-use Rattle.std.specs.Prelude.{◌≡◌, ◌||◌, ◌==◌, not, refl, ℕ, zero, suc, Bool, true, false, List, [], ◌∷◌, slice_set, Option, Some, None, IsSome, IsTrue, is_some}
+use Rattle.std.specs.Prelude.{◌≡◌, not, refl, ℕ, zero, suc, Bool, true, false, List, [], ◌∷◌, slice_set, Option, Some, None, IsSome, IsTrue, is_some}
 use Rattle.std.specs.List.{AllByRecursion, list_any}
-use Rattle.std.proofs.Common.{ap, sym, ◌∙◌, subst}
+use Rattle.std.proofs.Common.{sym, ◌∙◌, subst}
 use Rattle.std.proofs.lemmas.List.{length-set}
-use Rattle.class_model.specs.Characters.{left_bracket}
 use Rattle.class_model.specs.Descriptors.{type_of}
 use Rattle.class_model.specs.declared.descriptor.FieldType.{FieldType}
 use Rattle.class_model.specs.declared.descriptor.FieldType.TheVariants as field_types
 use Rattle.class_model.specs.declared.header.Header.{Header}
 use Rattle.class_tree.specs.Headers.{Name, class_named}
-use Rattle.class_tree.specs.Subtype.{IsArray}
 use Rattle.machine_values.specs.Heaps.{Heap, object_at, with_object, with_value}
 use Rattle.machine_values.specs.Values.{component_text}
 use Rattle.machine_values.specs.declared.object.Object.{Object}
 use Rattle.machine_values.specs.declared.object.Shape.TheVariants as shapes
 use Rattle.machine_values.specs.declared.value.Value.{Value}
 use Rattle.machine_values.specs.declared.value.Value.TheVariants as values
-use Rattle.member_link.specs.Machine.Acting.{is_element, is_array_within, is_concrete}
+use Rattle.member_link.specs.Machine.Acting.{is_concrete}
 use Rattle.member_link.specs.Machine.Programs.{Program, headers_in, header_named, is_interface_named}
 use Rattle.member_link.specs.Machine.Worlds.{Memory, with_heap}
-use Rattle.typed_runs.proofs.Basics.{and_first, same_number}
 use Rattle.typed_runs.proofs.Kept.{Keeps, there, field_kept, holds_kept}
 use Rattle.typed_runs.proofs.Memories.{object_keeps, object_typed}
 use Rattle.typed_runs.specs.Conforming.{IsValueInHeap, to_one, FieldConforms, FitsDescriptor, IsArrayObject, HoldsShape, IsTypedMemory}
@@ -68,22 +65,13 @@ element_typed P m typed r o is desc len shape at v fits =
       holds : IsArrayObject P (with_object m.heap r new) desc len new.values
       holds = record {
         is_array = before.is_array;
-        element_there = before.element_there;
+        of_element = before.of_element;
         as_long = length-set o.values at v ∙ before.as_long;
         elements = all_with (FitsDescriptor P (with_object m.heap r new) (component_text desc)) o.values at v before.elements
             (field_kept P keep (type_of (component_text desc)) v fits);
       }
 
--- ---- the form of an array type
-
-pub array_within : (n : ℕ) (text : List ℕ) → is_array_within n text ≡ true → IsArray text
-array_within zero text is = cc
-array_within (suc left) [] is = cc
-array_within (suc left) (first ∷ rest) is = (
-  rest,
-  ap (λ x. x ∷ rest)
-      (same_number first left_bracket (and_first (first == left_bracket) (is_element rest || is_array_within left rest) is)),
-)
+-- ---- what an object of the library is of
 
 pub all_interfaces : (P : Program) (also : List Name) → list_any (λ name. not (is_interface_named P name)) also ≡ false
     → AllByRecursion (λ name. IsTrue (is_interface_named P name)) also

@@ -1,10 +1,12 @@
 use Rattle.std.specs.Prelude.{◌≡◌, ◌==◌, ◌&&◌, ◌||◌, refl, ℕ, Bool, true, false, List, [], ◌∷◌, map, Option, Some, None}
-use Rattle.std.proofs.Common.{ap, ◌∙◌}
+use Rattle.std.proofs.Common.{ap, sym, subst, ◌∙◌}
+use Rattle.std.proofs.lemmas.Slice.Eq.{bytes_eq-Decides}
 use Rattle.class_model.specs.Characters.{left_bracket}
 use Rattle.class_model.specs.Code.{verification_type}
 use Rattle.class_model.specs.declared.descriptor.FieldType.{FieldType}
 use Rattle.class_model.specs.declared.descriptor.FieldType.TheVariants as field_types
 use Rattle.class_tree.specs.Headers.{Name}
+use Rattle.class_tree.specs.Names.{object}
 use Rattle.machine_values.specs.Heaps.{Heap, object_at}
 use Rattle.machine_values.specs.Values.{component_text, narrowed}
 use Rattle.machine_values.specs.declared.object.Object.{Object}
@@ -14,20 +16,24 @@ use Rattle.machine_values.specs.declared.value.Value.{Value}
 use Rattle.machine_values.specs.declared.value.Value.TheVariants as values
 use Rattle.member_link.specs.Machine.Acting.{all_conform}
 use Rattle.member_link.specs.Machine.Programs.{Program, is_interface_named}
-use Rattle.member_link.specs.Machine.Shapes.{component_named, class_conforms, both_conform, components_conform, shape_conforms, value_conforms}
+use Rattle.member_link.specs.Machine.Shapes.{component_named, is_object, class_conforms, both_conform, components_conform, shape_conforms, value_conforms}
 use Rattle.member_link.specs.Machine.Worlds.{World}
 use Rattle.member_link.specs.RowScope.{RowScope}
 use Rattle.typed_runs.proofs.Basics.{and_first, and_second}
 use Rattle.typed_runs.proofs.Unwinding.{instance_conforms}
-use Rattle.typed_runs.specs.Conforming.{NameConforms, to_below, to_interface, of_components, ShapeConforms, by_class, Conforms, an_int, a_long, a_float, a_double, null_object, an_object, AllConform, no_values, and_value, RefersTo, to_none, to_one, FieldConforms}
+use Rattle.typed_runs.specs.Conforming.{NameConforms, to_below, to_interface, to_object, of_components, ShapeConforms, by_class, Conforms, an_int, a_long, a_float, a_double, null_object, an_object, AllConform, no_values, and_value, RefersTo, to_none, to_one, FieldConforms}
 
 -- ---- what the machine's test of an object tells
 
 pub class_taken : (P : Program) (low high : Name) → class_conforms P low high ≡ true → NameConforms P low high
 class_taken P low high is = by (is_interface_named P high) refl where
+  by_object : (b : Bool) → is_object high ≡ b → (b || P.links.below low high) ≡ true → NameConforms P low high
+  by_object true e rest = subst (NameConforms P low) (sym ((bytes_eq-Decides high object).0 e)) to_object
+  by_object false e rest = to_below rest
+
   by : (b : Bool) → is_interface_named P high ≡ b → NameConforms P low high
   by true e = to_interface e
-  by false e = to_below (rw e at is)
+  by false e = by_object (is_object high) refl (rw e at is)
 
 -- two arrays of references, by the texts of their components
 pub references_taken : (P : Program) (low high : Name) (one other : List ℕ) → component_text low ≡ one → component_text high ≡ other

@@ -113,7 +113,7 @@ pub holds_kept : (P : Program) {h k : Heap} → Keeps h k → (s : Shape) (vs : 
 holds_kept P keep (shapes.Folder class) vs holds = record { found = holds.found; is_class = holds.is_class; fields = slots_kept P keep _ vs holds.fields }
 holds_kept P {h = h} {k = k} keep (shapes.Array desc len) vs holds = record {
   is_array = holds.is_array;
-  element_there = holds.element_there;
+  of_element = holds.of_element;
   as_long = holds.as_long;
   elements = AllByRecursion-weaker (FitsDescriptor P h (component_text desc)) (FitsDescriptor P k (component_text desc)) (λ v is. field_kept P keep (type_of (component_text desc)) v is) vs holds.elements;
 }

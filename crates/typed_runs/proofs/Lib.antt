@@ -1,6 +1,7 @@
 mod Arguments
 mod ArgumentsHere
 mod Arithmetic
+mod ArrayForms
 mod ArrayLengths
 mod ArrayShapes
 mod Assigned

@@ -11,14 +11,14 @@ use Rattle.machine_values.specs.declared.object.Shape.TheVariants as shapes
 use Rattle.machine_values.specs.declared.value.Value.{Value}
 use Rattle.member_link.specs.Machine.Acting.{fault, known_object, got_of_value, got_of_shape, act_array_get, set_at, set_of_shape, act_array_set, length_of_shape, act_array_length, is_array_descriptor, is_concrete, shows_new, act_new_array, act_new_external}
 use Rattle.member_link.specs.Machine.ArraySteps.{most_elements, blank_array, index_in}
-use Rattle.member_link.specs.Machine.Programs.{Program, headers_in, header_named, folder_number, is_interface_named}
+use Rattle.member_link.specs.Machine.Programs.{Program, header_named, folder_number, is_interface_named}
 use Rattle.member_link.specs.Machine.Shapes.{value_conforms}
 use Rattle.member_link.specs.Machine.Showing.{shows_got}
 use Rattle.member_link.specs.Machine.Worlds.{World, with_heap}
-use Rattle.member_link.specs.References.{IsNamedThere}
 use Rattle.typed_runs.proofs.Basics.{and_first, and_second}
+use Rattle.typed_runs.proofs.ArrayForms.{array_within}
 use Rattle.typed_runs.proofs.Blanks.{blank_array_holds}
-use Rattle.typed_runs.proofs.Elements.{field_in_heap, element_typed, array_within, all_interfaces, concrete_there, not_true, none_of}
+use Rattle.typed_runs.proofs.Elements.{field_in_heap, element_typed, all_interfaces, concrete_there, not_true, none_of}
 use Rattle.typed_runs.proofs.Given.{narrowed_fits}
 use Rattle.typed_runs.proofs.Here.{stays}
 use Rattle.typed_runs.proofs.Kept.{Keeps, there, frames_kept, known_kept}
@@ -118,15 +118,15 @@ module _ (P : Program) (T : Typings) (w : World) (typed : TypedWorld P T w) wher
         not_stuck = λ no. no;
       }
 
-  -- an array of an element that is there
-  pub new_array_stays : (desc : Name) (count : ℤ) → IsNamedThere (headers_in P) desc → StaysTyped P T w (act_new_array P w desc count)
-  new_array_stays desc (negsuc n) named = fault_stays P T w typed
-  new_array_stays desc (pos count) named = by (is_array_descriptor desc && nat_le count most_elements) refl where
+  pub new_array_stays : (desc : Name) (count : ℤ) → StaysTyped P T w (act_new_array P w desc count)
+  new_array_stays desc (negsuc n) = fault_stays P T w typed
+  new_array_stays desc (pos count) = by (is_array_descriptor desc && nat_le count most_elements) refl where
     by : (b : Bool) → (is_array_descriptor desc && nat_le count most_elements) ≡ b
         → StaysTyped P T w (if b then shows_new P w (blank_array w.memory.heap desc count) else fault w)
     by false e = fault_stays P T w typed
-    by true e = shows_new_stays (shapes.Array desc count) _ (blank_array_holds P _ desc count
-        (array_within 255 desc (and_first (is_array_descriptor desc) (nat_le count most_elements) e)) named)
+    by true e =
+        let form = array_within 255 desc (and_first (is_array_descriptor desc) (nat_le count most_elements) e) in
+        shows_new_stays (shapes.Array desc count) _ (blank_array_holds P _ desc count form.0 form.1)
 
   pub new_external_stays : (class : Name) (also : List Name) → StaysTyped P T w (act_new_external P w class also)
   new_external_stays class also = by _ refl where

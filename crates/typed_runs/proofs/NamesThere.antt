@@ -10,8 +10,9 @@ use Rattle.class_tree.specs.Subtype.{IsArray}
 use Rattle.member_link.specs.DeclaredMembers.{Declared, IsMethod}
 use Rattle.member_link.specs.Machine.Programs.{Program, RunClass, headers_in, name_of_class, is_interface_named}
 use Rattle.member_link.specs.Machine.Shapes.{class_in, component_named}
-use Rattle.member_link.specs.References.{IsNamedThere, element_class}
+use Rattle.member_link.specs.References.{IsNamedThere, NamesElementClass, element_class}
 use Rattle.typed_runs.proofs.Basics.{some_of, same_number}
+use Rattle.typed_runs.specs.Conforming.{NamesNoArray}
 use Rattle.typed_runs.specs.TypedPrograms.{Typings, IsTypedProgram}
 
 -- ---- classes that are there
@@ -75,28 +76,38 @@ taken_behind p rest =
 pub one_bracket : (rest : List ℕ) → brackets (left_bracket ∷ rest) ≡ 1 + brackets rest
 one_bracket rest = taken_behind _ rest
 
--- an array of arrays is there where its component is
+-- an array of arrays has the element of its component
 pub element_of : (rest : List ℕ) → element_class (left_bracket ∷ rest) ≡ class_in (drop (brackets rest) rest)
 element_of rest = ap (λ n. if n == 0 then Some (left_bracket ∷ rest) else class_in (drop n (left_bracket ∷ rest))) (one_bracket rest)
     ∙ class_behind (brackets rest) rest
 
-pub component_there : (P : Program) (rest : List ℕ) → IsNamedThere (headers_in P) (left_bracket ∷ left_bracket ∷ rest)
-    → IsNamedThere (headers_in P) (left_bracket ∷ rest)
-component_there P rest is =
-    let outer : element_class (left_bracket ∷ left_bracket ∷ rest) ≡ class_in (drop (brackets rest) rest) =
+pub same_element : (rest : List ℕ) → element_class (left_bracket ∷ left_bracket ∷ rest) ≡ element_class (left_bracket ∷ rest)
+same_element rest =
     element_of (left_bracket ∷ rest) ∙ (ap (λ n. class_in (drop n (left_bracket ∷ rest))) (one_bracket rest) ∙ brackets_behind
-    (brackets rest) rest) in
-    subst (λ o. IfSome o (IsThere (headers_in P))) (outer ∙ sym (element_of rest)) is
+    (brackets rest) rest) ∙ sym (element_of rest)
 
--- what an array holds: an array, or a class that is there
-pub holds_named : (P : Program) (text : List ℕ) (component : Name) → component_named text ≡ Some component
-    → IsNamedThere (headers_in P) (left_bracket ∷ text) → (IsArray component × (text ≡ component)) ⊎ IsThere (headers_in P) component
-holds_named P [] component is there = cc
-holds_named P (first ∷ rest) component is there = by (first == left_bracket) refl is where
+-- what is said of the class of an element is said of it for the component too
+pub component_named_in : (Asked : Name → Type 0) (rest : List ℕ) → NamesElementClass Asked (left_bracket ∷ left_bracket ∷ rest)
+    → NamesElementClass Asked (left_bracket ∷ rest)
+component_named_in Asked rest is = subst (λ o. IfSome o Asked) (same_element rest) is
+
+-- what an array holds: an array, or a class of which this is said
+pub holds_named : (Asked : Name → Type 0) (text : List ℕ) (component : Name) → component_named text ≡ Some component
+    → NamesElementClass Asked (left_bracket ∷ text) → (IsArray component × (text ≡ component)) ⊎ Asked component
+holds_named Asked [] component is there = cc
+holds_named Asked (first ∷ rest) component is there = by (first == left_bracket) refl is where
   by : (b : Bool) → (first == left_bracket) ≡ b → (if b then Some (first ∷ rest) else class_in (first ∷ rest)) ≡ Some component
-      → (IsArray component × (first ∷ rest ≡ component)) ⊎ IsThere (headers_in P) component
+      → (IsArray component × (first ∷ rest ≡ component)) ⊎ Asked component
   by true e is =
       let same : first ∷ rest ≡ component = some_of is in
       let bracket : first ≡ left_bracket = same_number first left_bracket e in
       inl ((rest, sym same ∙ ap (λ n. n ∷ rest) bracket), same)
-  by false e is = inr (subst (λ o. IfSome o (IsThere (headers_in P))) (element_is first rest e ∙ is) there)
+  by false e is = inr (subst (λ o. IfSome o Asked) (element_is first rest e ∙ is) there)
+
+-- a class that is there is no array
+pub names_no_array : (P : Program) (T : Typings) → IsTypedProgram P T → (name : Name) → IsNamedThere (headers_in P) name
+    → NamesNoArray name
+names_no_array P T program name there = by (element_class name) there where
+  by : (o : Option Name) → IfSome o (IsThere (headers_in P)) → IfSome o (λ class. ¬ IsArray class)
+  by None there = tt
+  by (Some class) there = no_array_there P T program class there

@@ -1,15 +1,15 @@
-use Rattle.std.specs.Prelude.{◌≡◌, ◌==◌, ◌+◌, ◌≤◌, refl, ℕ, ℤ, zero, suc, pos, negsuc, Bool, true, false, List, [], ◌∷◌, ◌++◌, length, drop, take, replicate, reverse, Option, Some, None, if◌then◌else◌}
-use Rattle.std.specs.List.{AllByRecursion, prefix_len}
+use Rattle.std.specs.Prelude.{◌≡◌, ◌≤◌, refl, ℕ, ℤ, zero, suc, pos, negsuc, Bool, true, false, List, [], ◌∷◌, ◌++◌, length, drop, take, replicate, reverse, Option, Some, None, if◌then◌else◌}
+use Rattle.std.specs.List.{AllByRecursion}
 use Rattle.std.proofs.Common.{arith, ap, sym, ◌∙◌, subst}
 use Rattle.std.proofs.lemmas.List.{length-replicate}
 use Rattle.class_model.specs.Characters.{left_bracket}
 use Rattle.class_model.specs.Code.{HasDimensions}
-use Rattle.class_model.specs.Descriptors.{brackets}
 use Rattle.class_model.specs.declared.descriptor.Kind.TheVariants as kinds
 use Rattle.class_model.specs.declared.frame.Frame.{Frame}
 use Rattle.class_model.specs.declared.frame.VType.{VType}
 use Rattle.class_model.specs.declared.frame.VType.TheVariants as types
-use Rattle.class_tree.specs.Headers.{Name, Headers}
+use Rattle.class_tree.specs.Headers.{Name}
+use Rattle.class_tree.specs.Subtype.{IsArray}
 use Rattle.machine_values.specs.Frames.{MethodState}
 use Rattle.machine_values.specs.Heaps.{Heap, Made}
 use Rattle.machine_values.specs.declared.frame.RunFrame.{RunFrame}
@@ -19,23 +19,23 @@ use Rattle.member_link.specs.Machine.ArraySteps.{MadeElements, made_times, neste
 use Rattle.member_link.specs.Machine.Codes.{naming}
 use Rattle.member_link.specs.Machine.Completions.{ends}
 use Rattle.member_link.specs.Machine.Ops.{new_arrays}
-use Rattle.member_link.specs.Machine.Programs.{Program, headers_in}
+use Rattle.member_link.specs.Machine.Programs.{Program}
 use Rattle.member_link.specs.Machine.Stepping.{op_step}
 use Rattle.member_link.specs.Machine.Throwables.{negative_size}
 use Rattle.member_link.specs.Machine.Worlds.{World, Memory, with_heap, array_too_long}
-use Rattle.member_link.specs.References.{IsNamedThere}
 use Rattle.member_link.specs.RowScope.{RowScope}
 use Rattle.member_link.specs.Rows.ArrayRows.{made_row}
 use Rattle.member_link.specs.Rows.Operands.{Need, of_kind, AllFit, topmost}
 use Rattle.member_link.specs.Rows.Row.{access_aside, plain}
 use Rattle.typed_runs.proofs.Here.{Here, operands_here, worked}
 use Rattle.typed_runs.proofs.Kept.{Keeps, keeps_same, keeps_through, shape_kept}
+use Rattle.typed_runs.proofs.NamesThere.{component_named_in, names_no_array}
 use Rattle.typed_runs.proofs.NewArrays.{ArrayMade, array_made, blank_made, array_itself, array_given}
 use Rattle.typed_runs.proofs.OperandsTaken.{ComesTyped}
 use Rattle.typed_runs.proofs.Performing.{raises_goes, ends_goes}
 use Rattle.typed_runs.proofs.Raising.{raises_size}
 use Rattle.typed_runs.proofs.Taken.{an_int_value}
-use Rattle.typed_runs.specs.Conforming.{AllConform, by_class, no_values, and_value, to_one, FitsDescriptor, IsTypedMemory}
+use Rattle.typed_runs.specs.Conforming.{AllConform, by_class, no_values, and_value, to_one, FitsDescriptor, IsTypedMemory, NamesNoArray}
 use Rattle.typed_runs.specs.TypedPrograms.{Typings, IsTypedProgram}
 use Rattle.typed_runs.specs.TypedWorlds.{StaysTyped}
 
@@ -45,24 +45,6 @@ use Rattle.typed_runs.specs.TypedWorlds.{StaysTyped}
 abbrev pub IsDeep : ℕ → Name → Type 0
 IsDeep zero desc = Unit {0}
 IsDeep (suc n) desc = (rest : Name) × (desc ≡ left_bracket ∷ rest) × IsDeep n rest
-
--- behind the first bracket the same element is named
-one_bracket : (rest : Name) → brackets (left_bracket ∷ rest) ≡ suc (brackets rest)
-one_bracket rest =
-    let n : ℕ = prefix_len (λ b. b == left_bracket) rest in
-    let same : 1 + n ≡ suc n = omega arith in
-    ap (λ k. length (take k (left_bracket ∷ rest))) same
-
-pub inner_there : (headers : Headers) (inner : Name) → IsNamedThere headers (left_bracket ∷ left_bracket ∷ inner)
-    → IsNamedThere headers (left_bracket ∷ inner)
-inner_there headers inner is =
-    let outside : (brackets (left_bracket ∷ left_bracket ∷ inner) == 0) ≡ false = search arith in
-    let inside : (brackets (left_bracket ∷ inner) == 0) ≡ false = search arith in
-    let desc : Name = left_bracket ∷ left_bracket ∷ inner in
-    let more : brackets desc ≡ suc (brackets (left_bracket ∷ inner)) = one_bracket (left_bracket ∷ inner) in
-    let same : drop (brackets desc) desc ≡ drop (brackets (left_bracket ∷ inner)) (left_bracket ∷ inner) = ap (λ n. drop n desc) more in
-    let named = rw outside at is in
-    rw inside (rw same at named)
 
 pub deep_of : (n dimensions : ℕ) (text : Name) → n ≤ dimensions → IsDeep n (replicate dimensions left_bracket ++ text)
 deep_of zero dimensions text few = tt
@@ -99,19 +81,19 @@ module _ (P : Program) (T : Typings) (program : IsTypedProgram P T) where
       }
 
   pub nested_made : (counts : List ℕ) (desc : Name) (count : ℕ) (m : Memory) → IsTypedMemory P m → IsDeep (suc (length counts)) desc
-      → IsNamedThere (headers_in P) desc → ArrayMade P m desc (nested desc count counts m.heap)
+      → NamesNoArray desc → ArrayMade P m desc (nested desc count counts m.heap)
   nested_made [] desc count m typed deep there = blank_made P m desc count typed (deep.0, deep.1) there
   nested_made (next ∷ counts) desc count m typed deep there =
       by deep.0 deep.2.0 deep.1 deep.2.1 deep.2.2 there (λ d n t below named. nested_made counts d next n t below named) where
         by : (rest inner : Name) → desc ≡ left_bracket ∷ rest → rest ≡ left_bracket ∷ inner → IsDeep (length counts) inner
-            → IsNamedThere (headers_in P) desc
-            → ((d : Name) (n : Memory) → IsTypedMemory P n → IsDeep (suc (length counts)) d → IsNamedThere (headers_in P) d
+            → NamesNoArray desc
+            → ((d : Name) (n : Memory) → IsTypedMemory P n → IsDeep (suc (length counts)) d → NamesNoArray d
             → ArrayMade P n d (nested d next counts n.heap))
             → ArrayMade P m desc (nested desc count (next ∷ counts) m.heap)
         by rest inner outer is below named each =
             let full : desc ≡ left_bracket ∷ left_bracket ∷ inner = outer ∙ ap (λ r. left_bracket ∷ r) is in
-            let there = subst (λ d. IsNamedThere (headers_in P) d) full named in
-            let inside = inner_there (headers_in P) inner there in
+            let there = subst NamesNoArray full named in
+            let inside = component_named_in (λ class. ¬ IsArray class) inner there in
             let make : Heap → Made = nested (left_bracket ∷ inner) next counts in
             let all = times_made inner make (λ n t. each (left_bracket ∷ inner) n t (inner, refl, below) inside) count m typed in
             let elements : MadeElements = made_times make count m.heap in
@@ -178,7 +160,7 @@ module _ {P : Program} {T : Typings} {w : World} {f : MethodState} {rest : List 
         by_test count counts same false =
             let deep = subst (λ n. IsDeep n desc) (sym same) (is_deep dimensions desc h.linked.0) in
             array_given h (arrays_made (count ∷ counts)) (nested desc count counts w.memory.heap)
-            (nested_made P T h.typed.program counts desc count w.memory h.typed.memory deep h.linked.2)
+            (nested_made P T h.typed.program counts desc count w.memory h.typed.memory deep (names_no_array P T h.typed.program desc h.linked.2))
 
         by : (c : Counts) → AreCounts dimensions c
             → ComesTyped P T w f rest (length (ints dimensions)) (arrays_of_counts w.memory desc c)

@@ -19,11 +19,10 @@ use Rattle.member_link.specs.Machine.ArraySteps.{most_elements, blank_array, giv
 use Rattle.member_link.specs.Machine.Codes.{naming}
 use Rattle.member_link.specs.Machine.Completions.{ends}
 use Rattle.member_link.specs.Machine.Ops.{Op, new_array}
-use Rattle.member_link.specs.Machine.Programs.{Program, headers_in}
+use Rattle.member_link.specs.Machine.Programs.{Program}
 use Rattle.member_link.specs.Machine.Stepping.{op_step}
 use Rattle.member_link.specs.Machine.Throwables.{negative_size}
 use Rattle.member_link.specs.Machine.Worlds.{World, Memory, with_heap, array_too_long}
-use Rattle.member_link.specs.References.{IsNamedThere}
 use Rattle.member_link.specs.RowScope.{RowScope}
 use Rattle.member_link.specs.Rows.ArrayRows.{made_row}
 use Rattle.member_link.specs.Rows.Operands.{Need, of_kind, topmost}
@@ -31,12 +30,13 @@ use Rattle.member_link.specs.Rows.Row.{access_aside, plain}
 use Rattle.typed_runs.proofs.BlankValues.{blank_fits, each_same}
 use Rattle.typed_runs.proofs.Here.{Here, operands_here, worked, gives_values}
 use Rattle.typed_runs.proofs.Kept.{Keeps, field_kept}
+use Rattle.typed_runs.proofs.NamesThere.{names_no_array}
 use Rattle.typed_runs.proofs.Memories.{made_keeps, made_shape, made_typed}
 use Rattle.typed_runs.proofs.OperandsTaken.{ComesTyped, of_one}
 use Rattle.typed_runs.proofs.Performing.{raises_goes, ends_goes}
 use Rattle.typed_runs.proofs.Raising.{raises_size}
 use Rattle.typed_runs.proofs.Taken.{One, an_int_value}
-use Rattle.typed_runs.specs.Conforming.{HasShape, NameConforms, to_below, by_class, an_object, no_values, and_value, FitsDescriptor, IsTypedMemory}
+use Rattle.typed_runs.specs.Conforming.{HasShape, NameConforms, to_below, by_class, an_object, no_values, and_value, FitsDescriptor, IsTypedMemory, NamesNoArray}
 use Rattle.typed_runs.specs.TypedPrograms.{Typings, IsTypedProgram}
 use Rattle.typed_runs.specs.TypedWorlds.{StaysTyped}
 
@@ -50,10 +50,10 @@ pub record ArrayMade (P : Program) (m : Memory) (desc : Name) (made : Made) : Ty
 
 -- of elements that conform
 pub array_made : (P : Program) (m : Memory) (desc : Name) (count : ℕ) (elements : List Value) → IsTypedMemory P m → IsArray desc
-    → IsNamedThere (headers_in P) desc
+    → NamesNoArray desc
     → length elements ≡ count → AllByRecursion (FitsDescriptor P m.heap (component_text desc)) elements
     → ArrayMade P m desc (allocated m.heap (shapes.Array desc count) elements)
-array_made P m desc count elements typed is there long all =
+array_made P m desc count elements typed is named long all =
     let after : Heap = (allocated m.heap (shapes.Array desc count) elements).heap in
     let text : Name = component_text desc in
     let keep : Keeps m.heap after = made_keeps m.heap (shapes.Array desc count) elements in
@@ -62,7 +62,7 @@ array_made P m desc count elements typed is there long all =
       typed = made_typed P m (shapes.Array desc count) elements typed
           (record {
             is_array = is;
-            element_there = there;
+            of_element = named;
             as_long = long;
             elements = AllByRecursion-weaker (FitsDescriptor P m.heap text) (FitsDescriptor P after text)
                 (λ x fits. field_kept P keep (type_of text) x fits) elements all;
@@ -72,11 +72,11 @@ array_made P m desc count elements typed is there long all =
     }
 
 -- of elements that are zero or null
-pub blank_made : (P : Program) (m : Memory) (desc : Name) (count : ℕ) → IsTypedMemory P m → IsArray desc → IsNamedThere (headers_in P) desc
+pub blank_made : (P : Program) (m : Memory) (desc : Name) (count : ℕ) → IsTypedMemory P m → IsArray desc → NamesNoArray desc
     → ArrayMade P m desc (blank_array m.heap desc count)
-blank_made P m desc count typed is there =
+blank_made P m desc count typed is named =
     let text : Name = component_text desc in
-    array_made P m desc count (replicate count (blank_value text)) typed is there (length-replicate count (blank_value text))
+    array_made P m desc count (replicate count (blank_value text)) typed is named (length-replicate count (blank_value text))
     (each_same (FitsDescriptor P m.heap text) count (blank_value text) (blank_fits P m.heap text))
 
 -- another count of allocations
@@ -111,7 +111,7 @@ module _ {P : Program} {T : Typings} {w : World} {f : MethodState} {rest : List 
         → ComesTyped P T w f rest 1 (if b then ends array_too_long else gives_array w.memory (blank_array w.memory.heap desc count))
     by_test count true = ends_goes h array_too_long (record f { stack = drop 1 f.stack }) (λ e. cc)
     by_test count false =
-        array_given h 1 (blank_array w.memory.heap desc count) (blank_made P w.memory desc count h.typed.memory h.linked.0 h.linked.1)
+        array_given h 1 (blank_array w.memory.heap desc count) (blank_made P w.memory desc count h.typed.memory h.linked.0 (names_no_array P T h.typed.program desc h.linked.1))
 
     by_int : (v : Value) (i : ℤ) → v ≡ values.Int i → ComesTyped P T w f rest 1 (new_array_work w.memory desc (v ∷ []))
     by_int v (negsuc n) is = rw is (raises_goes h negative_size (drop 1 f.stack) (raises_size P T h.typed.program))

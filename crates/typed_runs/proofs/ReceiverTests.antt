@@ -1,6 +1,7 @@
 use Rattle.std.specs.Prelude.{◌≡◌, ◌⊎◌, ◌==◌, ◌||◌, ◌&&◌, refl, ℕ, zero, suc, Bool, true, false, List, [], ◌∷◌, slice_get, Some, IsTrue}
 use Rattle.std.specs.List.{list_any}
 use Rattle.std.proofs.Common.{inl, inr, sym, ◌∙◌, subst}
+use Rattle.std.proofs.lemmas.Slice.Eq.{bytes_eq-Decides}
 use Rattle.class_model.specs.Characters.{left_bracket}
 use Rattle.class_model.specs.Laws.Lists.{at_index}
 use Rattle.class_tree.specs.Headers.{Name, named, IsThere}
@@ -14,12 +15,12 @@ use Rattle.machine_values.specs.declared.object.Shape.TheVariants as shapes
 use Rattle.machine_values.specs.declared.value.Value.{Value}
 use Rattle.member_link.specs.Access.{IsAtOrBelow}
 use Rattle.member_link.specs.Machine.Programs.{Program, headers_in, is_interface_named}
-use Rattle.member_link.specs.Machine.Shapes.{class_conforms, component_named, both_conform, components_conform, shape_conforms}
+use Rattle.member_link.specs.Machine.Shapes.{is_object, class_conforms, component_named, both_conform, components_conform, shape_conforms}
 use Rattle.member_link.specs.References.{IsNamedThere}
 use Rattle.typed_runs.proofs.AssignedNames.{array_of_text}
 use Rattle.typed_runs.proofs.Basics.{some_of, or_first, or_second}
-use Rattle.typed_runs.proofs.NamesThere.{class_named_there, interface_there, no_array_there, component_there, holds_named}
-use Rattle.typed_runs.specs.Conforming.{NameConforms, to_below, to_interface, to_object, of_components, ShapeConforms, by_class, by_interface, HoldsShape}
+use Rattle.typed_runs.proofs.NamesThere.{class_named_there, interface_there, no_array_there, names_no_array, component_named_in, holds_named}
+use Rattle.typed_runs.specs.Conforming.{NameConforms, to_below, to_interface, to_object, of_components, ShapeConforms, by_class, by_interface, HoldsShape, NamesNoArray}
 use Rattle.typed_runs.specs.TypedPrograms.{Typings, IsTypedProgram}
 
 pub one_passes : {A : Type 0} (test : A → Bool) (xs : List A) (n : ℕ) (x : A) → slice_get xs n ≡ Some x → test x ≡ true
@@ -42,12 +43,14 @@ module _ (P : Program) (T : Typings) (program : IsTypedProgram P T) where
   pub array_below_object : (name : Name) → IsArray name → P.links.below name object ≡ true
   array_below_object name is = (program.links.below name object).1 (of_arrays name object is (inl refl))
 
-  pub class_conforms_is : {low high : Name} → IsThere (headers_in P) low → NameConforms P low high → class_conforms P low high ≡ true
-  class_conforms_is {low = low} {high = high} there (to_below is) = or_second (is_interface_named P high) (P.links.below low high) is
-  class_conforms_is {low = low} {high = high} there (to_interface is) = or_first (is_interface_named P high) (P.links.below low high) is
-  class_conforms_is {low = low} there to_object =
+  -- a class that is there
+  pub class_below_is : {low high : Name} → IsThere (headers_in P) low → NameConforms P low high
+      → (is_interface_named P high || P.links.below low high) ≡ true
+  class_below_is {low = low} {high = high} there (to_below is) = or_second (is_interface_named P high) (P.links.below low high) is
+  class_below_is {low = low} {high = high} there (to_interface is) = or_first (is_interface_named P high) (P.links.below low high) is
+  class_below_is {low = low} there to_object =
       or_second (is_interface_named P object) (P.links.below low object) (class_below_object low there)
-  class_conforms_is {low = low} there (of_components {low_component = component} is also c) =
+  class_below_is {low = low} there (of_components {low_component = component} is also c) =
       absurd (no_array_there P T program low there (array_of_text low component is))
 
   pub both_are : (low high : Name) (lt ht : List ℕ) → component_named lt ≡ Some low → component_named ht ≡ Some high
@@ -68,51 +71,49 @@ module _ (P : Program) (T : Typings) (program : IsTypedProgram P T) where
   -- what two arrays of components that conform hold
   abbrev pub AreRests : Name → Name → Type 0
   AreRests a b = (lt ht : List ℕ) → component_named lt ≡ Some a → component_named ht ≡ Some b
-      → IsNamedThere (headers_in P) (left_bracket ∷ lt) → IsNamedThere (headers_in P) (left_bracket ∷ ht)
+      → NamesNoArray (left_bracket ∷ lt) → NamesNoArray (left_bracket ∷ ht)
       → components_conform P lt ht ≡ true
 
   pub components_are : {low high : Name} → NameConforms P low high → (lt ht : List ℕ) → component_named lt ≡ Some low
       → component_named ht ≡ Some high
-      → IsNamedThere (headers_in P) (left_bracket ∷ lt) → IsNamedThere (headers_in P) (left_bracket ∷ ht)
+      → NamesNoArray (left_bracket ∷ lt) → NamesNoArray (left_bracket ∷ ht)
       → components_conform P lt ht ≡ true
   components_are {low = low} {high = high} (to_below c) lt ht is also there other =
-      both_are low high lt ht is also (or_second (is_interface_named P high) (P.links.below low high) c)
+      both_are low high lt ht is also (or_second (is_interface_named P high) (is_object high || P.links.below low high)
+      (or_second (is_object high) (P.links.below low high) c))
   components_are {low = low} {high = high} (to_interface c) lt ht is also there other =
-      both_are low high lt ht is also (or_first (is_interface_named P high) (P.links.below low high) c)
+      both_are low high lt ht is also (or_first (is_interface_named P high) (is_object high || P.links.below low high) c)
   components_are {low = low} to_object lt ht is also there other =
-      both_are low object lt ht is also (or_second (is_interface_named P object) (P.links.below low object)
-      (by (holds_named P lt low is there))) where
-        by : (IsArray low × (lt ≡ low)) ⊎ IsThere (headers_in P) low → P.links.below low object ≡ true
-        by (inl array) = array_below_object low array.0
-        by (inr class) = class_below_object low class
+      both_are low object lt ht is also (or_second (is_interface_named P object) (is_object object || P.links.below low object)
+      (or_first (is_object object) (P.links.below low object) ((bytes_eq-Decides object object).1 refl)))
   components_are {low = low} {high = high} (of_components {low_component = a} {high_component =
       b} low_is high_is c) lt ht is also there other =
-      of_arrays_both (array_of_text low a low_is) (array_of_text high b high_is) (holds_named P lt low is there)
-      (holds_named P ht high also other)
+      of_arrays_both (array_of_text low a low_is) (array_of_text high b high_is)
+      (holds_named (λ class. ¬ IsArray class) lt low is there) (holds_named (λ class. ¬ IsArray class) ht high also other)
       (λ ls hs low_text high_text low_there high_there. components_are c ls hs low_text high_text low_there high_there) where
         of_rests : (ls hs : List ℕ) → low ≡ left_bracket ∷ ls → high ≡ left_bracket ∷ hs → lt ≡ low → ht ≡ high → AreRests a b
             → components_conform P lt ht ≡ true
         of_rests ls hs e g one two next =
             let low_text : component_named ls ≡ Some a = subst (λ n. component_named (component_text n) ≡ Some a) e low_is in
             let high_text : component_named hs ≡ Some b = subst (λ n. component_named (component_text n) ≡ Some b) g high_is in
-            let low_there : IsNamedThere (headers_in P) (left_bracket ∷ ls) =
-            component_there P ls (subst (λ n. IsNamedThere (headers_in P) (left_bracket ∷ n)) (one ∙ e) there) in
-            let high_there : IsNamedThere (headers_in P) (left_bracket ∷ hs) =
-            component_there P hs (subst (λ n. IsNamedThere (headers_in P) (left_bracket ∷ n)) (two ∙ g) other) in
+            let low_there : NamesNoArray (left_bracket ∷ ls) =
+            component_named_in (λ class. ¬ IsArray class) ls (subst (λ n. NamesNoArray (left_bracket ∷ n)) (one ∙ e) there) in
+            let high_there : NamesNoArray (left_bracket ∷ hs) =
+            component_named_in (λ class. ¬ IsArray class) hs (subst (λ n. NamesNoArray (left_bracket ∷ n)) (two ∙ g) other) in
             subst (λ n. components_conform P n ht ≡ true) (sym (one ∙ e))
             (subst (λ n. components_conform P (left_bracket ∷ ls) n ≡ true) (sym (two ∙ g))
             (arrays_are ls hs (next ls hs low_text high_text low_there high_there)))
 
-        of_arrays_both : IsArray low → IsArray high → (IsArray low × (lt ≡ low)) ⊎ IsThere (headers_in P) low
-            → (IsArray high × (ht ≡ high)) ⊎ IsThere (headers_in P) high → AreRests a b → components_conform P lt ht ≡ true
+        of_arrays_both : IsArray low → IsArray high → (IsArray low × (lt ≡ low)) ⊎ (¬ IsArray low)
+            → (IsArray high × (ht ≡ high)) ⊎ (¬ IsArray high) → AreRests a b → components_conform P lt ht ≡ true
         of_arrays_both x y (inl one) (inl two) next = of_rests x.0 y.0 x.1 y.1 one.1 two.1 next
-        of_arrays_both x y (inr one) two next = absurd (no_array_there P T program low one x)
-        of_arrays_both x y one (inr two) next = absurd (no_array_there P T program high two y)
+        of_arrays_both x y (inr one) two next = absurd (one x)
+        of_arrays_both x y one (inr two) next = absurd (two y)
 
   -- ---- the machine's test of a receiver
 
-  pub array_is : (desc : Name) (len : ℕ) (name : Name) → IsArray desc → IsNamedThere (headers_in P) desc
-      → IsNamedThere (headers_in P) name → NameConforms P desc name → shape_conforms P (shapes.Array desc len) name ≡ true
+  pub array_is : (desc : Name) (len : ℕ) (name : Name) → IsArray desc → NamesNoArray desc
+      → NamesNoArray name → NameConforms P desc name → shape_conforms P (shapes.Array desc len) name ≡ true
   array_is desc len name is there other (to_below c) =
       or_second (is_interface_named P name) (P.links.below desc name || components_conform P (component_text desc) (component_text name))
       (or_first (P.links.below desc name) (components_conform P (component_text desc) (component_text name)) c)
@@ -128,12 +129,11 @@ module _ (P : Program) (T : Typings) (program : IsTypedProgram P T) where
       (or_second (P.links.below desc name) (components_conform P (component_text desc) (component_text name))
       (components_are c (component_text desc) (component_text name) low_is high_is (behind_bracket desc is there)
       (behind_bracket name (array_of_text name b high_is) other))) where
-        behind_bracket : (n : Name) → IsArray n → IsNamedThere (headers_in P) n
-            → IsNamedThere (headers_in P) (left_bracket ∷ component_text n)
-        behind_bracket n array named = subst (λ x. IsNamedThere (headers_in P) (left_bracket ∷ component_text x)) (sym array.1)
-            (subst (λ x. IsNamedThere (headers_in P) x) array.1 named)
+        behind_bracket : (n : Name) → IsArray n → NamesNoArray n → NamesNoArray (left_bracket ∷ component_text n)
+        behind_bracket n array named = subst (λ x. NamesNoArray (left_bracket ∷ component_text x)) (sym array.1)
+            (subst NamesNoArray array.1 named)
 
-  pub external_is : (class name : Name) (also : List Name) → class_conforms P class name ≡ true
+  pub external_is : (class name : Name) (also : List Name) → (is_interface_named P name || P.links.below class name) ≡ true
       → shape_conforms P (shapes.External class also) name ≡ true
   external_is class name also conforms = by (is_interface_named P name) conforms where
     by : (b : Bool) → (b || P.links.below class name) ≡ true
@@ -142,7 +142,7 @@ module _ (P : Program) (T : Typings) (program : IsTypedProgram P T) where
     by false is = or_first (P.links.below class name) (list_any (λ interface. P.links.below interface name) also) is
 
   pub also_is : (class name : Name) (also : List Name) (n : ℕ) (interface : Name) → slice_get also n ≡ Some interface
-      → class_conforms P interface name ≡ true → shape_conforms P (shapes.External class also) name ≡ true
+      → (is_interface_named P name || P.links.below interface name) ≡ true → shape_conforms P (shapes.External class also) name ≡ true
   also_is class name also n interface there conforms = by (is_interface_named P name) conforms where
     by : (b : Bool) → (b || P.links.below interface name) ≡ true
         → (b || (P.links.below class name || list_any (λ x. P.links.below x name) also)) ≡ true
@@ -154,11 +154,11 @@ module _ (P : Program) (T : Typings) (program : IsTypedProgram P T) where
   pub shape_conforms_is : (h : Heap) (shape : Shape) (vs : List Value) (name : Name) → HoldsShape P h shape vs
       → IsNamedThere (headers_in P) name → ShapeConforms P shape name → shape_conforms P shape name ≡ true
   shape_conforms_is h (shapes.Folder class) vs name holds there (by_class c) =
-      class_conforms_is (class_named_there P class holds.found holds.is_class) c
+      class_below_is (class_named_there P class holds.found holds.is_class) c
   shape_conforms_is h (shapes.Array desc len) vs name holds there (by_class c) =
-      array_is desc len name holds.is_array holds.element_there there c
+      array_is desc len name holds.is_array holds.of_element (names_no_array P T program name there) c
   shape_conforms_is h (shapes.External class also) vs name holds there (by_class c) =
-      external_is class name also (class_conforms_is holds.is_there c)
+      external_is class name also (class_below_is holds.is_there c)
   shape_conforms_is h (shapes.External class also) vs name holds there (by_interface {interface = interface} n is c) =
-      also_is class name also n interface is (class_conforms_is
+      also_is class name also n interface is (class_below_is
       (interface_there P interface (at_index (λ x. IsTrue (is_interface_named P x)) also n interface holds.interfaces is)) c)

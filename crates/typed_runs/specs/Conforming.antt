@@ -21,7 +21,7 @@ use Rattle.member_link.specs.Machine.Layouts.{slots_of}
 use Rattle.member_link.specs.Machine.Programs.{Program, RunClass, headers_in, folder_number, name_of_class, is_interface_named}
 use Rattle.member_link.specs.Machine.Shapes.{class_of_shape, component_named}
 use Rattle.member_link.specs.Machine.Worlds.{Memory, StaticValue, field_desc}
-use Rattle.member_link.specs.References.{Reference, IsNamedThere}
+use Rattle.member_link.specs.References.{Reference, NamesElementClass}
 use Rattle.member_link.specs.RowScope.{RowScope}
 
 -- ---- references
@@ -145,8 +145,12 @@ FitSlots P heap (slot ∷ slots) (value ∷ values) =
     FitsDescriptor P heap slot.desc value × FitSlots P heap slots values
 FitSlots P heap slots values = ⊥
 
+-- behind the brackets of an array type stands a base type or a class, which need not be there, and no array again
+abbrev pub NamesNoArray : Name → Type 0
+NamesNoArray desc = NamesElementClass (λ class. ¬ IsArray class) desc
+
 -- An object of the folder has a value for each field of its class. An array has as many elements as it is long, each of its component
--- type, and the class of its elements is there. An object of the library is of one of its classes, and the interfaces that it also implements are interfaces.
+-- type. An object of the library is of one of its classes, and the interfaces that it also implements are interfaces.
 pub record IsFolderObject (P : Program) (heap : Heap) (class : ℕ) (values : List Value)
     : Type 0 where
   pub found : RunClass
@@ -157,7 +161,7 @@ pub record IsArrayObject (P : Program) (heap : Heap) (desc : List ℕ) (len : �
     (values : List Value)
     : Type 0 where
   pub is_array : IsArray desc
-  pub element_there : IsNamedThere (headers_in P) desc
+  pub of_element : NamesNoArray desc
   pub as_long : length values ≡ len
   pub elements : AllByRecursion (FitsDescriptor P heap (component_text desc)) values
 

@@ -1,12 +1,9 @@
 -- Families of operations, and the operation that a step does.
 use Rattle.std.specs.Prelude.{List, ◌∷◌, IfSome}
-use Rattle.machine_values.specs.declared.action.Action.{Action}
-use Rattle.machine_values.specs.declared.action.Action.TheVariants as actions
 use Rattle.machine_values.specs.declared.frame.RunFrame.{RunFrame}
 use Rattle.machine_values.specs.declared.frame.RunFrame.TheVariants.{Beginning, Method}
 use Rattle.member_link.specs.Machine.Ops.{Op, no_operation, push_value, push_constant, load_local, store_local, increment_local, shuffle_stack, pure_arithmetic, jump_by_int, jump_by_ints, jump_by_references, jump_by_null, jump_to, table_switch, lookup_switch, division, float_arithmetic, test_local, check_cast, instance_of, enter_monitor, leave_monitor, new_object, new_array, new_arrays, load_element, store_element, array_length, get_static, put_static, get_field, put_field, return_nothing, return_value, throw_reference, call_static, call_virtual, call_interface, call_special, call_dynamic}
-use Rattle.member_link.specs.Machine.Programs.{Program, headers_in, point_at}
-use Rattle.member_link.specs.References.{IsNamedThere}
+use Rattle.member_link.specs.Machine.Programs.{Program, point_at}
 
 -- what a family says of an operation holds of the one at which the top frame stands
 abbrev pub NextIs : (Op → Type 0) → Program → List RunFrame → Type 0
@@ -87,8 +84,3 @@ Calls (call_interface r) = Unit {0}
 Calls (call_special r from) = Unit {0}
 Calls (call_dynamic class bootstrap name desc) = Unit {0}
 Calls op = ⊥
-
--- an array that the library makes is of an element that is there
-abbrev pub NamesElement : Program → Action → Type 0
-NamesElement P (actions.NewArray desc count) = IsNamedThere (headers_in P) desc
-NamesElement P action = Unit {0}
