@@ -17,7 +17,6 @@ use Rattle.class_tree.specs.declared.fault.LinkRule.TheVariants as rules
 use Rattle.machine_step.specs.Programs.{IsProgram}
 use Rattle.member_link.specs.Machine.Programs.{Program, headers_in, folder_number, is_interface_named}
 use Rattle.never_stuck.proofs.Folders.{some_of, named_behind, apart, headers_are, links_are, outside_folder, no_folder_class}
-use Rattle.never_stuck.proofs.PlainFolders.{IsPlainFolder}
 use Rattle.typed_runs.specs.TypedPoints.{IsOfLibrary}
 use Rattle.typed_runs.specs.TypedPrograms.{HasBase}
 
@@ -100,9 +99,9 @@ named_in_library name (x ∷ folder) library header none found = by (bytes_eq na
       by false e next = next (rw e at none) (rw e at found)
 
 module _ (classes : Classes) (P : Program) (is : IsProgram classes P) (tree : IsTree classes)
-    (hierarchy : IsHierarchy (headers_of classes)) (plain : IsPlainFolder classes) where
+    (hierarchy : IsHierarchy (headers_of classes)) (some : 0 < length classes.folder) where
   holds : BaseHolds classes
-  holds = base_holds classes plain.some tree.holds
+  holds = base_holds classes some tree.holds
 
   pub of_library : (name : Name) → IsSome (named name classes.library) → IsOfLibrary P name
   of_library name there = record {

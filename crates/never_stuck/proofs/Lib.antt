@@ -1,5 +1,4 @@
 mod Folders
-mod PlainFolders
 mod Bases
 mod FileClasses
 mod PlacedFrames

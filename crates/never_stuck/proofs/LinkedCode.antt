@@ -1,4 +1,4 @@
-use Rattle.std.specs.Prelude.{◌≡◌, refl, ℕ, zero, suc, Bool, true, false, List, [], ◌∷◌, slice_get, Option, Some, None, Result, Ok, Err}
+use Rattle.std.specs.Prelude.{◌≡◌, ◌<◌, refl, ℕ, zero, suc, Bool, true, false, List, [], ◌∷◌, length, slice_get, Option, Some, None, IsSome, Result, Ok, Err}
 use Rattle.std.specs.List.{AllByRecursion, list_any}
 use Rattle.std.proofs.Common.{ap, sym, ◌∙◌, subst}
 use Rattle.std.proofs.lemmas.Option.{slice_get-map}
@@ -24,7 +24,7 @@ use Rattle.class_model.specs.declared.frame.Frame.{Frame}
 use Rattle.class_model.specs.declared.instr.Placed.{Placed}
 use Rattle.class_model.specs.declared.pool.Const.{Const}
 use Rattle.class_model.specs.declared.pool.Const.TheVariants as consts
-use Rattle.class_tree.specs.Headers.{Name, Classes, IsThere, IsClassFile, headers_of, named}
+use Rattle.class_tree.specs.Headers.{Name, Classes, IsClassFile, headers_of, named}
 use Rattle.class_tree.specs.Hierarchy.{IsHierarchy}
 use Rattle.class_tree.specs.Names.{method_handle, method_type}
 use Rattle.class_tree.specs.Steps.{has_constant, is_method_handle, is_method_type, needed_class_checks}
@@ -44,16 +44,14 @@ use Rattle.member_link.specs.Rows.Row.{access_aside}
 use Rattle.member_link.specs.Rows.Table.{row_of}
 use Rattle.member_link.specs.Scope.{Scope, instructions, row_scope}
 use Rattle.member_link.specs.Uses.{instr_use_checks}
-use Rattle.never_stuck.proofs.Bases.{BaseHolds, base_holds, has_base}
-use Rattle.never_stuck.proofs.Folders.{some_of, headers_are, outside_folder}
+use Rattle.never_stuck.proofs.Bases.{BaseHolds, base_holds, has_base, of_library}
+use Rattle.never_stuck.proofs.Folders.{some_of, headers_are}
 use Rattle.never_stuck.proofs.LinkedInstrs.{new_found, instr_linked}
 use Rattle.never_stuck.proofs.LinkedOps.{ReferenceLaws, Around, IsLinkedAt}
 use Rattle.never_stuck.proofs.PlacedFrames.{Ascend}
-use Rattle.never_stuck.proofs.PlainFolders.{IsPlainFolder}
 use Rattle.never_stuck.proofs.PoolNames.{constant_holds}
 use Rattle.never_stuck.proofs.SomeDimensions.{SomeIn, ListSome, instrs_some}
 use Rattle.never_stuck.proofs.TypedMethods.{scope_with}
-use Rattle.typed_runs.specs.TypedPoints.{IsOfLibrary}
 
 -- what the laws of linking and reading say
 pub record LinkLaws : Type 0 where
@@ -89,7 +87,7 @@ has_constant_at test file index c is passed = any_at (passes test) file.pool ind
 
 pub needed_there : (classes : Classes) (test : Const → Bool) (name : Name) → AllHold (needed_class_checks test name classes)
     → (n : ℕ) (file : ClassFile) → slice_get classes.folder n ≡ Some file → has_constant test file ≡ true
-    → IsThere (headers_of classes) name
+    → IsSome (named name classes.library)
 needed_there classes test name all n file is passed =
     let any : list_any (has_constant test) classes.folder ≡ true = any_at (has_constant test) classes.folder n file is passed in
     (rw any at all).0
@@ -115,7 +113,7 @@ decoded_at s number placed is = by (decoded s.part.code) refl where
   by (Err fault) e = let no : None ≡ Some placed = rw e at is in cc
 
 pub linked_instr : LinkLaws → (classes : Classes) (P : Program) (is : IsProgram classes P) → IsHierarchy (headers_of classes)
-    → IsTree classes → IsLinked classes → IsPlainFolder classes
+    → IsTree classes → IsLinked classes → 0 < length classes.folder
     → (at : MethodAt) (file : ClassFile) (m : Method) (part : CodePart) → slice_get classes.folder at.class ≡ Some file
     → slice_get file.methods at.method ≡ Some m → code_of m.attrs ≡ Some part
     → Ascend (instructions (scope_with classes file m part)) → (number : ℕ) (placed : Placed)
@@ -125,7 +123,7 @@ pub linked_instr : LinkLaws → (classes : Classes) (P : Program) (is : IsProgra
     → IsLinkedAt (program_of classes is.links) (row_scope (scope_with classes file m part)) placed.at
     (item_op is.links (number_at (code_points (scope_with classes file m part))) (row_scope (scope_with classes file m part))
     (item_instr placed.instr))
-linked_instr laws classes P is hierarchy tree linked plain at file m part of_file of_method of_code order number placed there frame holds
+linked_instr laws classes P is hierarchy tree linked has_class at file m part of_file of_method of_code order number placed there frame holds
     =
     instr_linked laws.references is.links classes file m part Q (site_of (header_of file) (method_member file.pool m)) around
     placed.at placed.instr fits uses some
@@ -140,29 +138,22 @@ linked_instr laws classes P is hierarchy tree linked plain at file m part of_fil
       read = at_index IsClassFile classes.folder at.class file tree.folder of_file
 
       base : BaseHolds classes
-      base = base_holds classes plain.some tree.holds
-
-      is_of_library : (name : Name) → IsThere (headers_of classes) name → named name (headers_of classes).folder ≡ None
-          → IsOfLibrary Q name
-      is_of_library name is_there outside = record {
-        is_there = subst (λ hs. IsThere hs name) (sym (headers_are classes Q same)) is_there;
-        outside = outside_folder classes Q same name outside;
-      }
+      base = base_holds classes has_class tree.holds
 
       around : Around Q (headers_of classes) file.major file.pool (header_of file)
       around = record {
         same = headers_are classes Q same;
-        base = has_base classes Q same tree hierarchy plain;
+        base = has_base classes Q same tree hierarchy has_class;
         own_named = (hierarchy.of_place (places.Folder at.class) (header_of file)
             (slice_get-map header_of classes.folder at.class ∙ (rw of_file refl))).found;
         each = constant_holds file.major file.pool (subst (λ (f : ClassFile). AllHold (entries_checks f.major f.pool 10 f.pool))
             (sym read.is) (parts_hold read.cut read.holds).pool);
-        handles = λ index kind reference e. is_of_library method_handle
+        handles = λ index kind reference e. of_library classes Q same tree hierarchy has_class method_handle
             (needed_there classes is_method_handle method_handle base.handles at.class file of_file
-            (has_constant_at is_method_handle file index (consts.MethodHandle kind reference) e refl)) plain.no_own.no_handles;
-        types = λ index desc e. is_of_library method_type
+            (has_constant_at is_method_handle file index (consts.MethodHandle kind reference) e refl));
+        types = λ index desc e. of_library classes Q same tree hierarchy has_class method_type
             (needed_there classes is_method_type method_type base.types at.class file of_file
-            (has_constant_at is_method_type file index (consts.MethodType desc) e refl)) plain.no_own.no_types;
+            (has_constant_at is_method_type file index (consts.MethodType desc) e refl));
       }
 
       d : DecodedAt part number placed

@@ -1,5 +1,4 @@
 use Rattle.std.specs.Prelude.{◌≡◌, ◌≢◌, ◌+◌, refl, ℕ, zero, suc, Bool, true, false, List, [], ◌∷◌, if◌then◌else◌}
-use Rattle.std.specs.List.{AllByRecursion}
 use Rattle.machine_values.specs.declared.action.Action.{Action}
 use Rattle.machine_values.specs.declared.event.End.TheVariants as ends
 use Rattle.member_link.specs.Machine.Acting.{act, is_fault}
@@ -32,53 +31,44 @@ end_not_stuck r not_stuck = by r.world.halt refl where
 
 -- ---- what each turn keeps
 
--- the world is good, and so are the actions that are left
-pub record GoesWell (Good : World → Type 0) (Fits : Action → Type 0) (r : Run) : Type 0 where
-  pub world : Good r.world
-  pub actions : AllByRecursion Fits r.actions
+module _ (P : Program) (Good : World → Type 0) (steps : (w : World) → Good w → Good (step P w))
+    (acts : (w : World) (action : Action) → Good w → is_library_turn w.frames ≡ true → Good (act P action w)) where
+  behind_well : (r : Run) (actions : List Action) (w : World) → Good w → Good (behind_action r actions w).world
+  behind_well r actions w good = by (is_fault w.halt) where
+    by : (b : Bool) → Good (if b then record r { world = w } else record { world = w; actions = actions; used = r.used + 1 }).world
+    by true = good
+    by false = good
 
-module _ (P : Program) (Good : World → Type 0) (Fits : Action → Type 0) (steps : (w : World) → Good w → Good (step P w))
-    (acts : (w : World) (action : Action) → Good w → is_library_turn w.frames ≡ true → Fits action → Good (act P action w)) where
-  behind_well : (r : Run) (actions : List Action) (w : World) → Good w → AllByRecursion Fits r.actions → AllByRecursion Fits actions
-      → GoesWell Good Fits (behind_action r actions w)
-  behind_well r actions w good before after = by (is_fault w.halt) where
-    by : (b : Bool)
-        → GoesWell Good Fits (if b then record r { world = w } else record { world = w; actions = actions; used = r.used + 1 })
-    by true = record { world = good; actions = before }
-    by false = record { world = good; actions = after }
+  library_well : (r : Run) (actions : List Action) → Good r.world → is_library_turn r.world.frames ≡ true
+      → Good (at_library_turn P r actions).world
+  library_well r [] good turn = good
+  library_well r (action ∷ actions) good turn =
+      behind_well r actions (act P action r.world) (acts r.world action good turn)
 
-  library_well : (r : Run) (actions : List Action) → GoesWell Good Fits r → is_library_turn r.world.frames ≡ true
-      → AllByRecursion Fits actions
-      → GoesWell Good Fits (at_library_turn P r actions)
-  library_well r [] well turn fit = well
-  library_well r (action ∷ actions) well turn fit =
-      behind_well r actions (act P action r.world) (acts r.world action well.world turn fit.0) well.actions fit.1
-
-  going_well : (r : Run) → GoesWell Good Fits r → GoesWell Good Fits (going_turn P r)
-  going_well r well = by (is_library_turn r.world.frames) refl where
+  going_well : (r : Run) → Good r.world → Good (going_turn P r).world
+  going_well r good = by (is_library_turn r.world.frames) refl where
     by : (b : Bool) → is_library_turn r.world.frames ≡ b
-        → GoesWell Good Fits (if b then at_library_turn P r r.actions else record r { world = step P r.world })
-    by true turn = library_well r r.actions well turn well.actions
-    by false turn = record { world = steps r.world well.world; actions = well.actions }
+        → Good (if b then at_library_turn P r r.actions else record r { world = step P r.world }).world
+    by true turn = library_well r r.actions good turn
+    by false turn = steps r.world good
 
-  turn_well : (r : Run) → GoesWell Good Fits r → GoesWell Good Fits (turn P r)
-  turn_well r well = by r.world.halt where
-    by : (h : Halt) → GoesWell Good Fits (turn_by P r h)
-    by going = going_well r well
-    by stopped = well
-    by faulted = well
-    by init_threw = well
-    by array_too_long = well
-    by stuck = well
+  turn_well : (r : Run) → Good r.world → Good (turn P r).world
+  turn_well r good = by r.world.halt where
+    by : (h : Halt) → Good (turn_by P r h).world
+    by going = going_well r good
+    by stopped = good
+    by faulted = good
+    by init_threw = good
+    by array_too_long = good
+    by stuck = good
 
-  turns_well : (count : ℕ) (r : Run) → GoesWell Good Fits r → GoesWell Good Fits (turns P count r)
-  turns_well zero r well = well
-  turns_well (suc count) r well = turns_well count (turn P r) (turn_well r well)
+  turns_well : (count : ℕ) (r : Run) → Good r.world → Good (turns P count r).world
+  turns_well zero r good = good
+  turns_well (suc count) r good = turns_well count (turn P r) (turn_well r good)
 
   -- where no good world is stuck, no run is that starts with one
-  pub run_not_stuck : ((w : World) → Good w → w.halt ≢ stuck) → Good start → (actions : List Action) → AllByRecursion Fits actions
-      → (count : ℕ) → (shown_after P actions count).end ≢ ends.Stuck
-  run_not_stuck not_stuck good actions fit count =
+  pub run_not_stuck : ((w : World) → Good w → w.halt ≢ stuck) → Good start → (actions : List Action) (count : ℕ)
+      → (shown_after P actions count).end ≢ ends.Stuck
+  run_not_stuck not_stuck good actions count =
       let r = turns P count (begins_with actions) in
-      let well : GoesWell Good Fits r = turns_well count (begins_with actions) (record { world = good; actions = fit }) in
-      end_not_stuck r (not_stuck r.world well.world)
+      end_not_stuck r (not_stuck r.world (turns_well count (begins_with actions) good))

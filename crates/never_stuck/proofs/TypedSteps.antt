@@ -12,7 +12,6 @@ use Rattle.member_link.specs.Machine.Acting.{act}
 use Rattle.member_link.specs.Machine.Programs.{Program}
 use Rattle.member_link.specs.Machine.Stepping.{is_library_turn, step}
 use Rattle.member_link.specs.Machine.Worlds.{Halt, World, going, stuck}
-use Rattle.typed_runs.specs.Families.{NamesElement}
 use Rattle.typed_runs.specs.TypedPrograms.{Typings}
 use Rattle.typed_runs.specs.TypedWorlds.{TypedWorld, StaysTyped}
 
@@ -55,19 +54,19 @@ module _ {E : Type 0} (classes : Classes) (before now : World) (goes : before.ha
 
 module _ {E : Type 0} (classes : Classes) (before now : World) (action : Action) (goes : before.halt ≡ going)
     (turn : is_library_turn before.frames ≡ true)
-    (stays : (P : Program) (T : Typings) (w : World) (a : Action) → TypedWorld P T w → is_library_turn w.frames ≡ true → NamesElement P a
+    (stays : (P : Program) (T : Typings) (w : World) (a : Action) → TypedWorld P T w → is_library_turn w.frames ≡ true
     → StaysTyped P T w (act P a w)) where
   pub act_typed : (r : Result Acted E)
       → IfOk r (λ done. (P : Program) → IsProgram classes P → ended (halt_behind done) now ≡ act P action before)
-      → OnOk r ((P : Program) (T : Typings) → IsProgram classes P → TypedWorld P T before → NamesElement P action → TypedWorld P T now)
-  act_typed (Ok done) is = λ P T program typed named. typed_behind P T before now (act P action before)
-      (stays P T before action typed turn named) (halt_behind done) (is P program)
+      → OnOk r ((P : Program) (T : Typings) → IsProgram classes P → TypedWorld P T before → TypedWorld P T now)
+  act_typed (Ok done) is = λ P T program typed. typed_behind P T before now (act P action before)
+      (stays P T before action typed turn) (halt_behind done) (is P program)
   act_typed (Err e) is = tt
 
   pub act_not_stuck : (r : Result Acted E)
       → IfOk r (λ done. (P : Program) → IsProgram classes P → ended (halt_behind done) now ≡ act P action before)
-      → IfOk r (λ done. (P : Program) (T : Typings) → IsProgram classes P → TypedWorld P T before → NamesElement P action
+      → IfOk r (λ done. (P : Program) (T : Typings) → IsProgram classes P → TypedWorld P T before
       → done ≢ acted.Stuck)
-  act_not_stuck (Ok done) is = λ P T program typed named. no_stuck_acted P T before now (act P action before)
-      (stays P T before action typed turn named) goes done (is P program)
+  act_not_stuck (Ok done) is = λ P T program typed. no_stuck_acted P T before now (act P action before)
+      (stays P T before action typed turn) goes done (is P program)
   act_not_stuck (Err e) is = tt

@@ -1,4 +1,4 @@
-use Rattle.std.specs.Prelude.{◌≡◌, refl, ℕ, Bool, true, false, List, [], length, slice_get, Option, Some, None, IsSome, option_map, option_and_then, if◌then◌else◌}
+use Rattle.std.specs.Prelude.{◌≡◌, ◌<◌, refl, ℕ, Bool, true, false, List, [], length, slice_get, Option, Some, None, IsSome, option_map, option_and_then, if◌then◌else◌}
 use Rattle.std.specs.List.{AllByRecursion}
 use Rattle.std.proofs.Common.{ap, sym, ◌∙◌, subst}
 use Rattle.std.proofs.lemmas.Option.{slice_get-map}
@@ -29,7 +29,6 @@ use Rattle.never_stuck.proofs.FileClasses.{class_typed}
 use Rattle.never_stuck.proofs.Folders.{some_of, headers_are, links_are}
 use Rattle.never_stuck.proofs.LinkedCode.{LinkLaws, linked_instr}
 use Rattle.never_stuck.proofs.PlacedFrames.{ascend}
-use Rattle.never_stuck.proofs.PlainFolders.{IsPlainFolder}
 use Rattle.never_stuck.proofs.TypedCode.{IsTypedCode}
 use Rattle.never_stuck.proofs.TypedMethods.{scope_with, method_typed}
 use Rattle.type_rules.specs.Checks.{IsTypedAt}
@@ -92,7 +91,7 @@ abbrev pub typings_of : Classes → FolderFrames → Typings
 typings_of classes typed at = typing_with classes (scope_at classes at) (typed_frames_at typed at)
 
 module _ (laws : TypeLaws) (link_laws : LinkLaws) (classes : Classes) (P : Program) (is : IsProgram classes P)
-    (hierarchy : IsHierarchy (headers_of classes)) (verified : IsVerified classes) (plain : IsPlainFolder classes) where
+    (hierarchy : IsHierarchy (headers_of classes)) (verified : IsVerified classes) (has_class : 0 < length classes.folder) where
   abbrev T : Typings
   T = typings_of classes verified.typed
 
@@ -105,7 +104,7 @@ module _ (laws : TypeLaws) (link_laws : LinkLaws) (classes : Classes) (P : Progr
   here_typed at file m part of_file of_method of_code =
       subst (λ (t : Typing). IsTypedMethod Q at (method_member file.pool m) (method_code is.links s) t) (sym same)
       (method_typed classes is.links at file m part found.0 (typed_code laws s found.0 found.2) here named.0 named.1
-      (λ number placed there t. linked_instr link_laws classes P is hierarchy verified.tree verified.linked plain at file m part of_file
+      (λ number placed there t. linked_instr link_laws classes P is hierarchy verified.tree verified.linked has_class at file m part of_file
       of_method of_code (ascend s (instructions s) (laws.order s)) number placed there)) where
         s : Scope
         s = scope_with classes file m part
@@ -181,7 +180,7 @@ module _ (laws : TypeLaws) (link_laws : LinkLaws) (classes : Classes) (P : Progr
     record {
       hierarchy = subst IsHierarchy (sym (headers_are classes P is)) hierarchy;
       links = subst (λ hs. AreLinksOf hs P.links) (sym (headers_are classes P is)) (links_are classes P is);
-      base = has_base classes P is verified.tree hierarchy plain;
+      base = has_base classes P is verified.tree hierarchy has_class;
       classes = class_typed classes P is verified.tree;
       methods = subst (λ (p : Program). (at : MethodAt) (method : RunMethod) (code : Code) → run_method p at ≡ Some method
           → code_run method ≡ Some code → IsTypedMethod p at method.member code (T at)) (sym is.same) methods_typed;

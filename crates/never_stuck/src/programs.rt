@@ -2,7 +2,6 @@
 ghost use Rattle.std.specs.Prelude.{◌<◌, length};
 ghost use Rattle.machine_step.specs.Programs.{IsProgram};
 ghost use Rattle.member_link.specs.Machine.Programs.{Program};
-ghost use Rattle.never_stuck.specs.PlainFolders.{HasNoOwnHandles};
 ghost use Rattle.type_rules.specs.Verified.{IsVerified};
 ghost use Rattle.typed_runs.specs.TypedPrograms.{IsTypedProgram, Typings};
 
@@ -18,14 +17,12 @@ use type_rules::{
     a_typed_method_types_each_instruction, frames_type_a_body_by_its_places,
 };
 
-/// The program of a folder that verifies is typed, by the frames that type the folder: where the folder has a class, and none of the two of
-/// method handles and method types.
+/// The program of a folder that verifies is typed, by the frames that type the folder, where the folder has a class.
 pub fn a_verified_folder_is_a_typed_program(tree: &Tree)
     ensures { (P : Program)
         → IsProgram tree.now P
         → IsVerified tree.now
         → 0 < length tree.now.folder
-        → HasNoOwnHandles tree.now
         → (T : Typings) × IsTypedProgram P T }
 {
     a_tree_is_a_hierarchy(tree);

@@ -1,15 +1,12 @@
 //! Runs of a folder that verifies.
 ghost use Rattle.std.specs.Prelude.{◌≡◌, ◌≢◌, ℕ, List, IfOk};
-ghost use Rattle.std.specs.List.{AllByRecursion};
 ghost use Rattle.machine_step.specs.Programs.{IsProgram};
 ghost use Rattle.machine_values.specs.declared.action.Action.{Action};
 ghost use Rattle.machine_values.specs.declared.event.End.TheVariants as ends;
 ghost use Rattle.member_link.specs.Linked.{IsLinked};
 ghost use Rattle.member_link.specs.Machine.Programs.{Program};
 ghost use Rattle.member_link.specs.Machine.Runs.{shown_after};
-ghost use Rattle.never_stuck.specs.PlainFolders.{HasNoOwnHandles};
 ghost use Rattle.type_rules.specs.Verified.{IsVerified, TypesFolder};
-ghost use Rattle.typed_runs.specs.Families.{NamesElement};
 
 use crate::no_classes::without_classes_the_library_stays_alone;
 use crate::programs::a_verified_folder_is_a_typed_program;
@@ -21,14 +18,11 @@ use std::alloc::Global;
 use type_rules::TypedFolder;
 use typed_runs::{a_run_starts_typed, a_step_stays_typed, an_action_stays_typed};
 
-/// A run of a folder that verifies is never stuck, whatever the library does, for any number of steps: where no class of the folder is that
-/// of method handles or method types, and each array that the library makes is of an element that is there.
+/// A run of a folder that verifies is never stuck, whatever the library does, for any number of steps.
 pub fn a_verified_run_is_never_stuck(tree: &Tree)
     ensures { (P : Program) (actions : List Action) (count : ℕ)
         → IsProgram tree.now P
         → IsVerified tree.now
-        → HasNoOwnHandles tree.now
-        → AllByRecursion (NamesElement P) actions
         → (shown_after P actions count).end ≢ ends.Stuck }
 {
     a_verified_folder_is_a_typed_program(tree);
@@ -39,8 +33,7 @@ pub fn a_verified_run_is_never_stuck(tree: &Tree)
 }
 
 /// What a run of a folder shows that verifies, as `machine_run::run` gives it, in at most so many steps. The frames type the folder. Its
-/// end is not `Stuck` where no class of the folder is that of method handles or method types, and each array that the library makes is
-/// of an element that is there.
+/// end is not `Stuck`.
 ///
 /// # Errors
 ///
@@ -57,8 +50,6 @@ pub fn run_verified(
     ensures run { IfOk result (λ shown. (P : Program) → IsProgram tree.now P
         → shown ≡ shown_after P actions.now steps) }
     ensures never_stuck { IfOk result (λ shown. (P : Program) → IsProgram tree.now P
-        → HasNoOwnHandles tree.now
-        → AllByRecursion (NamesElement P) actions.now
         → shown.end ≢ ends.Stuck) }
 {
     a_verified_run_is_never_stuck(tree);

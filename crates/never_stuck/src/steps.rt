@@ -6,7 +6,6 @@ ghost use Rattle.member_link.specs.Machine.Acting.{act};
 ghost use Rattle.member_link.specs.Machine.Programs.{Program};
 ghost use Rattle.member_link.specs.Machine.Stepping.{is_library_turn, step};
 ghost use Rattle.member_link.specs.Machine.Worlds.{going};
-ghost use Rattle.typed_runs.specs.Families.{NamesElement};
 ghost use Rattle.typed_runs.specs.TypedPrograms.{Typings};
 ghost use Rattle.typed_runs.specs.TypedWorlds.{TypedWorld};
 
@@ -52,7 +51,7 @@ pub fn stays_typed(
 }
 
 /// Takes an action of the library, whose frame is on top, as `machine_run::act` does. A typed world stays typed, and from one the answer is
-/// not `Stuck`; an array that the library makes is of an element that is there.
+/// not `Stuck`.
 ///
 /// # Errors
 ///
@@ -73,11 +72,9 @@ pub fn acts_typed(
     ensures spent { OnErr result (world.new.spent ≡ true) }
     ensures typed { OnOk result ((P : Program) (T : Typings) → IsProgram tree.now P
         → TypedWorld P T world.old.world
-        → NamesElement P action.now
         → TypedWorld P T world.new.world) }
     ensures not_stuck { IfOk result (λ acted. (P : Program) (T : Typings) → IsProgram tree.now P
         → TypedWorld P T world.old.world
-        → NamesElement P action.now
         → acted ≢ Acted.Stuck) }
 {
     a_world_goes_on(world);

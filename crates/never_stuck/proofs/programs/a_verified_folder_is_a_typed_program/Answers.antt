@@ -2,7 +2,7 @@ use Rattle.never_stuck.proofs.VerifiedPrograms.{program_typed}
 use Rattle.never_stuck.proofs.programs.a_verified_folder_is_a_typed_program.Goals as goal
 
 pub returns : goal.returns
-returns c = λ P is verified some no_own.
+returns c = λ P is verified some.
     program_typed
     (record {
       methods = c.a_typed_folder_types_each_method.ensures;
@@ -24,4 +24,4 @@ returns c = λ P is verified some no_own.
       };
       by_place = λ classes. (c.a_linked_folder_passes_by_place.ensures classes).0;
       operands = c.a_class_file_has_read_methods.ensures.operands;
-    }) c.args.tree.now P is c.a_tree_is_a_hierarchy.ensures verified (record { some = some; no_own = no_own })
+    }) c.args.tree.now P is c.a_tree_is_a_hierarchy.ensures verified some

@@ -4,9 +4,9 @@ use Rattle.never_stuck.proofs.runs.run_verified.Goals as goal
 pub returns-clause-never_stuck : goal.returns-clause-never_stuck
 returns-clause-never_stuck c =
     shown_not_stuck c.args.tree.now c.args.actions.now c.args.steps
-    (λ P is no_own names. c.a_verified_run_is_never_stuck.ensures P c.args.actions.now c.args.steps is (record {
+    (λ P is. c.a_verified_run_is_never_stuck.ensures P c.args.actions.now c.args.steps is (record {
       tree = c.folder.ensures.tree;
       linked = c.requires.linked;
       typed = c.args._typed.now;
       types = c.requires.typed;
-    }) no_own names) c.run.result c.run.ensures
+    })) c.run.result c.run.ensures
