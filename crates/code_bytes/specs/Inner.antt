@@ -3,3 +3,4 @@
 pub mod FormBytes
 pub mod Opcodes
 pub mod Operands
+pub mod Reading

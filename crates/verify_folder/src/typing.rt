@@ -13,6 +13,7 @@ ghost use Rattle.type_rules.specs.Rule.{FitsPool};
 ghost use Rattle.member_link.specs.Scope.{row_scope};
 ghost use Rattle.type_rules.specs.Stated.{stated_at};
 ghost use Rattle.verify_folder.specs.Inner.Active.{AreCheckedAt, AreInForce, AreStill, NoneBegins, OneFails, OneStops};
+ghost use Rattle.verify_folder.specs.Inner.Passing.{ArePassed, IsBehind, IsPassed, IsTypable};
 ghost use Rattle.verify_folder.specs.Inner.Steps.{BeforeAnswers, ChecksAnswer, RowAnswers, StepAnswers, TypingAnswers, WalkAnswers};
 
 use crate::active::{ActiveHandlers, push_active};
@@ -38,6 +39,24 @@ pub(crate) fn type_method(alloc: Global, rules: &MethodRules<'_>) -> Result<Type
     };
     let mut active = ActiveHandlers::new(alloc, rules)?;
     typing.walk(&mut active)
+}
+
+/// Finds frames that type a method, and keeps none of them.
+///
+/// # Errors
+/// Where none type it, or memory runs out. `type_method` tells the first failure.
+pub(crate) fn pass_method(alloc: Global, rules: &MethodRules<'_>) -> Result<(), Stop>
+    ensures { OnOk result (IsTypable rules.now) }
+{
+    check_catch_types(rules)?;
+    let all = throwable_name(alloc)?;
+    let typing = Typing {
+        alloc,
+        rules,
+        all: &all,
+    };
+    let mut active = ActiveHandlers::new(alloc, rules)?;
+    typing.pass_all(&mut active)
 }
 
 /// What flows into the instruction of a method at an offset, in bytes, where each before it is typed.
@@ -103,6 +122,22 @@ impl Typing<'_> {
         }
     }
 
+    // Finds frames of all instructions, and keeps none of them.
+    fn pass_all(&self, active: &mut ActiveHandlers) -> Result<(), Stop>
+        requires { AreInForce self.now active.old }
+        ensures { OnOk result (ArePassed self.now) }
+    {
+        let rules = self.rules;
+        let mut flows = Some(rules.entry().copy(self.alloc)?);
+        for placed in rules.instructions().as_slice() {
+            flows = self.pass(active, flows, placed)?;
+        }
+        if flows.is_some() {
+            return Err(fails(rules.code_len(), TypeRule::FallsOff));
+        }
+        Ok(())
+    }
+
     // What flows into the instruction at an offset.
     fn flows_before(&self, active: &mut ActiveHandlers, offset: u32) -> Result<Option<Frame>, Stop>
         requires { AreInForce self.now active.old }
@@ -136,6 +171,37 @@ impl Typing<'_> {
         let ruled = self.rule(placed, &before)?;
         self.check_targets(placed, ruled.next.as_ref())?;
         Ok((before, flows_on(placed, ruled.next)))
+    }
+
+    // What flows into the next instruction behind what flows into this one, whose frame is not kept.
+    fn pass(
+        &self,
+        active: &mut ActiveHandlers,
+        flows: Option<Frame>,
+        placed: &Placed,
+    ) -> Result<Option<Frame>, Stop>
+        requires fits { FitsPool self.now placed.now.instr }
+        requires in_force { AreInForce self.now active.old }
+        ensures told { IfOk result (IsPassed self.now flows placed.now) }
+        ensures in_force { OnOk result (AreInForce self.now active.new) }
+    {
+        let frame = self.before(flows, placed.at)?;
+        self.check_handlers(active, placed.at, &frame)?;
+        let next = self.behind(placed, frame)?;
+        self.check_targets(placed, next.as_ref())?;
+        Ok(flows_on(placed, next))
+    }
+
+    // The frame behind an instruction, if control goes on.
+    fn behind(&self, placed: &Placed, before: Frame) -> Result<Option<Frame>, Stop>
+        requires { FitsPool self.now placed.now.instr }
+        ensures { IfOk result (IsBehind self.now placed.now before) }
+    {
+        if self.rules.keeps(placed, &before) {
+            return Ok(Some(before));
+        }
+        let ruled = self.rule(placed, &before)?;
+        Ok(ruled.next)
     }
 
     // The frame before an instruction at an offset.
