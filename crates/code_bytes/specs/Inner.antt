@@ -3,4 +3,3 @@
 pub mod FormBytes
 pub mod Opcodes
 pub mod Operands
-pub mod Reading

@@ -1,11 +1,10 @@
 //! Reading instructions.
-ghost use Rattle.std.specs.Prelude.{◌≡◌, ◌<◌, ◌≤◌, [], Ok, Err, IfOk, IfErr, length};
+ghost use Rattle.std.specs.Prelude.{◌≡◌, ◌≤◌, [], Ok, IfOk, length};
 ghost use Rattle.class_model.specs.Answers.{Gives, Tells};
-ghost use Rattle.class_model.specs.Instructions.{CodeOf, decoded, instr_at};
+ghost use Rattle.class_model.specs.Instructions.{CodeOf, decoded};
 ghost use Rattle.code_bytes.specs.Decoding.{decoding_checks};
-ghost use Rattle.code_bytes.specs.Inner.Reading.{IsReadBehind};
 
-use crate::instruction::{instr_alone, instr_of};
+use crate::instruction::instr_of;
 use crate::jumps::check_jumps;
 use crate::source::Source;
 use class_model::{ClassFault, FileRule, ListOf, NoMemory, Placed, PlacedList};
@@ -45,9 +44,11 @@ pub(crate) fn instrs_of(alloc: Global, code: &[u8]) -> Result<PlacedList, ClassF
     let mut at = 0;
     let mut bytes = code;
     while !bytes.is_empty() {
-        let len = push_instr(alloc, &mut instrs, &Source { at, bytes })?;
+        let (instr, len) = instr_of(alloc, &Source { at, bytes })?;
         bytes = &bytes[len..];
-        at += len as u32;
+        let len = len as u32;
+        instrs.push(Placed { at, len, instr })?;
+        at += len;
     }
     Ok(instrs)
 }
@@ -57,32 +58,4 @@ fn room_for(alloc: Global, count: usize) -> Result<PlacedList, NoMemory>
     ensures { IfOk result (λ list. list ≡ []) }
 {
     Ok(ListOf::from_vec(Vec::with_capacity(alloc, count)?))
-}
-
-// Appends the instruction that begins these bytes, and answers its length, in bytes.
-fn push_instr(
-    alloc: Global,
-    instrs: &mut PlacedList,
-    source: &Source,
-) -> Result<usize, ClassFault>
-    requires some { 0 < length source.now.bytes.now }
-    requires few { length source.now.bytes.now ≤ 65535 }
-    ensures ok { IfOk result
-        (IsReadBehind source.now.at source.now.bytes.now instrs.old instrs.new) }
-    ensures err { IfErr result (λ fault.
-        Gives (instr_at source.now.at source.now.bytes.now) (Err fault)) }
-{
-    let at = source.at;
-    if let Some(instr) = instr_alone(source) {
-        instrs.push(Placed { at, len: 1, instr })?;
-        return Ok(1);
-    }
-    let (instr, len) = instr_of(alloc, source)?;
-    let placed = Placed {
-        at,
-        len: len as u32,
-        instr,
-    };
-    instrs.push(placed)?;
-    Ok(len)
 }

@@ -1,5 +1,5 @@
 //! One instruction read from bytes (JVM Specification SE 8, 6.5).
-ghost use Rattle.std.specs.Prelude.{◌≡◌, ◌<◌, ◌≤◌, length, Some, Ok, Err, IfOk, IfSome};
+ghost use Rattle.std.specs.Prelude.{◌≡◌, ◌<◌, ◌≤◌, length, Some, Err, IfOk};
 ghost use Rattle.class_model.specs.Answers.{Gives};
 ghost use Rattle.class_model.specs.Instructions.{instr_at, with_operands, wide_at, U1S1, ArrayCode as array_code_form, Dimensions as dimensions_form, U2U1Zero, U2ZeroZero};
 ghost use Rattle.code_bytes.specs.Inner.Opcodes.{operands_of};
@@ -15,19 +15,6 @@ use std::alloc::Global;
 
 /// An instruction and its length in bytes.
 pub(crate) type Form = (Instr, usize);
-
-/// The instruction that begins these bytes, if it is one without operands. Its length is 1.
-pub(crate) fn instr_alone(source: &Source) -> Option<Instr>
-    requires { 0 < length source.now.bytes.now }
-    ensures { IfSome result (λ instr.
-        instr_at source.now.at source.now.bytes.now ≡ Ok (instr, 1)) }
-{
-    let opcode = source.bytes[0];
-    match layout_of(opcode) {
-        Some(Layout::Alone) => Some(alone(opcode)),
-        _ => None,
-    }
-}
 
 /// The instruction that begins these bytes.
 pub(crate) fn instr_of(alloc: Global, source: &Source) -> Result<Form, ClassFault>

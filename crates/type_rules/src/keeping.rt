@@ -8,8 +8,8 @@ use class_model::{Frame, Instr, Placed};
 
 impl MethodRules<'_> {
     /// Whether the rule of an instruction is known to hold behind this frame, and to leave the frame as it is (JVM
-    /// Specification SE 8, 4.10.1.9): it is a `nop` or a `goto`, and the stack is no deeper than the method's may be. Where
-    /// the answer is no, `rule` tells what the instruction does.
+    /// Specification SE 8, 4.10.1.9): it is a `nop`, and the stack is no deeper than the method's may be. Where
+    /// the answer is no, `rule` says what the instruction does.
     pub fn keeps(&self, instr: &Placed, before: &Frame) -> bool
         ensures { IsTrue result → Rules self.now instr.now before.now
             (Ok (record {
@@ -18,8 +18,7 @@ impl MethodRules<'_> {
             })) }
     {
         match &instr.instr {
-            Instr::Nop | Instr::Goto(_) =>
-                is_within(before.stack.as_slice(), self.part.max_stack),
+            Instr::Nop => is_within(before.stack.as_slice(), self.part.max_stack),
             _ => false,
         }
     }

@@ -13,7 +13,7 @@ ghost use Rattle.type_rules.specs.Rule.{FitsPool};
 ghost use Rattle.member_link.specs.Scope.{row_scope};
 ghost use Rattle.type_rules.specs.Stated.{stated_at};
 ghost use Rattle.verify_folder.specs.Inner.Active.{AreCheckedAt, AreInForce, AreStill, NoneBegins, OneFails, OneStops};
-ghost use Rattle.verify_folder.specs.Inner.Passing.{ArePassed, IsBehind, IsPassed, IsTypable};
+ghost use Rattle.verify_folder.specs.Inner.Passing.{ArePassed, IsPassed, IsTypable};
 ghost use Rattle.verify_folder.specs.Inner.Steps.{BeforeAnswers, ChecksAnswer, RowAnswers, StepAnswers, TypingAnswers, WalkAnswers};
 
 use crate::active::{ActiveHandlers, push_active};
@@ -185,23 +185,35 @@ impl Typing<'_> {
         ensures told { IfOk result (IsPassed self.now flows placed.now) }
         ensures in_force { OnOk result (AreInForce self.now active.new) }
     {
-        let frame = self.before(flows, placed.at)?;
-        self.check_handlers(active, placed.at, &frame)?;
-        let next = self.behind(placed, frame)?;
-        self.check_targets(placed, next.as_ref())?;
-        Ok(flows_on(placed, next))
+        if self.hands_on(active, flows.as_ref(), placed) {
+            return Ok(flows);
+        }
+        let (_, next) = self.step(active, flows, placed)?;
+        Ok(next)
     }
 
-    // The frame behind an instruction, if control goes on.
-    fn behind(&self, placed: &Placed, before: Frame) -> Result<Option<Frame>, Stop>
-        requires { FitsPool self.now placed.now.instr }
-        ensures { IfOk result (IsBehind self.now placed.now before) }
+    // Whether an instruction is known to be typed by what flows into it, and to hand it on: a `nop` outside all handlers where
+    // no frame is stated.
+    fn hands_on(
+        &self,
+        active: &mut ActiveHandlers,
+        flows: Option<&Frame>,
+        placed: &Placed,
+    ) -> bool
+        requires { AreInForce self.now active.old }
+        ensures told { IsTrue result → IsPassed self.now
+            (option_copied flows.entry) placed.now (option_copied flows.entry) }
+        ensures in_force { AreInForce self.now active.new }
     {
-        if self.rules.keeps(placed, &before) {
-            return Ok(Some(before));
+        active.come_to(placed.at);
+        match (&placed.instr, flows) {
+            (Instr::Nop, Some(frame)) => {
+                active.is_idle(placed.at)
+                    && self.rules.stated_at(placed.at).is_none()
+                    && self.rules.keeps(placed, frame)
+            }
+            _ => false,
         }
-        let ruled = self.rule(placed, &before)?;
-        Ok(ruled.next)
     }
 
     // The frame before an instruction at an offset.

@@ -1,21 +1,12 @@
 -- What is known where the frames of a method are found and not kept.
-use Rattle.std.specs.Prelude.{◌≡◌, List, Option, Some, None, Ok}
-use Rattle.class_model.specs.Checks.{AllHold}
+use Rattle.std.specs.Prelude.{List, Option, Some, Ok}
 use Rattle.class_model.specs.declared.frame.Frame.{Frame}
 use Rattle.class_model.specs.declared.instr.Placed.{Placed}
-use Rattle.member_link.specs.Rows.Row.{row_frame}
-use Rattle.member_link.specs.Rows.Table.{row_of}
-use Rattle.member_link.specs.Scope.{Scope, row_scope}
+use Rattle.member_link.specs.Scope.{Scope}
 use Rattle.type_rules.specs.MethodBodies.{body_of}
-use Rattle.type_rules.specs.Rule.{row_checks}
 use Rattle.type_rules.specs.Stated.{entry}
 use Rattle.type_rules.specs.Typed.{AreTyped, Typed}
 use Rattle.verify_folder.specs.Inner.Steps.{StepAnswers}
-
--- the row of an instruction holds behind a frame, and this is the frame behind it
-pub record IsBehind (s : Scope) (placed : Placed) (before : Frame) (behind : Option Frame) : Type 0 where
-  pub holds : AllHold (row_checks (row_scope s) before (row_of (row_scope s) before placed.at placed.instr))
-  pub frame_is : behind ≡ row_frame before (row_of (row_scope s) before placed.at placed.instr)
 
 -- a frame types an instruction behind what flows into it, and this flows into the next
 pub record IsPassed (s : Scope) (flows : Option Frame) (placed : Placed) (behind : Option Frame) : Type 0 where
