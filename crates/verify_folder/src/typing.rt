@@ -56,7 +56,8 @@ pub(crate) fn pass_method(alloc: Global, rules: &MethodRules<'_>) -> Result<(), 
         all: &all,
     };
     let mut active = ActiveHandlers::new(alloc, rules)?;
-    typing.pass_all(&mut active)
+    typing.pass_all(&mut active)?;
+    Ok(())
 }
 
 /// What flows into the instruction of a method at an offset, in bytes, where each before it is typed.
@@ -132,9 +133,9 @@ impl Typing<'_> {
         for placed in rules.instructions().as_slice() {
             flows = self.pass(active, flows, placed)?;
         }
-        if flows.is_some() {
+        let None = flows else {
             return Err(fails(rules.code_len(), TypeRule::FallsOff));
-        }
+        };
         Ok(())
     }
 
@@ -185,6 +186,7 @@ impl Typing<'_> {
         ensures told { IfOk result (IsPassed self.now flows placed.now) }
         ensures in_force { OnOk result (AreInForce self.now active.new) }
     {
+        active.come_to(placed.at);
         if self.hands_on(active, flows.as_ref(), placed) {
             return Ok(flows);
         }
@@ -194,23 +196,21 @@ impl Typing<'_> {
 
     // Whether an instruction is known to be typed by what flows into it, and to hand it on: a `nop` outside all handlers where
     // no frame is stated.
-    fn hands_on(
-        &self,
-        active: &mut ActiveHandlers,
-        flows: Option<&Frame>,
-        placed: &Placed,
-    ) -> bool
-        requires { AreInForce self.now active.old }
-        ensures told { IsTrue result → IsPassed self.now
+    fn hands_on(&self, active: &ActiveHandlers, flows: Option<&Frame>, placed: &Placed) -> bool
+        requires in_force { AreInForce self.now active.now }
+        requires later { active.now.at ≤ placed.now.at }
+        ensures { IsTrue result → IsPassed self.now
             (option_copied flows.entry) placed.now (option_copied flows.entry) }
-        ensures in_force { AreInForce self.now active.new }
     {
-        active.come_to(placed.at);
         match (&placed.instr, flows) {
             (Instr::Nop, Some(frame)) => {
-                active.is_idle(placed.at)
-                    && self.rules.stated_at(placed.at).is_none()
-                    && self.rules.keeps(placed, frame)
+                if !active.is_idle(placed.at) {
+                    return false;
+                }
+                match self.rules.stated_at(placed.at) {
+                    Some(_) => false,
+                    None => self.rules.keeps(placed, frame),
+                }
             }
             _ => false,
         }
