@@ -45,17 +45,17 @@ pub(crate) fn type_method(alloc: Global, rules: &MethodRules<'_>) -> Result<Type
 ///
 /// # Errors
 /// Where none type it, or memory runs out. `type_method` tells the first failure.
-pub(crate) fn pass_method(alloc: Global, rules: &MethodRules<'_>) -> Result<(), Stop>
-    ensures { OnOk result (IsTypable rules.now) }
+pub(crate) fn pass_method(alloc: Global, method: &MethodRules<'_>) -> Result<(), Stop>
+    ensures { OnOk result (IsTypable method.now) }
 {
-    check_catch_types(rules)?;
+    check_catch_types(method)?;
     let all = throwable_name(alloc)?;
     let typing = Typing {
         alloc,
-        rules,
+        rules: method,
         all: &all,
     };
-    let mut active = ActiveHandlers::new(alloc, rules)?;
+    let mut active = ActiveHandlers::new(alloc, method)?;
     typing.pass_all(&mut active)?;
     Ok(())
 }
