@@ -1,5 +1,5 @@
 //! Reading instructions.
-ghost use Rattle.std.specs.Prelude.{◌≡◌, ◌≤◌, Ok, IfOk, length};
+ghost use Rattle.std.specs.Prelude.{◌≡◌, ◌≤◌, [], Ok, IfOk, length};
 ghost use Rattle.class_model.specs.Answers.{Gives, Tells};
 ghost use Rattle.class_model.specs.Instructions.{CodeOf, decoded};
 ghost use Rattle.code_bytes.specs.Decoding.{decoding_checks};
@@ -7,7 +7,7 @@ ghost use Rattle.code_bytes.specs.Decoding.{decoding_checks};
 use crate::instruction::instr_of;
 use crate::jumps::check_jumps;
 use crate::source::Source;
-use class_model::{ClassFault, FileRule, ListOf, Placed, PlacedList};
+use class_model::{ClassFault, FileRule, ListOf, NoMemory, Placed, PlacedList};
 use std::alloc::Global;
 
 // The greatest length of a code, in bytes (JVM Specification SE 8, 4.7.3).
@@ -40,7 +40,7 @@ pub(crate) fn instrs_of(alloc: Global, code: &[u8]) -> Result<PlacedList, ClassF
     requires { length code.now ≤ 65535 }
     ensures { Gives (decoded code.now) result }
 {
-    let mut instrs = ListOf::new(alloc);
+    let mut instrs = room_for(alloc, code.len())?;
     let mut at = 0;
     let mut bytes = code;
     while !bytes.is_empty() {
@@ -51,4 +51,11 @@ pub(crate) fn instrs_of(alloc: Global, code: &[u8]) -> Result<PlacedList, ClassF
         at += len;
     }
     Ok(instrs)
+}
+
+// An empty list with room for so many instructions.
+fn room_for(alloc: Global, count: usize) -> Result<PlacedList, NoMemory>
+    ensures { IfOk result (λ list. list ≡ []) }
+{
+    Ok(ListOf::from_vec(Vec::with_capacity(alloc, count)?))
 }

@@ -4,12 +4,14 @@ ghost use Rattle.std.specs.Option.{option_copied};
 ghost use Rattle.class_model.specs.Checks.{AllHold};
 ghost use Rattle.class_model.specs.Descriptors.{SpellsDescriptor};
 ghost use Rattle.class_model.specs.Instructions.{decoded};
+ghost use Rattle.class_model.specs.Methods.{home_of};
+ghost use Rattle.class_model.specs.Stated.{stated_in};
 ghost use Rattle.class_model.specs.declared.instr.Placed.{Placed};
 ghost use Rattle.code_bytes.specs.Codes.{IsReadMethod};
 ghost use Rattle.code_bytes.specs.Decoding.{decoding_checks};
 ghost use Rattle.member_link.specs.CodedMethods.{descriptor_text, entry, placed_at, stated, stated_at};
 
-use crate::stated::{Decoded, StatedFrames};
+use crate::stated::{Decoded, StatedFrames, frames_in};
 use class_model::{
     ClassFile, CodePart, Descriptor, Frame, Method, NoMemory, OffsetIndex, Placed, PlacedFrameList,
     PlacedList,
@@ -161,4 +163,35 @@ impl<'a> MethodBody<'a> {
     {
         &self.descriptor
     }
+}
+
+/// The frames that the code of a method states, of a class file that was read, where these are its instructions.
+///
+/// # Errors
+/// `NoMemory`, where memory runs out.
+pub(crate) fn frames_of(
+    alloc: Global,
+    class: &ClassFile,
+    method: &Method,
+    part: &CodePart,
+    instrs: &PlacedList,
+) -> Result<PlacedFrameList, NoMemory>
+    requires method { IsReadMethod class.now.pool method.now }
+    requires instrs { decoded part.now.code ≡ Ok instrs.now }
+    ensures { IfOk result (λ frames.
+        frames ≡ stated_in (home_of class.now) method.now part.now part.now.attrs) }
+{
+    let Some(text) = class.pool.utf8(method.desc) else {
+        unreachable!()
+    };
+    let descriptor = method_descriptor(alloc, text, method.flags)?;
+    let entry = entry_frame(alloc, class, method, part, descriptor.params.as_slice())?;
+    let code = Decoded {
+        class,
+        method,
+        part,
+        instrs,
+        entry: &entry,
+    };
+    frames_in(alloc, &code, part.attrs.as_slice())
 }

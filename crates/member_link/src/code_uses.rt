@@ -10,12 +10,13 @@ ghost use Rattle.member_link.specs.Inner.Resolving.{resolved_scope};
 ghost use Rattle.member_link.specs.Uses.{code_use_checks, handler_use_checks, instr_use_checks};
 ghost use Rattle.code_bytes.specs.Codes.{IsReadMethod};
 
-use crate::body::MethodBody;
+use crate::body::frames_of;
 use crate::frames::check_frames;
 use crate::instructions::check_instr;
 use crate::resolver::{Resolver, check_class};
 use class_model::{ClassFile, CodePart, Handler, Member, Method, Placed};
 use class_tree::LinkFault;
+use code_bytes::instructions_of;
 use std::alloc::Global;
 
 /// Asks that what the code of a method refers to is there, of the right form and accessible. The method is this member of
@@ -36,10 +37,11 @@ pub(crate) fn check_code(
         (code_use_checks (resolved_scope resolver.old member.now)
         (home_of class.now) method.now part.now) result }
 {
-    let body = MethodBody::new(alloc, class, method, part)?;
-    check_instrs(alloc, resolver, member, body.instructions().as_slice())?;
+    let instrs = instructions_of(alloc, part.code.as_slice())?;
+    check_instrs(alloc, resolver, member, instrs.as_slice())?;
     check_handlers(alloc, resolver, member, part.handlers.as_slice())?;
-    check_frames(alloc, resolver, member, body.stated().as_slice())
+    let frames = frames_of(alloc, class, method, part, &instrs)?;
+    check_frames(alloc, resolver, member, frames.as_slice())
 }
 
 // Asks that what each of these instructions refers to is there, of the right form and accessible.

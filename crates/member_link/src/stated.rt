@@ -80,8 +80,8 @@ impl StatedFrames {
     }
 }
 
-// The frames of the first StackMapTable among attributes of a method's code.
-fn frames_in(
+/// The frames of the first StackMapTable among attributes of a method's code.
+pub(crate) fn frames_in(
     alloc: Global,
     code: &Decoded<'_>,
     attrs: &[InnerAttr],

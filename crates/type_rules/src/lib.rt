@@ -14,6 +14,7 @@ mod fault;
 mod fields;
 mod initialisers;
 mod jumps;
+mod keeping;
 mod laws;
 mod locals;
 mod method_rules;

@@ -181,8 +181,8 @@ fn copy_entries(alloc: Global, entries: &[VType]) -> Result<VTypeList, NoMemory>
     Ok(copy)
 }
 
-// Whether entries take so many units at most.
-fn is_within(entries: &[VType], most: u16) -> bool
+/// Whether entries take so many units at most.
+pub(crate) fn is_within(entries: &[VType], most: u16) -> bool
     ensures { IsTrue result ↔ (depth entries.now ≤ most) }
 {
     let mut left = most;

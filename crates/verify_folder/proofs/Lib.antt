@@ -6,3 +6,4 @@ pub mod MethodWalk
 pub mod ClassWalk
 pub mod HandlerWalk
 pub mod InForce
+pub mod Passing

@@ -6,7 +6,7 @@ ghost use Rattle.member_link.specs.Linked.{IsLinked};
 ghost use Rattle.verify_folder.specs.Verifying.{FolderIsTyped, FolderVerifies};
 ghost use Rattle.verify_folder.specs.Inner.Verifying.{ClassIsTyped, ClassVerifies};
 
-use crate::method::verify_method;
+use crate::method::{check_method, verify_method};
 use class_model::{Attr, ClassFile, MethodAt};
 use class_tree::Tree;
 use std::alloc::Global;
@@ -29,7 +29,7 @@ pub fn verify_all(alloc: Global, tree: &Tree) -> Result<TypedFolder, VerifyFault
     Ok(typed)
 }
 
-/// Verifies each method with code of a linked folder, as `verify_all`, and keeps the frames of one method at a time.
+/// Verifies each method with code of a linked folder, as `verify_all`, and keeps no frames.
 ///
 /// # Errors
 /// As `verify_all`.
@@ -60,7 +60,7 @@ fn check_class(
                 class: place,
                 method: number,
             };
-            verify_method(alloc, tree, at)?;
+            check_method(alloc, tree, at)?;
         }
     }
     Ok(())

@@ -4,9 +4,10 @@ ghost use Rattle.class_model.specs.Header.{header_of};
 ghost use Rattle.member_link.specs.Linked.{IsLinked};
 ghost use Rattle.member_link.specs.Scope.{scope_at};
 ghost use Rattle.verify_folder.specs.Verifying.{VerifiesAs};
+ghost use Rattle.verify_folder.specs.Inner.Verifying.{MethodIsTyped};
 
 use crate::stop::Stop;
-use crate::typing::type_method;
+use crate::typing::{pass_method, type_method};
 use class_model::{Member, MethodAt, NoMemory};
 use class_tree::Tree;
 use std::alloc::Global;
@@ -34,6 +35,32 @@ pub fn verify_method(alloc: Global, tree: &Tree, at: MethodAt) -> Result<TypedMe
         }
         Err(Stop::NoMemory) => Err(VerifyFault::NoMemory),
     }
+}
+
+/// Verifies a method with code of a linked folder, as `verify_method`, and keeps no frames.
+///
+/// # Errors
+/// As `verify_method`.
+pub(crate) fn check_method(alloc: Global, tree: &Tree, at: MethodAt) -> Result<(), VerifyFault>
+    requires linked { IsLinked tree.now }
+    requires has_code { IsSome (scope_at tree.now at) }
+    ensures { MethodIsTyped tree.now at result }
+{
+    let rules = MethodRules::new(alloc, tree, at)?;
+    match pass_method(alloc, &rules) {
+        Ok(()) => Ok(()),
+        Err(_) => verify_again(alloc, tree, at),
+    }
+}
+
+// Verifies a method of which no frames were found. What fails first is told by the pass that keeps frames.
+fn verify_again(alloc: Global, tree: &Tree, at: MethodAt) -> Result<(), VerifyFault>
+    requires linked { IsLinked tree.now }
+    requires has_code { IsSome (scope_at tree.now at) }
+    ensures { MethodIsTyped tree.now at result }
+{
+    verify_method(alloc, tree, at)?;
+    Ok(())
 }
 
 // The failure of a method, which is this member of its class's header.

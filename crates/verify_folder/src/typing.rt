@@ -13,6 +13,7 @@ ghost use Rattle.type_rules.specs.Rule.{FitsPool};
 ghost use Rattle.member_link.specs.Scope.{row_scope};
 ghost use Rattle.type_rules.specs.Stated.{stated_at};
 ghost use Rattle.verify_folder.specs.Inner.Active.{AreCheckedAt, AreInForce, AreStill, NoneBegins, OneFails, OneStops};
+ghost use Rattle.verify_folder.specs.Inner.Passing.{ArePassed, IsPassed, IsTypable};
 ghost use Rattle.verify_folder.specs.Inner.Steps.{BeforeAnswers, ChecksAnswer, RowAnswers, StepAnswers, TypingAnswers, WalkAnswers};
 
 use crate::active::{ActiveHandlers, push_active};
@@ -38,6 +39,25 @@ pub(crate) fn type_method(alloc: Global, rules: &MethodRules<'_>) -> Result<Type
     };
     let mut active = ActiveHandlers::new(alloc, rules)?;
     typing.walk(&mut active)
+}
+
+/// Finds frames that type a method, and keeps none of them.
+///
+/// # Errors
+/// Where none type it, or memory runs out. `type_method` tells the first failure.
+pub(crate) fn pass_method(alloc: Global, method: &MethodRules<'_>) -> Result<(), Stop>
+    ensures { OnOk result (IsTypable method.now) }
+{
+    check_catch_types(method)?;
+    let all = throwable_name(alloc)?;
+    let typing = Typing {
+        alloc,
+        rules: method,
+        all: &all,
+    };
+    let mut active = ActiveHandlers::new(alloc, method)?;
+    typing.pass_all(&mut active)?;
+    Ok(())
 }
 
 /// What flows into the instruction of a method at an offset, in bytes, where each before it is typed.
@@ -103,6 +123,22 @@ impl Typing<'_> {
         }
     }
 
+    // Finds frames of all instructions, and keeps none of them.
+    fn pass_all(&self, active: &mut ActiveHandlers) -> Result<(), Stop>
+        requires { AreInForce self.now active.old }
+        ensures { OnOk result (ArePassed self.now) }
+    {
+        let rules = self.rules;
+        let mut flows = Some(rules.entry().copy(self.alloc)?);
+        for placed in rules.instructions().as_slice() {
+            flows = self.pass(active, flows, placed)?;
+        }
+        let None = flows else {
+            return Err(fails(rules.code_len(), TypeRule::FallsOff));
+        };
+        Ok(())
+    }
+
     // What flows into the instruction at an offset.
     fn flows_before(&self, active: &mut ActiveHandlers, offset: u32) -> Result<Option<Frame>, Stop>
         requires { AreInForce self.now active.old }
@@ -136,6 +172,48 @@ impl Typing<'_> {
         let ruled = self.rule(placed, &before)?;
         self.check_targets(placed, ruled.next.as_ref())?;
         Ok((before, flows_on(placed, ruled.next)))
+    }
+
+    // What flows into the next instruction behind what flows into this one, whose frame is not kept.
+    fn pass(
+        &self,
+        active: &mut ActiveHandlers,
+        flows: Option<Frame>,
+        placed: &Placed,
+    ) -> Result<Option<Frame>, Stop>
+        requires fits { FitsPool self.now placed.now.instr }
+        requires in_force { AreInForce self.now active.old }
+        ensures told { IfOk result (IsPassed self.now flows placed.now) }
+        ensures in_force { OnOk result (AreInForce self.now active.new) }
+    {
+        active.come_to(placed.at);
+        if self.hands_on(active, flows.as_ref(), placed) {
+            return Ok(flows);
+        }
+        let (_, next) = self.step(active, flows, placed)?;
+        Ok(next)
+    }
+
+    // Whether an instruction is known to be typed by what flows into it, and to hand it on: a `nop` outside all handlers where
+    // no frame is stated.
+    fn hands_on(&self, active: &ActiveHandlers, flows: Option<&Frame>, placed: &Placed) -> bool
+        requires in_force { AreInForce self.now active.now }
+        requires later { active.now.at ≤ placed.now.at }
+        ensures { IsTrue result → IsPassed self.now
+            (option_copied flows.entry) placed.now (option_copied flows.entry) }
+    {
+        match (&placed.instr, flows) {
+            (Instr::Nop, Some(frame)) => {
+                if !active.is_idle(placed.at) {
+                    return false;
+                }
+                match self.rules.stated_at(placed.at) {
+                    Some(_) => false,
+                    None => self.rules.keeps(placed, frame),
+                }
+            }
+            _ => false,
+        }
     }
 
     // The frame before an instruction at an offset.

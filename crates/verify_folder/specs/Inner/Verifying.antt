@@ -2,12 +2,13 @@
 use Rattle.std.specs.Prelude.{List, Option, Result, Ok, Err}
 use Rattle.class_model.specs.Header.{header_of}
 use Rattle.class_model.specs.declared.class_file.ClassFile.{ClassFile}
+use Rattle.class_model.specs.declared.class_file.MethodAt.{MethodAt}
 use Rattle.class_model.specs.declared.frame.Frame.{Frame}
-use Rattle.class_tree.specs.Headers.{Headers}
+use Rattle.class_tree.specs.Headers.{Classes, Headers}
 use Rattle.type_rules.specs.Verified.{AreTypedMethods}
 use Rattle.type_rules.specs.declared.fault.VerifyFault.{VerifyFault}
 use Rattle.type_rules.specs.declared.fault.VerifyFault.TheVariants as faults
-use Rattle.verify_folder.specs.Verifying.{MethodsFail, failure_of}
+use Rattle.verify_folder.specs.Verifying.{MethodsFail, VerifiesAs, failure_of}
 
 -- of the methods of a class
 abbrev pub ClassVerifies :
@@ -26,3 +27,8 @@ ClassIsTyped headers class (Err (faults.Unverified name method offset rule)) =
     MethodsFail headers class class.methods (header_of class).methods
     (failure_of name method offset rule)
 ClassIsTyped headers class (Err faults.NoMemory) = Unit {0}
+
+-- of the method at its numbers, whose frames are not kept
+abbrev pub MethodIsTyped : Classes → MethodAt → Result Unit VerifyFault → Type 0
+MethodIsTyped classes at (Ok done) = (frames : List Frame) × VerifiesAs classes at (Ok frames)
+MethodIsTyped classes at (Err fault) = VerifiesAs classes at (Err fault)

@@ -7,7 +7,7 @@ use Rattle.code_bytes.proofs.Sequences.{Reads, reads_none, reads_more, reads_giv
 use Rattle.code_bytes.proofs.decoding.instrs_of.Goals as goal
 
 pub loop-bytes-init : goal.loop-bytes-init
-loop-bytes-init c = rw c.new-instrs.ensures (reads_none c.args.code.now)
+loop-bytes-init c = rw c.in_ok-instrs.ensures (reads_none c.args.code.now)
 
 pub loop-bytes-preserved : goal.loop-bytes-preserved
 loop-bytes-preserved c =
@@ -25,6 +25,6 @@ returns c =
 
 pub returns-in_err-instr : goal.returns-in_err-instr
 returns-in_err-instr c =
-    let err = err_from_is_err_and c.from_residual.result c.from_residual.ensures.1 in
+    let err = err_from_is_err_and c.from_residual-in_err-instr.result c.from_residual-in_err-instr.ensures.1 in
     let some : 0 < length c.loop-bytes.bytes.now = grind (arith, nat_tests) in
     rw (err.1, err.2) (reads_given c.args.code.now c.loop-bytes.instrs c.loop-bytes.at c.loop-bytes.bytes.now c.in_err-instr.field-0.0 c.loop-bytes.invariant some c.in_err-instr.ensures.read)
