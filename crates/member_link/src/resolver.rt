@@ -26,6 +26,8 @@ pub(crate) struct Resolver<'a> {
     name: &'a Text,
     // by index, what a constant resolves to, as soon as it was asked for
     resolutions: Vec<Option<Resolution>>,
+    // by an index that constants have, the one of them that was resolved last: an equal one resolves to the same
+    guesses: Vec<u16>,
 }
 
 impl<'a> Model for Resolver<'a> {
@@ -62,12 +64,15 @@ impl<'a> Resolver<'a> {
         ensures { IfOk result (λ resolver. resolver
             ≡ record { headers = headers_of tree.now; pool = class.now.pool; from = name.now }) }
     {
-        let resolutions = vec![in alloc; None; usize::from(class.pool.count())]?;
+        let count = usize::from(class.pool.count());
+        let resolutions = vec![in alloc; None; count]?;
+        let guesses = vec![in alloc; 0; count]?;
         Ok(Resolver {
             tree,
             class,
             name,
             resolutions,
+            guesses,
         })
     }
 
@@ -100,8 +105,12 @@ impl<'a> Resolver<'a> {
         if let Some(resolution) = self.known(index) {
             return Ok(resolution);
         }
-        let resolution = resolve(alloc, self.tree, &self.class.pool, self.name, index)?;
+        let resolution = match self.known_of_equal(index) {
+            Some(resolution) => resolution,
+            None => resolve(alloc, self.tree, &self.class.pool, self.name, index)?,
+        };
         self.keep(index, resolution);
+        self.guess(index);
         Ok(resolution)
     }
 
@@ -110,6 +119,36 @@ impl<'a> Resolver<'a> {
         ensures { IfSome result (Resolves self.now index) }
     {
         *self.resolutions.get(usize::from(index))?
+    }
+
+    // What is known of a constant that equals the one at an index.
+    fn known_of_equal(&self, index: u16) -> Option<Resolution>
+        ensures { IfSome result (Resolves self.now index) }
+    {
+        let constant = self.constant(index)?;
+        let guess = *self.guesses.get(self.slot(index)?)?;
+        if constant.is_same(self.constant(guess)?) {
+            self.known(guess)
+        } else {
+            None
+        }
+    }
+
+    // Where the guess of the constants that equal the one at an index stands.
+    fn slot(&self, index: u16) -> Option<usize> {
+        Some(usize::from(last_index(self.constant(index)?)?))
+    }
+
+    // Guesses that the constants that equal the one at an index are resolved next.
+    fn guess(&mut self, index: u16)
+        ensures { self.new ≡ self.old }
+    {
+        let Some(slot) = self.slot(index) else {
+            return;
+        };
+        if slot < self.guesses.len() {
+            self.guesses[slot] = index;
+        }
     }
 
     // Keeps what the constant at an index resolves to.
@@ -121,6 +160,19 @@ impl<'a> Resolver<'a> {
         if index < self.resolutions.len() {
             self.resolutions[index] = Some(resolution);
         }
+    }
+}
+
+// The last index that a constant has, if it is one that is resolved.
+fn last_index(constant: &Const) -> Option<u16> {
+    match constant {
+        Const::Class(index)
+        | Const::Fieldref(_, index)
+        | Const::Methodref(_, index)
+        | Const::InterfaceMethodref(_, index)
+        | Const::MethodType(index)
+        | Const::InvokeDynamic(_, index) => Some(*index),
+        _ => None,
     }
 }
 
