@@ -9,6 +9,7 @@ ghost use Rattle.member_link.specs.Inner.Resolutions.{Resolves};
 ghost use Rattle.member_link.specs.Inner.Resolving.{resolved_scope};
 ghost use Rattle.member_link.specs.Uses.{class_use_checks, type_name_checks};
 
+use crate::alike::{is_alike, text_index};
 use crate::ask::ask_at;
 use crate::names::is_named_there;
 use crate::resolution::Resolution;
@@ -26,7 +27,8 @@ pub(crate) struct Resolver<'a> {
     name: &'a Text,
     // by index, what a constant resolves to, as soon as it was asked for
     resolutions: Vec<Option<Resolution>>,
-    // by an index that constants have, the one of them that was resolved last: an equal one resolves to the same
+    // by the index of the text of a name or a descriptor, the constant that names it and was resolved last: one that refers
+    // to the same resolves to the same
     guesses: Vec<u16>,
 }
 
@@ -105,7 +107,7 @@ impl<'a> Resolver<'a> {
         if let Some(resolution) = self.known(index) {
             return Ok(resolution);
         }
-        let resolution = match self.known_of_equal(index) {
+        let resolution = match self.known_of_alike(index) {
             Some(resolution) => resolution,
             None => resolve(alloc, self.tree, &self.class.pool, self.name, index)?,
         };
@@ -121,25 +123,26 @@ impl<'a> Resolver<'a> {
         *self.resolutions.get(usize::from(index))?
     }
 
-    // What is known of a constant that equals the one at an index.
-    fn known_of_equal(&self, index: u16) -> Option<Resolution>
+    // What is known of a constant that refers to what the one at an index does.
+    fn known_of_alike(&self, index: u16) -> Option<Resolution>
         ensures { IfSome result (Resolves self.now index) }
     {
         let constant = self.constant(index)?;
         let guess = *self.guesses.get(self.slot(index)?)?;
-        if constant.is_same(self.constant(guess)?) {
+        let guessed = self.constant(guess)?;
+        if is_alike(&self.class.pool, guessed, constant) {
             self.known(guess)
         } else {
             None
         }
     }
 
-    // Where the guess of the constants that equal the one at an index stands.
+    // Where the guess of the constants that refer to what the one at an index does stands.
     fn slot(&self, index: u16) -> Option<usize> {
-        Some(usize::from(last_index(self.constant(index)?)?))
+        Some(usize::from(text_index(&self.class.pool, self.constant(index)?)?))
     }
 
-    // Guesses that the constants that equal the one at an index are resolved next.
+    // Guesses that constants that refer to what the one at an index does are resolved next.
     fn guess(&mut self, index: u16)
         ensures { self.new ≡ self.old }
     {
@@ -160,19 +163,6 @@ impl<'a> Resolver<'a> {
         if index < self.resolutions.len() {
             self.resolutions[index] = Some(resolution);
         }
-    }
-}
-
-// The last index that a constant has, if it is one that is resolved.
-fn last_index(constant: &Const) -> Option<u16> {
-    match constant {
-        Const::Class(index)
-        | Const::Fieldref(_, index)
-        | Const::Methodref(_, index)
-        | Const::InterfaceMethodref(_, index)
-        | Const::MethodType(index)
-        | Const::InvokeDynamic(_, index) => Some(*index),
-        _ => None,
     }
 }
 
