@@ -1,5 +1,5 @@
 -- Constants that refer to the same resolve to the same.
-use Rattle.std.proofs.Common.{◌≡◌, ℕ, Option, Some, None, IfSome, refl, sym, subst}
+use Rattle.std.proofs.Common.{◌≡◌, ℕ, Option, Some, None, IfSome, sym, subst}
 use Rattle.class_model.specs.Pool.{constant_at}
 use Rattle.class_model.specs.declared.pool.Const.{Const}
 use Rattle.class_model.specs.declared.pool.Const.TheVariants.{Fieldref, Methodref, InterfaceMethodref}

@@ -3,8 +3,7 @@ ghost use Rattle.std.specs.Prelude.{◌≡◌, IsTrue};
 ghost use Rattle.member_link.specs.Inner.AlikeConstants.{AreAlike};
 ghost use Rattle.member_link.specs.References.{reference_at};
 
-use crate::constants::reference_of;
-use class_model::{Const, Pool, Text};
+use class_model::{Const, Pool};
 
 /// The index of the text of the name or descriptor of a constant that is resolved.
 pub(crate) fn text_index(pool: &Pool, constant: &Const) -> Option<u16> {
@@ -21,7 +20,8 @@ pub(crate) fn text_index(pool: &Pool, constant: &Const) -> Option<u16> {
     }
 }
 
-/// Whether two constants are equal, or refer to members of the same kind, class, name and descriptor.
+/// Whether two constants are equal, or refer to members of the same kind by the same indices of
+/// class, name and descriptor.
 pub(crate) fn is_alike(pool: &Pool, one: &Const, other: &Const) -> bool
     ensures { IsTrue result → AreAlike pool.now one.now other.now }
 {
@@ -48,24 +48,17 @@ pub(crate) fn is_alike(pool: &Pool, one: &Const, other: &Const) -> bool
     }
 }
 
-// Whether two references are to members of the same class, name and descriptor.
+// Whether two references are to members of the same class, name and descriptor, by the indices of
+// these.
 fn is_same_member(pool: &Pool, class: u16, member: u16, to_class: u16, to_member: u16) -> bool
-    ensures { IsTrue result → reference_at pool.now class member ≡ reference_at pool.now to_class to_member }
+    ensures { IsTrue result
+        → reference_at pool.now class member ≡ reference_at pool.now to_class to_member }
 {
-    let Some(one) = reference_of(pool, class, member) else {
+    let Some((name, desc)) = pool.name_and_type(member) else {
         return false;
     };
-    let Some(other) = reference_of(pool, to_class, to_member) else {
+    let Some((to_name, to_desc)) = pool.name_and_type(to_member) else {
         return false;
     };
-    is_same_text(one.class, other.class)
-        && is_same_text(one.name, other.name)
-        && is_same_text(one.desc, other.desc)
-}
-
-// Whether two texts have the same bytes.
-fn is_same_text(one: &Text, other: &Text) -> bool
-    ensures { IsTrue result → one.now ≡ other.now }
-{
-    one.bytes() == other.bytes()
+    class == to_class && name == to_name && desc == to_desc
 }

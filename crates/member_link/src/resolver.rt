@@ -27,8 +27,8 @@ pub(crate) struct Resolver<'a> {
     name: &'a Text,
     // by index, what a constant resolves to, as soon as it was asked for
     resolutions: Vec<Option<Resolution>>,
-    // by the index of the text of a name or a descriptor, the constant that names it and was resolved last: one that refers
-    // to the same resolves to the same
+    // by the index of the text of a name or a descriptor, the constant that names it and was
+    // resolved last: one that refers to the same resolves to the same
     guesses: Vec<u16>,
 }
 

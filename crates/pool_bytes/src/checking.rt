@@ -8,7 +8,7 @@ ghost use Rattle.class_model.specs.Answers.{Answers};
 ghost use Rattle.class_model.specs.ModifiedUtf8.{IsModifiedUtf8};
 ghost use Rattle.class_model.specs.Names.{init, IsFieldName, IsMethodName};
 ghost use Rattle.class_model.specs.Checks.{check};
-ghost use Rattle.class_model.specs.PoolChecks.{name_at, descriptor_at, IsFieldDescriptor, IsMethodDescriptor, ReturnsVoid, InitIsVoid, FitsDescriptor, IsCalledName, RefersWell, class_checks, string_checks, fieldref_checks, methodref_checks, name_and_type_checks, method_type_checks, dynamic_checks, handle_checks, constant_checks, entries_checks};
+ghost use Rattle.class_model.specs.PoolChecks.{name_at, descriptor_at, IsFieldDescriptor, IsMethodDescriptor, InitIsVoid, FitsDescriptor, IsCalledName, RefersWell, class_checks, string_checks, fieldref_checks, methodref_checks, name_and_type_checks, method_type_checks, dynamic_checks, handle_checks, constant_checks, entries_checks};
 ghost use Rattle.class_model.specs.Spelling.{entry_bytes};
 ghost use Rattle.pool_bytes.specs.Texts.{HasTexts};
 
@@ -21,7 +21,8 @@ use class_model::{
 
 impl RawPool<'_> {
     /// Checks the constants, as those of a class file of this major version whose first constant stands at
-    /// this place. Each text is parsed once as a descriptor, and what it is remembered as far as there is memory.
+    /// this place. A text is parsed as a descriptor once; where memory for remembering it runs out, it
+    /// is parsed each time that a constant names it.
     ///
     /// # Errors
     /// `Malformed` at the tag of the first constant that breaks a rule, with the first that it breaks: `Text`,

@@ -1,5 +1,5 @@
-//! What the texts of a pool are as descriptors (JVM Specification SE 8, 4.3): each text is parsed once, however many
-//! constants name it.
+//! What descriptors the texts of a pool are (JVM Specification SE 8, 4.3): each text is parsed once,
+//! however many constants name it.
 ghost use Rattle.std.specs.Prelude.{◌≡◌, ◌↔◌, ◌≤◌, length, Some, IfSome, IsTrue};
 ghost use Rattle.std.specs.Option.{option_copied};
 ghost use Rattle.class_model.specs.Pool.{constant_at, IsPool};

@@ -1,4 +1,5 @@
-//! The descriptors of the calls of a method's code (JVM Specification SE 8, 4.3.3): one that several calls name is parsed once.
+//! The descriptors of the calls of a method's code (JVM Specification SE 8, 4.3.3): one that several
+//! calls name is parsed once.
 ghost use Rattle.std.specs.Prelude.{◌≡◌, IfOk, IfSome};
 ghost use Rattle.type_rules.specs.Inner.ParsedCalls.{DescribesMember, IsParsedAt, member_of};
 
@@ -13,7 +14,7 @@ pub(crate) struct CallDescriptor {
     parsed: Descriptor,
 }
 
-/// The descriptors that more than one call of a method's code names. Contracts see the constant pool.
+/// The descriptors that more than one call of a method's code names. Contracts see the pool.
 #[derive(Drop)]
 pub(crate) struct CallDescriptors<'a> {
     pool: &'a Pool,

@@ -156,7 +156,7 @@ impl<'a> MethodRules<'a> {
         self.body.stated_at(at)
     }
 
-    /// The descriptor of the method that the constant at an index refers to, if it was parsed before.
+    /// The descriptor of the method that the constant at an index refers to, if it was parsed.
     pub(crate) fn call_descriptor(&self, index: u16) -> Option<&Descriptor>
         ensures { IfSome result
             (λ parsed. DescribesReference self.now.class.pool index parsed.now) }
