@@ -45,3 +45,4 @@ pub mod MethodsAbove
 pub mod OpenOverriding
 pub mod WaysUp
 pub mod FolderMethods
+pub mod AlikeConstants

@@ -1,5 +1,6 @@
 -- Words for private functions, measures, and the steps of the code: no public contract cites them. What the code is proved to do is
 -- said without them, so a reader of the definitions may pass them over.
+pub mod AlikeConstants
 pub mod BodyParts
 pub mod Counting
 pub mod DefaultsAt

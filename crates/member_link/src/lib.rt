@@ -3,6 +3,7 @@
 #![tactic(auto)]
 
 mod access;
+mod alike;
 mod ask;
 mod body;
 mod class_access;

@@ -9,6 +9,7 @@ ghost use Rattle.member_link.specs.Inner.Resolutions.{Resolves};
 ghost use Rattle.member_link.specs.Inner.Resolving.{resolved_scope};
 ghost use Rattle.member_link.specs.Uses.{class_use_checks, type_name_checks};
 
+use crate::alike::{is_alike, text_index};
 use crate::ask::ask_at;
 use crate::names::is_named_there;
 use crate::resolution::Resolution;
@@ -26,6 +27,9 @@ pub(crate) struct Resolver<'a> {
     name: &'a Text,
     // by index, what a constant resolves to, as soon as it was asked for
     resolutions: Vec<Option<Resolution>>,
+    // by the index of the text of a name or a descriptor, the constant that names it and was
+    // resolved last: one that refers to the same resolves to the same
+    guesses: Vec<u16>,
 }
 
 impl<'a> Model for Resolver<'a> {
@@ -62,12 +66,15 @@ impl<'a> Resolver<'a> {
         ensures { IfOk result (λ resolver. resolver
             ≡ record { headers = headers_of tree.now; pool = class.now.pool; from = name.now }) }
     {
-        let resolutions = vec![in alloc; None; usize::from(class.pool.count())]?;
+        let count = usize::from(class.pool.count());
+        let resolutions = vec![in alloc; None; count]?;
+        let guesses = vec![in alloc; 0; count]?;
         Ok(Resolver {
             tree,
             class,
             name,
             resolutions,
+            guesses,
         })
     }
 
@@ -100,8 +107,12 @@ impl<'a> Resolver<'a> {
         if let Some(resolution) = self.known(index) {
             return Ok(resolution);
         }
-        let resolution = resolve(alloc, self.tree, &self.class.pool, self.name, index)?;
+        let resolution = match self.known_of_alike(index) {
+            Some(resolution) => resolution,
+            None => resolve(alloc, self.tree, &self.class.pool, self.name, index)?,
+        };
         self.keep(index, resolution);
+        self.guess(index);
         Ok(resolution)
     }
 
@@ -110,6 +121,37 @@ impl<'a> Resolver<'a> {
         ensures { IfSome result (Resolves self.now index) }
     {
         *self.resolutions.get(usize::from(index))?
+    }
+
+    // What is known of a constant that refers to what the one at an index does.
+    fn known_of_alike(&self, index: u16) -> Option<Resolution>
+        ensures { IfSome result (Resolves self.now index) }
+    {
+        let constant = self.constant(index)?;
+        let guess = *self.guesses.get(self.slot(index)?)?;
+        let guessed = self.constant(guess)?;
+        if is_alike(&self.class.pool, guessed, constant) {
+            self.known(guess)
+        } else {
+            None
+        }
+    }
+
+    // Where the guess of the constants that refer to what the one at an index does stands.
+    fn slot(&self, index: u16) -> Option<usize> {
+        Some(usize::from(text_index(&self.class.pool, self.constant(index)?)?))
+    }
+
+    // Guesses that constants that refer to what the one at an index does are resolved next.
+    fn guess(&mut self, index: u16)
+        ensures { self.new ≡ self.old }
+    {
+        let Some(slot) = self.slot(index) else {
+            return;
+        };
+        if slot < self.guesses.len() {
+            self.guesses[slot] = index;
+        }
     }
 
     // Keeps what the constant at an index resolves to.

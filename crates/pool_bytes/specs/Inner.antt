@@ -2,5 +2,6 @@
 -- said without them, so a reader of the definitions may pass them over.
 pub mod Dynamics
 pub mod Entries
+pub mod Kinds
 pub mod Raw
 pub mod TextChecks

@@ -8,24 +8,38 @@ ghost use Rattle.class_model.specs.Answers.{Answers};
 ghost use Rattle.class_model.specs.ModifiedUtf8.{IsModifiedUtf8};
 ghost use Rattle.class_model.specs.Names.{init, IsFieldName, IsMethodName};
 ghost use Rattle.class_model.specs.Checks.{check};
-ghost use Rattle.class_model.specs.PoolChecks.{name_at, descriptor_at, IsFieldDescriptor, IsMethodDescriptor, ReturnsVoid, InitIsVoid, FitsDescriptor, IsCalledName, RefersWell, class_checks, string_checks, fieldref_checks, methodref_checks, name_and_type_checks, method_type_checks, dynamic_checks, handle_checks, constant_checks, entries_checks};
+ghost use Rattle.class_model.specs.PoolChecks.{name_at, descriptor_at, IsFieldDescriptor, IsMethodDescriptor, InitIsVoid, FitsDescriptor, IsCalledName, RefersWell, class_checks, string_checks, fieldref_checks, methodref_checks, name_and_type_checks, method_type_checks, dynamic_checks, handle_checks, constant_checks, entries_checks};
 ghost use Rattle.class_model.specs.Spelling.{entry_bytes};
 ghost use Rattle.pool_bytes.specs.Texts.{HasTexts};
 
+use crate::kinds::{Checker, KnownText};
 use crate::raw::{RawConst, RawForm, RawPool};
 use class_model::{
-    CLINIT, ClassFault, Const, FileRule, INIT, is_field_descriptor, is_field_name, is_method_name,
-    is_modified_utf8, is_reference_name, is_unqualified_name, method_shape,
+    CLINIT, ClassFault, Const, FileRule, INIT, is_field_name, is_method_name, is_modified_utf8,
+    is_reference_name, is_unqualified_name,
 };
 
 impl RawPool<'_> {
     /// Checks the constants, as those of a class file of this major version whose first constant stands at
-    /// this place. It takes no memory.
+    /// this place. A text is parsed as a descriptor once; where memory for remembering it runs out, it
+    /// is parsed each time that a constant names it.
     ///
     /// # Errors
     /// `Malformed` at the tag of the first constant that breaks a rule, with the first that it breaks: `Text`,
     /// `Index`, `Name` or `Descriptor`.
     pub fn check(&self, major: u16, at: u64) -> Result<(), ClassFault>
+        requires { at + length (flat_map entry_bytes self.now) < 2 ^ 64 }
+        ensures told { Answers (entries_checks major self.now at self.now) result }
+        ensures texts { OnOk result (HasTexts self.now) }
+        ensures memory { result ≢ Err ClassFault.NoMemory }
+    {
+        Checker::new(self).check_all(major, at)
+    }
+}
+
+impl Checker<'_> {
+    // Checks the constants, as `check`.
+    fn check_all(&self, major: u16, at: u64) -> Result<(), ClassFault>
         requires { at + length (flat_map entry_bytes self.now) < 2 ^ 64 }
         ensures told { Answers (entries_checks major self.now at self.now) result }
         ensures texts { OnOk result (HasTexts self.now) }
@@ -96,7 +110,7 @@ fn check_text(at: u64, text: &[u8]) -> Result<(), ClassFault>
 
 // ---- each sort of constant
 
-impl RawPool<'_> {
+impl Checker<'_> {
     fn check_class(&self, at: u64, name: u16) -> Result<(), ClassFault>
         ensures told { Answers (class_checks at self.now name) result }
         ensures memory { result ≢ Err ClassFault.NoMemory }
@@ -126,7 +140,7 @@ impl RawPool<'_> {
         ensures told { Answers (fieldref_checks at self.now class member) result }
         ensures memory { result ≢ Err ClassFault.NoMemory }
     {
-        if !self.is_class(class) || !self.is_name_and_type(member) {
+        if !self.pool().is_class(class) || !self.pool().is_name_and_type(member) {
             return broken(at, FileRule::Index);
         }
         if !self.has_field_name(member) {
@@ -142,7 +156,7 @@ impl RawPool<'_> {
         ensures told { Answers (methodref_checks at self.now class member) result }
         ensures memory { result ≢ Err ClassFault.NoMemory }
     {
-        if !self.is_class(class) || !self.is_name_and_type(member) {
+        if !self.pool().is_class(class) || !self.pool().is_name_and_type(member) {
             return broken(at, FileRule::Index);
         }
         if !self.has_called_name(member) {
@@ -158,13 +172,13 @@ impl RawPool<'_> {
         ensures told { Answers (name_and_type_checks at self.now name descriptor) result }
         ensures memory { result ≢ Err ClassFault.NoMemory }
     {
-        let (Some(name), Some(descriptor)) = (self.utf8(name), self.utf8(descriptor)) else {
+        let (Some(name), Some(descriptor)) = (self.utf8(name), self.text(descriptor)) else {
             return broken(at, FileRule::Index);
         };
-        if !fits_descriptor(name, descriptor) {
+        if !fits_descriptor(name, &descriptor) {
             return broken(at, FileRule::Name);
         }
-        if !is_descriptor(descriptor) {
+        if !is_descriptor(&descriptor) {
             return broken(at, FileRule::Descriptor);
         }
         Ok(())
@@ -174,10 +188,10 @@ impl RawPool<'_> {
         ensures told { Answers (method_type_checks at self.now descriptor) result }
         ensures memory { result ≢ Err ClassFault.NoMemory }
     {
-        let Some(descriptor) = self.utf8(descriptor) else {
+        let Some(descriptor) = self.text(descriptor) else {
             return broken(at, FileRule::Index);
         };
-        if is_method_descriptor(descriptor) {
+        if descriptor.is_method_descriptor() {
             Ok(())
         } else {
             broken(at, FileRule::Descriptor)
@@ -188,7 +202,7 @@ impl RawPool<'_> {
         ensures told { Answers (dynamic_checks at self.now member) result }
         ensures memory { result ≢ Err ClassFault.NoMemory }
     {
-        if !self.is_name_and_type(member) {
+        if !self.pool().is_name_and_type(member) {
             return broken(at, FileRule::Index);
         }
         if !self.has_method_name(member) {
@@ -203,11 +217,11 @@ impl RawPool<'_> {
 
 // ---- the name and the descriptor of a NameAndType constant, where they are there
 
-impl RawPool<'_> {
+impl Checker<'_> {
     fn has_field_name(&self, member: u16) -> bool
         ensures { IsTrue result ↔ IfSome (name_at self.now member) IsFieldName }
     {
-        match self.name(member) {
+        match self.pool().name(member) {
             Some(name) => is_field_name(name),
             None => true,
         }
@@ -217,7 +231,7 @@ impl RawPool<'_> {
         ensures { IsTrue result ↔ IfSome (descriptor_at self.now member) IsFieldDescriptor }
     {
         match self.descriptor(member) {
-            Some(descriptor) => is_field_descriptor(descriptor),
+            Some(descriptor) => descriptor.is_field_descriptor(),
             None => true,
         }
     }
@@ -226,7 +240,7 @@ impl RawPool<'_> {
         ensures { IsTrue result ↔ IfSome (descriptor_at self.now member) IsMethodDescriptor }
     {
         match self.descriptor(member) {
-            Some(descriptor) => is_method_descriptor(descriptor),
+            Some(descriptor) => descriptor.is_method_descriptor(),
             None => true,
         }
     }
@@ -236,8 +250,9 @@ impl RawPool<'_> {
         ensures { IsTrue result
             ↔ IfSome (name_at self.now member) (IsCalledName (descriptor_at self.now member)) }
     {
-        match self.name(member) {
-            Some(name) => is_called_name(name, self.descriptor(member)),
+        let descriptor = self.descriptor(member);
+        match self.pool().name(member) {
+            Some(name) => is_called_name(name, descriptor.as_ref()),
             None => true,
         }
     }
@@ -248,8 +263,9 @@ impl RawPool<'_> {
             ↔ IfSome (name_at self.now member)
             (λ name. IsMethodName name × InitIsVoid name (descriptor_at self.now member)) }
     {
-        match self.name(member) {
-            Some(name) => is_method_name(name) && init_is_void(name, self.descriptor(member)),
+        let descriptor = self.descriptor(member);
+        match self.pool().name(member) {
+            Some(name) => is_method_name(name) && init_is_void(name, descriptor.as_ref()),
             None => true,
         }
     }
@@ -257,7 +273,7 @@ impl RawPool<'_> {
     fn has_init_name(&self, member: u16) -> bool
         ensures { IsTrue result ↔ IfSome (name_at self.now member) (λ name. name ≡ init) }
     {
-        match self.name(member) {
+        match self.pool().name(member) {
             Some(name) => name == INIT,
             None => true,
         }
@@ -266,7 +282,7 @@ impl RawPool<'_> {
     fn has_other_name(&self, member: u16) -> bool
         ensures { IsTrue result ↔ IfSome (name_at self.now member) (λ name. name ≢ init) }
     {
-        match self.name(member) {
+        match self.pool().name(member) {
             Some(name) => name != INIT,
             None => true,
         }
@@ -275,7 +291,7 @@ impl RawPool<'_> {
 
 // ---- method handles
 
-impl RawPool<'_> {
+impl Checker<'_> {
     fn check_handle(&self, major: u16, at: u64, kind: u8, reference: u16) -> Result<(), ClassFault>
         ensures told { Answers (handle_checks major at self.now kind reference) result }
         ensures memory { result ≢ Err ClassFault.NoMemory }
@@ -313,53 +329,37 @@ impl RawPool<'_> {
 
 // ---- texts
 
-fn is_method_descriptor(text: &[u8]) -> bool
-    ensures { IsTrue result ↔ IsMethodDescriptor text.now }
-{
-    method_shape(text).is_some()
-}
-
-fn is_descriptor(text: &[u8]) -> bool
+fn is_descriptor(text: &KnownText<'_>) -> bool
     ensures { IsTrue result ↔ (IsFieldDescriptor text.now ⊎ IsMethodDescriptor text.now) }
 {
-    is_field_descriptor(text) || is_method_descriptor(text)
+    text.is_field_descriptor() || text.is_method_descriptor()
 }
 
 // Whether an instance initialiser has no result, if its descriptor is that of a method.
-fn init_is_void(name: &[u8], descriptor: Option<&[u8]>) -> bool
+fn init_is_void(name: &[u8], descriptor: Option<&KnownText<'_>>) -> bool
     ensures { IsTrue result ↔ InitIsVoid name.now (option_copied descriptor.entry) }
 {
     if name != INIT {
         return true;
     }
     match descriptor {
-        Some(text) => is_void_or_no_method(text),
-        None => true,
-    }
-}
-
-// Whether there is no result, if the text is a method descriptor.
-fn is_void_or_no_method(text: &[u8]) -> bool
-    ensures { IsTrue result ↔ (IsMethodDescriptor text.now → ReturnsVoid text.now) }
-{
-    match method_shape(text) {
-        Some(shape) => shape.is_void,
+        Some(text) => text.is_void_or_no_method(),
         None => true,
     }
 }
 
 // Whether a name is that of a method that is called.
-fn is_called_name(name: &[u8], descriptor: Option<&[u8]>) -> bool
+fn is_called_name(name: &[u8], descriptor: Option<&KnownText<'_>>) -> bool
     ensures { IsTrue result ↔ IsCalledName (option_copied descriptor.entry) name.now }
 {
     is_method_name(name) && name != CLINIT && init_is_void(name, descriptor)
 }
 
 // Whether a name fits its descriptor: with that of a method it is one of a method.
-fn fits_descriptor(name: &[u8], descriptor: &[u8]) -> bool
+fn fits_descriptor(name: &[u8], descriptor: &KnownText<'_>) -> bool
     ensures { IsTrue result ↔ FitsDescriptor (Some descriptor.now) name.now }
 {
     is_unqualified_name(name)
-        && (is_method_name(name) || !is_method_descriptor(descriptor))
+        && (is_method_name(name) || !descriptor.is_method_descriptor())
         && init_is_void(name, Some(descriptor))
 }

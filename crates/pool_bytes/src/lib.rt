@@ -4,6 +4,7 @@
 mod checking;
 mod cutting;
 mod dynamics;
+mod kinds;
 mod laws;
 mod lookups;
 mod raw;

@@ -2,7 +2,7 @@
 ghost use Rattle.std.specs.Prelude.{◌≡◌, ◌≤◌, ◌↔◌, IfSome, IsTrue, length, option_and_then};
 ghost use Rattle.std.specs.Option.{option_copied};
 ghost use Rattle.class_model.specs.Pool.{constant_at};
-ghost use Rattle.class_model.specs.PoolChecks.{utf8_at, text_of, class_name_of, name_and_type_of, IsClassAt, IsNameAndTypeAt, name_at, descriptor_at};
+ghost use Rattle.class_model.specs.PoolChecks.{utf8_at, text_of, class_name_of, name_and_type_of, IsClassAt, IsNameAndTypeAt, name_at};
 ghost use Rattle.class_model.specs.Spelling.{constant_bytes};
 
 use crate::raw::{RawConst, RawForm, RawPool};
@@ -102,13 +102,5 @@ impl RawPool<'_> {
     {
         let (name, _) = self.name_and_type(index)?;
         self.utf8(name)
-    }
-
-    /// The descriptor of the NameAndType constant at an index.
-    pub(crate) fn descriptor(&self, index: u16) -> Option<&[u8]>
-        ensures { option_copied result ≡ descriptor_at self.now index }
-    {
-        let (_, descriptor) = self.name_and_type(index)?;
-        self.utf8(descriptor)
     }
 }

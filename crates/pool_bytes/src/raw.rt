@@ -101,6 +101,11 @@ impl<'a> RawPool<'a> {
         }
     }
 
+    /// What it allocates with.
+    pub(crate) fn allocator(&self) -> Global {
+        *self.entries.allocator()
+    }
+
     /// Appends a constant, at one index or two. Where memory runs out, the pool stays as it was.
     pub(crate) fn push(&mut self, value: RawConst<'a>) -> Result<(), NoMemory>
         requires { length self.old + length (entries_of value) ≤ 65535 }

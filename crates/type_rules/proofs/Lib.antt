@@ -4,6 +4,7 @@ pub mod ShuffleForms
 pub mod ClassTexts
 pub mod TypeTexts
 pub mod PoolFacts
+pub mod ParsedMembers
 pub mod ProtectedMembers
 pub mod OwnFields
 pub mod Chains

@@ -37,6 +37,21 @@ constant_asked class index constant is e =
     let there : constant_at pool index ≡ Some constant = subst (λ (p : Constants). constant_at p index ≡ Some constant) same e in
     (is.cut.major, subst (λ (p : Constants). IsAsked is.cut.major p constant) (sym same) (asked is.cut.major pool 10 pool index constant (parts_hold is.cut is.holds).pool there))
 
+-- ---- references
+
+module _ (pool : Constants) where
+  parts_described : (at member : ℕ) (reference : Reference) (name_of text desc : Option (List ℕ)) → class_at pool at ≡ name_of → name_at pool member ≡ text → descriptor_at pool member ≡ desc → reference_at pool at member ≡ Some reference
+      → desc ≡ Some reference.desc
+  parts_described at member reference (Some name_of) (Some text) (Some desc) is_name is_text is_desc e =
+      let h : Some (record { class = name_of; name = text; desc = desc }) ≡ Some reference = rw (is_name, is_text, is_desc) at e in
+      ap (λ (o : Option Reference). option_map (λ (r : Reference). r.desc) o) h
+  parts_described at member reference None text desc is_name is_text is_desc e = absurd (cc (rw is_name at e))
+  parts_described at member reference (Some name_of) None desc is_name is_text is_desc e = absurd (cc (rw (is_name, is_text) at e))
+  parts_described at member reference (Some name_of) (Some text) None is_name is_text is_desc e = absurd (cc (rw (is_name, is_text, is_desc) at e))
+
+  pub described : (at member : ℕ) (reference : Reference) → reference_at pool at member ≡ Some reference → descriptor_at pool member ≡ Some reference.desc
+  described at member reference e = parts_described at member reference (class_at pool at) (name_at pool member) (descriptor_at pool member) refl refl refl e
+
 -- ---- descriptors
 
 some_text : (Holds : List ℕ → Type 0) (found : Option (List ℕ)) (text : List ℕ) → IfSome found Holds → found ≡ Some text → Holds text
@@ -52,24 +67,10 @@ module _ (class : ClassFile) (is : IsClassFile class) where
   pub member_descriptor : (member : ℕ) (text : List ℕ) → descriptor_at class.pool member ≡ Some text → IsMemberDescriptor text
   member_descriptor member text e = beside_a_name member text (constant_at class.pool member) refl e
 
-  -- ---- references
-
-  parts_described : (at member : ℕ) (reference : Reference) (name_of text desc : Option (List ℕ)) → class_at class.pool at ≡ name_of → name_at class.pool member ≡ text → descriptor_at class.pool member ≡ desc → reference_at class.pool at member ≡ Some reference
-      → desc ≡ Some reference.desc
-  parts_described at member reference (Some name_of) (Some text) (Some desc) is_name is_text is_desc e =
-      let h : Some (record { class = name_of; name = text; desc = desc }) ≡ Some reference = rw (is_name, is_text, is_desc) at e in
-      ap (λ (o : Option Reference). option_map (λ (r : Reference). r.desc) o) h
-  parts_described at member reference None text desc is_name is_text is_desc e = absurd (cc (rw is_name at e))
-  parts_described at member reference (Some name_of) None desc is_name is_text is_desc e = absurd (cc (rw (is_name, is_text) at e))
-  parts_described at member reference (Some name_of) (Some text) None is_name is_text is_desc e = absurd (cc (rw (is_name, is_text, is_desc) at e))
-
-  described : (at member : ℕ) (reference : Reference) → reference_at class.pool at member ≡ Some reference → descriptor_at class.pool member ≡ Some reference.desc
-  described at member reference e = parts_described at member reference (class_at class.pool at) (name_at class.pool member) (descriptor_at class.pool member) refl refl refl e
-
   of_constant : (reference : Reference) (constant : Option Const) → reference_of class.pool constant ≡ Some reference → IsMemberDescriptor reference.desc
-  of_constant reference (Some (consts.Fieldref at member)) e = member_descriptor member reference.desc (described at member reference e)
-  of_constant reference (Some (consts.Methodref at member)) e = member_descriptor member reference.desc (described at member reference e)
-  of_constant reference (Some (consts.InterfaceMethodref at member)) e = member_descriptor member reference.desc (described at member reference e)
+  of_constant reference (Some (consts.Fieldref at member)) e = member_descriptor member reference.desc (described class.pool at member reference e)
+  of_constant reference (Some (consts.Methodref at member)) e = member_descriptor member reference.desc (described class.pool at member reference e)
+  of_constant reference (Some (consts.InterfaceMethodref at member)) e = member_descriptor member reference.desc (described class.pool at member reference e)
   of_constant reference other e = absurd cc
 
   pub reference_descriptor : (index : ℕ) (reference : Reference) → Some reference ≡ reference_of class.pool (constant_at class.pool index) → IsMemberDescriptor reference.desc
@@ -81,7 +82,7 @@ module _ (class : ClassFile) (is : IsClassFile class) where
   of_method at member reference index constant there is_method e =
       let asked = constant_asked class index constant is there in
       let hold = subst AllHold (is_method asked.0 asked.1.0) asked.1.1 in
-      some_text IsMethodDescriptor (descriptor_at class.pool member) reference.desc hold.1.1.0 (described at member reference e)
+      some_text IsMethodDescriptor (descriptor_at class.pool member) reference.desc hold.1.1.0 (described class.pool at member reference e)
 
   of_callable : (reference : Reference) (index : ℕ) (constant : Option Const) → constant_at class.pool index ≡ constant → IsCallable constant → reference_of class.pool constant ≡ Some reference → IsMethodDescriptor reference.desc
   of_callable reference index (Some (consts.Methodref at member)) there callable e = of_method at member reference index (consts.Methodref at member) there (λ major place. refl) e

@@ -7,6 +7,7 @@ pub mod Handlers
 pub mod Known
 pub mod Meanings
 pub mod NewClasses
+pub mod ParsedCalls
 pub mod Protected
 pub mod References
 pub mod Signatures

@@ -1,5 +1,5 @@
 //! The rules of calls (JVM Specification SE 8, 6.5: invokevirtual to invokedynamic).
-ghost use Rattle.std.specs.Prelude.{◌≡◌, ◌↔◌, ◌+◌, List, bytes_eq, length, IfOk, IsTrue};
+ghost use Rattle.std.specs.Prelude.{◌≡◌, ◌↔◌, ◌+◌, List, Some, bytes_eq, length, IfOk, IsTrue};
 ghost use Rattle.std.specs.List.{list_any};
 ghost use Rattle.std.specs.Option.{option_copied};
 ghost use Rattle.class_model.specs.Descriptors.{SpellsDescriptor};
@@ -10,10 +10,10 @@ ghost use Rattle.class_model.specs.PoolChecks.{descriptor_at};
 ghost use Rattle.class_tree.specs.Headers.{Name};
 ghost use Rattle.class_tree.specs.Subtype.{IsChain};
 ghost use Rattle.member_link.specs.Rows.Assigning.{IsAssignableIn};
-ghost use Rattle.member_link.specs.Rows.MemberRows.{IsSpecialTarget, call_row, init_row, dynamic_row, instance_row, special_row, static_row, receiver, PassesMethod};
+ghost use Rattle.member_link.specs.Rows.MemberRows.{IsSpecialTarget, argument_needs, call_row, result_types, init_row, dynamic_row, instance_row, special_row, static_row, receiver, PassesMethod};
 ghost use Rattle.member_link.specs.Rows.Operands.{lowest_of};
-ghost use Rattle.member_link.specs.Rows.Row.{either};
-ghost use Rattle.member_link.specs.Signatures.{reference_of};
+ghost use Rattle.member_link.specs.Rows.Row.{either, plain};
+ghost use Rattle.member_link.specs.Signatures.{reference_of, result_of};
 ghost use Rattle.type_rules.specs.Inner.References.{reference_meant};
 ghost use Rattle.type_rules.specs.Rule.{RowRules};
 ghost use Rattle.member_link.specs.Scope.{row_scope};
@@ -52,14 +52,32 @@ pub(crate) fn call(step: &Step<'_>, opcode: u8, index: u16) -> Result<Ruled, Rul
     let Some(reference) = reference_at(rules.class, index) else {
         return step.no_row();
     };
+    if let Some(descriptor) = rules.call_descriptor(index) {
+        return call_method(step, opcode, &reference, descriptor);
+    }
     let descriptor = method_descriptor(step.alloc, reference.desc)?;
+    call_method(step, opcode, &reference, &descriptor)
+}
+
+// Calls a method of this descriptor, by its opcode.
+fn call_method(
+    step: &Step<'_>,
+    opcode: u8,
+    reference: &Reference<'_>,
+    descriptor: &Descriptor,
+) -> Result<Ruled, RuleFault>
+    requires { SpellsDescriptor reference.now.desc.now descriptor.now }
+    ensures { RowRules (row_scope step.now.rules.now) step.now.before.now
+        (call_row (row_scope step.now.rules.now) step.now.before.now opcode
+        (Some (reference_meant reference.now))) result }
+{
     if opcode == INVOKESTATIC {
-        return call_static(step, &reference, &descriptor);
+        return call_static(step, reference, descriptor);
     }
     if opcode == INVOKESPECIAL {
-        return call_named(step, &reference, &descriptor);
+        return call_named(step, reference, descriptor);
     }
-    call_virtual(step, &reference, &descriptor)
+    call_virtual(step, reference, descriptor)
 }
 
 /// Calls a call site.
@@ -75,9 +93,22 @@ pub(crate) fn call_dynamic(step: &Step<'_>, index: u16) -> Result<Ruled, RuleFau
     let Some(desc) = descriptor_of(&rules.class.pool, *member) else {
         return step.no_row();
     };
-    a_descriptor_is_read_back();
+    if let Some(descriptor) = rules.calls.of_member(*member) {
+        return call_site(step, desc, descriptor);
+    }
     let descriptor = method_descriptor(step.alloc, desc)?;
-    call_with(step, None, &descriptor, true, true)
+    call_site(step, desc, &descriptor)
+}
+
+// Calls a call site whose text is parsed to this descriptor.
+fn call_site(step: &Step<'_>, desc: &Text, descriptor: &Descriptor) -> Result<Ruled, RuleFault>
+    requires { SpellsDescriptor desc.now descriptor.now }
+    ensures { RowRules (row_scope step.now.rules.now) step.now.before.now
+        (plain step.now.before.now (argument_needs desc.now) (result_types (result_of desc.now)))
+        result }
+{
+    a_descriptor_is_read_back();
+    call_with(step, None, descriptor, true, true)
 }
 
 // The descriptor of the NameAndType constant at an index, if one is there.

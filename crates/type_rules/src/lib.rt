@@ -6,6 +6,7 @@ mod arguments;
 mod arithmetic;
 mod arrays;
 mod assignability;
+mod call_descriptors;
 mod calls;
 mod code;
 mod constants;

@@ -1,5 +1,5 @@
 //! A method whose instructions are asked.
-ghost use Rattle.std.specs.Prelude.{◌≡◌, ◌↔◌, length, Some, IfOk, IsSome, IsTrue};
+ghost use Rattle.std.specs.Prelude.{◌≡◌, ◌↔◌, length, Some, IfOk, IfSome, IsSome, IsTrue};
 ghost use Rattle.std.specs.List.{AllByRecursion};
 ghost use Rattle.std.specs.Option.{option_copied};
 ghost use Rattle.class_model.specs.Header.{header_of};
@@ -9,16 +9,18 @@ ghost use Rattle.code_bytes.specs.Codes.{HasOperands, IsReadMethod};
 ghost use Rattle.member_link.specs.Linked.{IsLinked};
 ghost use Rattle.member_link.specs.Signatures.{result_of};
 ghost use Rattle.type_rules.specs.Inner.NewClasses.{class_made};
+ghost use Rattle.type_rules.specs.Inner.ParsedCalls.{DescribesReference};
 ghost use Rattle.type_rules.specs.Rule.{FitsPool};
 ghost use Rattle.member_link.specs.Scope.{class_of_new, instructions, is_init, own_descriptor, scope_at, scope_of};
 ghost use Rattle.member_link.specs.Inner.Scope.{current};
 ghost use Rattle.type_rules.specs.Stated.{entry, stated_at};
 
+use crate::call_descriptors::{CallDescriptors, member_of};
 use crate::code::code_of;
 use crate::descriptors::a_descriptor_is_read_back;
 use class_model::{
-    ClassFile, CodePart, FieldType, Frame, Header, INIT, Instr, Method, MethodAt, NoMemory,
-    PlacedList, Text,
+    ClassFile, CodePart, Descriptor, FieldType, Frame, Header, INIT, Instr, Method, MethodAt,
+    NoMemory, PlacedList, Text,
 };
 use class_tree::{Place, Tree};
 use code_bytes::{a_class_file_has_read_methods, is_text};
@@ -38,6 +40,7 @@ pub struct MethodRules<'a> {
     pub(crate) method: &'a Method,
     pub(crate) part: &'a CodePart,
     pub(crate) body: MethodBody<'a>,
+    pub(crate) calls: CallDescriptors<'a>,
 }
 
 impl<'a> Model for MethodRules<'a> {
@@ -62,7 +65,7 @@ impl<'a> Model for MethodRules<'a> {
           class = rules.class.now;
           method = rules.method.now;
           part = rules.part.now;
-        }) rules.place rules.header.now rules.body };
+        }) rules.place rules.header.now rules.body rules.calls };
 }
 
 impl<'a> MethodRules<'a> {
@@ -153,6 +156,15 @@ impl<'a> MethodRules<'a> {
         self.body.stated_at(at)
     }
 
+    /// The descriptor of the method that the constant at an index refers to, if it was parsed.
+    pub(crate) fn call_descriptor(&self, index: u16) -> Option<&Descriptor>
+        ensures { IfSome result
+            (λ parsed. DescribesReference self.now.class.pool index parsed.now) }
+    {
+        let member = member_of(self.class.pool.get(index)?)?;
+        self.calls.of_member(member)
+    }
+
     /// Whether a class is the current one.
     pub(crate) fn is_current(&self, name: &[u8]) -> bool
         ensures { IsTrue result ↔ (name.now ≡ current self.now) }
@@ -217,6 +229,7 @@ fn of_method<'a>(
         unreachable!()
     };
     let body = MethodBody::new(alloc, class, method, part)?;
+    let calls = CallDescriptors::of(alloc, &class.pool, body.instructions().as_slice())?;
     Ok(MethodRules {
         tree,
         class,
@@ -225,5 +238,6 @@ fn of_method<'a>(
         method,
         part,
         body,
+        calls,
     })
 }

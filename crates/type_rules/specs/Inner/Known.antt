@@ -2,6 +2,7 @@
 use Rattle.std.specs.Prelude.{◌≡◌, Some}
 use Rattle.std.specs.List.{AllByRecursion}
 use Rattle.class_model.specs.Header.{header_of}
+use Rattle.class_model.specs.Pool.{Constants}
 use Rattle.class_model.specs.declared.header.Header.{Header}
 use Rattle.class_tree.specs.Headers.{Classes, headers_of, IsClassFile}
 use Rattle.class_tree.specs.Order.{header_at}
@@ -13,10 +14,12 @@ use Rattle.member_link.specs.Scope.{Scope, instructions}
 
 pub record IsKnown (classes : Classes) (s : Scope) (place : Place) (header : Header)
     (body : CodedMethod)
+    (calls : Constants)
     : Type 0 where
   pub headers : s.headers ≡ headers_of classes
   pub class_file : IsClassFile s.class
   pub stands : header_at s.headers place ≡ Some header
   pub header_is : header ≡ header_of s.class
   pub body_is : body ≡ coded_of s
+  pub calls_are : calls ≡ s.class.pool
   pub fit : AllByRecursion (λ placed. FitsPool s placed.instr) (instructions s)

@@ -1,7 +1,7 @@
 use Rattle.std.proofs.Common.{◌+◌, ◌<◌, length, ap, ◌∙◌, arith}
 use Rattle.pool_bytes.proofs.AnswerParts.{at_end, at_none, at_fault, at_some, place_fits, passed_on, have_texts, entries_by_constant}
-use Rattle.pool_bytes.proofs.raw.RawPool.check.Goals as goal
-use Rattle.pool_bytes.proofs.raw.RawPool.check.Goals.{in-Some+in_ok-check_constant, in_default}
+use Rattle.pool_bytes.proofs.kinds.Checker.check_all.Goals as goal
+use Rattle.pool_bytes.proofs.kinds.Checker.check_all.Goals.{in-Some+in_ok-check_constant, in_default}
 
 pub returns-in_err-check_constant-clause-told : goal.returns-in_err-check_constant-clause-told
 returns-in_err-check_constant-clause-told c =
