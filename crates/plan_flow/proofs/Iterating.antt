@@ -5,6 +5,7 @@ use Rattle.std.proofs.lemmas.Option.{none-some, same_Some}
 use Rattle.flow_code.specs.FlatCode.{IsFlat, point_at}
 use Rattle.flow_code.specs.declared.point.Point.{Point}
 use Rattle.plan_flow.specs.Effect.{IsStateBehind}
+use Rattle.plan_flow.specs.Inner.Iteration.{IsLeft, IsTarget}
 use Rattle.plan_flow.specs.Must.{open_edges}
 use Rattle.plan_flow.specs.PlanRows.{RowEdge}
 use Rattle.plan_flow.specs.PlanScope.{PlanScope}
@@ -20,7 +21,7 @@ use Rattle.plan_flow.proofs.Inside.{edges_inside}
 use Rattle.plan_flow.proofs.LeastAbove.{MustGo}
 use Rattle.plan_flow.proofs.MustGrows.{StandsIn, edge_behind_more}
 use Rattle.plan_flow.proofs.Pruning.{state_of_is_one}
-use Rattle.plan_flow.proofs.Raising.{state_at_above, same_counts, IsTarget, raised, Reached, IsLeft, left_of, left_is_one, IsLedIn, led_first, led_over, IsUnder, target_in_plan}
+use Rattle.plan_flow.proofs.Raising.{state_at_above, same_counts, raised, Reached, left_of, left_is_one, IsLedIn, led_first, led_over, IsUnder, target_in_plan}
 
 -- ---- sums over points
 

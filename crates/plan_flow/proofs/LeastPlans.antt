@@ -8,6 +8,7 @@ use Rattle.std.proofs.lemmas.Option.{none-some, same_Some}
 use Rattle.flow_code.specs.FlatCode.{IsFlat, point_at}
 use Rattle.flow_code.specs.declared.point.Point.{Point}
 use Rattle.plan_flow.specs.Effect.{AreEdges, IsEffectIn}
+use Rattle.plan_flow.specs.Inner.Iteration.{IsLeft}
 use Rattle.plan_flow.specs.Must.{open_edges, IsMustOf, IsMustIn}
 use Rattle.plan_flow.specs.PlanRows.{RowEdge}
 use Rattle.plan_flow.specs.PlanScope.{PlanScope, local_types, stack_types}
@@ -22,7 +23,7 @@ use Rattle.virtual_state.specs.Laws.Orders.{absent, has_where, differing_is_clos
 use Rattle.plan_flow.proofs.Behind.{state_behind, names_both, named_locals, named_stack, local_places, stack_places}
 use Rattle.plan_flow.proofs.EffectGrows.{edge_of_row, row_of_edge}
 use Rattle.plan_flow.proofs.Iterating.{put, put_here, put_each, LeadsIn, Final, iterated}
-use Rattle.plan_flow.proofs.Raising.{Reached, IsLeft, Left, left_of, left_is_one, IsLedIn, led_first, led_over, IsUnder, must_at}
+use Rattle.plan_flow.proofs.Raising.{Reached, Left, left_of, left_is_one, IsLedIn, led_first, led_over, IsUnder, must_at}
 use Rattle.plan_flow.proofs.Settled.{clean_or_not, path_from_none}
 
 -- ---- the start

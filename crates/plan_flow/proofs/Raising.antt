@@ -7,6 +7,7 @@ use Rattle.std.proofs.lemmas.Option.{none-some, same_Some}
 use Rattle.flow_code.specs.FlatCode.{point_at}
 use Rattle.flow_code.specs.declared.point.Point.{Point}
 use Rattle.plan_flow.specs.Effect.{IsStateBehind, AreEdges, IsEffectIn}
+use Rattle.plan_flow.specs.Inner.Iteration.{IsLeft, IsTarget}
 use Rattle.plan_flow.specs.Must.{open_edges, IsMustOf, IsMust, IsMustIn}
 use Rattle.plan_flow.specs.PlanRows.{RowEdge}
 use Rattle.plan_flow.specs.PlanScope.{PlanScope}
@@ -60,10 +61,6 @@ same_counts s at one other first second = record {
 
 -- ---- what an edge's target must be
 
-pub record IsTarget (s : PlanScope) (at : ℕ) (behind state : State) : Type 0 where
-  pub below : IsBelow behind state
-  pub beneath : HasPlainBeneathTop s at state
-
 target_or_not :
     (s : PlanScope) (at : ℕ) (behind start : State)
     → IsStateAt s at behind
@@ -87,12 +84,6 @@ raised s at behind start is_behind is_start = least_above (IsTarget s at behind)
 
 abbrev pub Reached : Type 0
 Reached = ℕ → Option State
-
--- the state in which the instruction is done
-pub record IsLeft (s : PlanScope) (at : ℕ) (point : Point) (state left : State) : Type 0 where
-  pub below : IsBelow state left
-  pub must : IsMustOf s at point left []
-  pub least : (other : State) → IsBelow state other → IsMustOf s at point other [] → IsBelow left other
 
 pub left_is_one : (s : PlanScope) (at : ℕ) (point : Point) (state one other : State) → IsLeft s at point state one → IsLeft s at point state other → one ≡ other
 left_is_one s at point state one other first second = below_both_ways one other (first.least other second.below second.must) (second.least one first.below first.must)
