@@ -19,7 +19,6 @@ mod links_laws;
 mod needs;
 mod numbers;
 mod plan;
-mod raising;
 mod reference;
 mod rows;
 mod settling;
@@ -27,6 +26,7 @@ mod shuffles;
 mod slots;
 mod sources;
 mod table;
+mod targets;
 
 pub use edge::{Edge, EdgeKind, EdgeList};
 pub use effects::effect;
