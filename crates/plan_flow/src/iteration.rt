@@ -9,7 +9,7 @@ use crate::edge::Edge;
 use crate::effects::effect;
 use crate::links_laws::a_tree_has_links;
 use crate::point_states::PointStates;
-use crate::raising::raised;
+use crate::targets::raised;
 use crate::settling::settled;
 use crate::work_list::WorkList;
 use class_model::NoMemory;

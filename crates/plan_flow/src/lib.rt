@@ -22,7 +22,6 @@ mod needs;
 mod numbers;
 mod plan;
 mod point_states;
-mod raising;
 mod reference;
 mod rows;
 mod settling;
@@ -30,6 +29,7 @@ mod shuffles;
 mod slots;
 mod sources;
 mod table;
+mod targets;
 mod work_list;
 
 pub use edge::{Edge, EdgeKind, EdgeList};
