@@ -1,7 +1,8 @@
 -- States of points, in a list: a state that is put in, and how many are missing.
-use Rattle.std.proofs.Common.{◌≡◌, ℕ, ◌<◌, ◌+◌, zero, suc, List, [], ◌∷◌, ◌++◌, take, length, replicate, slice_get, slice_set, Option, Some, None, refl, sym, ap, subst, ◌∙◌, inl, inr, ◌⊎◌, arith}
+use Rattle.std.proofs.Common.{◌≡◌, ℕ, ◌<◌, ◌≤◌, ◌+◌, zero, suc, List, [], ◌∷◌, ◌++◌, take, length, replicate, slice_get, slice_set, Option, Some, None, refl, sym, ap, subst, ◌∙◌, inl, inr, ◌⊎◌, arith}
 use Rattle.std.specs.Option.{option_flatten}
 use Rattle.std.proofs.lemmas.Option.{none-some, same_Some}
+use Rattle.std.proofs.lemmas.List.{replicate-append-replicate}
 use Rattle.plan_flow.specs.Inner.Reaching.{reached_in, unreached_in, objects_in}
 use Rattle.virtual_state.specs.States.{State}
 use Rattle.virtual_state.specs.Laws.Objects.{same_or_not}
@@ -71,6 +72,26 @@ none_at (suc count) (suc at) = none_at count at
 
 pub none_reached : (count : ℕ) → reached_in (replicate count None) ≡ nothing
 none_reached count = fun_ext (λ at. none_at count at ∙ sym (nothing_at at))
+
+-- so many points of which none is reached, as far as they are listed
+pub record AreNone (states : List (Option State)) (at count : ℕ) : Type 0 where
+  pub same : states ≡ replicate at None
+  pub few : at ≤ count
+
+pub none_first : (count : ℕ) → AreNone [] 0 count
+none_first count = record { same = refl; few = omega arith }
+
+pub none_more : (states : List (Option State)) (at count : ℕ) → AreNone states at count → at < count → AreNone (states ++ None ∷ []) (at + 1) count
+none_more states at count none inside = record {
+  same = ap (λ (list : List (Option State)). list ++ None ∷ []) none.same ∙ replicate-append-replicate at 1 None;
+  few = omega (arith, inside);
+}
+
+pub none_all : (states : List (Option State)) (at count : ℕ) → AreNone states at count → count ≤ at → states ≡ replicate count None
+none_all states at count none past =
+    let few = none.few in
+    let all : at ≡ count = omega (arith, few, past) in
+    none.same ∙ ap (λ (n : ℕ). replicate {A = Option State} n None) all
 
 -- ---- how many points are not reached, and how many objects are left
 
