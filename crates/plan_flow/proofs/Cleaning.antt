@@ -1,5 +1,5 @@
 -- Objects that lie at or below a stack entry whose type is Top are made, and states are joined.
-use Rattle.std.proofs.Common.{◌≡◌, ◌||◌, ℕ, Bool, true, false, cond, List, [], ◌∷◌, drop, length, Option, Some, None, IsTrue, IsFalse, refl, sym, ap, subst, ◌∙◌, inl, inr, ◌⊎◌}
+use Rattle.std.proofs.Common.{◌≡◌, ◌||◌, ℕ, Bool, true, false, cond, List, [], ◌∷◌, drop, length, Option, Some, None, option_map, IsTrue, IsFalse, refl, sym, ap, subst, ◌∙◌, inl, inr, ◌⊎◌}
 use Rattle.std.specs.List.{list_any}
 use Rattle.std.proofs.lemmas.Bool.{cases_Bool, false≢true, both_ways, not_from_true, not_from_false}
 use Rattle.std.proofs.lemmas.List.{drop-map}
@@ -22,8 +22,10 @@ use Rattle.virtual_state.specs.declared.slot.Slot.{Slot}
 use Rattle.virtual_state.specs.declared.slot.Slot.TheVariants.{Plain}
 use Rattle.virtual_state.specs.Laws.Fields.{made, named_before, named_behind}
 use Rattle.virtual_state.specs.Laws.Orders.{absent, below_without, below_itself, below_and_below, below_is_closed, below_is_without}
+use Rattle.plan_flow.proofs.AskedSites.{found_point}
 use Rattle.plan_flow.proofs.LeastAbove.{rest_below}
 use Rattle.plan_flow.proofs.Raising.{state_at_above}
+use Rattle.plan_flow.proofs.Rounds.{no_site}
 use Rattle.plan_flow.proofs.Settled.{beneath_made, beneath_named, dropped_named}
 
 -- ---- sites that are named there
@@ -63,11 +65,13 @@ pub record AreTypesAt (flat : FlatCode) (at : ℕ) (locals stack : List VType) :
   pub locals_are : local_types flat at ≡ locals
   pub stack_is : stack_types flat at ≡ stack
 
-pub types_at : (flat : FlatCode) (at : ℕ) (point : Point) → point_at flat at ≡ Some point → AreTypesAt flat at point.typed.locals point.typed.stack
+types_at : (flat : FlatCode) (at : ℕ) (point : Point) → point_at flat at ≡ Some point → AreTypesAt flat at point.typed.locals point.typed.stack
 types_at flat at point found = record { locals_are = rw found refl; stack_is = rw found refl }
 
-pub no_types_at : (flat : FlatCode) (at : ℕ) → point_at flat at ≡ None → AreTypesAt flat at [] []
-no_types_at flat at found = record { locals_are = rw found refl; stack_is = rw found refl }
+pub types_of : (flat : FlatCode) (at : ℕ) (types : Frame) → option_map (λ (point : Point). point.typed) (point_at flat at) ≡ Some types → AreTypesAt flat at types.locals types.stack
+types_of flat at types is =
+    let found = found_point (λ (point : Point). point.typed) (point_at flat at) types is in
+    subst (λ (frame : Frame). AreTypesAt flat at frame.locals frame.stack) found.2 (types_at flat at found.0 found.1)
 
 pub none_there : (flat : FlatCode) (at : ℕ) (state : State) (locals stack : List VType) → AreTypesAt flat at locals stack → list_any is_top stack ≡ false → (site : ℕ) → has [] site ≡ names (slots_beneath flat at state) site
 none_there flat at state locals stack are none site =
@@ -102,11 +106,11 @@ beneath_without flat at state away =
 pub cleaned_same :
     (flat : FlatCode) (at : ℕ) (state : State) (sites : List ℕ)
     → ((site : ℕ) → has sites site ≡ names (slots_beneath flat at state) site)
-    → sites ≡ []
+    → length sites ≡ 0
     → IsCleaned flat at state state
 cleaned_same flat at state sites are none = record {
   below = below_itself state;
-  beneath = λ site. sym (are site) ∙ ap (λ (list : List ℕ). has list site) none;
+  beneath = λ site. sym (are site) ∙ ap (λ (list : List ℕ). has list site) (no_site sites none);
   least = λ target up clean. up;
 }
 

@@ -42,7 +42,7 @@ some_site : (sites : List ℕ) → 0 < length sites → (site : ℕ) × IsTrue (
 some_site [] some = absurd (omega (arith, some))
 some_site (site ∷ sites) some = (site, or_left (site == site) (has sites site) (eq-eqb site site refl))
 
-no_site : (sites : List ℕ) → length sites ≡ 0 → sites ≡ []
+pub no_site : (sites : List ℕ) → length sites ≡ 0 → sites ≡ []
 no_site [] none = refl
 no_site (site ∷ sites) none = absurd (omega (arith, none))
 
