@@ -1,5 +1,5 @@
 -- Objects that lie at or below a stack entry whose type is Top are made, and states are joined.
-use Rattle.std.proofs.Common.{◌≡◌, ◌||◌, ℕ, Bool, true, false, cond, List, [], ◌∷◌, drop, length, Option, Some, None, option_map, IsTrue, IsFalse, refl, sym, ap, subst, ◌∙◌, inl, inr, ◌⊎◌}
+use Rattle.std.proofs.Common.{◌≡◌, ◌||◌, ℕ, Bool, true, false, cond, List, [], ◌∷◌, drop, length, Option, Some, None, option_map, IsTrue, IsFalse, refl, sym, ap, subst, ◌∙◌, inl, inr}
 use Rattle.std.specs.List.{list_any}
 use Rattle.std.proofs.lemmas.Bool.{cases_Bool, false≢true, both_ways, not_from_true, not_from_false}
 use Rattle.std.proofs.lemmas.List.{drop-map}
@@ -13,11 +13,11 @@ use Rattle.plan_flow.specs.Inner.Asking.{HasAdded, IsBeneath}
 use Rattle.plan_flow.specs.Inner.Iteration.{IsCleaned, IsJoined, IsRaised, slots_beneath}
 use Rattle.plan_flow.specs.PlanScope.{PlanScope, local_types, stack_types}
 use Rattle.plan_flow.specs.PlanSlots.{beneath_top, fit_stack}
-use Rattle.plan_flow.specs.Plans.{HasPlainBeneathTop, IsStateAt}
+use Rattle.plan_flow.specs.Plans.{IsStateAt}
 use Rattle.virtual_state.specs.Orders.{IsBelow, IsJoin}
 use Rattle.virtual_state.specs.Sites.{has, IsClosure}
 use Rattle.virtual_state.specs.States.{State, IsState, is_present, is_virtual, names}
-use Rattle.virtual_state.specs.Without.{IsClosed, made_plain, without}
+use Rattle.virtual_state.specs.Without.{made_plain, without}
 use Rattle.virtual_state.specs.declared.slot.Slot.{Slot}
 use Rattle.virtual_state.specs.declared.slot.Slot.TheVariants.{Plain}
 use Rattle.virtual_state.specs.Laws.Fields.{made, named_before, named_behind}
@@ -92,9 +92,9 @@ some_there flat at state locals stack entries sites is are entries_are added sit
       | inr there ↦ sym same ∙ there.0
     ])
     (λ named. added.asked site (same ∙ named, is.places site (dropped_named (length (local_types flat at)) state.slots site (beneath_named (stack_types flat at) (drop (length (local_types flat at)) state.slots) site named))))
-    where
-      same : names (beneath_top stack (fit_stack stack entries)) site ≡ names (slots_beneath flat at state) site
-      same = fitted_named stack entries site ∙ (λ i. names (beneath_top (sym are.stack_is i) ((entries_are ∙ ap (λ (types : List VType). drop (length types) state.slots) (sym are.locals_are)) i)) site)
+  where
+    same : names (beneath_top stack (fit_stack stack entries)) site ≡ names (slots_beneath flat at state) site
+    same = fitted_named stack entries site ∙ (λ i. names (beneath_top (sym are.stack_is i) ((entries_are ∙ ap (λ (types : List VType). drop (length types) state.slots) (sym are.locals_are)) i)) site)
 
 -- ---- they are made
 

@@ -1,5 +1,5 @@
 -- What an instruction asks for is made, round by round, until it asks for nothing.
-use Rattle.std.proofs.Common.{◌≡◌, ℕ, ◌<◌, ◌==◌, zero, suc, List, [], ◌∷◌, length, Option, Some, None, IsTrue, refl, sym, subst, ◌∙◌, inl, inr, arith}
+use Rattle.std.proofs.Common.{◌≡◌, ℕ, ◌<◌, ◌==◌, List, [], ◌∷◌, length, Option, Some, None, IsTrue, refl, sym, subst, inl, inr, arith}
 use Rattle.std.proofs.lemmas.Bool.{cases_Bool, or_left, eq-eqb, false≢true, not_from_false}
 use Rattle.std.proofs.lemmas.List.{length-map}
 use Rattle.class_tree.specs.Headers.{Classes, headers_of}
@@ -16,7 +16,7 @@ use Rattle.virtual_state.specs.States.{State, IsState, is_present}
 use Rattle.virtual_state.specs.Without.{IsClosed, object_without, without}
 use Rattle.virtual_state.specs.declared.slot.VObject.{VObject}
 use Rattle.virtual_state.specs.Laws.Objects.{of_sites}
-use Rattle.virtual_state.specs.Laws.Orders.{absent, below_without, below_itself, below_and_below}
+use Rattle.virtual_state.specs.Laws.Orders.{below_without, below_itself, below_and_below}
 use Rattle.virtual_state.specs.Laws.Removals.{stay, without_is_state, fewer_objects}
 use Rattle.plan_flow.proofs.LeastAbove.{rest_below}
 use Rattle.plan_flow.proofs.MustLaws.{must_grown}

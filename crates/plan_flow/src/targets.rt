@@ -67,12 +67,7 @@ fn cleaned(alloc: Global, flat: &Flat, at: usize, state: VState) -> Result<VStat
 }
 
 // The sites of the objects that lie there.
-fn sites_beneath(
-    alloc: Global,
-    flat: &Flat,
-    at: usize,
-    state: &VState,
-) -> Result<SiteSet, NoMemory>
+fn sites_beneath(alloc: Global, flat: &Flat, at: usize, state: &VState) -> Result<SiteSet, NoMemory>
     ensures { IfOk result (λ sites. (site : ℕ)
         → has sites site ≡ names (slots_beneath flat.now at state.now) site) }
 {
