@@ -17,7 +17,10 @@ set_here [] at item inside = absurd (omega (arith, inside))
 set_here (first ∷ list) zero item inside = refl
 set_here (first ∷ list) (suc at) item inside = set_here list at item (omega (arith, inside))
 
-pub set_other : {A : Type 0} (list : List A) (at other : ℕ) (item : A) → (at ≡ other → ⊥) → slice_get (slice_set list at item) other ≡ slice_get list other
+pub set_other :
+    {A : Type 0} (list : List A) (at other : ℕ) (item : A)
+    → (at ≡ other → ⊥)
+    → slice_get (slice_set list at item) other ≡ slice_get list other
 set_other [] at other item differ = refl
 set_other (first ∷ list) zero zero item differ = absurd (differ refl)
 set_other (first ∷ list) zero (suc other) item differ = refl
@@ -45,7 +48,10 @@ took_all (first ∷ list) (suc number) none = ap (λ rest. first ∷ rest) (took
 
 -- ---- an item that is appended
 
-pub appended_before : {A : Type 0} (list : List A) (at : ℕ) (item : A) → at < length list → slice_get (list ++ item ∷ []) at ≡ slice_get list at
+pub appended_before :
+    {A : Type 0} (list : List A) (at : ℕ) (item : A)
+    → at < length list
+    → slice_get (list ++ item ∷ []) at ≡ slice_get list at
 appended_before [] at item inside = absurd (omega (arith, inside))
 appended_before (first ∷ list) zero item inside = refl
 appended_before (first ∷ list) (suc at) item inside = appended_before list at item (omega (arith, inside))
@@ -56,7 +62,10 @@ appended_here (first ∷ list) item = appended_here list item
 
 -- ---- states of points
 
-pub put_is : (states : List (Option State)) (to : ℕ) (state : State) → to < length states → reached_in (slice_set states to (Some state)) ≡ put (reached_in states) to state
+pub put_is :
+    (states : List (Option State)) (to : ℕ) (state : State)
+    → to < length states
+    → reached_in (slice_set states to (Some state)) ≡ put (reached_in states) to state
 put_is states to state inside = fun_ext (λ at. elim (same_or_not to at) [
   | inl same ↦
       subst (λ (where_ : ℕ). reached_in (slice_set states to (Some state)) where_ ≡ put (reached_in states) to state where_) same
@@ -81,7 +90,11 @@ pub record AreNone (states : List (Option State)) (at count : ℕ) : Type 0 wher
 pub none_first : (count : ℕ) → AreNone [] 0 count
 none_first count = record { same = refl; few = omega arith }
 
-pub none_more : (states : List (Option State)) (at count : ℕ) → AreNone states at count → at < count → AreNone (states ++ None ∷ []) (at + 1) count
+pub none_more :
+    (states : List (Option State)) (at count : ℕ)
+    → AreNone states at count
+    → at < count
+    → AreNone (states ++ None ∷ []) (at + 1) count
 none_more states at count none inside = record {
   same = ap (λ (list : List (Option State)). list ++ None ∷ []) none.same ∙ replicate-append-replicate at 1 None;
   few = omega (arith, inside);
@@ -95,7 +108,11 @@ none_all states at count none past =
 
 -- ---- how many points are not reached, and how many objects are left
 
-pub unreached_new : (states : List (Option State)) (to : ℕ) (state : State) → to < length states → reached_in states to ≡ None → unreached_in (slice_set states to (Some state)) < unreached_in states
+pub unreached_new :
+    (states : List (Option State)) (to : ℕ) (state : State)
+    → to < length states
+    → reached_in states to ≡ None
+    → unreached_in (slice_set states to (Some state)) < unreached_in states
 unreached_new [] to state inside none = absurd (omega (arith, inside))
 unreached_new (None ∷ states) zero state inside none = omega arith
 unreached_new (Some old ∷ states) zero state inside none = absurd (none-some old (sym none))
@@ -104,7 +121,10 @@ unreached_new (None ∷ states) (suc to) state inside none =
     omega (arith, rest)
 unreached_new (Some old ∷ states) (suc to) state inside none = unreached_new states to state (omega (arith, inside)) none
 
-pub unreached_old : (states : List (Option State)) (to : ℕ) (state old : State) → reached_in states to ≡ Some old → unreached_in (slice_set states to (Some state)) ≡ unreached_in states
+pub unreached_old :
+    (states : List (Option State)) (to : ℕ) (state old : State)
+    → reached_in states to ≡ Some old
+    → unreached_in (slice_set states to (Some state)) ≡ unreached_in states
 unreached_old [] to state old is = refl
 unreached_old (None ∷ states) zero state old is = absurd (none-some old is)
 unreached_old (Some one ∷ states) zero state old is = refl

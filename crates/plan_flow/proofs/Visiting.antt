@@ -42,13 +42,19 @@ AreEffectIn classes flat at left edges =
     (links : Links) → AreLinksOf (headers_of classes) links → IsEffect (scope_of classes links flat) at left edges
 
 -- the edges of a point that is reached
-pub edges_of_point : (classes : Classes) (flat : FlatCode) (at : ℕ) (left : State) (edges : List Edge) (links : Links) (point : Point) → AreLinksOf (headers_of classes) links → AreEffectIn classes flat at left edges → point_at flat at ≡ Some point → AreEdges (scope_of classes links flat) point at left (open_edges (scope_of classes links flat) at point left) edges
+pub edges_of_point :
+    (classes : Classes) (flat : FlatCode) (at : ℕ) (left : State) (edges : List Edge) (links : Links) (point : Point)
+    → AreLinksOf (headers_of classes) links
+    → AreEffectIn classes flat at left edges
+    → point_at flat at ≡ Some point
+    → AreEdges (scope_of classes links flat) point at left (open_edges (scope_of classes links flat) at point left) edges
 edges_of_point classes flat at left edges links point are effect is =
     subst (λ (o : Option Point). IsEffectIn (scope_of classes links flat) at o left edges) is (effect links are)
 
 -- ---- a visit
 
-record Visit (classes : Classes) (flat : FlatCode) (at : ℕ) (before : List (Option State)) (work : List ℕ) (state left : State) (edges : List Edge) : Type 0 where
+record Visit (classes : Classes) (flat : FlatCode) (at : ℕ) (before : List (Option State)) (work : List ℕ) (state left : State)
+    (edges : List Edge) : Type 0 where
   flat_code : IsFlat flat
   flows : FlowsInside flat
   reaching : AreReaching classes flat before (at ∷ work)
@@ -69,7 +75,8 @@ started_in classes flat at before work state left edges v links number edge are 
     let under = (v.reaching links are).under in
     let point = point_there flat.points at (under.inside at state v.found) in
     let is_left = v.is_left links point.0 are point.1 in
-    let row = row_of_edge s point.0 at left (open_edges s at point.0 left) edges (edges_of_point classes flat at left edges links point.0 are v.effect point.1) number edge is in
+    let row = row_of_edge s point.0 at left (open_edges s at point.0 left) edges
+    (edges_of_point classes flat at left edges links point.0 are v.effect point.1) number edge is in
     let counts = (state_at_above s at state left (under.at at state v.found) is_left.below).fields in
     let pending : Pending s (reached_in before) = record {
       from = at;
@@ -90,7 +97,8 @@ started_in classes flat at before work state left edges v links number edge are 
     subst (λ (to : ℕ). IsEdgeTo s (reached_in before) to edge.state) (sym row.2.same_to) (edge_to s (reached_in before) pending under)
 
 pub visit_starts :
-    (classes : Classes) (flat : FlatCode) (at : ℕ) (before : List (Option State)) (work : List ℕ) (state left : State) (edges : List Edge) (links : Links)
+    (classes : Classes) (flat : FlatCode) (at : ℕ) (before : List (Option State)) (work : List ℕ) (state left : State) (edges : List Edge)
+    (links : Links)
     → AreLinksOf (headers_of classes) links
     → IsFlat flat
     → FlowsInside flat
@@ -103,12 +111,23 @@ pub visit_starts :
 visit_starts classes flat at before work state left edges links are flat_code flows reaching found left_state is_left effect = record {
   len = (reaching links are).len;
   under = λ link are_link. (reaching link are_link).under;
-  edge = started_in classes flat at before work state left edges (record { flat_code = flat_code; flows = flows; reaching = reaching; found = found; left_state = left_state; is_left = is_left; effect = effect });
+  edge =
+      started_in classes flat at before work state left edges
+      (record {
+        flat_code = flat_code;
+        flows = flows;
+        reaching = reaching;
+        found = found;
+        left_state = left_state;
+        is_left = is_left;
+        effect = effect;
+      });
 }
 
 -- the edges of the point itself, where its state is as it was
 lead_here :
-    (classes : Classes) (flat : FlatCode) (at : ℕ) (before after : List (Option State)) (work also : List ℕ) (state left : State) (edges : List Edge) (new : Bool) (links : Links)
+    (classes : Classes) (flat : FlatCode) (at : ℕ) (before after : List (Option State)) (work also : List ℕ) (state left : State)
+    (edges : List Edge) (new : Bool) (links : Links)
     → AreLinksOf (headers_of classes) links
     → reached_in before at ≡ Some state
     → IsLeftIn classes flat at state left
@@ -124,10 +143,12 @@ lead_here classes flat at before after work also state left edges new links are 
       let same_left : other ≡ left = left_is_one s at point state other left other_left (is_left links point are is_point) in
       let row_left = subst (λ (x : State). slice_get (open_edges s at point x) number ≡ Some row) same_left is_row in
       let behind_left = subst (λ (x : State). IsStateBehind s point at x row behind) same_left is_behind in
-      let edge = edge_of_row s point at left (open_edges s at point left) edges (edges_of_point classes flat at left edges links point are effect is_point) number row row_left in
+      let edge = edge_of_row s point at left (open_edges s at point left) edges
+      (edges_of_point classes flat at left edges links point are effect is_point) number row row_left in
       let same_behind : edge.0.state ≡ behind = behind_is_one s at point left row edge.0.state behind edge.2.behind behind_left in
       let lead = followed.lead number edge.0 edge.1 in
-      subst (LeadsIn (reached_in after) row.to) same_behind (subst (λ (to : ℕ). LeadsIn (reached_in after) to edge.0.state) edge.2.same_to lead);
+      subst (LeadsIn (reached_in after) row.to) same_behind
+      (subst (λ (to : ℕ). LeadsIn (reached_in after) to edge.0.state) edge.2.same_to lead);
 }
 
 -- the edges of another point
@@ -146,7 +167,8 @@ lead_elsewhere s at one before after work also raised differ lead none = record 
 }
 
 pub visited :
-    (classes : Classes) (flat : FlatCode) (at : ℕ) (before after : List (Option State)) (work also : List ℕ) (state left : State) (edges : List Edge) (new : Bool)
+    (classes : Classes) (flat : FlatCode) (at : ℕ) (before after : List (Option State)) (work also : List ℕ) (state left : State)
+    (edges : List Edge) (new : Bool)
     → AreReaching classes flat before (at ∷ work)
     → reached_in before at ≡ Some state
     → IsLeftIn classes flat at state left
@@ -163,7 +185,8 @@ visited classes flat at before after work also state left edges new reaching fou
         under = followed.under links are;
         lead = λ one none. elim (same_or_not at one) [
           | inl same ↦ subst (AllLeadAt s (reached_in after)) same
-              (lead_here classes flat at before after work also state left edges new links are found is_left effect followed (subst (λ (n : ℕ). IsFalse (has also n)) (sym same) none))
+              (lead_here classes flat at before after work also state left edges new links are found is_left effect followed
+              (subst (λ (n : ℕ). IsFalse (has also n)) (sym same) none))
           | inr differ ↦ lead_elsewhere s at one before after work also followed.raised differ old.lead none
         ];
       };
@@ -185,7 +208,10 @@ visited_none classes flat at states work reaching none = record {
         under = old.under;
         lead = λ one out. elim (same_or_not at one) [
           | inl same ↦ subst (AllLeadAt s (reached_in states)) same
-              (record { each = λ number point state left behind row is_point is_found is_left is_row is_behind. absurd (none-some state (sym none ∙ is_found)) })
+              (record {
+                each = λ number point state left behind row is_point is_found is_left is_row is_behind.
+                    absurd (none-some state (sym none ∙ is_found));
+              })
           | inr differ ↦ old.lead one (has_behind at work one differ ∙ out)
         ];
       };

@@ -78,12 +78,7 @@ fn blank_state(alloc: Global, types: &Frame) -> Result<VState, NoMemory>
 }
 
 // The plan that the states of points give.
-fn plan_of(
-    alloc: Global,
-    tree: &Tree,
-    flat: &Flat,
-    states: &PointStates,
-) -> Result<Plan, NoMemory>
+fn plan_of(alloc: Global, tree: &Tree, flat: &Flat, states: &PointStates) -> Result<Plan, NoMemory>
     requires narrow { IsNarrow flat.now }
     requires reaching { AreReaching tree.now flat.now states.now [] }
     ensures { IfOk result (λ plan. (links : Links)

@@ -5,7 +5,9 @@ use Rattle.plan_flow.proofs.LeastStarts.{ArePlanned, all_planned, none_yet, one_
 use Rattle.plan_flow.proofs.least.plan_of.Goals as goal
 
 pub loop-at-init : goal.loop-at-init
-loop-at-init c = subst (λ (points : Plan). ArePlanned c.args.tree.now c.args.flat.now c.args.states.now points 0) (sym c.in_ok-points.ensures.items) (none_yet c.args.tree.now c.args.flat.now c.args.states.now)
+loop-at-init c =
+    subst (λ (points : Plan). ArePlanned c.args.tree.now c.args.flat.now c.args.states.now points 0) (sym c.in_ok-points.ensures.items)
+    (none_yet c.args.tree.now c.args.flat.now c.args.states.now)
 
 pub loop-at-preserved : goal.loop-at-preserved
 loop-at-preserved c =
@@ -21,4 +23,5 @@ returns c = λ links are.
     let tree = c.args.tree.now in
     let flat = c.args.flat.now in
     let past : length flat.points ≤ c.loop-at.at = omega (arith, c.loop-at-test.false, c.len-at-end.ensures.len) in
-    subst (IsLeast (scope_of tree links flat)) (sym c.of.ensures) (all_planned tree flat c.args.states.now c.loop-at.points.items c.loop-at.at links are c.requires.reaching c.loop-at.invariant past)
+    subst (IsLeast (scope_of tree links flat)) (sym c.of.ensures)
+    (all_planned tree flat c.args.states.now c.loop-at.points.items c.loop-at.at links are c.requires.reaching c.loop-at.invariant past)

@@ -4,7 +4,8 @@ use Rattle.plan_flow.proofs.PointLists.{AreNone, none_all, none_first, none_more
 use Rattle.plan_flow.proofs.point_states.PointStates.new.Goals as goal
 
 pub loop-at-init : goal.loop-at-init
-loop-at-init c = subst (λ (list : List (Option State)). AreNone list 0 c.args.count) (sym c.in_ok-states.ensures.items) (none_first c.args.count)
+loop-at-init c =
+    subst (λ (list : List (Option State)). AreNone list 0 c.args.count) (sym c.in_ok-states.ensures.items) (none_first c.args.count)
 
 pub loop-at-preserved : goal.loop-at-preserved
 loop-at-preserved c =
