@@ -1,7 +1,7 @@
 -- An edge is followed: its target is reached, or its state is raised.
-use Rattle.std.proofs.Common.{◌≡◌, ℕ, ◌<◌, ◌≤◌, ◌+◌, zero, suc, Bool, true, false, ◌||◌, List, [], ◌∷◌, take, length, slice_get, slice_set, Option, Some, None, Bor, is_none, is_some, not, IsTrue, IsFalse, refl, sym, ap, subst, ◌∙◌, inl, inr, ◌⊎◌, arith}
+use Rattle.std.proofs.Common.{◌≡◌, ℕ, ◌<◌, zero, suc, Bool, true, false, ◌||◌, List, [], ◌∷◌, take, length, slice_get, slice_set, Option, Some, None, Bor, is_none, is_some, not, IsTrue, IsFalse, refl, sym, ap, subst, ◌∙◌, inl, inr, arith}
 use Rattle.std.specs.Option.{option_copied, option_flatten}
-use Rattle.std.proofs.lemmas.Bool.{cases_Bool, false≢true, true≢false, both_ways, or_left, or_right, or_cases, or_parts}
+use Rattle.std.proofs.lemmas.Bool.{false≢true, true≢false, both_ways, or_cases, or_parts}
 use Rattle.std.proofs.lemmas.List.{length-set}
 use Rattle.std.proofs.lemmas.Option.{none-some, same_Some}
 use Rattle.class_tree.specs.Headers.{Classes, headers_of}
@@ -9,7 +9,7 @@ use Rattle.flow_code.specs.FlatCode.{FlatCode}
 use Rattle.member_link.specs.Machine.Links.{AreLinksOf}
 use Rattle.member_link.specs.Machine.Programs.{Links}
 use Rattle.plan_flow.specs.Inner.Iteration.{IsRaised}
-use Rattle.plan_flow.specs.Inner.Reaching.{Reached, reached_in, IsUnder, IsMore, IsEdgeTo, LeadsIn, IsLess, IsRaisedTo, AreStarted, AreFollowed, HasListed, unreached_in, objects_in}
+use Rattle.plan_flow.specs.Inner.Reaching.{Reached, reached_in, IsUnder, IsMore, IsEdgeTo, LeadsIn, IsLess, IsRaisedTo, AreStarted, AreFollowed, HasListed}
 use Rattle.plan_flow.specs.PlanScope.{PlanScope, scope_of}
 use Rattle.plan_flow.specs.Plans.{IsStateAt, state_without_sites}
 use Rattle.plan_flow.specs.declared.edge.Edge.{Edge}
@@ -18,7 +18,7 @@ use Rattle.virtual_state.specs.Sites.{has}
 use Rattle.virtual_state.specs.States.{State}
 use Rattle.virtual_state.specs.Laws.Objects.{same_or_not, some_or_none}
 use Rattle.virtual_state.specs.Laws.Orders.{below_itself, below_and_below, same_or_fewer}
-use Rattle.plan_flow.proofs.Iterating.{put, put_more, put_under, led_more}
+use Rattle.plan_flow.proofs.Iterating.{put_more, put_under, led_more}
 use Rattle.plan_flow.proofs.PointLists.{set_here, set_other, took_more, put_is, unreached_new, unreached_old, objects_old}
 
 -- ---- more is reached

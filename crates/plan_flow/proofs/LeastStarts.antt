@@ -1,5 +1,5 @@
 -- Where the iteration starts, and the plan with which it ends.
-use Rattle.std.proofs.Common.{◌≡◌, ℕ, ◌<◌, ◌≤◌, ◌+◌, ◌==◌, zero, suc, Bool, true, false, ◌||◌, List, [], ◌∷◌, ◌++◌, length, replicate, slice_get, slice_set, not, Option, Some, None, option_map, take, IsTrue, IsFalse, refl, sym, ap, subst, ◌∙◌, inl, inr, ◌⊎◌, arith}
+use Rattle.std.proofs.Common.{◌≡◌, ℕ, ◌<◌, ◌≤◌, ◌+◌, ◌==◌, zero, suc, false, List, [], ◌∷◌, ◌++◌, length, replicate, slice_get, slice_set, not, Option, Some, None, option_map, take, IsTrue, refl, sym, ap, subst, ◌∙◌, inl, inr, arith}
 use Rattle.std.specs.Option.{option_flatten}
 use Rattle.std.proofs.lemmas.Bool.{false≢true, true≢false, or_left, or_cases, eq-eqb, eqb-true}
 use Rattle.std.proofs.lemmas.List.{length-set, length-replicate}
@@ -12,18 +12,17 @@ use Rattle.flow_code.specs.declared.point.Point.{Point}
 use Rattle.member_link.specs.Machine.Links.{AreLinksOf}
 use Rattle.member_link.specs.Machine.Programs.{Links}
 use Rattle.plan_flow.specs.Inner.Planning.{made_edge, made_edges, IsPlanOf}
-use Rattle.plan_flow.specs.Inner.Reaching.{Reached, reached_in, IsUnder, AllLeadAt, IsReaching, AreReaching, HasListed}
+use Rattle.plan_flow.specs.Inner.Reaching.{Reached, reached_in, IsUnder, IsReaching, AreReaching, HasListed}
 use Rattle.plan_flow.specs.PlanScope.{PlanScope, scope_of, local_types, stack_types}
-use Rattle.plan_flow.specs.PlanSlots.{fit_locals, fit_stack}
 use Rattle.plan_flow.specs.Plans.{FlowsInside, IsLeast, MadeEdge, Plan, PlannedPoint, planned, state_without_sites}
 use Rattle.plan_flow.specs.declared.edge.Edge.{Edge}
 use Rattle.virtual_state.specs.Making.{CanBeState, IsStateOf}
 use Rattle.virtual_state.specs.Sites.{has, differing}
-use Rattle.virtual_state.specs.States.{State, IsState, IsIncreasing, sites_of, is_present, names}
+use Rattle.virtual_state.specs.States.{State, IsState, IsIncreasing, sites_of, is_present}
 use Rattle.virtual_state.specs.Laws.Objects.{same_or_not}
 use Rattle.plan_flow.proofs.AskedSites.{found_point}
-use Rattle.plan_flow.proofs.Iterating.{put, put_here, put_other, Final}
-use Rattle.plan_flow.proofs.LeastPlans.{nothing, nothing_at, start_states, start_states_are, start_under, from_left, none_planned, some_planned, Planning, is_least_plan, point_there, filter_order, blank_slots, no_names, blank_is_state}
+use Rattle.plan_flow.proofs.Iterating.{put, put_other, Final}
+use Rattle.plan_flow.proofs.LeastPlans.{nothing, nothing_at, start_states, start_states_are, start_under, from_left, some_planned, Planning, is_least_plan, point_there, filter_order, blank_slots, no_names, blank_is_state}
 use Rattle.plan_flow.proofs.MustLaws.{same_sites}
 use Rattle.plan_flow.proofs.Pruning.{state_of_is_one}
 use Rattle.plan_flow.proofs.PointLists.{put_is, none_reached, appended_before, appended_here}

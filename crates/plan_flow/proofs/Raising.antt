@@ -1,5 +1,5 @@
 -- What is reached so far, with states that are below those of each valid plan, and how a state is raised to where an edge leads.
-use Rattle.std.proofs.Common.{◌≡◌, ℕ, ◌<◌, zero, suc, false, List, [], ◌∷◌, map, length, slice_get, Option, Some, refl, sym, ap, subst, ◌∙◌, inl, inr, arith}
+use Rattle.std.proofs.Common.{◌≡◌, ℕ, zero, suc, false, List, [], ◌∷◌, map, length, slice_get, Option, Some, refl, sym, ap, subst, ◌∙◌, inl, inr, arith}
 use Rattle.std.specs.List.{list_any}
 use Rattle.std.proofs.lemmas.Bool.{or_parts}
 use Rattle.std.proofs.lemmas.List.{length-map}
@@ -11,7 +11,7 @@ use Rattle.plan_flow.specs.Inner.Iteration.{IsLeft, IsTarget}
 use Rattle.plan_flow.specs.Must.{open_edges, IsMustOf, IsMust, IsMustIn}
 use Rattle.plan_flow.specs.PlanRows.{RowEdge}
 use Rattle.plan_flow.specs.PlanScope.{PlanScope}
-use Rattle.plan_flow.specs.Plans.{MadeEdge, PlannedPoint, Plan, planned, state_left, IsStateAt, HasPlainBeneathTop, state_without_sites, LeadsTo, AllLead, IsValid}
+use Rattle.plan_flow.specs.Plans.{MadeEdge, PlannedPoint, Plan, planned, state_left, IsStateAt, LeadsTo, AllLead, IsValid}
 use Rattle.plan_flow.specs.declared.edge.Edge.{Edge}
 use Rattle.virtual_state.specs.Orders.{IsBelow}
 use Rattle.virtual_state.specs.Sites.{has}

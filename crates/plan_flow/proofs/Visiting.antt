@@ -1,6 +1,5 @@
 -- The edges of a point are followed, one point of the work list after another.
-use Rattle.std.proofs.Common.{◌≡◌, ℕ, ◌<◌, ◌≤◌, ◌+◌, ◌*◌, ◌==◌, zero, suc, Bool, true, false, cond, ◌||◌, List, [], ◌∷◌, length, slice_get, Option, Some, None, IsTrue, IsFalse, refl, sym, ap, subst, ◌∙◌, inl, inr, ◌⊎◌, arith}
-use Rattle.std.proofs.lemmas.Bool.{false≢true, true≢false, both_ways}
+use Rattle.std.proofs.Common.{◌≡◌, ℕ, ◌≤◌, ◌+◌, ◌*◌, Bool, false, cond, List, [], ◌∷◌, slice_get, Option, Some, None, IsTrue, IsFalse, sym, subst, ◌∙◌, inl, inr}
 use Rattle.std.proofs.lemmas.Option.{none-some, same_Some}
 use Rattle.class_tree.specs.Headers.{Classes, headers_of}
 use Rattle.flow_code.specs.FlatCode.{FlatCode, IsFlat, point_at}
@@ -9,22 +8,21 @@ use Rattle.member_link.specs.Machine.Links.{AreLinksOf}
 use Rattle.member_link.specs.Machine.Programs.{Links}
 use Rattle.plan_flow.specs.Effect.{AreEdges, IsEffect, IsEffectIn, IsStateBehind}
 use Rattle.plan_flow.specs.Inner.Iteration.{IsLeft}
-use Rattle.plan_flow.specs.Inner.Reaching.{Reached, reached_in, IsUnder, IsEdgeTo, LeadsIn, AllLeadAt, IsReaching, AreReaching, AreStarted, AreFollowed, IsVisited, IsAdvanced, IsRaisedTo, unreached_in, objects_in}
-use Rattle.plan_flow.specs.Must.{open_edges, IsMust, IsMustIn}
-use Rattle.plan_flow.specs.PlanRows.{RowEdge}
+use Rattle.plan_flow.specs.Inner.Reaching.{reached_in, IsEdgeTo, LeadsIn, AllLeadAt, AreReaching, AreStarted, AreFollowed, IsVisited, IsRaisedTo, unreached_in}
+use Rattle.plan_flow.specs.Must.{open_edges}
 use Rattle.plan_flow.specs.PlanScope.{PlanScope, scope_of}
 use Rattle.plan_flow.specs.Plans.{FlowsInside}
 use Rattle.plan_flow.specs.declared.edge.Edge.{Edge}
 use Rattle.virtual_state.specs.Sites.{has}
 use Rattle.virtual_state.specs.States.{State, IsState}
-use Rattle.virtual_state.specs.Laws.Objects.{same_or_not, some_or_none}
+use Rattle.virtual_state.specs.Laws.Objects.{same_or_not}
 use Rattle.plan_flow.proofs.Behind.{behind_is_at}
 use Rattle.plan_flow.proofs.EffectGrows.{edge_of_row, row_of_edge}
 use Rattle.plan_flow.proofs.Following.{leads_more, less_itself, not_listed}
 use Rattle.plan_flow.proofs.Inside.{edges_inside}
 use Rattle.plan_flow.proofs.Iterating.{Pending, edge_to, behind_is_one}
 use Rattle.plan_flow.proofs.LeastPlans.{point_there}
-use Rattle.plan_flow.proofs.MustLaws.{has_first, has_behind}
+use Rattle.plan_flow.proofs.MustLaws.{has_behind}
 use Rattle.plan_flow.proofs.Raising.{state_at_above, left_is_one}
 
 -- ---- the state in which the instruction is done

@@ -1,4 +1,4 @@
-use Rattle.std.proofs.Common.{◌≡◌, [], ◌∷◌, is_some, not, sym, ap, subst, ◌∙◌, Option}
+use Rattle.std.proofs.Common.{[], ◌∷◌, is_some, sym, ap, subst, ◌∙◌, Option}
 use Rattle.std.proofs.lemmas.Bool.{both_ways}
 use Rattle.plan_flow.specs.Inner.Iteration.{IsRaised}
 use Rattle.plan_flow.proofs.Following.{copied_some, followed_none, followed_one, only_leads, same_places, started_inside}

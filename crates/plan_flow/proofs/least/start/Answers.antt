@@ -1,4 +1,4 @@
-use Rattle.std.proofs.Common.{◌≡◌, ℕ, List, Option, None, Some, length, replicate, slice_set, sym, ap, subst, ◌∙◌, rules}
+use Rattle.std.proofs.Common.{◌≡◌, ℕ, List, Option, None, Some, length, replicate, slice_set, sym, ap, ◌∙◌, rules}
 use Rattle.std.specs.Option.{option_copied}
 use Rattle.plan_flow.proofs.LeastStarts.{point_of_start, started_with}
 use Rattle.plan_flow.proofs.least.start.Goals.{in-Some+in_ok-state, in_default}
