@@ -15,6 +15,11 @@ pub mod Inside
 pub mod Raising
 pub mod Iterating
 pub mod LeastPlans
+pub mod PointLists
+pub mod WorkLists
+pub mod Following
+pub mod Visiting
+pub mod LeastStarts
 pub mod Fitting
 pub mod Parameters
 pub mod ResultLens
@@ -26,5 +31,7 @@ pub mod TopEntries
 pub mod Gathering
 pub mod TreeLinks
 pub mod AskedSites
+pub mod Rounds
+pub mod Cleaning
 pub mod DoneEdges
 pub mod Narrows

@@ -3,5 +3,8 @@ pub mod Doing
 pub mod EdgeViews
 pub mod FieldWords
 pub mod Fitting
+pub mod Iteration
 pub mod ParameterWords
+pub mod Planning
+pub mod Reaching
 pub mod RowViews

@@ -1,0 +1,269 @@
+-- Where the iteration starts, and the plan with which it ends.
+use Rattle.std.proofs.Common.{◌≡◌, ℕ, ◌<◌, ◌≤◌, ◌+◌, ◌==◌, zero, suc, false, List, [], ◌∷◌, ◌++◌, length, replicate, slice_get, slice_set, not, Option, Some, None, option_map, take, IsTrue, refl, sym, ap, subst, ◌∙◌, inl, inr, arith}
+use Rattle.std.specs.Option.{option_flatten}
+use Rattle.std.proofs.lemmas.Bool.{false≢true, true≢false, or_left, or_cases, eq-eqb, eqb-true}
+use Rattle.std.proofs.lemmas.List.{length-set, length-replicate}
+use Rattle.std.proofs.lemmas.Option.{none-some, same_Some}
+use Rattle.class_model.specs.declared.frame.Frame.{Frame}
+use Rattle.class_model.specs.declared.frame.VType.{VType}
+use Rattle.class_tree.specs.Headers.{Classes, headers_of}
+use Rattle.flow_code.specs.FlatCode.{FlatCode, point_at}
+use Rattle.flow_code.specs.declared.point.Point.{Point}
+use Rattle.member_link.specs.Machine.Links.{AreLinksOf}
+use Rattle.member_link.specs.Machine.Programs.{Links}
+use Rattle.plan_flow.specs.Inner.Planning.{made_edge, made_edges, IsPlanOf}
+use Rattle.plan_flow.specs.Inner.Reaching.{Reached, reached_in, IsUnder, IsReaching, AreReaching, HasListed}
+use Rattle.plan_flow.specs.PlanScope.{PlanScope, scope_of, local_types, stack_types}
+use Rattle.plan_flow.specs.Plans.{FlowsInside, IsLeast, MadeEdge, Plan, PlannedPoint, planned, state_without_sites}
+use Rattle.plan_flow.specs.declared.edge.Edge.{Edge}
+use Rattle.virtual_state.specs.Making.{CanBeState, IsStateOf}
+use Rattle.virtual_state.specs.Sites.{has, differing}
+use Rattle.virtual_state.specs.States.{State, IsState, IsIncreasing, sites_of, is_present}
+use Rattle.virtual_state.specs.Laws.Objects.{same_or_not}
+use Rattle.plan_flow.proofs.AskedSites.{found_point}
+use Rattle.plan_flow.proofs.Iterating.{put, put_other, Final}
+use Rattle.plan_flow.proofs.LeastPlans.{nothing, nothing_at, start_states, start_states_are, start_under, from_left, some_planned, Planning, is_least_plan, point_there, filter_order, blank_slots, no_names, blank_is_state}
+use Rattle.plan_flow.proofs.MustLaws.{same_sites}
+use Rattle.plan_flow.proofs.Pruning.{state_of_is_one}
+use Rattle.plan_flow.proofs.PointLists.{put_is, none_reached, appended_before, appended_here}
+use Rattle.plan_flow.proofs.Settled.{path_from_none}
+use Rattle.plan_flow.proofs.Visiting.{reaching_more, IsLeftIn, AreEffectIn, edges_of_point}
+
+-- ---- a state with no site
+
+pub can_be_blank : (locals stack : List VType) → CanBeState (blank_slots locals stack) []
+can_be_blank locals stack = record {
+  places = λ site named. absurd (no_names locals stack site named);
+  fields = λ from to edge. absurd (none-some edge.object edge.there);
+  acyclic = λ site path. path_from_none [] path refl;
+  usable = λ site object there. absurd (none-some object there);
+}
+
+pub blank_is :
+    (locals stack : List VType) (state : State)
+    → IsState state
+    → IsStateOf (blank_slots locals stack) [] state
+    → state ≡ record { slots = blank_slots locals stack; objects = [] }
+blank_is locals stack state is of_blank =
+    state_of_is_one (blank_slots locals stack) [] state (record { slots = blank_slots locals stack; objects = [] }) is
+    (blank_is_state locals stack) of_blank
+    (record { same_slots = refl; reached = λ site present. absurd (false≢true present); kept = λ site reached. refl })
+
+-- ---- the start
+
+start_is :
+    (s : PlanScope)
+    → FlowsInside s.flat
+    → reached_in (slice_set (replicate (length s.flat.points) None) 0 (Some (state_without_sites s 0))) ≡ start_states s
+start_is s flows =
+    let count = length s.flat.points in
+    let inside : 0 < length (replicate {A = Option State} count None) = subst (λ (n : ℕ). 0 < n)
+    (sym (length-replicate {A = Option State} count None)) flows.some in
+    put_is (replicate count None) 0 (state_without_sites s 0) inside
+    ∙ ap (λ (states : Reached). put states 0 (state_without_sites s 0)) (none_reached count)
+    ∙ sym (start_states_are s)
+
+elsewhere_none : (s : PlanScope) (at : ℕ) → (0 ≡ at → ⊥) → start_states s at ≡ None
+elsewhere_none s at differ =
+    ap (λ (r : Reached). r at) (start_states_are s) ∙ put_other nothing 0 at (state_without_sites s 0) differ ∙ nothing_at at
+
+pub start_reaching :
+    (s : PlanScope) (states : List (Option State))
+    → FlowsInside s.flat
+    → states ≡ slice_set (replicate (length s.flat.points) None) 0 (Some (state_without_sites s 0))
+    → IsReaching s states (0 ∷ [])
+start_reaching s states flows is =
+    let same : reached_in states ≡ start_states s = ap reached_in is ∙ start_is s flows in
+    record {
+      len =
+          ap (λ (list : List (Option State)). length list) is
+          ∙ length-set (replicate (length s.flat.points) None) 0 (Some (state_without_sites s 0))
+          ∙ length-replicate (length s.flat.points) None;
+      under = subst (IsUnder s) (sym same) (start_under s flows);
+      lead = λ at out. elim (same_or_not 0 at) [
+        | inl here ↦ absurd (true≢false (sym (or_left (0 == at) false (eq-eqb 0 at here)) ∙ out))
+        | inr differ ↦ record {
+          each = λ number point state left behind row is_point is_found is_left is_row is_behind.
+              absurd (none-some state (sym (elsewhere_none s at differ) ∙ sym (ap (λ (r : Reached). r at) same) ∙ is_found));
+        }
+      ];
+    }
+
+types_are :
+    (flat : FlatCode) (at : ℕ) (point : Point) (types : Frame)
+    → point_at flat at ≡ Some point
+    → point.typed ≡ types
+    → (types.locals ≡ local_types flat at) × (types.stack ≡ stack_types flat at)
+types_are flat at point types there same = (
+  sym (ap (λ (f : Frame). f.locals) same) ∙ rw there refl,
+  sym (ap (λ (f : Frame). f.stack) same) ∙ rw there refl,
+)
+
+-- the same, where the types of point 0 are known
+pub started_with :
+    (s : PlanScope) (flat : FlatCode) (states : List (Option State)) (types : Frame) (state : State)
+    → s.flat ≡ flat
+    → FlowsInside flat
+    → option_map (λ (point : Point). point.typed) (point_at flat 0) ≡ Some types
+    → state ≡ record { slots = blank_slots types.locals types.stack; objects = [] }
+    → states ≡ slice_set (replicate (length flat.points) None) 0 (Some state)
+    → IsReaching s states (0 ∷ [])
+started_with s flat states types state same flows typed is_state is =
+    let found = found_point (λ (point : Point). point.typed) (point_at s.flat 0) types
+    (ap (λ (f : FlatCode). option_map (λ (point : Point). point.typed) (point_at f 0)) same ∙ typed) in
+    let are = types_are s.flat 0 found.0 types found.1 found.2 in
+    let blank : state ≡ state_without_sites s 0 = is_state ∙ (λ i. record { slots = blank_slots (are.0 i) (are.1 i); objects = [] }) in
+    start_reaching s states (subst FlowsInside (sym same) flows)
+    (is ∙ (λ i. slice_set (replicate (length (sym same i).points) None) 0 (Some (blank i))))
+
+pub point_of_start :
+    (flat : FlatCode) (types : Option Frame)
+    → FlowsInside flat
+    → types ≡ option_map (λ (point : Point). point.typed) (point_at flat 0)
+    → types ≡ None
+    → ⊥
+point_of_start flat types flows is none =
+    let point = point_there flat.points 0 flows.some in
+    none-some point.0.typed (sym none ∙ is ∙ ap (option_map (λ (one : Point). one.typed)) point.1)
+
+-- ---- the sites by which states differ
+
+pub differing_is :
+    (state other : State) (sites : List ℕ)
+    → IsState state
+    → IsIncreasing sites
+    → ((site : ℕ) → has sites site ≡ has (differing state other) site)
+    → sites ≡ differing state other
+differing_is state other sites is order same =
+    same_sites sites (differing state other) order
+    (filter_order (λ site. not (is_present other.objects site)) (sites_of state.objects) is.order) same
+
+-- ---- the plans of edges
+
+took_edges :
+    (states : Reached) (edges : List Edge) (number : ℕ) (edge : Edge)
+    → slice_get edges number ≡ Some edge
+    → made_edges states (take number edges) ++ made_edge states edge ∷ [] ≡ made_edges states (take (suc number) edges)
+took_edges states [] number edge is = absurd (none-some edge is)
+took_edges states (first ∷ edges) zero edge is = ap (λ (one : Edge). made_edge states one ∷ []) (sym (same_Some first edge is))
+took_edges states (first ∷ edges) (suc number) edge is =
+    ap (λ (rest : List MadeEdge). made_edge states first ∷ rest) (took_edges states edges number edge is)
+
+pub made_more :
+    (states : Reached) (edges : List Edge) (number : ℕ) (plans more : List MadeEdge) (edge : Edge) (made : MadeEdge)
+    → plans ≡ made_edges states (take number edges)
+    → slice_get edges number ≡ Some edge
+    → made ≡ made_edge states edge
+    → more ≡ plans ++ made ∷ []
+    → more ≡ made_edges states (take (number + 1) edges)
+made_more states edges number plans more edge made done is is_made is_more =
+    let next : suc number ≡ number + 1 = omega arith in
+    is_more ∙ (λ i. done i ++ is_made i ∷ []) ∙ took_edges states edges number edge is
+    ∙ ap (λ (count : ℕ). made_edges states (take count edges)) next
+
+-- ---- the plans of points
+
+abbrev planned_of : State → List ℕ → List MadeEdge → PlannedPoint
+planned_of state made edges = record { state = state; made = made; edges = edges }
+
+pub point_planned :
+    (classes : Classes) (flat : FlatCode) (states : List (Option State)) (at : ℕ) (state left : State) (edges : List Edge) (copy : State)
+    (made : List ℕ) (plans : List MadeEdge) (links : Links)
+    → AreLinksOf (headers_of classes) links
+    → AreReaching classes flat states []
+    → reached_in states at ≡ Some state
+    → IsState left
+    → IsLeftIn classes flat at state left
+    → AreEffectIn classes flat at left edges
+    → copy ≡ state
+    → made ≡ differing state left
+    → plans ≡ made_edges (reached_in states) edges
+    → IsPlanOf (scope_of classes links flat) (reached_in states) at (Some (record { state = copy; made = made; edges = plans }))
+point_planned classes flat states at state left edges copy made plans links are reaching found left_state is_left effect same_copy same_made same_plans =
+    let s = scope_of classes links flat in
+    let under = (reaching links are).under in
+    let point = point_there flat.points at (under.inside at state found) in
+    let planned_point = planned_of state (differing state left) (made_edges (reached_in states) edges) in
+    let planned = some_planned s (reached_in states) at planned_point
+    (from_left s (reached_in states) at point.0 state left edges (under.at at state found).is_state left_state point.1 found
+    (is_left links point.0 are point.1)
+    (edges_of_point classes flat at left edges links point.0 are effect point.1)) in
+    subst (λ (one : PlannedPoint). IsPlanOf s (reached_in states) at (Some one))
+    (λ i. planned_of (sym same_copy i) (sym same_made i) (sym same_plans i)) planned
+
+abbrev pub final_of : (s : PlanScope) (states : List (Option State)) → IsReaching s states [] → Final s
+final_of s states is = record { states = reached_in states; under = is.under; lead = λ at inside. is.lead at refl }
+
+-- the plans of points, as far as they are made
+pub record ArePlanned (classes : Classes) (flat : FlatCode) (states : List (Option State)) (points : Plan) (count : ℕ) : Type 0 where
+  pub len : length points ≡ count
+  pub few : count ≤ length flat.points
+  pub each :
+      (links : Links)
+      → AreLinksOf (headers_of classes) links
+      → (at : ℕ)
+      → at < count
+      → IsPlanOf (scope_of classes links flat) (reached_in states) at (planned points at)
+
+pub none_yet : (classes : Classes) (flat : FlatCode) (states : List (Option State)) → ArePlanned classes flat states [] 0
+none_yet classes flat states = record { len = refl; few = omega arith; each = λ links are at inside. absurd (omega (arith, inside)) }
+
+length_more : (list : Plan) (plan : Option PlannedPoint) → length (list ++ plan ∷ []) ≡ length list + 1
+length_more [] plan = refl
+length_more (first ∷ list) plan = let rest = length_more list plan in omega (arith, rest)
+
+pub one_more :
+    (classes : Classes) (flat : FlatCode) (states : List (Option State)) (points : Plan) (count : ℕ) (plan : Option PlannedPoint)
+    → ArePlanned classes flat states points count
+    → count < length flat.points
+    → ((links : Links) → AreLinksOf (headers_of classes) links → IsPlanOf (scope_of classes links flat) (reached_in states) count plan)
+    → ArePlanned classes flat states (points ++ plan ∷ []) (count + 1)
+one_more classes flat states points count plan done inside is = record {
+  len = let more = length_more points plan in let len = done.len in omega (arith, len, more);
+  few = omega (arith, inside);
+  each = λ links are at within. elim (same_or_not count at) [
+    | inl here ↦
+        let len : length points ≡ at = done.len ∙ here in
+        let got = subst (λ (one : ℕ). slice_get (points ++ plan ∷ []) one ≡ Some plan) len (appended_here points plan) in
+        subst (IsPlanOf (scope_of classes links flat) (reached_in states) at) (sym (ap option_flatten got))
+        (subst (λ (one : ℕ). IsPlanOf (scope_of classes links flat) (reached_in states) one plan) here (is links are))
+    | inr differ ↦
+        let len = done.len in
+        let low : at < count = omega (arith, within, differ) in
+        let there : at < length points = omega (arith, low, len) in
+        subst (IsPlanOf (scope_of classes links flat) (reached_in states) at)
+        (sym (ap option_flatten (appended_before points at plan there))) (done.each links are at low)
+  ];
+}
+
+pub all_planned :
+    (classes : Classes) (flat : FlatCode) (states : List (Option State)) (points : Plan) (count : ℕ) (links : Links)
+    → AreLinksOf (headers_of classes) links
+    → AreReaching classes flat states []
+    → ArePlanned classes flat states points count
+    → length flat.points ≤ count
+    → IsLeast (scope_of classes links flat) points
+all_planned classes flat states points count links are reaching done past =
+    let s = scope_of classes links flat in
+    let few = done.few in
+    let len = done.len in
+    let planning : Planning s points = record {
+      final = final_of s states (reaching links are);
+      len = omega (arith, few, past, len);
+      points = λ at inside. done.each links are at (omega (arith, inside, past));
+    } in
+    is_least_plan s points planning
+
+-- ---- the first work list
+
+pub start_listed :
+    (classes : Classes) (flat : FlatCode) (states : List (Option State)) (work also : List ℕ)
+    → ((s : PlanScope) → s.flat ≡ flat → IsReaching s states (0 ∷ []))
+    → HasListed work also 0
+    → AreReaching classes flat states also
+start_listed classes flat states work also is listed =
+    reaching_more classes flat states (0 ∷ []) also (λ links are. is (scope_of classes links flat) refl)
+    (λ at there. elim (or_cases (0 == at) false there) [
+      | inl here ↦ subst (λ (n : ℕ). IsTrue (has also n)) (eqb-true 0 at here) listed.here
+      | inr none ↦ absurd (false≢true none)
+    ])
