@@ -28,3 +28,4 @@ pub mod TreeLinks
 pub mod AskedSites
 pub mod DoneEdges
 pub mod Narrows
+pub mod PlanGains
