@@ -5,6 +5,8 @@ use Rattle.std.proofs.lemmas.Option.{none-some, same_Some}
 use Rattle.flow_code.specs.FlatCode.{IsFlat, point_at}
 use Rattle.flow_code.specs.declared.point.Point.{Point}
 use Rattle.plan_flow.specs.Effect.{IsStateBehind}
+use Rattle.plan_flow.specs.Inner.Iteration.{IsLeft, IsTarget, IsRaised}
+use Rattle.plan_flow.specs.Inner.Reaching.{Reached, IsLedIn, led_first, led_over, IsUnder, LeadsIn, AllLeadAt, IsMore, IsEdgeTo}
 use Rattle.plan_flow.specs.Must.{open_edges}
 use Rattle.plan_flow.specs.PlanRows.{RowEdge}
 use Rattle.plan_flow.specs.PlanScope.{PlanScope}
@@ -20,7 +22,7 @@ use Rattle.plan_flow.proofs.Inside.{edges_inside}
 use Rattle.plan_flow.proofs.LeastAbove.{MustGo}
 use Rattle.plan_flow.proofs.MustGrows.{StandsIn, edge_behind_more}
 use Rattle.plan_flow.proofs.Pruning.{state_of_is_one}
-use Rattle.plan_flow.proofs.Raising.{state_at_above, same_counts, IsTarget, raised, Reached, IsLeft, left_of, left_is_one, IsLedIn, led_first, led_over, IsUnder, target_in_plan}
+use Rattle.plan_flow.proofs.Raising.{state_at_above, same_counts, raised, left_of, left_is_one, target_in_plan}
 
 -- ---- sums over points
 
@@ -94,10 +96,7 @@ put_each Holds states place state here others at one is =
 
 -- ---- more is reached, with states that are above
 
-record IsMore (states more : Reached) : Type 0 where
-  each : (place : ℕ) (state : State) → states place ≡ Some state → (above : State) × (more place ≡ Some above) × IsBelow state above
-
-put_more :
+pub put_more :
     (states : Reached) (place : ℕ) (state : State)
     → ((old : State) → states place ≡ Some old → IsBelow old state)
     → IsMore states (put states place state)
@@ -108,7 +107,7 @@ put_more states place state above = record {
   ];
 }
 
-led_more :
+pub led_more :
     (s : PlanScope) (states more : Reached)
     → IsMore states more
     → ((place : ℕ) (state : State) → more place ≡ Some state → IsState state)
@@ -126,59 +125,65 @@ led_more s states more grows is_state (led_over from number point state left row
 
 -- ---- an edge that does not lead to its target yet
 
-record Pending (s : PlanScope) (states : Reached) : Type 0 where
-  from : ℕ
-  number : ℕ
-  point : Point
-  state : State
-  left : State
-  behind : State
-  row : RowEdge
-  is_point : point_at s.flat from ≡ Some point
-  is_found : states from ≡ Some state
-  is_left : IsLeft s from point state left
-  is_row : slice_get (open_edges s from point left) number ≡ Some row
-  is_behind : IsStateBehind s point from left row behind
-  is_at : IsStateAt s row.to behind
-  target_inside : row.to < length s.flat.points
+pub record Pending (s : PlanScope) (states : Reached) : Type 0 where
+  pub from : ℕ
+  pub number : ℕ
+  pub point : Point
+  pub state : State
+  pub left : State
+  pub behind : State
+  pub row : RowEdge
+  pub is_point : point_at s.flat from ≡ Some point
+  pub is_found : states from ≡ Some state
+  pub is_left : IsLeft s from point state left
+  pub is_row : slice_get (open_edges s from point left) number ≡ Some row
+  pub is_behind : IsStateBehind s point from left row behind
+  pub is_at : IsStateAt s row.to behind
+  pub target_inside : row.to < length s.flat.points
+
+-- such an edge leads to its target in each valid plan
+pub edge_to : (s : PlanScope) (states : Reached) (pending : Pending s states) → IsUnder s states → IsEdgeTo s states pending.row.to pending.behind
+edge_to s states pending under = record {
+  led = led_over pending.from pending.number pending.point pending.state pending.left pending.row (under.led pending.from pending.state pending.is_found) pending.is_point pending.is_found pending.is_left pending.is_row;
+  is_at = pending.is_at;
+  inside = pending.target_inside;
+  lower = λ plan valid.
+      let low = under.lower plan valid pending.from pending.state pending.is_found in
+      target_in_plan s plan pending.from pending.point pending.state pending.left pending.behind pending.number pending.row low.0 valid pending.is_point (under.at pending.from pending.state pending.is_found).is_state pending.is_left pending.is_row pending.is_behind low.1 low.2;
+}
 
 -- the state of its target is put in, or raised: what holds goes on to hold
-put_under :
-    (s : PlanScope) (states : Reached) (pending : Pending s states) (state : State)
+pub put_under :
+    (s : PlanScope) (states : Reached) (to : ℕ) (behind state : State)
     → IsUnder s states
-    → IsStateAt s pending.row.to state
-    → HasPlainBeneathTop s pending.row.to state
-    → ((old : State) → states pending.row.to ≡ Some old → IsBelow old state)
-    → ((target : State) → IsBelow pending.behind target → HasPlainBeneathTop s pending.row.to target → ((old : State) → states pending.row.to ≡ Some old → IsBelow old target) → IsBelow state target)
-    → (pending.row.to ≡ 0 → state ≡ state_without_sites s 0)
-    → IsUnder s (put states pending.row.to state)
-put_under s states pending state under is_at clean above least at_start = record {
-  start = elim (same_or_not pending.row.to 0) [
-    | inl same ↦ sym (ap (put states pending.row.to state) same) ∙ put_here states pending.row.to state ∙ ap Some (at_start same)
-    | inr differ ↦ put_other states pending.row.to 0 state differ ∙ under.start
+    → IsEdgeTo s states to behind
+    → IsRaised s to behind (states to) state
+    → (to ≡ 0 → state ≡ state_without_sites s 0)
+    → IsUnder s (put states to state)
+put_under s states to behind state under edge is at_start = record {
+  start = elim (same_or_not to 0) [
+    | inl same ↦ sym (ap (put states to state) same) ∙ put_here states to state ∙ ap Some (at_start same)
+    | inr differ ↦ put_other states to 0 state differ ∙ under.start
   ];
   at = all_at;
-  beneath = put_each (HasPlainBeneathTop s) states pending.row.to state clean under.beneath;
-  inside = put_each (λ place one. place < length s.flat.points) states pending.row.to state pending.target_inside under.inside;
-  led = put_each (λ place one. IsLedIn s (put states pending.row.to state) place) states pending.row.to state
-      (more (led_over pending.from pending.number pending.point pending.state pending.left pending.row (under.led pending.from pending.state pending.is_found) pending.is_point pending.is_found pending.is_left pending.is_row))
-      (λ place one is. more (under.led place one is));
-  lower = λ plan valid. put_each (λ place one. (point : PlannedPoint) × (planned plan place ≡ Some point) × IsBelow one point.state) states pending.row.to state (here plan valid) (under.lower plan valid);
+  beneath = put_each (HasPlainBeneathTop s) states to state is.beneath under.beneath;
+  inside = put_each (λ place one. place < length s.flat.points) states to state edge.inside under.inside;
+  led = put_each (λ place one. IsLedIn s (put states to state) place) states to state (more edge.led) (λ place one found. more (under.led place one found));
+  lower = λ plan valid. put_each (λ place one. (point : PlannedPoint) × (planned plan place ≡ Some point) × IsBelow one point.state) states to state (here plan valid) (under.lower plan valid);
 } where
-  all_at : (place : ℕ) (one : State) → put states pending.row.to state place ≡ Some one → IsStateAt s place one
-  all_at = put_each (IsStateAt s) states pending.row.to state is_at under.at
+  all_at : (place : ℕ) (one : State) → put states to state place ≡ Some one → IsStateAt s place one
+  all_at = put_each (IsStateAt s) states to state is.at under.at
 
-  more : {at : ℕ} → IsLedIn s states at → IsLedIn s (put states pending.row.to state) at
-  more led = led_more s states (put states pending.row.to state) (put_more states pending.row.to state above) (λ place one is. (all_at place one is).is_state) led
+  more : {at : ℕ} → IsLedIn s states at → IsLedIn s (put states to state) at
+  more led = led_more s states (put states to state) (put_more states to state is.above_old) (λ place one found. (all_at place one found).is_state) led
 
-  here : (plan : Plan) → IsValid s plan → (point : PlannedPoint) × (planned plan pending.row.to ≡ Some point) × IsBelow state point.state
+  here : (plan : Plan) → IsValid s plan → (point : PlannedPoint) × (planned plan to ≡ Some point) × IsBelow state point.state
   here plan valid =
-      let low = under.lower plan valid pending.from pending.state pending.is_found in
-      let target = target_in_plan s plan pending.from pending.point pending.state pending.left pending.behind pending.number pending.row low.0 valid pending.is_point (under.at pending.from pending.state pending.is_found).is_state pending.is_left pending.is_row pending.is_behind low.1 low.2 in (
+      let target = edge.lower plan valid in (
         target.0,
         target.1,
-        least target.0.state target.2 (valid.each pending.row.to target.0 target.1).is_planned.beneath (λ old is.
-            let old_low = under.lower plan valid pending.row.to old is in
+        is.least target.0.state target.2 (valid.each to target.0 target.1).is_planned.beneath (λ old found.
+            let old_low = under.lower plan valid to old found in
             subst (λ (point : PlannedPoint). IsBelow old point.state) (same_Some old_low.0 target.0 (sym old_low.1 ∙ target.1)) old_low.2),
       )
 
@@ -216,9 +221,14 @@ step_new s states pending under none =
     (length s.flat.points) pending.row.to pending.target_inside
     (subst (λ (o : Option State). missing o < missing (states pending.row.to)) (sym (put_here states pending.row.to found.above)) (subst (λ (o : Option State). 0 < missing o) (sym none) (omega arith))) in
     reaches more
-    (put_under s states pending found.above under (state_at_above s pending.row.to pending.behind found.above pending.is_at found.below) found.good.beneath
-    (λ old is. absurd (none-some old (sym none ∙ is)))
-    (λ target below clean old. found.least target below (record { below = below; beneath = clean }))
+    (put_under s states pending.row.to pending.behind found.above under (edge_to s states pending under)
+    (record {
+      at = state_at_above s pending.row.to pending.behind found.above pending.is_at found.below;
+      below = found.below;
+      above_old = λ old is. absurd (none-some old (sym none ∙ is));
+      beneath = found.good.beneath;
+      least = λ target below clean old. found.least target below (record { below = below; beneath = clean });
+    })
     (λ same. absurd (none-some (state_without_sites s 0) (sym none ∙ ap states same ∙ under.start))))
     fewer
 
@@ -242,9 +252,14 @@ step_raise s states pending old under is fault =
     let more = put states pending.row.to found.above in
     let less = raised_fewer s pending.row.to pending.behind old found.above fault found.below found.good in
     raises more
-    (put_under s states pending found.above under (state_at_above s pending.row.to old found.above at found.below) found.good.beneath
-    (λ one is_one. subst (λ (state : State). IsBelow state found.above) (same_Some old one (sym is ∙ is_one)) found.below)
-    (λ target below clean olds. found.least target (olds old is) (record { below = below; beneath = clean }))
+    (put_under s states pending.row.to pending.behind found.above under (edge_to s states pending under)
+    (record {
+      at = state_at_above s pending.row.to old found.above at found.below;
+      below = found.good.below;
+      above_old = λ one is_one. subst (λ (state : State). IsBelow state found.above) (same_Some old one (sym is ∙ is_one)) found.below;
+      beneath = found.good.beneath;
+      least = λ target below clean olds. found.least target (olds old is) (record { below = below; beneath = clean });
+    })
     (λ same.
     let first : old ≡ state_without_sites s 0 = same_Some old (state_without_sites s 0) (sym is ∙ ap states same ∙ under.start) in
     absurd (false≢true (subst (λ (state : State). IsTrue (is_present state.objects fault.site)) first fault.present))))
@@ -255,21 +270,6 @@ step_raise s states pending old under is fault =
     (subst (λ (o : Option State). weight o < weight (states pending.row.to)) (sym (put_here states pending.row.to found.above)) (subst (λ (o : Option State). length found.above.objects < weight o) (sym is) less)))
 
 -- ---- all edges lead to their targets, or there is a step
-
-pub record LeadsIn (states : Reached) (to : ℕ) (behind : State) : Type 0 where
-  pub target : State
-  pub reached : states to ≡ Some target
-  pub below : IsBelow behind target
-
-pub record AllLeadAt (s : PlanScope) (states : Reached) (at : ℕ) : Type 0 where
-  pub each :
-      (number : ℕ) (point : Point) (state left behind : State) (row : RowEdge)
-      → point_at s.flat at ≡ Some point
-      → states at ≡ Some state
-      → IsLeft s at point state left
-      → slice_get (open_edges s at point left) number ≡ Some row
-      → IsStateBehind s point at left row behind
-      → LeadsIn states row.to behind
 
 edge_step :
     (s : PlanScope) (states : Reached) (pending : Pending s states)
@@ -289,7 +289,7 @@ edge_step s states pending under =
 -- ---- the edges of a point
 
 -- the state behind an edge is one
-behind_is_one : (s : PlanScope) (at : ℕ) (point : Point) (before : State) (row : RowEdge) (one other : State) → IsStateBehind s point at before row one → IsStateBehind s point at before row other → one ≡ other
+pub behind_is_one : (s : PlanScope) (at : ℕ) (point : Point) (before : State) (row : RowEdge) (one other : State) → IsStateBehind s point at before row one → IsStateBehind s point at before row other → one ≡ other
 behind_is_one s at point before row one other first second = state_of_is_one _ _ one other first.is_state second.is_state first.is second.is
 
 abbrev RowLeads : PlanScope → Reached → ℕ → Point → State → RowEdge → Type 0

@@ -15,6 +15,11 @@ pub mod Inside
 pub mod Raising
 pub mod Iterating
 pub mod LeastPlans
+pub mod PointLists
+pub mod WorkLists
+pub mod Following
+pub mod Visiting
+pub mod LeastStarts
 pub mod Fitting
 pub mod Parameters
 pub mod ResultLens

@@ -22,10 +22,10 @@ has_below : (sites : List ℕ) (site : ℕ) → AllByRecursion (λ other. site <
 has_below [] site above = refl
 has_below (first ∷ sites) site above = ap (λ (b : Bool). b || has sites site) (ne_eqb first site (λ same. absurd (omega (arith, above.0, same)))) ∙ has_below sites site above.1
 
-has_first : (first : ℕ) (sites : List ℕ) → has (first ∷ sites) first ≡ true
+pub has_first : (first : ℕ) (sites : List ℕ) → has (first ∷ sites) first ≡ true
 has_first first sites = or_left (first == first) (has sites first) (eq-eqb first first refl)
 
-has_behind : (first : ℕ) (sites : List ℕ) (site : ℕ) → first ≢ site → has (first ∷ sites) site ≡ has sites site
+pub has_behind : (first : ℕ) (sites : List ℕ) (site : ℕ) → first ≢ site → has (first ∷ sites) site ≡ has sites site
 has_behind first sites site differ = ap (λ (b : Bool). b || has sites site) (ne_eqb first site differ)
 
 -- two lists that increase with the same members are one

@@ -7,6 +7,7 @@ use Rattle.std.proofs.lemmas.Option.{none-some, same_Some}
 use Rattle.flow_code.specs.FlatCode.{point_at}
 use Rattle.flow_code.specs.declared.point.Point.{Point}
 use Rattle.plan_flow.specs.Effect.{IsStateBehind, AreEdges, IsEffectIn}
+use Rattle.plan_flow.specs.Inner.Iteration.{IsLeft, IsTarget}
 use Rattle.plan_flow.specs.Must.{open_edges, IsMustOf, IsMust, IsMustIn}
 use Rattle.plan_flow.specs.PlanRows.{RowEdge}
 use Rattle.plan_flow.specs.PlanScope.{PlanScope}
@@ -60,10 +61,6 @@ same_counts s at one other first second = record {
 
 -- ---- what an edge's target must be
 
-pub record IsTarget (s : PlanScope) (at : ℕ) (behind state : State) : Type 0 where
-  pub below : IsBelow behind state
-  pub beneath : HasPlainBeneathTop s at state
-
 target_or_not :
     (s : PlanScope) (at : ℕ) (behind start : State)
     → IsStateAt s at behind
@@ -85,15 +82,6 @@ raised s at behind start is_behind is_start = least_above (IsTarget s at behind)
 
 -- ---- what is reached so far
 
-abbrev pub Reached : Type 0
-Reached = ℕ → Option State
-
--- the state in which the instruction is done
-pub record IsLeft (s : PlanScope) (at : ℕ) (point : Point) (state left : State) : Type 0 where
-  pub below : IsBelow state left
-  pub must : IsMustOf s at point left []
-  pub least : (other : State) → IsBelow state other → IsMustOf s at point other [] → IsBelow left other
-
 pub left_is_one : (s : PlanScope) (at : ℕ) (point : Point) (state one other : State) → IsLeft s at point state one → IsLeft s at point state other → one ≡ other
 left_is_one s at point state one other first second = below_both_ways one other (first.least other second.below second.must) (second.least one first.below first.must)
 
@@ -106,31 +94,6 @@ pub left_of : (s : PlanScope) (at : ℕ) (point : Point) (state : State) → IsS
 left_of s at point state is =
     let above = settled s at point state is in
     record { state = above.above; is_state = above.is_state; is = record { below = above.below; must = above.good; least = above.least } }
-
-pub data IsLedIn (s : PlanScope) (states : Reached) : ℕ → Type 0 where
-  led_first : IsLedIn s states 0
-  led_over : (from number : ℕ) (point : Point) (state left : State) (row : RowEdge)
-      → IsLedIn s states from
-      → point_at s.flat from ≡ Some point
-      → states from ≡ Some state
-      → IsLeft s from point state left
-      → slice_get (open_edges s from point left) number ≡ Some row
-      → IsLedIn s states row.to
-
--- ---- what holds of it
-
-pub record IsUnder (s : PlanScope) (states : Reached) : Type 0 where
-  pub start : states 0 ≡ Some (state_without_sites s 0)
-  pub at : (place : ℕ) (state : State) → states place ≡ Some state → IsStateAt s place state
-  pub beneath : (place : ℕ) (state : State) → states place ≡ Some state → HasPlainBeneathTop s place state
-  pub inside : (place : ℕ) (state : State) → states place ≡ Some state → place < length s.flat.points
-  pub led : (place : ℕ) (state : State) → states place ≡ Some state → IsLedIn s states place
-  pub lower :
-      (plan : Plan)
-      → IsValid s plan
-      → (place : ℕ) (state : State)
-      → states place ≡ Some state
-      → (point : PlannedPoint) × (planned plan place ≡ Some point) × IsBelow state point.state
 
 -- ---- an edge of what is reached is one of each valid plan
 

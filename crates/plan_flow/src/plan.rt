@@ -55,6 +55,13 @@ impl Model for Plan {
 }
 
 impl Plan {
+    /// The plan of these points.
+    pub(crate) fn of(points: Vec<Option<PointPlan>>) -> Self
+        ensures { result ≡ points.items }
+    {
+        Plan { points }
+    }
+
     /// The sites whose objects are made before the instruction of a point, if it is reached.
     pub fn made_at(&self, at: usize) -> Option<&SiteSet>
         ensures { option_copied result ≡ option_map (λ point. point.made) (planned self.now at) }

@@ -1,0 +1,50 @@
+-- Points in a sorted set, as a list.
+use Rattle.std.proofs.Common.{◌≡◌, ℕ, ◌≤◌, ◌+◌, ◌==◌, zero, suc, nat_lt, Bool, true, false, cond, ◌||◌, List, [], ◌∷◌, length, IsTrue, refl, sym, ap, subst, ◌∙◌, inl, inr, ◌⊎◌, arith}
+use Rattle.std.specs.BTreeSet.{insert_key}
+use Rattle.std.specs.Ordering.{nat_cmp, match_ordering}
+use Rattle.std.specs.declared.cmp.Ordering.{Ordering}
+use Rattle.std.specs.declared.cmp.Ordering.TheVariants.{Less, Equal, Greater}
+use Rattle.std.proofs.lemmas.Bool.{or_left, or_right, or_cases, eq-eqb, eqb-true}
+use Rattle.plan_flow.specs.Inner.Reaching.{HasListed}
+use Rattle.virtual_state.specs.Sites.{has}
+
+has_itself : (at : ℕ) (list : List ℕ) → IsTrue (has (at ∷ list) at)
+has_itself at list = or_left (at == at) (has list at) (eq-eqb at at refl)
+
+equal_numbers : (one other : ℕ) → nat_cmp one other ≡ Equal → one ≡ other
+equal_numbers one other is = by (nat_lt one other) (one == other) refl is where
+  by : (less same : Bool) → (one == other) ≡ same → cond less Less (cond same Equal Greater) ≡ Equal → one ≡ other
+  by true same equal none = absurd cc
+  by false true equal some = eqb-true one other equal
+  by false false equal none = absurd cc
+
+pub inserted : (list : List ℕ) (at : ℕ) → HasListed list (insert_key nat_cmp list at) at
+inserted [] at = record {
+  here = has_itself at [];
+  others = λ other there. or_right (at == other) false there;
+  more = omega arith;
+}
+inserted (first ∷ list) at = by (nat_cmp at first) refl (inserted list at) where
+  by :
+      (order : Ordering)
+      → nat_cmp at first ≡ order
+      → HasListed list (insert_key nat_cmp list at) at
+      → HasListed (first ∷ list) (match_ordering order (at ∷ first ∷ list) (first ∷ list) (first ∷ insert_key nat_cmp list at)) at
+  by Less is rest = record {
+    here = has_itself at (first ∷ list);
+    others = λ other there. or_right (at == other) (has (first ∷ list) other) there;
+    more = omega arith;
+  }
+  by Equal is rest = record {
+    here = subst (λ (n : ℕ). IsTrue (has (first ∷ list) n)) (sym (equal_numbers at first is)) (has_itself first list);
+    others = λ other there. there;
+    more = omega arith;
+  }
+  by Greater is rest = record {
+    here = or_right (first == at) (has (insert_key nat_cmp list at) at) rest.here;
+    others = λ other there. elim (or_cases (first == other) (has list other) there) [
+      | inl here ↦ or_left (first == other) (has (insert_key nat_cmp list at) other) here
+      | inr behind ↦ or_right (first == other) (has (insert_key nat_cmp list at) other) (rest.others other behind)
+    ];
+    more = let more = rest.more in omega (arith, more);
+  }

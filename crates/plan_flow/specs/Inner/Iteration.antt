@@ -1,0 +1,33 @@
+-- States of one point while the least plan is found.
+use Rattle.std.specs.Prelude.{◌≡◌, ℕ, [], Option, Some}
+use Rattle.flow_code.specs.declared.point.Point.{Point}
+use Rattle.plan_flow.specs.Must.{IsMustOf}
+use Rattle.plan_flow.specs.PlanScope.{PlanScope}
+use Rattle.plan_flow.specs.Plans.{HasPlainBeneathTop, IsStateAt}
+use Rattle.virtual_state.specs.Orders.{IsBelow}
+use Rattle.virtual_state.specs.States.{State}
+
+-- the state in which the instruction is done: the least one above in which it asks for no object
+pub record IsLeft (s : PlanScope) (at : ℕ) (point : Point) (state left : State) : Type 0 where
+  pub below : IsBelow state left
+  pub must : IsMustOf s at point left []
+  pub least :
+      (other : State) → IsBelow state other → IsMustOf s at point other [] → IsBelow left other
+
+-- what the target of an edge must be, if this is the state behind the edge
+pub record IsTarget (s : PlanScope) (at : ℕ) (behind state : State) : Type 0 where
+  pub below : IsBelow behind state
+  pub beneath : HasPlainBeneathTop s at state
+
+-- The least state of a target that is above the one behind an edge, and above the one that the target has, if it has one.
+pub record IsRaised (s : PlanScope) (to : ℕ) (behind : State) (old : Option State) (above : State)
+    : Type 0 where
+  pub at : IsStateAt s to above
+  pub below : IsBelow behind above
+  pub above_old : (state : State) → old ≡ Some state → IsBelow state above
+  pub beneath : HasPlainBeneathTop s to above
+  pub least : (target : State)
+      → IsBelow behind target
+      → HasPlainBeneathTop s to target
+      → ((state : State) → old ≡ Some state → IsBelow state target)
+      → IsBelow above target

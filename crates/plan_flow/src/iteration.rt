@@ -1,0 +1,150 @@
+//! States are raised until each edge leads to its target: an iteration over a work list of points (after Kildall, "A Unified
+//! Approach to Global Program Optimization", 1973).
+ghost use Rattle.std.specs.Prelude.{◌∷◌, ◌↔◌, [], IfOk, OnOk, IsTrue};
+ghost use Rattle.plan_flow.specs.Inner.Reaching.{AreFollowed, AreReaching, AreStarted, IsAdvanced, IsVisited, LeadsIn, reached_in};
+ghost use Rattle.plan_flow.specs.Narrow.{IsNarrow};
+ghost use Rattle.plan_flow.specs.Plans.{FlowsInside};
+
+use crate::edge::Edge;
+use crate::effects::effect;
+use crate::links_laws::a_tree_has_links;
+use crate::point_states::PointStates;
+use crate::targets::raised;
+use crate::settling::settled;
+use crate::work_list::WorkList;
+use class_model::NoMemory;
+use class_tree::Tree;
+use flow_code::Flat;
+use std::alloc::Global;
+use virtual_state::below;
+
+/// Raises the states of points until each edge leads to its target.
+///
+/// # Errors
+/// `NoMemory`, where memory runs out.
+pub(crate) fn iterate(
+    alloc: Global,
+    tree: &Tree,
+    flat: &Flat,
+    states: &mut PointStates,
+    work: &mut WorkList,
+) -> Result<(), NoMemory>
+    requires narrow { IsNarrow flat.now }
+    requires flows { FlowsInside flat.now }
+    requires reaching { AreReaching tree.now flat.now states.old work.old }
+    ensures { OnOk result (AreReaching tree.now flat.now states.new []) }
+{
+    let mut more = true;
+    while more {
+        more = advance(alloc, tree, flat, states, work)?;
+    }
+    Ok(())
+}
+
+// Visits points until one is reached for the first time, or until none is left.
+fn advance(
+    alloc: Global,
+    tree: &Tree,
+    flat: &Flat,
+    states: &mut PointStates,
+    work: &mut WorkList,
+) -> Result<bool, NoMemory>
+    requires narrow { IsNarrow flat.now }
+    requires flows { FlowsInside flat.now }
+    requires reaching { AreReaching tree.now flat.now states.old work.old }
+    ensures { IfOk result
+        (λ more. IsAdvanced tree.now flat.now states.old states.new work.new more) }
+{
+    while let Some(at) = work.take() {
+        if visit(alloc, tree, flat, at, states, work)? {
+            return Ok(true);
+        }
+    }
+    Ok(false)
+}
+
+// Follows the edges of a point. Whether it reaches one for the first time.
+fn visit(
+    alloc: Global,
+    tree: &Tree,
+    flat: &Flat,
+    at: usize,
+    states: &mut PointStates,
+    work: &mut WorkList,
+) -> Result<bool, NoMemory>
+    requires narrow { IsNarrow flat.now }
+    requires flows { FlowsInside flat.now }
+    requires reaching { AreReaching tree.now flat.now states.old (at ∷ work.old) }
+    ensures { IfOk result
+        (λ new. IsVisited tree.now flat.now states.old states.new work.old work.new new) }
+{
+    let Some(state) = states.get(at) else {
+        return Ok(false);
+    };
+    let _end = flat.len();
+    let left = settled(alloc, tree, flat, at, state)?;
+    let edges = effect(alloc, tree, flat, at, &left)?;
+    left.is_state();
+    let new = follow_all(alloc, tree, flat, edges.as_slice(), states, work)?;
+    Ok(new)
+}
+
+// Follows edges, in order. Whether one reaches a point for the first time.
+fn follow_all(
+    alloc: Global,
+    tree: &Tree,
+    flat: &Flat,
+    edges: &[Edge],
+    states: &mut PointStates,
+    work: &mut WorkList,
+) -> Result<bool, NoMemory>
+    requires start { AreStarted tree.now flat.now states.old edges.now }
+    ensures { IfOk result (λ new.
+        AreFollowed tree.now flat.now states.old states.new work.old work.new edges.now new) }
+{
+    let mut new = false;
+    let mut number = 0;
+    while let Some(edge) = edges.get(number) {
+        if follow(alloc, tree, flat, edge, states, work)? {
+            new = true;
+        }
+        number += 1;
+    }
+    Ok(new)
+}
+
+// Reaches the target of an edge, or raises its state, unless the edge leads there already. Whether the target is reached for the
+// first time.
+fn follow(
+    alloc: Global,
+    tree: &Tree,
+    flat: &Flat,
+    edge: &Edge,
+    states: &mut PointStates,
+    work: &mut WorkList,
+) -> Result<bool, NoMemory>
+    requires start { AreStarted tree.now flat.now states.old (edge.now ∷ []) }
+    ensures { IfOk result (λ new.
+        AreFollowed tree.now flat.now states.old states.new work.old work.new (edge.now ∷ []) new) }
+{
+    if leads(states, edge) {
+        return Ok(false);
+    }
+    a_tree_has_links(tree);
+    let old = states.get(edge.to);
+    let new = old.is_none();
+    let above = raised(alloc, flat, edge.to, &edge.state, old)?;
+    work.add(edge.to)?;
+    states.put(edge.to, above);
+    Ok(new)
+}
+
+// Whether an edge leads to its target.
+fn leads(states: &PointStates, edge: &Edge) -> bool
+    ensures { IsTrue result ↔ LeadsIn (reached_in states.now) edge.now.to edge.now.state }
+{
+    match states.get(edge.to) {
+        Some(state) => below(&edge.state, state),
+        None => false,
+    }
+}

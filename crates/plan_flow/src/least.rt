@@ -1,0 +1,174 @@
+//! The least plan of flat code.
+ghost use Rattle.std.specs.Prelude.{◌≡◌, ◌++◌, ◌∷◌, [], IfOk};
+ghost use Rattle.std.specs.Option.{option_copied};
+ghost use Rattle.class_tree.specs.Headers.{headers_of};
+ghost use Rattle.member_link.specs.Machine.Links.{AreLinksOf};
+ghost use Rattle.member_link.specs.Machine.Programs.{Links};
+ghost use Rattle.plan_flow.specs.Inner.Planning.{IsPlanOf, made_edge, made_edges, made_on as sites_made_on};
+ghost use Rattle.plan_flow.specs.Inner.Reaching.{AreReaching, IsReaching, reached_in};
+ghost use Rattle.plan_flow.specs.Narrow.{IsNarrow};
+ghost use Rattle.plan_flow.specs.PlanScope.{PlanScope, scope_of};
+ghost use Rattle.plan_flow.specs.PlanSlots.{fit_locals, fit_stack};
+ghost use Rattle.plan_flow.specs.Plans.{FlowsInside, IsLeast};
+ghost use Rattle.virtual_state.specs.Sites.{differing as differing_sites};
+
+use crate::edge::Edge;
+use crate::effects::effect;
+use crate::iteration::iterate;
+use crate::plan::{EdgePlan, Plan, PointPlan};
+use crate::point_states::PointStates;
+use crate::settling::settled;
+use crate::slots::fitted;
+use crate::work_list::WorkList;
+use class_model::{Frame, ListOf, NoMemory};
+use class_tree::Tree;
+use flow_code::Flat;
+use std::alloc::Global;
+use virtual_state::{SiteSet, VState, differing};
+
+/// The least plan of flat code that control does not leave: each other valid plan makes an object wherever this one does, or
+/// earlier. Takes the points off a work list, lowest first, and raises the states of the targets of their edges, until each
+/// edge leads to its target (the iteration of partial escape analysis, CGO 2014, over a work list in place of a walk over the
+/// control flow).
+///
+/// # Errors
+/// `NoMemory`, where memory runs out.
+pub fn least_plan(alloc: Global, tree: &Tree, flat: &Flat) -> Result<Plan, NoMemory>
+    requires narrow { IsNarrow flat.now }
+    requires flows { FlowsInside flat.now }
+    ensures { IfOk result (λ plan. (links : Links)
+        → AreLinksOf (headers_of tree.now) links
+        → IsLeast (scope_of tree.now links flat.now) plan) }
+{
+    let mut states = start(alloc, flat)?;
+    let mut work = WorkList::new(alloc);
+    work.add(0)?;
+    iterate(alloc, tree, flat, &mut states, &mut work)?;
+    let plan = plan_of(alloc, tree, flat, &states)?;
+    Ok(plan)
+}
+
+// The states where point 0 alone is reached, with no site.
+fn start(alloc: Global, flat: &Flat) -> Result<PointStates, NoMemory>
+    requires { FlowsInside flat.now }
+    ensures { IfOk result
+        (λ states. (s : PlanScope) → s.flat ≡ flat.now → IsReaching s states (0 ∷ [])) }
+{
+    let mut states = PointStates::new(alloc, flat.len())?;
+    if let Some(types) = flat.typed(0) {
+        let state = blank_state(alloc, types)?;
+        states.put(0, state);
+    }
+    Ok(states)
+}
+
+// The state of a point with these types that has no site.
+fn blank_state(alloc: Global, types: &Frame) -> Result<VState, NoMemory>
+    ensures { IfOk result (λ state.
+        state
+        ≡ record {
+          slots = fit_locals types.now.locals [] ++ fit_stack types.now.stack [];
+          objects = [];
+        }) }
+{
+    let slots = fitted(alloc, &[], &[], types)?;
+    let state = VState::of(alloc, slots, ListOf::new(alloc))?;
+    state.is_state();
+    Ok(state)
+}
+
+// The plan that the states of points give.
+fn plan_of(
+    alloc: Global,
+    tree: &Tree,
+    flat: &Flat,
+    states: &PointStates,
+) -> Result<Plan, NoMemory>
+    requires narrow { IsNarrow flat.now }
+    requires reaching { AreReaching tree.now flat.now states.now [] }
+    ensures { IfOk result (λ plan. (links : Links)
+        → AreLinksOf (headers_of tree.now) links
+        → IsLeast (scope_of tree.now links flat.now) plan) }
+{
+    let mut points = Vec::with_capacity(alloc, flat.len())?;
+    while points.len() < flat.len() {
+        let plan = point_plan(alloc, tree, flat, points.len(), states)?;
+        points.push(plan)?;
+    }
+    Ok(Plan::of(points))
+}
+
+// The plan of a point, if it is reached.
+fn point_plan(
+    alloc: Global,
+    tree: &Tree,
+    flat: &Flat,
+    at: usize,
+    states: &PointStates,
+) -> Result<Option<PointPlan>, NoMemory>
+    requires narrow { IsNarrow flat.now }
+    requires reaching { AreReaching tree.now flat.now states.now [] }
+    ensures { IfOk result (λ plan. (links : Links)
+        → AreLinksOf (headers_of tree.now) links
+        → IsPlanOf (scope_of tree.now links flat.now) (reached_in states.now) at plan) }
+{
+    let Some(state) = states.get(at) else {
+        return Ok(None);
+    };
+    let left = settled(alloc, tree, flat, at, state)?;
+    left.is_state();
+    let edges = effect(alloc, tree, flat, at, &left)?;
+    let made = made_between(alloc, state, &left)?;
+    let edges = edge_plans(alloc, edges.as_slice(), states)?;
+    let state = state.copy()?;
+    Ok(Some(PointPlan { state, made, edges }))
+}
+
+// The plans of edges.
+fn edge_plans(
+    alloc: Global,
+    edges: &[Edge],
+    states: &PointStates,
+) -> Result<Vec<EdgePlan>, NoMemory>
+    ensures { IfOk result
+        (λ plans. plans.items ≡ made_edges (reached_in states.now) edges.now) }
+{
+    let mut plans = Vec::with_capacity(alloc, edges.len())?;
+    while let Some(edge) = edges.get(plans.len()) {
+        plans.push(edge_plan(alloc, edge, states)?)?;
+    }
+    Ok(plans)
+}
+
+// The plan of an edge.
+fn edge_plan(alloc: Global, edge: &Edge, states: &PointStates) -> Result<EdgePlan, NoMemory>
+    ensures { IfOk result (λ plan. plan ≡ made_edge (reached_in states.now) edge.now) }
+{
+    let made = made_on(alloc, &edge.state, states.get(edge.to))?;
+    Ok(EdgePlan {
+        by: edge.by,
+        to: edge.to,
+        made,
+    })
+}
+
+// The sites whose objects are made on an edge to a target, if that is reached.
+fn made_on(alloc: Global, behind: &VState, target: Option<&VState>) -> Result<SiteSet, NoMemory>
+    ensures { IfOk result
+        (λ sites. sites ≡ sites_made_on behind.now (option_copied target.entry)) }
+{
+    match target {
+        Some(target) => made_between(alloc, behind, target),
+        None => Ok(SiteSet::new(alloc)),
+    }
+}
+
+// The sites of a state that another one does not have.
+fn made_between(alloc: Global, state: &VState, other: &VState) -> Result<SiteSet, NoMemory>
+    ensures { IfOk result (λ sites. sites ≡ differing_sites state.now other.now) }
+{
+    state.is_state();
+    let sites = differing(alloc, state, other)?;
+    let _order = sites.as_slice();
+    Ok(sites)
+}
