@@ -1,6 +1,6 @@
 -- An edge is followed: its target is reached, or its state is raised.
-use Rattle.std.proofs.Common.{◌≡◌, ℕ, ◌<◌, ◌≤◌, ◌+◌, zero, suc, Bool, true, false, ◌||◌, List, [], ◌∷◌, take, length, slice_get, slice_set, Option, Some, None, is_none, IsTrue, IsFalse, refl, sym, ap, subst, ◌∙◌, inl, inr, ◌⊎◌, arith}
-use Rattle.std.specs.Option.{option_flatten}
+use Rattle.std.proofs.Common.{◌≡◌, ℕ, ◌<◌, ◌≤◌, ◌+◌, zero, suc, Bool, true, false, ◌||◌, List, [], ◌∷◌, take, length, slice_get, slice_set, Option, Some, None, Bor, is_none, is_some, not, IsTrue, IsFalse, refl, sym, ap, subst, ◌∙◌, inl, inr, ◌⊎◌, arith}
+use Rattle.std.specs.Option.{option_copied, option_flatten}
 use Rattle.std.proofs.lemmas.Bool.{cases_Bool, false≢true, true≢false, both_ways, or_left, or_right, or_cases, or_parts}
 use Rattle.std.proofs.lemmas.List.{length-set}
 use Rattle.std.proofs.lemmas.Option.{none-some, same_Some}
@@ -39,7 +39,7 @@ leads_more states more to behind grows leads =
     let above = grows.each to leads.target leads.reached in
     record { target = above.0; reached = above.1; below = below_and_below behind leads.target above.0 leads.below above.2 }
 
-not_listed : (one other : Bool) → (IsTrue one → IsTrue other) → IsFalse other → IsFalse one
+pub not_listed : (one other : Bool) → (IsTrue one → IsTrue other) → IsFalse other → IsFalse one
 not_listed false other there none = refl
 not_listed true other there none = absurd (both_ways other none (there refl))
 
@@ -103,6 +103,10 @@ followed_none classes flat states work edges some started lead = record {
   lead = lead;
 }
 
+pub only_leads : (states : List (Option State)) (edge : Edge) → LeadsIn (reached_in states) edge.to edge.state → (number : ℕ) (one : Edge) → slice_get (edge ∷ []) number ≡ Some one → LeadsIn (reached_in states) one.to one.state
+only_leads states edge lead zero one found = subst (λ (e : Edge). LeadsIn (reached_in states) e.to e.state) (same_Some edge one found) lead
+only_leads states edge lead (suc number) one found = absurd (none-some one found)
+
 -- the next edge
 pub started_next :
     (classes : Classes) (flat : FlatCode) (before states : List (Option State)) (work also : List ℕ) (edges some : List Edge) (new : Bool) (number : ℕ) (edge : Edge)
@@ -160,6 +164,16 @@ same_places classes flat states edge links state are started is =
     let old = (started.under links are).at edge.to state is in
     behind.places ∙ sym old.places
 
+pub started_inside :
+    (classes : Classes) (flat : FlatCode) (states : List (Option State)) (edge : Edge) (links : Links)
+    → AreLinksOf (headers_of classes) links
+    → AreStarted classes flat states (edge ∷ [])
+    → edge.to < length states
+started_inside classes flat states edge links are started =
+    let inside = (started.edge links 0 edge are refl).inside in
+    let len = started.len in
+    omega (arith, inside, len)
+
 -- point 0 keeps its state
 keeps_start : (s : PlanScope) (states : Reached) (to : ℕ) (behind above : State) → IsUnder s states → IsRaised s to behind (states to) above → to ≡ 0 → above ≡ state_without_sites s 0
 keeps_start s states to behind above under is same =
@@ -181,10 +195,7 @@ raised_in : (classes : Classes) (flat : FlatCode) (before : List (Option State))
 raised_in classes flat before work also edge above f links are = f.is (scope_of classes links flat) refl (f.started.edge links 0 edge are refl).is_at
 
 target_inside : (classes : Classes) (flat : FlatCode) (before : List (Option State)) (work also : List ℕ) (edge : Edge) (above : State) → Following classes flat before work also edge above → edge.to < length before
-target_inside classes flat before work also edge above f =
-    let inside = (f.started.edge f.links 0 edge f.are refl).inside in
-    let len = f.started.len in
-    omega (arith, inside, len)
+target_inside classes flat before work also edge above f = started_inside classes flat before edge f.links f.are f.started
 
 followed_less : (classes : Classes) (flat : FlatCode) (before : List (Option State)) (work also : List ℕ) (edge : Edge) (above : State) → Following classes flat before work also edge above → IsLess before (slice_set before edge.to (Some above)) work also (is_none (reached_in before edge.to))
 followed_less classes flat before work also edge above f =
@@ -226,6 +237,12 @@ followed_raised classes flat before work also edge above f =
       listed = f.listed.others;
     }
 
+new_is : (state : Option State) (new : Bool) → is_some state ≡ not new → new ≡ is_none state
+new_is None true is = refl
+new_is None false is = absurd (false≢true is)
+new_is (Some state) true is = absurd (true≢false is)
+new_is (Some state) false is = refl
+
 -- the target is reached, or its state is raised
 pub followed_one :
     (classes : Classes) (flat : FlatCode) (before after : List (Option State)) (work also : List ℕ) (edge : Edge) (above : State) (new : Bool) (links : Links)
@@ -235,7 +252,7 @@ pub followed_one :
     → ((s : PlanScope) → s.flat ≡ flat → IsStateAt s edge.to edge.state → IsRaised s edge.to edge.state (reached_in before edge.to) above)
     → HasListed work also edge.to
     → after ≡ slice_set before edge.to (Some above)
-    → new ≡ is_none (reached_in before edge.to)
+    → is_some (reached_in before edge.to) ≡ not new
     → AreFollowed classes flat before after work also (edge ∷ []) new
 followed_one classes flat before after work also edge above new links are started apart is listed is_after is_new =
     let f : Following classes flat before work also edge above = record { links = links; are = are; started = started; apart = apart; is = is; listed = listed } in
@@ -244,7 +261,7 @@ followed_one classes flat before after work also edge above new links are starte
     let raised = raised_in classes flat before work also edge above f links are in
     subst (λ (states : List (Option State)). AreFollowed classes flat before states work also (edge ∷ []) new) (sym is_after) (record {
       raised = followed_raised classes flat before work also edge above f;
-      less = subst (IsLess before (slice_set before edge.to (Some above)) work also) (sym is_new) (followed_less classes flat before work also edge above f);
+      less = subst (IsLess before (slice_set before edge.to (Some above)) work also) (sym (new_is (reached_in before edge.to) new is_new)) (followed_less classes flat before work also edge above f);
       under = λ link are_link.
           let s = scope_of classes link flat in
           let high = raised_in classes flat before work also edge above f link are_link in
@@ -252,10 +269,15 @@ followed_one classes flat before after work also edge above new links are starte
           subst (IsUnder s) (sym put_in)
           (put_under s (reached_in before) edge.to edge.state above under (started.edge link 0 edge are_link refl) high
           (keeps_start s (reached_in before) edge.to edge.state above under high));
-      lead = λ number one found. only number one found raised.below inside;
-    }) where
-      only : (number : ℕ) (one : Edge) → slice_get (edge ∷ []) number ≡ Some one → IsBelow edge.state above → edge.to < length before → LeadsIn (reached_in (slice_set before edge.to (Some above))) one.to one.state
-      only zero one found below inside =
-          subst (λ (e : Edge). LeadsIn (reached_in (slice_set before edge.to (Some above))) e.to e.state) (same_Some edge one found)
-          (record { target = above; reached = ap option_flatten (set_here before edge.to (Some above) inside); below = below })
-      only (suc number) one found below inside = absurd (none-some one found)
+      lead = only_leads (slice_set before edge.to (Some above)) edge (record { target = above; reached = ap option_flatten (set_here before edge.to (Some above) inside); below = raised.below });
+    })
+
+-- ---- a reference that may be missing
+
+pub copied_some : (state : Option (Bor State)) → is_some (option_copied state) ≡ is_some state
+copied_some None = refl
+copied_some (Some state) = refl
+
+pub or_false : (one : Bool) → (one || false) ≡ one
+or_false true = refl
+or_false false = refl

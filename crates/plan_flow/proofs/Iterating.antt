@@ -76,7 +76,7 @@ pub put_here : (states : Reached) (place : ℕ) (state : State) → put states p
 unfolding put
 put_here states place state = ap (λ (b : Bool). cond b (Some state) (states place)) (eq-eqb place place refl)
 
-put_other : (states : Reached) (place at : ℕ) (state : State) → (place ≡ at → ⊥) → put states place state at ≡ states at
+pub put_other : (states : Reached) (place at : ℕ) (state : State) → (place ≡ at → ⊥) → put states place state at ≡ states at
 unfolding put
 put_other states place at state differ = ap (λ (b : Bool). cond b (Some state) (states at)) (ne_eqb place at differ)
 

@@ -78,6 +78,14 @@ nothing at = None
 pub start_states : PlanScope → Reached
 start_states s = put nothing 0 (state_without_sites s 0)
 
+pub nothing_at : (at : ℕ) → nothing at ≡ None
+unfolding nothing
+nothing_at at = refl
+
+pub start_states_are : (s : PlanScope) → start_states s ≡ put nothing 0 (state_without_sites s 0)
+unfolding start_states
+start_states_are s = refl
+
 pub start_under : (s : PlanScope) → FlowsInside s.flat → IsUnder s (start_states s)
 unfolding nothing start_states
 start_under s flows = record {

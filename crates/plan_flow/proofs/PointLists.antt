@@ -6,7 +6,7 @@ use Rattle.plan_flow.specs.Inner.Reaching.{reached_in, unreached_in, objects_in}
 use Rattle.virtual_state.specs.States.{State}
 use Rattle.virtual_state.specs.Laws.Objects.{same_or_not}
 use Rattle.plan_flow.proofs.Iterating.{put, put_here, put_other}
-use Rattle.plan_flow.proofs.LeastPlans.{nothing}
+use Rattle.plan_flow.proofs.LeastPlans.{nothing, nothing_at}
 use mathlib.Core.Path.{fun_ext}
 
 -- ---- an item that is put into a list
@@ -70,8 +70,7 @@ none_at (suc count) zero = refl
 none_at (suc count) (suc at) = none_at count at
 
 pub none_reached : (count : ℕ) → reached_in (replicate count None) ≡ nothing
-unfolding nothing
-none_reached count = fun_ext (λ at. none_at count at)
+none_reached count = fun_ext (λ at. none_at count at ∙ sym (nothing_at at))
 
 -- ---- how many points are not reached, and how many objects are left
 

@@ -1,6 +1,6 @@
 -- The edges of a point are followed, one point of the work list after another.
-use Rattle.std.proofs.Common.{◌≡◌, ℕ, ◌<◌, ◌≤◌, ◌+◌, ◌*◌, ◌==◌, zero, suc, Bool, true, false, ◌||◌, List, [], ◌∷◌, length, slice_get, Option, Some, None, IsTrue, IsFalse, refl, sym, ap, subst, ◌∙◌, inl, inr, ◌⊎◌, arith}
-use Rattle.std.proofs.lemmas.Bool.{false≢true, both_ways}
+use Rattle.std.proofs.Common.{◌≡◌, ℕ, ◌<◌, ◌≤◌, ◌+◌, ◌*◌, ◌==◌, zero, suc, Bool, true, false, cond, ◌||◌, List, [], ◌∷◌, length, slice_get, Option, Some, None, IsTrue, IsFalse, refl, sym, ap, subst, ◌∙◌, inl, inr, ◌⊎◌, arith}
+use Rattle.std.proofs.lemmas.Bool.{false≢true, true≢false, both_ways}
 use Rattle.std.proofs.lemmas.Option.{none-some, same_Some}
 use Rattle.class_tree.specs.Headers.{Classes, headers_of}
 use Rattle.flow_code.specs.FlatCode.{FlatCode, IsFlat, point_at}
@@ -214,7 +214,83 @@ reaching_more classes flat states work also reaching listed = λ links are.
 
 -- ---- point after point
 
--- what is done so far: a point is taken, and then visited
-record IsAdvancing (classes : Classes) (flat : FlatCode) (before after : List (Option State)) (work : List ℕ) : Type 0 where
+-- points were taken and visited, and none was reached for the first time
+pub record IsAdvancing (classes : Classes) (flat : FlatCode) (before after : List (Option State)) (work : List ℕ) : Type 0 where
   pub fewer : unreached_in after ≤ unreached_in before
   pub reaching : AreReaching classes flat after work
+
+pub advancing_starts : (classes : Classes) (flat : FlatCode) (states : List (Option State)) (work : List ℕ) → AreReaching classes flat states work → IsAdvancing classes flat states states work
+advancing_starts classes flat states work reaching = record { fewer = omega arith; reaching = reaching }
+
+pub taken_reaching : (classes : Classes) (flat : FlatCode) (before states : List (Option State)) (all work : List ℕ) (at : ℕ) → IsAdvancing classes flat before states all → all ≡ at ∷ work → AreReaching classes flat states (at ∷ work)
+taken_reaching classes flat before states all work at advancing is = subst (AreReaching classes flat states) is advancing.reaching
+
+pub advancing_more :
+    (classes : Classes) (flat : FlatCode) (before states after : List (Option State)) (all work also : List ℕ) (new : Bool)
+    → IsAdvancing classes flat before states all
+    → IsVisited classes flat states after work also new
+    → IsAdvancing classes flat before after also
+advancing_more classes flat before states after all work also new advancing visited = record {
+  fewer = let one = advancing.fewer in let two = visited.less.fewer in omega (arith, one, two);
+  reaching = visited.reaching;
+}
+
+pub visit_smaller :
+    (classes : Classes) (flat : FlatCode) (states after : List (Option State)) (all work also : List ℕ) (at : ℕ) (new : Bool)
+    → all ≡ at ∷ work
+    → IsVisited classes flat states after work also new
+    → IsFalse new
+    → objects_in after * 2 + length also < objects_in states * 2 + length all
+visit_smaller classes flat states after all work also at new is visited old =
+    let lighter = visited.less.lighter old in
+    let len = ap (λ (list : List ℕ). length list) is in
+    omega (arith, lighter, len)
+
+pub advanced_new :
+    (classes : Classes) (flat : FlatCode) (before states after : List (Option State)) (all work also : List ℕ) (new : Bool)
+    → IsAdvancing classes flat before states all
+    → IsVisited classes flat states after work also new
+    → IsTrue new
+    → IsAdvanced classes flat before after also true
+advanced_new classes flat before states after all work also new advancing visited is = record {
+  fewer = let one = advancing.fewer in let two = visited.less.fewer in omega (arith, one, two);
+  reaches = λ yes_new. let one = advancing.fewer in let two = visited.less.reaches is in omega (arith, one, two);
+  done = λ old. absurd (true≢false old);
+  reaching = visited.reaching;
+}
+
+pub advanced_none :
+    (classes : Classes) (flat : FlatCode) (before states : List (Option State)) (all work : List ℕ)
+    → IsAdvancing classes flat before states all
+    → all ≡ []
+    → work ≡ all
+    → IsAdvanced classes flat before states work false
+advanced_none classes flat before states all work advancing none same = record {
+  fewer = advancing.fewer;
+  reaches = λ new. absurd (false≢true new);
+  done = λ old. same ∙ none;
+  reaching = subst (AreReaching classes flat states) (sym same) advancing.reaching;
+}
+
+-- ---- until none is left
+
+pub record IsIterating (classes : Classes) (flat : FlatCode) (states : List (Option State)) (work : List ℕ) (more : Bool) : Type 0 where
+  pub reaching : AreReaching classes flat states work
+  pub done : IsFalse more → work ≡ []
+
+pub iterating_starts : (classes : Classes) (flat : FlatCode) (states : List (Option State)) (work : List ℕ) → AreReaching classes flat states work → IsIterating classes flat states work true
+iterating_starts classes flat states work reaching = record { reaching = reaching; done = λ old. absurd (true≢false old) }
+
+pub iterating_more : (classes : Classes) (flat : FlatCode) (before after : List (Option State)) (work : List ℕ) (more : Bool) → IsAdvanced classes flat before after work more → IsIterating classes flat after work more
+iterating_more classes flat before after work more advanced = record { reaching = advanced.reaching; done = advanced.done }
+
+-- rounds that are left
+abbrev pub rounds_left : List (Option State) → Bool → ℕ
+rounds_left states more = unreached_in states * 2 + cond more 1 0
+
+pub advance_smaller : (classes : Classes) (flat : FlatCode) (before after : List (Option State)) (work : List ℕ) (more : Bool) → IsAdvanced classes flat before after work more → rounds_left after more < rounds_left before true
+advance_smaller classes flat before after work true advanced = let less = advanced.reaches refl in omega (arith, less)
+advance_smaller classes flat before after work false advanced = let fewer = advanced.fewer in omega (arith, fewer)
+
+pub iterated_all : (classes : Classes) (flat : FlatCode) (states : List (Option State)) (work : List ℕ) (more : Bool) → IsIterating classes flat states work more → IsFalse more → AreReaching classes flat states []
+iterated_all classes flat states work more iterating old = subst (AreReaching classes flat states) (iterating.done old) iterating.reaching

@@ -82,6 +82,7 @@ fn visit(
         return Ok(false);
     };
     let _end = flat.len();
+    a_tree_has_links(tree);
     let left = settled(alloc, tree, flat, at, state)?;
     let edges = effect(alloc, tree, flat, at, &left)?;
     left.is_state();

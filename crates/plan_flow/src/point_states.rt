@@ -29,7 +29,7 @@ impl PointStates {
         ensures { IfOk result (λ states. states ≡ replicate count None) }
     {
         let mut states = Vec::with_capacity(alloc, count)?;
-        for _ in 0..count {
+        for _at in 0..count {
             states.push(None)?;
         }
         Ok(PointStates { states })

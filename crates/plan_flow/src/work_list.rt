@@ -42,7 +42,8 @@ impl WorkList {
     /// Takes out the lowest point, if there is one.
     pub(crate) fn take(&mut self) -> Option<usize>
         ensures some { IfSome result (λ at. self.old ≡ at ∷ self.new) }
-        ensures none { IfNone result (self.new ≡ []) }
+        ensures none { IfNone result (self.old ≡ []) }
+        ensures same { IfNone result (self.new ≡ self.old) }
     {
         self.points.pop_first()
     }
