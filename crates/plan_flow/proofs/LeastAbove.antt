@@ -41,6 +41,24 @@ reached_absent state other site closed gone (from_slot to named) =
     ]
 reached_absent state other site closed gone (from_field from to reached edge) = closed from to edge (reached_absent state other site closed gone reached)
 
+-- what a state is below, it is below without sites that are absent there
+pub rest_below :
+    (state other : State) (away : ℕ → Bool)
+    → IsState state
+    → IsClosed away state.objects
+    → IsBelow state other
+    → ((site : ℕ) → IsTrue (away site) → IsTrue (absent other site))
+    → IsBelow (without state away) other
+rest_below state other away is away_closed below part =
+    let closed = below_is_closed state other is below in
+    let both = without_agrees state (λ to. away to || absent other to) (absent other) is (λ to to_present. same_truth (away to || absent other to) (absent other to) (λ either. elim (or_cases (away to) (absent other to) either) [
+      | inl one ↦ part to one
+      | inr two ↦ two
+    ]) (λ two. or_right (away to) (absent other to) two)) in
+    let closed_rest : IsClosed (absent other) (without state away).objects = λ from to edge. closed from to (edge_before away state.objects from to edge).edge in
+    subst (IsBelow (without state away)) (without_twice state away (absent other) ∙ both ∙ sym (below_is_without state other is below))
+    (below_without (without state away) (absent other) (without_is_state state away is away_closed) closed_rest)
+
 pub without_site : (state : State) (site : ℕ) → IsState state → IsTrue (is_present state.objects site) → WithoutSite state site
 unfolding site_slot
 without_site state site is present = record {
@@ -62,14 +80,7 @@ without_site state site is present = record {
   least : (other : State) → IsBelow state other → IsFalse (is_present other.objects site) → IsBelow (without state away) other
   least other below gone =
       let closed = below_is_closed state other is below in
-      let part : (to : ℕ) → IsTrue (away to) → IsTrue (absent other to) = λ to one. reached_absent state other site closed (Rattle.std.proofs.lemmas.Bool.not_from_false (is_present other.objects site) gone) (reached.only to one) in
-      let both = without_agrees state (λ to. away to || absent other to) (absent other) is (λ to to_present. same_truth (away to || absent other to) (absent other to) (λ either. elim (or_cases (away to) (absent other to) either) [
-        | inl one ↦ part to one
-        | inr two ↦ two
-      ]) (λ two. or_right (away to) (absent other to) two)) in
-      let closed_rest : IsClosed (absent other) (without state away).objects = λ from to edge. closed from to (edge_before away state.objects from to edge).edge in
-      subst (IsBelow (without state away)) (without_twice state away (absent other) ∙ both ∙ sym (below_is_without state other is below))
-      (below_without (without state away) (absent other) (without_is_state state away is reached.closed) closed_rest)
+      rest_below state other away is reached.closed below (λ to one. reached_absent state other site closed (Rattle.std.proofs.lemmas.Bool.not_from_false (is_present other.objects site) gone) (reached.only to one))
 
 -- ---- until the state is good
 

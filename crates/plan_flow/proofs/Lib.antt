@@ -31,6 +31,8 @@ pub mod TopEntries
 pub mod Gathering
 pub mod TreeLinks
 pub mod AskedSites
+pub mod Rounds
+pub mod Cleaning
 pub mod DoneEdges
 pub mod Narrows
 pub mod PlanGains

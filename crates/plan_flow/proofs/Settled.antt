@@ -148,7 +148,7 @@ position_told s state (object_of_site one) =
 place_present : (state : State) (place site : ℕ) → IsState state → held state place ≡ Virt site → IsTrue (is_present state.objects site)
 place_present state place site is there = is.places site (names_at state.slots place site there)
 
-asked_present : (s : PlanScope) (state : State) (position : Position) (site : ℕ) → IsState state → AsksFor s state position site → IsTrue (is_present state.objects site)
+pub asked_present : (s : PlanScope) (state : State) (position : Position) (site : ℕ) → IsState state → AsksFor s state position site → IsTrue (is_present state.objects site)
 asked_present s state (any_object place) site is asks = place_present state place site is asks
 asked_present s state (object_put_into value object) site is asks = place_present state value site is asks.0
 asked_present s state (object_not_below place name) site is asks = place_present state place site is asks.0
@@ -255,7 +255,7 @@ settled s at point state is = least_above (λ above. IsMustOf s at point above [
 
 -- ---- a state with no object at or below an entry that is Top
 
-beneath_made :
+pub beneath_made :
     (away : ℕ → Bool) (types : List VType) (slots : List Slot)
     → beneath_top types (made away slots) ≡ made away (beneath_top types slots)
 beneath_made away [] slots = refl
@@ -269,7 +269,7 @@ beneath_made away (type ∷ types) (slot ∷ slots) =
       go true rest = λ i. made_plain away slot ∷ rest i
       go false rest = refl
 
-beneath_named : (types : List VType) (slots : List Slot) (site : ℕ) → IsTrue (names (beneath_top types slots) site) → IsTrue (names slots site)
+pub beneath_named : (types : List VType) (slots : List Slot) (site : ℕ) → IsTrue (names (beneath_top types slots) site) → IsTrue (names slots site)
 beneath_named [] slots site named = absurd (false≢true named)
 beneath_named (type ∷ types) [] site named = named
 beneath_named (type ∷ types) (slot ∷ slots) site named = go (list_any is_top (type ∷ types)) named (beneath_named types slots site) where
@@ -284,7 +284,7 @@ beneath_named (type ∷ types) (slot ∷ slots) site named = go (list_any is_top
     | inr there ↦ or_right (is_virtual site slot) (names slots site) (rest there)
   ]
 
-dropped_named : (number : ℕ) (slots : List Slot) (site : ℕ) → IsTrue (names (drop number slots) site) → IsTrue (names slots site)
+pub dropped_named : (number : ℕ) (slots : List Slot) (site : ℕ) → IsTrue (names (drop number slots) site) → IsTrue (names slots site)
 dropped_named zero slots site named = named
 dropped_named (suc number) [] site named = named
 dropped_named (suc number) (slot ∷ slots) site named = or_right (is_virtual site slot) (names slots site) (dropped_named number slots site named)

@@ -78,8 +78,11 @@ fn add_behind(
     Ok(())
 }
 
-// Among stack entries of these types.
-fn add_entries(
+/// Adds those among stack entries of these types.
+///
+/// # Errors
+/// `NoMemory`, where memory runs out.
+pub(crate) fn add_entries(
     sites: &mut SiteSet,
     types: &[VType],
     entries: &[Slot],
@@ -108,8 +111,8 @@ fn has_top_from(types: &[VType], at: usize) -> bool
     }
 }
 
-// Whether one of these types is Top.
-fn has_top(types: &[VType]) -> bool
+/// Whether one of these types is Top.
+pub(crate) fn has_top(types: &[VType]) -> bool
     ensures { result ≡ list_any is_top types.now }
 {
     for one in types {

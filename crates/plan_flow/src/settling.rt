@@ -9,11 +9,13 @@ ghost use Rattle.plan_flow.specs.Inner.Iteration.{IsLeft};
 ghost use Rattle.plan_flow.specs.Narrow.{IsNarrow};
 ghost use Rattle.plan_flow.specs.PlanScope.{scope_of};
 
+use crate::links_laws::a_tree_has_links;
+use crate::needs::must;
 use class_model::NoMemory;
 use class_tree::Tree;
 use flow_code::Flat;
 use std::alloc::Global;
-use virtual_state::VState;
+use virtual_state::{VState, without};
 
 /// The least state above another one in which the instruction of a point asks for no object: what it asks for is made, until
 /// it asks for none.
@@ -33,5 +35,13 @@ pub(crate) fn settled(
         → point_at flat.now at ≡ Some point
         → IsLeft (scope_of tree.now links flat.now) at point state.now left) }
 {
-    Err(NoMemory)
+    a_tree_has_links(tree);
+    state.is_state();
+    let mut left = state.copy()?;
+    let mut sites = must(alloc, tree, flat, at, &left)?;
+    while !sites.is_empty() {
+        left = without(alloc, &left, &sites)?;
+        sites = must(alloc, tree, flat, at, &left)?;
+    }
+    Ok(left)
 }
