@@ -57,7 +57,9 @@ pub(crate) fn nested(alloc: Global, tree: &Tree, count: u32) -> Option<PlanCode>
         maker.push_call(level).ok()?;
     }
     for out in 0..LEVELS {
-        maker.push_back(LEVELS.saturating_sub(out).saturating_sub(1)).ok()?;
+        maker
+            .push_back(LEVELS.saturating_sub(out).saturating_sub(1))
+            .ok()?;
     }
     maker.push(Instr::Return(None), 0, 0, b"").ok()?;
     maker.end()
@@ -107,12 +109,22 @@ impl Maker {
     }
 
     fn end(self) -> Option<PlanCode> {
-        let locals = self.shape.levels.saturating_mul(self.shape.slots).saturating_add(1);
+        let locals = self
+            .shape
+            .levels
+            .saturating_mul(self.shape.slots)
+            .saturating_add(1);
         PlanCode::of(self.host, locals, self.points, self.sites)
     }
 
     // Appends a point of a level, at which so many sites of the level have been stored.
-    fn push(&mut self, instr: Instr, level: u16, stored: u16, stack: &[u8]) -> Result<(), NoMemory> {
+    fn push(
+        &mut self,
+        instr: Instr,
+        level: u16,
+        stored: u16,
+        stack: &[u8],
+    ) -> Result<(), NoMemory> {
         let typed = self.frame(level, stored, stack)?;
         self.points.push(Point {
             instr: FlatInstr::Of {
@@ -149,7 +161,11 @@ impl Maker {
     // Appends the local units of a level of which so many are set.
     fn push_objects(&self, locals: &mut LocalTypeList, set: u16) -> Result<(), NoMemory> {
         for slot in 0..self.shape.slots {
-            locals.push(if slot < set { self.type_of(true)? } else { VType::Top })?;
+            locals.push(if slot < set {
+                self.type_of(true)?
+            } else {
+                VType::Top
+            })?;
         }
         Ok(())
     }
@@ -238,7 +254,12 @@ impl Maker {
         let last = LEVELS.saturating_sub(1);
         let local = self.local(level, 0);
         self.push(Instr::Load(Kind::Ref, local), last, self.shape.sites, b"")?;
-        self.push(Instr::Invoke(INVOKESTATIC, self.names[2], 0), last, self.shape.sites, b"p")
+        self.push(
+            Instr::Invoke(INVOKESTATIC, self.names[2], 0),
+            last,
+            self.shape.sites,
+            b"p",
+        )
     }
 
     // Appends the jump back to the head of a loop.

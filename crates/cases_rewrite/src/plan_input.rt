@@ -4,28 +4,26 @@
 //! those of the stack. Each `new` is a site. A line `catch 2 5 7 A` in front says that point 7 handles A, or `any`, at points 2 to 4.
 use crate::PlanCode;
 use cases_notation::{Input, last_method};
-use class_model::opcodes::{
-    IF_ACMPNE, IF_ICMPGE, IF_ICMPNE, IFEQ, IFLE, IFNULL,
-};
+use class_model::opcodes::{IF_ACMPNE, IF_ICMPGE, IF_ICMPNE, IFEQ, IFLE, IFNULL};
 use class_model::{
     Attr, FieldType, FieldTypeList, Frame, Instr, ListOf, LocalTypeList, MethodAt, Placed, Text,
     VType,
 };
 use class_tree::Tree;
 use code_bytes::decode;
-use flow_code::{
-    FlatHandler, FlatHandlerList, FlatInstr, Point, PointList, Site, SiteList,
-};
+use flow_code::{FlatHandler, FlatHandlerList, FlatInstr, Point, PointList, Site, SiteList};
 use std::alloc::Global;
 use std::test::Fail;
 
 // A pair of ints, a key with an object, and a box with another one.
-const FOLDER: &str = "public P Object / field public x I / field public y I / method public <init> (II)V | \
+const FOLDER: &str =
+    "public P Object / field public x I / field public y I / method public <init> (II)V | \
 public Key Object / field public number I / field public ref Ljava/lang/Object; | \
 public Box Object / field public other LBox;";
 
 // The class of the method, which has one to which objects can be passed.
-const HEAD: &str = "public L Object / method public+static use (LP;)V / method public+static run ()V, exact";
+const HEAD: &str =
+    "public L Object / method public+static use (LP;)V / method public+static run ()V, exact";
 
 /// The classes of a folder, and the flat code of a method of one of them.
 #[derive(Drop)]

@@ -1,6 +1,6 @@
 use crate::plan_input::{Method, method_of, point_line};
 use crate::plan_rows::{
-    ALONE, COMPARED, CROSSED, CAUGHT, ENTERED, KEYED, LOCKED, LOOPED, MERGED, PASSED, READ,
+    ALONE, CAUGHT, COMPARED, CROSSED, ENTERED, KEYED, LOCKED, LOOPED, MERGED, PASSED, READ,
 };
 use crate::without_sites;
 use plan_flow::{Edge, EdgeKind, Plan};

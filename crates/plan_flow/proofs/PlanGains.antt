@@ -60,11 +60,11 @@ behind_as :
 behind_as plan edge made site leads =
     let target = leads.target.state in
     let among : has made.made site ≡ (is_present edge.state.objects site && absent target site) =
-        ap (λ (sites : List ℕ). has sites site) leads.same_made
-        ∙ has_where (absent target) edge.state.objects site in
+    ap (λ (sites : List ℕ). has sites site) leads.same_made
+    ∙ has_where (absent target) edge.state.objects site in
     let before : is_before (planned plan made.to) site ≡ is_present target.objects site =
-        ap (λ (to : ℕ). is_before (planned plan to) site) leads.same_to
-        ∙ ap (λ (o : Option PlannedPoint). is_before o site) leads.reached in
+    ap (λ (to : ℕ). is_before (planned plan to) site) leads.same_to
+    ∙ ap (λ (o : Option PlannedPoint). is_before o site) leads.reached in
     (λ i. among i || before i)
     ∙ go (is_present edge.state.objects site) (is_present target.objects site) (present_below edge.state target site leads.below) where
       go : (one other : Bool) → (other ≡ true → one ≡ true) → ((one && not other) || other) ≡ one
@@ -100,7 +100,7 @@ lost_over plan site (edge ∷ edges) (made ∷ mades) lead lost =
     elim (cases_Bool (loses plan site made)) [
       | inl here ↦
           let parts =
-              and_parts (is_normal edge.by) (not (is_present edge.state.objects site)) (sym (loses_as plan edge made site lead.0) ∙ here) in
+          and_parts (is_normal edge.by) (not (is_present edge.state.objects site)) (sym (loses_as plan edge made site lead.0) ∙ here) in
           record {
             number = 0;
             edge = edge;
@@ -126,8 +126,8 @@ over_lost plan site (first ∷ edges) (made ∷ mades) zero edge lead is normal 
     let same : first ≡ edge = same_Some first edge is in
     let leads = subst (λ (one : Edge). LeadsTo plan one made) same lead.0 in
     let here : loses plan site made ≡ true =
-        loses_as plan edge made site leads
-        ∙ and_from (is_normal edge.by) (not (is_present edge.state.objects site)) (edge_normal edge.by normal) (ap not gone) in
+    loses_as plan edge made site leads
+    ∙ and_from (is_normal edge.by) (not (is_present edge.state.objects site)) (edge_normal edge.by normal) (ap not gone) in
     ap (λ (b : Bool). b || list_any (loses plan site) mades) here
 over_lost plan site (first ∷ edges) (made ∷ mades) (suc number) edge lead is normal gone =
     or_behind (loses plan site made) (over_lost plan site edges mades number edge lead.1 is normal gone) where
@@ -193,8 +193,8 @@ operand_last s at state code is is_code =
     ∙ length-append (map is_top (local_types s.flat at)) (map (λ type. false) (stack_types s.flat at))
     ∙ (λ i. length-map (local_types s.flat at) is_top i + length-map (stack_types s.flat at) (λ type. false) i) in
     let all : length state.slots ≡ length code.typed.locals + length code.typed.stack =
-        sizes
-        ∙ (λ i. length (locals i) + length (stack i)) in
+    sizes
+    ∙ (λ i. length (locals i) + length (stack i)) in
     omega (arith, all)
 
 -- ---- points
