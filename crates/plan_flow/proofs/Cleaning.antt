@@ -3,7 +3,7 @@ use Rattle.std.proofs.Common.{◌≡◌, ◌||◌, ℕ, Bool, true, false, cond,
 use Rattle.std.specs.List.{list_any}
 use Rattle.std.proofs.lemmas.Bool.{cases_Bool, false≢true, both_ways, not_from_true, not_from_false}
 use Rattle.std.proofs.lemmas.List.{drop-map}
-use Rattle.std.proofs.lemmas.Option.{none-some, same_Some}
+use Rattle.std.proofs.lemmas.Option.{none-some}
 use Rattle.class_model.specs.Frames.{is_top}
 use Rattle.class_model.specs.declared.frame.Frame.{Frame}
 use Rattle.class_model.specs.declared.frame.VType.{VType}
@@ -14,7 +14,7 @@ use Rattle.plan_flow.specs.Inner.Iteration.{IsCleaned, IsJoined, IsRaised, slots
 use Rattle.plan_flow.specs.PlanScope.{PlanScope, local_types, stack_types}
 use Rattle.plan_flow.specs.PlanSlots.{beneath_top, fit_stack}
 use Rattle.plan_flow.specs.Plans.{IsStateAt}
-use Rattle.virtual_state.specs.Orders.{IsBelow, IsJoin}
+use Rattle.virtual_state.specs.Orders.{IsBelow}
 use Rattle.virtual_state.specs.Sites.{has, IsClosure}
 use Rattle.virtual_state.specs.States.{State, IsState, is_present, is_virtual, names}
 use Rattle.virtual_state.specs.Without.{made_plain, without}
@@ -24,6 +24,7 @@ use Rattle.virtual_state.specs.Laws.Fields.{made, named_before, named_behind}
 use Rattle.virtual_state.specs.Laws.Orders.{absent, below_without, below_itself, below_and_below, below_is_closed, below_is_without}
 use Rattle.plan_flow.proofs.AskedSites.{found_point}
 use Rattle.plan_flow.proofs.LeastAbove.{rest_below}
+use Rattle.plan_flow.proofs.MustLaws.{same_truth}
 use Rattle.plan_flow.proofs.Raising.{state_at_above}
 use Rattle.plan_flow.proofs.Rounds.{no_site}
 use Rattle.plan_flow.proofs.Settled.{beneath_made, beneath_named, dropped_named}
@@ -34,17 +35,23 @@ no_slots : (types : List VType) (site : ℕ) → names (beneath_top types []) si
 no_slots [] site = refl
 no_slots (type ∷ types) site = refl
 
-fitted_named : (types : List VType) (slots : List Slot) (site : ℕ) → names (beneath_top types (fit_stack types slots)) site ≡ names (beneath_top types slots) site
+fitted_named :
+    (types : List VType) (slots : List Slot) (site : ℕ)
+    → names (beneath_top types (fit_stack types slots)) site ≡ names (beneath_top types slots) site
 fitted_named [] slots site = refl
 fitted_named (type ∷ types) [] site = go (list_any is_top (type ∷ types)) (fitted_named types [] site) where
-  go : (top : Bool) → names (beneath_top types (fit_stack types [])) site ≡ names (beneath_top types []) site → names (cond top (Plain ∷ beneath_top types (fit_stack types [])) []) site ≡ false
+  go :
+      (top : Bool)
+      → names (beneath_top types (fit_stack types [])) site ≡ names (beneath_top types []) site
+      → names (cond top (Plain ∷ beneath_top types (fit_stack types [])) []) site ≡ false
   go true rest = rest ∙ no_slots types site
   go false rest = refl
 fitted_named (type ∷ types) (slot ∷ slots) site = go (list_any is_top (type ∷ types)) (fitted_named types slots site) where
   go :
       (top : Bool)
       → names (beneath_top types (fit_stack types slots)) site ≡ names (beneath_top types slots) site
-      → names (cond top (slot ∷ beneath_top types (fit_stack types slots)) []) site ≡ names (cond top (slot ∷ beneath_top types slots) []) site
+      → names (cond top (slot ∷ beneath_top types (fit_stack types slots)) []) site
+      ≡ names (cond top (slot ∷ beneath_top types slots) []) site
   go true rest = ap (λ (b : Bool). is_virtual site slot || b) rest
   go false rest = refl
 
@@ -54,28 +61,35 @@ no_top [] slots none = refl
 no_top (type ∷ types) [] none = refl
 no_top (type ∷ types) (slot ∷ slots) none = ap (λ (b : Bool). cond b (slot ∷ beneath_top types slots) []) none
 
-same_test : (one other : Bool) → (IsTrue one → IsTrue other) → (IsTrue other → IsTrue one) → one ≡ other
-same_test true true there back = refl
-same_test true false there back = absurd (false≢true (there refl))
-same_test false true there back = absurd (false≢true (back refl))
-same_test false false there back = refl
-
 -- the types of a point
 pub record AreTypesAt (flat : FlatCode) (at : ℕ) (locals stack : List VType) : Type 0 where
   pub locals_are : local_types flat at ≡ locals
   pub stack_is : stack_types flat at ≡ stack
 
-types_at : (flat : FlatCode) (at : ℕ) (point : Point) → point_at flat at ≡ Some point → AreTypesAt flat at point.typed.locals point.typed.stack
+types_at :
+    (flat : FlatCode) (at : ℕ) (point : Point)
+    → point_at flat at ≡ Some point
+    → AreTypesAt flat at point.typed.locals point.typed.stack
 types_at flat at point found = record { locals_are = rw found refl; stack_is = rw found refl }
 
-pub types_of : (flat : FlatCode) (at : ℕ) (types : Frame) → option_map (λ (point : Point). point.typed) (point_at flat at) ≡ Some types → AreTypesAt flat at types.locals types.stack
+pub types_of :
+    (flat : FlatCode) (at : ℕ) (types : Frame)
+    → option_map (λ (point : Point). point.typed) (point_at flat at) ≡ Some types
+    → AreTypesAt flat at types.locals types.stack
 types_of flat at types is =
     let found = found_point (λ (point : Point). point.typed) (point_at flat at) types is in
     subst (λ (frame : Frame). AreTypesAt flat at frame.locals frame.stack) found.2 (types_at flat at found.0 found.1)
 
-pub none_there : (flat : FlatCode) (at : ℕ) (state : State) (locals stack : List VType) → AreTypesAt flat at locals stack → list_any is_top stack ≡ false → (site : ℕ) → has [] site ≡ names (slots_beneath flat at state) site
+pub none_there :
+    (flat : FlatCode) (at : ℕ) (state : State) (locals stack : List VType)
+    → AreTypesAt flat at locals stack
+    → list_any is_top stack ≡ false
+    → (site : ℕ)
+    → has [] site ≡ names (slots_beneath flat at state) site
 none_there flat at state locals stack are none site =
-    sym (ap (λ (slots : List Slot). names slots site) (no_top (stack_types flat at) (drop (length (local_types flat at)) state.slots) (ap (list_any is_top) are.stack_is ∙ none)))
+    let types = ap (list_any is_top) are.stack_is ∙ none in
+    let slots = no_top (stack_types flat at) (drop (length (local_types flat at)) state.slots) types in
+    sym (ap (λ (slots : List Slot). names slots site) slots)
 
 pub some_there :
     (flat : FlatCode) (at : ℕ) (state : State) (locals stack : List VType) (entries : List Slot) (sites : List ℕ)
@@ -86,19 +100,27 @@ pub some_there :
     → (site : ℕ)
     → has sites site ≡ names (slots_beneath flat at state) site
 some_there flat at state locals stack entries sites is are entries_are added site =
-    same_test (has sites site) (names (slots_beneath flat at state) site)
+    same_truth (has sites site) (names (slots_beneath flat at state) site)
     (λ among. elim (added.only site among) [
       | inl none ↦ absurd (false≢true none)
       | inr there ↦ sym same ∙ there.0
     ])
-    (λ named. added.asked site (same ∙ named, is.places site (dropped_named (length (local_types flat at)) state.slots site (beneath_named (stack_types flat at) (drop (length (local_types flat at)) state.slots) site named))))
+    (λ named.
+    let count = length (local_types flat at) in
+    let among = dropped_named count state.slots site (beneath_named (stack_types flat at) (drop count state.slots) site named) in
+    added.asked site (same ∙ named, is.places site among))
   where
+    entries_is : entries ≡ drop (length (local_types flat at)) state.slots
+    entries_is = entries_are ∙ ap (λ (types : List VType). drop (length types) state.slots) (sym are.locals_are)
+
     same : names (beneath_top stack (fit_stack stack entries)) site ≡ names (slots_beneath flat at state) site
-    same = fitted_named stack entries site ∙ (λ i. names (beneath_top (sym are.stack_is i) ((entries_are ∙ ap (λ (types : List VType). drop (length types) state.slots) (sym are.locals_are)) i)) site)
+    same = fitted_named stack entries site ∙ (λ i. names (beneath_top (sym are.stack_is i) (entries_is i)) site)
 
 -- ---- they are made
 
-beneath_without : (flat : FlatCode) (at : ℕ) (state : State) (away : ℕ → Bool) → slots_beneath flat at (without state away) ≡ made away (slots_beneath flat at state)
+beneath_without :
+    (flat : FlatCode) (at : ℕ) (state : State) (away : ℕ → Bool)
+    → slots_beneath flat at (without state away) ≡ made away (slots_beneath flat at state)
 beneath_without flat at state away =
     ap (beneath_top (stack_types flat at)) (drop-map (made_plain away) (length (local_types flat at)) state.slots)
     ∙ beneath_made away (stack_types flat at) (drop (length (local_types flat at)) state.slots)
@@ -126,29 +148,33 @@ cleaned_without flat at state clean sites away is are closure same = subst (IsCl
   beneath = λ site. elim (cases_Bool (names (slots_beneath flat at (without state (has away))) site)) [
     | inr none ↦ none
     | inl named ↦
-        let before = named_before (has away) (slots_beneath flat at state) site (subst (λ (slots : List Slot). IsTrue (names slots site)) (beneath_without flat at state (has away)) named) in
+        let still = subst (λ (slots : List Slot). IsTrue (names slots site)) (beneath_without flat at state (has away)) named in
+        let before = named_before (has away) (slots_beneath flat at state) site still in
         absurd (both_ways (has away site) before.1 (closure.starts site (are site ∙ before.0)))
   ];
-  least = λ target up clean. rest_below state target (has away) is closure.closed up (closure.least (absent target) (gone target up clean) (below_is_closed state target is up));
+  least = λ target up clean.
+      rest_below state target (has away) is closure.closed up
+      (closure.least (absent target) (gone target up clean) (below_is_closed state target is up));
 }) where
-  gone : (target : State) → IsBelow state target → ((site : ℕ) → IsFalse (names (slots_beneath flat at target) site)) → (site : ℕ) → IsTrue (has sites site) → IsTrue (absent target site)
+  gone :
+      (target : State)
+      → IsBelow state target
+      → ((site : ℕ) → IsFalse (names (slots_beneath flat at target) site))
+      → (site : ℕ)
+      → IsTrue (has sites site)
+      → IsTrue (absent target site)
   gone target up clean site among = elim (cases_Bool (is_present target.objects site)) [
     | inr none ↦ not_from_false (is_present target.objects site) none
     | inl present ↦
         let slots : slots_beneath flat at target ≡ made (absent target) (slots_beneath flat at state) =
         ap (slots_beneath flat at) (below_is_without state target is up) ∙ beneath_without flat at state (absent target) in
-        let still = named_behind (absent target) (slots_beneath flat at state) site (sym (are site) ∙ among) (not_from_true (is_present target.objects site) present) in
-        absurd (both_ways (names (slots_beneath flat at target) site) (clean site) (subst (λ (list : List Slot). IsTrue (names list site)) (sym slots) still))
+        let stays = not_from_true (is_present target.objects site) present in
+        let still = named_behind (absent target) (slots_beneath flat at state) site (sym (are site) ∙ among) stays in
+        let named = subst (λ (list : List Slot). IsTrue (names list site)) (sym slots) still in
+        absurd (both_ways (names (slots_beneath flat at target) site) (clean site) named)
   ]
 
 -- ---- joined, and then without them
-
-pub joined_both : (behind state joined : State) (old : Option State) → old ≡ Some state → IsJoin behind state joined → IsJoined behind old joined
-joined_both behind state joined old is join = record {
-  below = join.left;
-  above_old = λ one is_one. subst (λ (low : State). IsBelow low joined) (same_Some state one (sym is ∙ is_one)) join.right;
-  least = λ target up olds. join.least target up (olds state is);
-}
 
 pub joined_none : (behind joined : State) (old : Option State) → old ≡ None → joined ≡ behind → IsJoined behind old joined
 joined_none behind joined old none same = record {

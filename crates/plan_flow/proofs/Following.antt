@@ -103,13 +103,19 @@ followed_none classes flat states work edges some started lead = record {
   lead = lead;
 }
 
-pub only_leads : (states : List (Option State)) (edge : Edge) → LeadsIn (reached_in states) edge.to edge.state → (number : ℕ) (one : Edge) → slice_get (edge ∷ []) number ≡ Some one → LeadsIn (reached_in states) one.to one.state
+pub only_leads :
+    (states : List (Option State)) (edge : Edge)
+    → LeadsIn (reached_in states) edge.to edge.state
+    → (number : ℕ) (one : Edge)
+    → slice_get (edge ∷ []) number ≡ Some one
+    → LeadsIn (reached_in states) one.to one.state
 only_leads states edge lead zero one found = subst (λ (e : Edge). LeadsIn (reached_in states) e.to e.state) (same_Some edge one found) lead
 only_leads states edge lead (suc number) one found = absurd (none-some one found)
 
 -- the next edge
 pub started_next :
-    (classes : Classes) (flat : FlatCode) (before states : List (Option State)) (work also : List ℕ) (edges some : List Edge) (new : Bool) (number : ℕ) (edge : Edge)
+    (classes : Classes) (flat : FlatCode) (before states : List (Option State)) (work also : List ℕ) (edges some : List Edge) (new : Bool)
+    (number : ℕ) (edge : Edge)
     → AreStarted classes flat before edges
     → AreFollowed classes flat before states work also some new
     → slice_get edges number ≡ Some edge
@@ -119,23 +125,35 @@ started_next classes flat before states work also edges some new number edge sta
   under = followed.under;
   edge = λ links at one are found. next links at one are found;
 } where
-  this : (links : Links) → AreLinksOf (headers_of classes) links → IsEdgeTo (scope_of classes links flat) (reached_in states) edge.to edge.state
+  this :
+      (links : Links)
+      → AreLinksOf (headers_of classes) links
+      → IsEdgeTo (scope_of classes links flat) (reached_in states) edge.to edge.state
   this links are =
       let s = scope_of classes links flat in
       let old = started.edge links number edge are is in
       record {
-        led = led_more s (reached_in before) (reached_in states) followed.raised.more (λ place state there. ((followed.under links are).at place state there).is_state) old.led;
+        led =
+            led_more s (reached_in before) (reached_in states) followed.raised.more
+            (λ place state there. ((followed.under links are).at place state there).is_state) old.led;
         is_at = old.is_at;
         inside = old.inside;
         lower = old.lower;
       }
 
-  next : (links : Links) (at : ℕ) (one : Edge) → AreLinksOf (headers_of classes) links → slice_get (edge ∷ []) at ≡ Some one → IsEdgeTo (scope_of classes links flat) (reached_in states) one.to one.state
-  next links zero one are found = subst (λ (e : Edge). IsEdgeTo (scope_of classes links flat) (reached_in states) e.to e.state) (same_Some edge one found) (this links are)
+  next :
+      (links : Links) (at : ℕ) (one : Edge)
+      → AreLinksOf (headers_of classes) links
+      → slice_get (edge ∷ []) at ≡ Some one
+      → IsEdgeTo (scope_of classes links flat) (reached_in states) one.to one.state
+  next links zero one are found =
+      subst (λ (e : Edge). IsEdgeTo (scope_of classes links flat) (reached_in states) e.to e.state) (same_Some edge one found)
+      (this links are)
   next links (suc at) one are found = absurd (none-some one found)
 
 pub followed_more :
-    (classes : Classes) (flat : FlatCode) (one two three : List (Option State)) (first second third : List ℕ) (edges : List Edge) (new also : Bool) (number : ℕ) (edge : Edge)
+    (classes : Classes) (flat : FlatCode) (one two three : List (Option State)) (first second third : List ℕ) (edges : List Edge)
+    (new also : Bool) (number : ℕ) (edge : Edge)
     → AreFollowed classes flat one two first second (take number edges) new
     → AreFollowed classes flat two three second third (edge ∷ []) also
     → slice_get edges number ≡ Some edge
@@ -175,7 +193,12 @@ started_inside classes flat states edge links are started =
     omega (arith, inside, len)
 
 -- point 0 keeps its state
-keeps_start : (s : PlanScope) (states : Reached) (to : ℕ) (behind above : State) → IsUnder s states → IsRaised s to behind (states to) above → to ≡ 0 → above ≡ state_without_sites s 0
+keeps_start :
+    (s : PlanScope) (states : Reached) (to : ℕ) (behind above : State)
+    → IsUnder s states
+    → IsRaised s to behind (states to) above
+    → to ≡ 0
+    → above ≡ state_without_sites s 0
 keeps_start s states to behind above under is same =
     let up = is.above_old (state_without_sites s 0) (ap states same ∙ under.start) in
     elim (same_or_fewer (state_without_sites s 0) above up) [
@@ -183,7 +206,9 @@ keeps_start s states to behind above under is same =
       | inr fewer ↦ absurd (omega (arith, fewer))
     ]
 
-record Following (classes : Classes) (flat : FlatCode) (before : List (Option State)) (work also : List ℕ) (edge : Edge) (above : State) : Type 0 where
+-- an edge that does not lead to its target yet, and the state that the target is to have
+record Following (classes : Classes) (flat : FlatCode) (before : List (Option State)) (work also : List ℕ) (edge : Edge)
+    (above : State) : Type 0 where
   links : Links
   are : AreLinksOf (headers_of classes) links
   started : AreStarted classes flat before (edge ∷ [])
@@ -191,17 +216,32 @@ record Following (classes : Classes) (flat : FlatCode) (before : List (Option St
   is : (s : PlanScope) → s.flat ≡ flat → IsStateAt s edge.to edge.state → IsRaised s edge.to edge.state (reached_in before edge.to) above
   listed : HasListed work also edge.to
 
-raised_in : (classes : Classes) (flat : FlatCode) (before : List (Option State)) (work also : List ℕ) (edge : Edge) (above : State) → Following classes flat before work also edge above → (links : Links) → AreLinksOf (headers_of classes) links → IsRaised (scope_of classes links flat) edge.to edge.state (reached_in before edge.to) above
-raised_in classes flat before work also edge above f links are = f.is (scope_of classes links flat) refl (f.started.edge links 0 edge are refl).is_at
+raised_in :
+    (classes : Classes) (flat : FlatCode) (before : List (Option State)) (work also : List ℕ) (edge : Edge) (above : State)
+    → Following classes flat before work also edge above
+    → (links : Links)
+    → AreLinksOf (headers_of classes) links
+    → IsRaised (scope_of classes links flat) edge.to edge.state (reached_in before edge.to) above
+raised_in classes flat before work also edge above f links are =
+    f.is (scope_of classes links flat) refl (f.started.edge links 0 edge are refl).is_at
 
-target_inside : (classes : Classes) (flat : FlatCode) (before : List (Option State)) (work also : List ℕ) (edge : Edge) (above : State) → Following classes flat before work also edge above → edge.to < length before
+target_inside :
+    (classes : Classes) (flat : FlatCode) (before : List (Option State)) (work also : List ℕ) (edge : Edge) (above : State)
+    → Following classes flat before work also edge above
+    → edge.to < length before
 target_inside classes flat before work also edge above f = started_inside classes flat before edge f.links f.are f.started
 
-followed_less : (classes : Classes) (flat : FlatCode) (before : List (Option State)) (work also : List ℕ) (edge : Edge) (above : State) → Following classes flat before work also edge above → IsLess before (slice_set before edge.to (Some above)) work also (is_none (reached_in before edge.to))
+followed_less :
+    (classes : Classes) (flat : FlatCode) (before : List (Option State)) (work also : List ℕ) (edge : Edge) (above : State)
+    → Following classes flat before work also edge above
+    → IsLess before (slice_set before edge.to (Some above)) work also (is_none (reached_in before edge.to))
 followed_less classes flat before work also edge above f =
     elim (some_or_none (reached_in before edge.to)) [
-      | inr none ↦ subst (λ (o : Option State). IsLess before (slice_set before edge.to (Some above)) work also (is_none o)) (sym none) (by_new none)
-      | inl found ↦ subst (λ (o : Option State). IsLess before (slice_set before edge.to (Some above)) work also (is_none o)) (sym found.1) (by_old found.0 found.1)
+      | inr none ↦
+          subst (λ (o : Option State). IsLess before (slice_set before edge.to (Some above)) work also (is_none o)) (sym none) (by_new none)
+      | inl found ↦
+          subst (λ (o : Option State). IsLess before (slice_set before edge.to (Some above)) work also (is_none o)) (sym found.1)
+          (by_old found.0 found.1)
     ] where
       by_new : reached_in before edge.to ≡ None → IsLess before (slice_set before edge.to (Some above)) work also true
       by_new none =
@@ -218,18 +258,24 @@ followed_less classes flat before work also edge above f =
             fewer = omega (arith, same);
             reaches = λ new. absurd (false≢true new);
             lighter = λ no. elim (same_or_fewer old above (raised.above_old old is)) [
-              | inl equal ↦ absurd (f.apart (record { target = old; reached = is; below = subst (IsBelow edge.state) (sym equal) raised.below }))
+              | inl equal ↦
+                  absurd (f.apart (record { target = old; reached = is; below = subst (IsBelow edge.state) (sym equal) raised.below }))
               | inr fewer ↦ omega (arith, objects, fewer, more)
             ];
           }
 
-followed_raised : (classes : Classes) (flat : FlatCode) (before : List (Option State)) (work also : List ℕ) (edge : Edge) (above : State) → Following classes flat before work also edge above → IsRaisedTo before (slice_set before edge.to (Some above)) work also
+followed_raised :
+    (classes : Classes) (flat : FlatCode) (before : List (Option State)) (work also : List ℕ) (edge : Edge) (above : State)
+    → Following classes flat before work also edge above
+    → IsRaisedTo before (slice_set before edge.to (Some above)) work also
 followed_raised classes flat before work also edge above f =
     let raised = raised_in classes flat before work also edge above f f.links f.are in
     let inside = target_inside classes flat before work also edge above f in
     record {
       len = length-set before edge.to (Some above);
-      more = subst (IsMore (reached_in before)) (sym (put_is before edge.to above inside)) (put_more (reached_in before) edge.to above raised.above_old);
+      more =
+          subst (IsMore (reached_in before)) (sym (put_is before edge.to above inside))
+          (put_more (reached_in before) edge.to above raised.above_old);
       same = λ at none. elim (same_or_not edge.to at) [
         | inl same ↦ absurd (both_ways (has also at) none (subst (λ (n : ℕ). IsTrue (has also n)) same f.listed.here))
         | inr differ ↦ ap option_flatten (set_other before edge.to at (Some above) differ)
@@ -245,7 +291,8 @@ new_is (Some state) false is = refl
 
 -- the target is reached, or its state is raised
 pub followed_one :
-    (classes : Classes) (flat : FlatCode) (before after : List (Option State)) (work also : List ℕ) (edge : Edge) (above : State) (new : Bool) (links : Links)
+    (classes : Classes) (flat : FlatCode) (before after : List (Option State)) (work also : List ℕ) (edge : Edge) (above : State)
+    (new : Bool) (links : Links)
     → AreLinksOf (headers_of classes) links
     → AreStarted classes flat before (edge ∷ [])
     → (LeadsIn (reached_in before) edge.to edge.state → ⊥)
@@ -255,13 +302,22 @@ pub followed_one :
     → is_some (reached_in before edge.to) ≡ not new
     → AreFollowed classes flat before after work also (edge ∷ []) new
 followed_one classes flat before after work also edge above new links are started apart is listed is_after is_new =
-    let f : Following classes flat before work also edge above = record { links = links; are = are; started = started; apart = apart; is = is; listed = listed } in
+    let f : Following classes flat before work also edge above = record {
+      links = links;
+      are = are;
+      started = started;
+      apart = apart;
+      is = is;
+      listed = listed;
+    } in
     let inside = target_inside classes flat before work also edge above f in
     let put_in = put_is before edge.to above inside in
     let raised = raised_in classes flat before work also edge above f links are in
     subst (λ (states : List (Option State)). AreFollowed classes flat before states work also (edge ∷ []) new) (sym is_after) (record {
       raised = followed_raised classes flat before work also edge above f;
-      less = subst (IsLess before (slice_set before edge.to (Some above)) work also) (sym (new_is (reached_in before edge.to) new is_new)) (followed_less classes flat before work also edge above f);
+      less =
+          subst (IsLess before (slice_set before edge.to (Some above)) work also) (sym (new_is (reached_in before edge.to) new is_new))
+          (followed_less classes flat before work also edge above f);
       under = λ link are_link.
           let s = scope_of classes link flat in
           let high = raised_in classes flat before work also edge above f link are_link in
@@ -269,7 +325,9 @@ followed_one classes flat before after work also edge above new links are starte
           subst (IsUnder s) (sym put_in)
           (put_under s (reached_in before) edge.to edge.state above under (started.edge link 0 edge are_link refl) high
           (keeps_start s (reached_in before) edge.to edge.state above under high));
-      lead = only_leads (slice_set before edge.to (Some above)) edge (record { target = above; reached = ap option_flatten (set_here before edge.to (Some above) inside); below = raised.below });
+      lead =
+          only_leads (slice_set before edge.to (Some above)) edge
+          (record { target = above; reached = ap option_flatten (set_here before edge.to (Some above) inside); below = raised.below });
     })
 
 -- ---- a reference that may be missing

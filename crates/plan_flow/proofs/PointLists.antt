@@ -1,7 +1,8 @@
 -- States of points, in a list: a state that is put in, and how many are missing.
-use Rattle.std.proofs.Common.{◌≡◌, ℕ, ◌<◌, ◌+◌, zero, suc, List, [], ◌∷◌, ◌++◌, take, length, replicate, slice_get, slice_set, Option, Some, None, refl, sym, ap, subst, ◌∙◌, inl, inr, ◌⊎◌, arith}
+use Rattle.std.proofs.Common.{◌≡◌, ℕ, ◌<◌, ◌≤◌, ◌+◌, zero, suc, List, [], ◌∷◌, ◌++◌, take, length, replicate, slice_get, slice_set, Option, Some, None, refl, sym, ap, subst, ◌∙◌, inl, inr, ◌⊎◌, arith}
 use Rattle.std.specs.Option.{option_flatten}
 use Rattle.std.proofs.lemmas.Option.{none-some, same_Some}
+use Rattle.std.proofs.lemmas.List.{replicate-append-replicate}
 use Rattle.plan_flow.specs.Inner.Reaching.{reached_in, unreached_in, objects_in}
 use Rattle.virtual_state.specs.States.{State}
 use Rattle.virtual_state.specs.Laws.Objects.{same_or_not}
@@ -16,7 +17,10 @@ set_here [] at item inside = absurd (omega (arith, inside))
 set_here (first ∷ list) zero item inside = refl
 set_here (first ∷ list) (suc at) item inside = set_here list at item (omega (arith, inside))
 
-pub set_other : {A : Type 0} (list : List A) (at other : ℕ) (item : A) → (at ≡ other → ⊥) → slice_get (slice_set list at item) other ≡ slice_get list other
+pub set_other :
+    {A : Type 0} (list : List A) (at other : ℕ) (item : A)
+    → (at ≡ other → ⊥)
+    → slice_get (slice_set list at item) other ≡ slice_get list other
 set_other [] at other item differ = refl
 set_other (first ∷ list) zero zero item differ = absurd (differ refl)
 set_other (first ∷ list) zero (suc other) item differ = refl
@@ -44,7 +48,10 @@ took_all (first ∷ list) (suc number) none = ap (λ rest. first ∷ rest) (took
 
 -- ---- an item that is appended
 
-pub appended_before : {A : Type 0} (list : List A) (at : ℕ) (item : A) → at < length list → slice_get (list ++ item ∷ []) at ≡ slice_get list at
+pub appended_before :
+    {A : Type 0} (list : List A) (at : ℕ) (item : A)
+    → at < length list
+    → slice_get (list ++ item ∷ []) at ≡ slice_get list at
 appended_before [] at item inside = absurd (omega (arith, inside))
 appended_before (first ∷ list) zero item inside = refl
 appended_before (first ∷ list) (suc at) item inside = appended_before list at item (omega (arith, inside))
@@ -55,7 +62,10 @@ appended_here (first ∷ list) item = appended_here list item
 
 -- ---- states of points
 
-pub put_is : (states : List (Option State)) (to : ℕ) (state : State) → to < length states → reached_in (slice_set states to (Some state)) ≡ put (reached_in states) to state
+pub put_is :
+    (states : List (Option State)) (to : ℕ) (state : State)
+    → to < length states
+    → reached_in (slice_set states to (Some state)) ≡ put (reached_in states) to state
 put_is states to state inside = fun_ext (λ at. elim (same_or_not to at) [
   | inl same ↦
       subst (λ (where_ : ℕ). reached_in (slice_set states to (Some state)) where_ ≡ put (reached_in states) to state where_) same
@@ -72,9 +82,37 @@ none_at (suc count) (suc at) = none_at count at
 pub none_reached : (count : ℕ) → reached_in (replicate count None) ≡ nothing
 none_reached count = fun_ext (λ at. none_at count at ∙ sym (nothing_at at))
 
+-- so many points of which none is reached, as far as they are listed
+pub record AreNone (states : List (Option State)) (at count : ℕ) : Type 0 where
+  pub same : states ≡ replicate at None
+  pub few : at ≤ count
+
+pub none_first : (count : ℕ) → AreNone [] 0 count
+none_first count = record { same = refl; few = omega arith }
+
+pub none_more :
+    (states : List (Option State)) (at count : ℕ)
+    → AreNone states at count
+    → at < count
+    → AreNone (states ++ None ∷ []) (at + 1) count
+none_more states at count none inside = record {
+  same = ap (λ (list : List (Option State)). list ++ None ∷ []) none.same ∙ replicate-append-replicate at 1 None;
+  few = omega (arith, inside);
+}
+
+pub none_all : (states : List (Option State)) (at count : ℕ) → AreNone states at count → count ≤ at → states ≡ replicate count None
+none_all states at count none past =
+    let few = none.few in
+    let all : at ≡ count = omega (arith, few, past) in
+    none.same ∙ ap (λ (n : ℕ). replicate {A = Option State} n None) all
+
 -- ---- how many points are not reached, and how many objects are left
 
-pub unreached_new : (states : List (Option State)) (to : ℕ) (state : State) → to < length states → reached_in states to ≡ None → unreached_in (slice_set states to (Some state)) < unreached_in states
+pub unreached_new :
+    (states : List (Option State)) (to : ℕ) (state : State)
+    → to < length states
+    → reached_in states to ≡ None
+    → unreached_in (slice_set states to (Some state)) < unreached_in states
 unreached_new [] to state inside none = absurd (omega (arith, inside))
 unreached_new (None ∷ states) zero state inside none = omega arith
 unreached_new (Some old ∷ states) zero state inside none = absurd (none-some old (sym none))
@@ -83,7 +121,10 @@ unreached_new (None ∷ states) (suc to) state inside none =
     omega (arith, rest)
 unreached_new (Some old ∷ states) (suc to) state inside none = unreached_new states to state (omega (arith, inside)) none
 
-pub unreached_old : (states : List (Option State)) (to : ℕ) (state old : State) → reached_in states to ≡ Some old → unreached_in (slice_set states to (Some state)) ≡ unreached_in states
+pub unreached_old :
+    (states : List (Option State)) (to : ℕ) (state old : State)
+    → reached_in states to ≡ Some old
+    → unreached_in (slice_set states to (Some state)) ≡ unreached_in states
 unreached_old [] to state old is = refl
 unreached_old (None ∷ states) zero state old is = absurd (none-some old is)
 unreached_old (Some one ∷ states) zero state old is = refl

@@ -24,16 +24,33 @@ use Rattle.plan_flow.proofs.Settled.{asked_present}
 
 -- ---- what is asked for is present
 
-asked_there : (s : PlanScope) (at : ℕ) (point : Point) (state : State) → IsState state → {site : ℕ} → IsAsked s at point state site → IsTrue (is_present state.objects site)
+asked_there :
+    (s : PlanScope) (at : ℕ) (point : Point) (state : State)
+    → IsState state
+    → {site : ℕ}
+    → IsAsked s at point state site
+    → IsTrue (is_present state.objects site)
 asked_there s at point state is (by_position number position site there asks) = asked_present s state position site is asks
 asked_there s at point state is (beneath number edge site there named present) = present
 
-present_in : (s : PlanScope) (at : ℕ) (found : Option Point) (state : State) (sites : List ℕ) → IsState state → IsMustIn s at found state sites → (site : ℕ) → IsTrue (has sites site) → IsTrue (is_present state.objects site)
+present_in :
+    (s : PlanScope) (at : ℕ) (found : Option Point) (state : State) (sites : List ℕ)
+    → IsState state
+    → IsMustIn s at found state sites
+    → (site : ℕ)
+    → IsTrue (has sites site)
+    → IsTrue (is_present state.objects site)
 present_in s at None state sites is must site among = absurd (false≢true (subst (λ (list : List ℕ). IsTrue (has list site)) must among))
-present_in s at (Some point) state sites is must site among = must.least (is_present state.objects) (λ one asked. asked_there s at point state is asked) (λ from to edge from_there. is.fields from to edge) site among
+present_in s at (Some point) state sites is must site among =
+    must.least (is_present state.objects) (λ one asked. asked_there s at point state is asked)
+    (λ from to edge from_there. is.fields from to edge) site among
 
-closed_in : (s : PlanScope) (at : ℕ) (found : Option Point) (state : State) (sites : List ℕ) → IsMustIn s at found state sites → IsClosed (has sites) state.objects
-closed_in s at None state sites must = λ from to edge among. absurd (false≢true (subst (λ (list : List ℕ). IsTrue (has list from)) must among))
+closed_in :
+    (s : PlanScope) (at : ℕ) (found : Option Point) (state : State) (sites : List ℕ)
+    → IsMustIn s at found state sites
+    → IsClosed (has sites) state.objects
+closed_in s at None state sites must = λ from to edge among.
+    absurd (false≢true (subst (λ (list : List ℕ). IsTrue (has list from)) must among))
 closed_in s at (Some point) state sites must = must.closed
 
 -- ---- lists of sites
@@ -52,15 +69,35 @@ pub record IsRound (s : PlanScope) (at : ℕ) (state left : State) (sites : List
   pub is_state : IsState left
   pub below : IsBelow state left
   pub must : IsMust s at left sites
-  pub least : (point : Point) (other : State) → point_at s.flat at ≡ Some point → IsBelow state other → IsMustOf s at point other [] → IsBelow left other
+  pub least :
+      (point : Point) (other : State)
+      → point_at s.flat at ≡ Some point
+      → IsBelow state other
+      → IsMustOf s at point other []
+      → IsBelow left other
 
 pub record Rounds (classes : Classes) (flat : FlatCode) (at : ℕ) (state left : State) (sites : List ℕ) : Type 0 where
-  pub each : (links : Links) → AreLinksOf (headers_of classes) links → IsRound (scope_of classes links flat) at state left sites
+  pub each :
+      (links : Links)
+      → AreLinksOf (headers_of classes) links
+      → IsRound (scope_of classes links flat) at state left sites
 
-round_first : (s : PlanScope) (at : ℕ) (state : State) (sites : List ℕ) → IsState state → IsMust s at state sites → IsRound s at state state sites
-round_first s at state sites is must = record { is_state = is; below = below_itself state; must = must; least = λ point other is_point up asks_none. up }
+round_first :
+    (s : PlanScope) (at : ℕ) (state : State) (sites : List ℕ)
+    → IsState state
+    → IsMust s at state sites
+    → IsRound s at state state sites
+round_first s at state sites is must = record {
+  is_state = is;
+  below = below_itself state;
+  must = must;
+  least = λ point other is_point up asks_none. up;
+}
 
-closed_of : (s : PlanScope) (at : ℕ) (state left : State) (sites : List ℕ) → IsRound s at state left sites → IsClosed (has sites) left.objects
+closed_of :
+    (s : PlanScope) (at : ℕ) (state left : State) (sites : List ℕ)
+    → IsRound s at state left sites
+    → IsClosed (has sites) left.objects
 closed_of s at state left sites round = closed_in s at (point_at s.flat at) left sites round.must
 
 round_next :
@@ -83,14 +120,23 @@ round_next s at state left sites more round must = record {
   closed : IsClosed (has sites) left.objects
   closed = closed_of s at state left sites round
 
-round_fewer : (s : PlanScope) (at : ℕ) (state left : State) (sites : List ℕ) → IsRound s at state left sites → 0 < length sites → length (without left (has sites)).objects < length left.objects
+round_fewer :
+    (s : PlanScope) (at : ℕ) (state left : State) (sites : List ℕ)
+    → IsRound s at state left sites
+    → 0 < length sites
+    → length (without left (has sites)).objects < length left.objects
 round_fewer s at state left sites round some =
     let one = some_site sites some in
     let there = present_in s at (point_at s.flat at) left sites round.is_state round.must one.0 one.1 in
-    subst (λ (len : ℕ). len < length left.objects) (sym (length-map {A = VObject} {B = VObject} (of_sites (stay (has sites)) left.objects) (object_without (has sites))))
+    let len = length-map {A = VObject} {B = VObject} (of_sites (stay (has sites)) left.objects) (object_without (has sites)) in
+    subst (λ (count : ℕ). count < length left.objects) (sym len)
     (fewer_objects (has sites) left.objects one.0 there one.1)
 
-round_last : (s : PlanScope) (at : ℕ) (point : Point) (state left : State) → IsRound s at state left [] → point_at s.flat at ≡ Some point → IsLeft s at point state left
+round_last :
+    (s : PlanScope) (at : ℕ) (point : Point) (state left : State)
+    → IsRound s at state left []
+    → point_at s.flat at ≡ Some point
+    → IsLeft s at point state left
 round_last s at point state left round is_point = record {
   below = round.below;
   must = subst (λ (found : Option Point). IsMustIn s at found left []) is_point round.must;
@@ -108,7 +154,8 @@ pub rounds_first :
 rounds_first classes flat at state left sites is same must = record {
   each = λ links are.
       let s = scope_of classes links flat in
-      subst (λ (one : State). IsRound s at state one sites) (sym same) (round_first s at state sites is (subst (λ (one : State). IsMust s at one sites) same (must links are)));
+      let here = subst (λ (one : State). IsMust s at one sites) same (must links are) in
+      subst (λ (one : State). IsRound s at state one sites) (sym same) (round_first s at state sites is here);
 }
 
 pub rounds_next :
@@ -120,7 +167,8 @@ pub rounds_next :
 rounds_next classes flat at state left rest sites more rounds is must = record {
   each = λ links are.
       let s = scope_of classes links flat in
-      subst (λ (one : State). IsRound s at state one more) (sym is) (round_next s at state left sites more (rounds.each links are) (subst (λ (one : State). IsMust s at one more) is (must links are)));
+      let here = subst (λ (one : State). IsMust s at one more) is (must links are) in
+      subst (λ (one : State). IsRound s at state one more) (sym is) (round_next s at state left sites more (rounds.each links are) here);
 }
 
 pub rounds_closed :
@@ -129,7 +177,8 @@ pub rounds_closed :
     → (links : Links)
     → AreLinksOf (headers_of classes) links
     → IsClosed (has sites) left.objects
-rounds_closed classes flat at state left sites rounds links are = closed_of (scope_of classes links flat) at state left sites (rounds.each links are)
+rounds_closed classes flat at state left sites rounds links are =
+    closed_of (scope_of classes links flat) at state left sites (rounds.each links are)
 
 pub rounds_fewer :
     (classes : Classes) (flat : FlatCode) (at : ℕ) (state left rest : State) (sites : List ℕ)
@@ -140,7 +189,8 @@ pub rounds_fewer :
     → 0 < length sites
     → length rest.objects < length left.objects
 rounds_fewer classes flat at state left rest sites rounds links are is some =
-    subst (λ (one : State). length one.objects < length left.objects) (sym is) (round_fewer (scope_of classes links flat) at state left sites (rounds.each links are) some)
+    subst (λ (one : State). length one.objects < length left.objects) (sym is)
+    (round_fewer (scope_of classes links flat) at state left sites (rounds.each links are) some)
 
 pub rounds_last :
     (classes : Classes) (flat : FlatCode) (at : ℕ) (state left : State) (sites : List ℕ)
@@ -152,4 +202,5 @@ pub rounds_last :
     → IsLeft (scope_of classes links flat) at point state left
 rounds_last classes flat at state left sites rounds none links point are is_point =
     let s = scope_of classes links flat in
-    round_last s at point state left (subst (λ (list : List ℕ). IsRound s at state left list) (no_site sites none) (rounds.each links are)) is_point
+    let last = subst (λ (list : List ℕ). IsRound s at state left list) (no_site sites none) (rounds.each links are) in
+    round_last s at point state left last is_point

@@ -41,24 +41,20 @@ abbrev pub AreEffectIn : Classes → FlatCode → ℕ → State → List Edge �
 AreEffectIn classes flat at left edges =
     (links : Links) → AreLinksOf (headers_of classes) links → IsEffect (scope_of classes links flat) at left edges
 
--- it asks for no object
-pub left_asks_none : (classes : Classes) (flat : FlatCode) (at : ℕ) (state left : State) (links : Links) → AreLinksOf (headers_of classes) links → IsLeftIn classes flat at state left → IsMust (scope_of classes links flat) at left []
-left_asks_none classes flat at state left links are is_left =
-    elim (some_or_none (point_at flat at)) [
-      | inr none ↦ subst (λ (o : Option Point). IsMustIn s at o left []) (sym none) refl
-      | inl found ↦ subst (λ (o : Option Point). IsMustIn s at o left []) (sym found.1) (is_left links found.0 are found.1).must
-    ] where
-      s : PlanScope
-      s = scope_of classes links flat
-
 -- the edges of a point that is reached
-pub edges_of_point : (classes : Classes) (flat : FlatCode) (at : ℕ) (left : State) (edges : List Edge) (links : Links) (point : Point) → AreLinksOf (headers_of classes) links → AreEffectIn classes flat at left edges → point_at flat at ≡ Some point → AreEdges (scope_of classes links flat) point at left (open_edges (scope_of classes links flat) at point left) edges
+pub edges_of_point :
+    (classes : Classes) (flat : FlatCode) (at : ℕ) (left : State) (edges : List Edge) (links : Links) (point : Point)
+    → AreLinksOf (headers_of classes) links
+    → AreEffectIn classes flat at left edges
+    → point_at flat at ≡ Some point
+    → AreEdges (scope_of classes links flat) point at left (open_edges (scope_of classes links flat) at point left) edges
 edges_of_point classes flat at left edges links point are effect is =
     subst (λ (o : Option Point). IsEffectIn (scope_of classes links flat) at o left edges) is (effect links are)
 
 -- ---- a visit
 
-record Visit (classes : Classes) (flat : FlatCode) (at : ℕ) (before : List (Option State)) (work : List ℕ) (state left : State) (edges : List Edge) : Type 0 where
+record Visit (classes : Classes) (flat : FlatCode) (at : ℕ) (before : List (Option State)) (work : List ℕ) (state left : State)
+    (edges : List Edge) : Type 0 where
   flat_code : IsFlat flat
   flows : FlowsInside flat
   reaching : AreReaching classes flat before (at ∷ work)
@@ -79,7 +75,8 @@ started_in classes flat at before work state left edges v links number edge are 
     let under = (v.reaching links are).under in
     let point = point_there flat.points at (under.inside at state v.found) in
     let is_left = v.is_left links point.0 are point.1 in
-    let row = row_of_edge s point.0 at left (open_edges s at point.0 left) edges (edges_of_point classes flat at left edges links point.0 are v.effect point.1) number edge is in
+    let row = row_of_edge s point.0 at left (open_edges s at point.0 left) edges
+    (edges_of_point classes flat at left edges links point.0 are v.effect point.1) number edge is in
     let counts = (state_at_above s at state left (under.at at state v.found) is_left.below).fields in
     let pending : Pending s (reached_in before) = record {
       from = at;
@@ -100,7 +97,8 @@ started_in classes flat at before work state left edges v links number edge are 
     subst (λ (to : ℕ). IsEdgeTo s (reached_in before) to edge.state) (sym row.2.same_to) (edge_to s (reached_in before) pending under)
 
 pub visit_starts :
-    (classes : Classes) (flat : FlatCode) (at : ℕ) (before : List (Option State)) (work : List ℕ) (state left : State) (edges : List Edge) (links : Links)
+    (classes : Classes) (flat : FlatCode) (at : ℕ) (before : List (Option State)) (work : List ℕ) (state left : State) (edges : List Edge)
+    (links : Links)
     → AreLinksOf (headers_of classes) links
     → IsFlat flat
     → FlowsInside flat
@@ -113,12 +111,23 @@ pub visit_starts :
 visit_starts classes flat at before work state left edges links are flat_code flows reaching found left_state is_left effect = record {
   len = (reaching links are).len;
   under = λ link are_link. (reaching link are_link).under;
-  edge = started_in classes flat at before work state left edges (record { flat_code = flat_code; flows = flows; reaching = reaching; found = found; left_state = left_state; is_left = is_left; effect = effect });
+  edge =
+      started_in classes flat at before work state left edges
+      (record {
+        flat_code = flat_code;
+        flows = flows;
+        reaching = reaching;
+        found = found;
+        left_state = left_state;
+        is_left = is_left;
+        effect = effect;
+      });
 }
 
 -- the edges of the point itself, where its state is as it was
 lead_here :
-    (classes : Classes) (flat : FlatCode) (at : ℕ) (before after : List (Option State)) (work also : List ℕ) (state left : State) (edges : List Edge) (new : Bool) (links : Links)
+    (classes : Classes) (flat : FlatCode) (at : ℕ) (before after : List (Option State)) (work also : List ℕ) (state left : State)
+    (edges : List Edge) (new : Bool) (links : Links)
     → AreLinksOf (headers_of classes) links
     → reached_in before at ≡ Some state
     → IsLeftIn classes flat at state left
@@ -134,10 +143,12 @@ lead_here classes flat at before after work also state left edges new links are 
       let same_left : other ≡ left = left_is_one s at point state other left other_left (is_left links point are is_point) in
       let row_left = subst (λ (x : State). slice_get (open_edges s at point x) number ≡ Some row) same_left is_row in
       let behind_left = subst (λ (x : State). IsStateBehind s point at x row behind) same_left is_behind in
-      let edge = edge_of_row s point at left (open_edges s at point left) edges (edges_of_point classes flat at left edges links point are effect is_point) number row row_left in
+      let edge = edge_of_row s point at left (open_edges s at point left) edges
+      (edges_of_point classes flat at left edges links point are effect is_point) number row row_left in
       let same_behind : edge.0.state ≡ behind = behind_is_one s at point left row edge.0.state behind edge.2.behind behind_left in
       let lead = followed.lead number edge.0 edge.1 in
-      subst (LeadsIn (reached_in after) row.to) same_behind (subst (λ (to : ℕ). LeadsIn (reached_in after) to edge.0.state) edge.2.same_to lead);
+      subst (LeadsIn (reached_in after) row.to) same_behind
+      (subst (λ (to : ℕ). LeadsIn (reached_in after) to edge.0.state) edge.2.same_to lead);
 }
 
 -- the edges of another point
@@ -156,7 +167,8 @@ lead_elsewhere s at one before after work also raised differ lead none = record 
 }
 
 pub visited :
-    (classes : Classes) (flat : FlatCode) (at : ℕ) (before after : List (Option State)) (work also : List ℕ) (state left : State) (edges : List Edge) (new : Bool)
+    (classes : Classes) (flat : FlatCode) (at : ℕ) (before after : List (Option State)) (work also : List ℕ) (state left : State)
+    (edges : List Edge) (new : Bool)
     → AreReaching classes flat before (at ∷ work)
     → reached_in before at ≡ Some state
     → IsLeftIn classes flat at state left
@@ -173,7 +185,8 @@ visited classes flat at before after work also state left edges new reaching fou
         under = followed.under links are;
         lead = λ one none. elim (same_or_not at one) [
           | inl same ↦ subst (AllLeadAt s (reached_in after)) same
-              (lead_here classes flat at before after work also state left edges new links are found is_left effect followed (subst (λ (n : ℕ). IsFalse (has also n)) (sym same) none))
+              (lead_here classes flat at before after work also state left edges new links are found is_left effect followed
+              (subst (λ (n : ℕ). IsFalse (has also n)) (sym same) none))
           | inr differ ↦ lead_elsewhere s at one before after work also followed.raised differ old.lead none
         ];
       };
@@ -195,7 +208,10 @@ visited_none classes flat at states work reaching none = record {
         under = old.under;
         lead = λ one out. elim (same_or_not at one) [
           | inl same ↦ subst (AllLeadAt s (reached_in states)) same
-              (record { each = λ number point state left behind row is_point is_found is_left is_row is_behind. absurd (none-some state (sym none ∙ is_found)) })
+              (record {
+                each = λ number point state left behind row is_point is_found is_left is_row is_behind.
+                    absurd (none-some state (sym none ∙ is_found));
+              })
           | inr differ ↦ old.lead one (has_behind at work one differ ∙ out)
         ];
       };
@@ -219,78 +235,12 @@ pub record IsAdvancing (classes : Classes) (flat : FlatCode) (before after : Lis
   pub fewer : unreached_in after ≤ unreached_in before
   pub reaching : AreReaching classes flat after work
 
-pub advancing_starts : (classes : Classes) (flat : FlatCode) (states : List (Option State)) (work : List ℕ) → AreReaching classes flat states work → IsAdvancing classes flat states states work
-advancing_starts classes flat states work reaching = record { fewer = omega arith; reaching = reaching }
-
-pub taken_reaching : (classes : Classes) (flat : FlatCode) (before states : List (Option State)) (all work : List ℕ) (at : ℕ) → IsAdvancing classes flat before states all → all ≡ at ∷ work → AreReaching classes flat states (at ∷ work)
-taken_reaching classes flat before states all work at advancing is = subst (AreReaching classes flat states) is advancing.reaching
-
-pub advancing_more :
-    (classes : Classes) (flat : FlatCode) (before states after : List (Option State)) (all work also : List ℕ) (new : Bool)
-    → IsAdvancing classes flat before states all
-    → IsVisited classes flat states after work also new
-    → IsAdvancing classes flat before after also
-advancing_more classes flat before states after all work also new advancing visited = record {
-  fewer = let one = advancing.fewer in let two = visited.less.fewer in omega (arith, one, two);
-  reaching = visited.reaching;
-}
-
-pub visit_smaller :
-    (classes : Classes) (flat : FlatCode) (states after : List (Option State)) (all work also : List ℕ) (at : ℕ) (new : Bool)
-    → all ≡ at ∷ work
-    → IsVisited classes flat states after work also new
-    → IsFalse new
-    → objects_in after * 2 + length also < objects_in states * 2 + length all
-visit_smaller classes flat states after all work also at new is visited old =
-    let lighter = visited.less.lighter old in
-    let len = ap (λ (list : List ℕ). length list) is in
-    omega (arith, lighter, len)
-
-pub advanced_new :
-    (classes : Classes) (flat : FlatCode) (before states after : List (Option State)) (all work also : List ℕ) (new : Bool)
-    → IsAdvancing classes flat before states all
-    → IsVisited classes flat states after work also new
-    → IsTrue new
-    → IsAdvanced classes flat before after also true
-advanced_new classes flat before states after all work also new advancing visited is = record {
-  fewer = let one = advancing.fewer in let two = visited.less.fewer in omega (arith, one, two);
-  reaches = λ yes_new. let one = advancing.fewer in let two = visited.less.reaches is in omega (arith, one, two);
-  done = λ old. absurd (true≢false old);
-  reaching = visited.reaching;
-}
-
-pub advanced_none :
-    (classes : Classes) (flat : FlatCode) (before states : List (Option State)) (all work : List ℕ)
-    → IsAdvancing classes flat before states all
-    → all ≡ []
-    → work ≡ all
-    → IsAdvanced classes flat before states work false
-advanced_none classes flat before states all work advancing none same = record {
-  fewer = advancing.fewer;
-  reaches = λ new. absurd (false≢true new);
-  done = λ old. same ∙ none;
-  reaching = subst (AreReaching classes flat states) (sym same) advancing.reaching;
-}
-
 -- ---- until none is left
 
 pub record IsIterating (classes : Classes) (flat : FlatCode) (states : List (Option State)) (work : List ℕ) (more : Bool) : Type 0 where
   pub reaching : AreReaching classes flat states work
   pub done : IsFalse more → work ≡ []
 
-pub iterating_starts : (classes : Classes) (flat : FlatCode) (states : List (Option State)) (work : List ℕ) → AreReaching classes flat states work → IsIterating classes flat states work true
-iterating_starts classes flat states work reaching = record { reaching = reaching; done = λ old. absurd (true≢false old) }
-
-pub iterating_more : (classes : Classes) (flat : FlatCode) (before after : List (Option State)) (work : List ℕ) (more : Bool) → IsAdvanced classes flat before after work more → IsIterating classes flat after work more
-iterating_more classes flat before after work more advanced = record { reaching = advanced.reaching; done = advanced.done }
-
 -- rounds that are left
 abbrev pub rounds_left : List (Option State) → Bool → ℕ
 rounds_left states more = unreached_in states * 2 + cond more 1 0
-
-pub advance_smaller : (classes : Classes) (flat : FlatCode) (before after : List (Option State)) (work : List ℕ) (more : Bool) → IsAdvanced classes flat before after work more → rounds_left after more < rounds_left before true
-advance_smaller classes flat before after work true advanced = let less = advanced.reaches refl in omega (arith, less)
-advance_smaller classes flat before after work false advanced = let fewer = advanced.fewer in omega (arith, fewer)
-
-pub iterated_all : (classes : Classes) (flat : FlatCode) (states : List (Option State)) (work : List ℕ) (more : Bool) → IsIterating classes flat states work more → IsFalse more → AreReaching classes flat states []
-iterated_all classes flat states work more iterating old = subst (AreReaching classes flat states) (iterating.done old) iterating.reaching

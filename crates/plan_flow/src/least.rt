@@ -78,12 +78,7 @@ fn blank_state(alloc: Global, types: &Frame) -> Result<VState, NoMemory>
 }
 
 // The plan that the states of points give.
-fn plan_of(
-    alloc: Global,
-    tree: &Tree,
-    flat: &Flat,
-    states: &PointStates,
-) -> Result<Plan, NoMemory>
+fn plan_of(alloc: Global, tree: &Tree, flat: &Flat, states: &PointStates) -> Result<Plan, NoMemory>
     requires narrow { IsNarrow flat.now }
     requires reaching { AreReaching tree.now flat.now states.now [] }
     ensures { IfOk result (λ plan. (links : Links)
@@ -91,8 +86,8 @@ fn plan_of(
         → IsLeast (scope_of tree.now links flat.now) plan) }
 {
     let mut points = Vec::with_capacity(alloc, flat.len())?;
-    while points.len() < flat.len() {
-        let plan = point_plan(alloc, tree, flat, points.len(), states)?;
+    for at in 0..flat.len() {
+        let plan = point_plan(alloc, tree, flat, at, states)?;
         points.push(plan)?;
     }
     Ok(Plan::of(points))
@@ -134,8 +129,10 @@ fn edge_plans(
         (λ plans. plans.items ≡ made_edges (reached_in states.now) edges.now) }
 {
     let mut plans = Vec::with_capacity(alloc, edges.len())?;
-    while let Some(edge) = edges.get(plans.len()) {
+    let mut number = 0;
+    while let Some(edge) = edges.get(number) {
         plans.push(edge_plan(alloc, edge, states)?)?;
+        number += 1;
     }
     Ok(plans)
 }

@@ -17,8 +17,8 @@ use flow_code::Flat;
 use std::alloc::Global;
 use virtual_state::{VState, without};
 
-/// The least state above another one in which the instruction of a point asks for no object: what it asks for is made, until
-/// it asks for none.
+/// The least state above another one in which the instruction of a point asks for no object: what
+/// it asks for is made, until it asks for none.
 ///
 /// # Errors
 /// `NoMemory`, where memory runs out.

@@ -14,8 +14,9 @@ use flow_code::Flat;
 use std::alloc::Global;
 use virtual_state::{SiteSet, Slot, VState, closure, join, without};
 
-/// The least state of a point that is above the state behind an edge to it, and above the state that the point has, if it has
-/// one: no object stays virtual that lies at or below a stack entry whose type is Top.
+/// The least state of a point that is above the state behind an edge to it, and above the state that
+/// the point has, if it has one: no object stays virtual that lies at or below a stack entry whose
+/// type is Top.
 ///
 /// # Errors
 /// `NoMemory`, where memory runs out.
@@ -52,7 +53,8 @@ fn joined(alloc: Global, behind: &VState, old: Option<&VState>) -> Result<VState
     }
 }
 
-// A state, where the objects are made that lie at or below a stack entry of a point whose type is Top.
+// A state, where each object is made that lies at or below a stack entry whose type at a point is
+// Top.
 fn cleaned(alloc: Global, flat: &Flat, at: usize, state: VState) -> Result<VState, NoMemory>
     ensures { IfOk result (λ clean. IsCleaned flat.now at state clean) }
 {

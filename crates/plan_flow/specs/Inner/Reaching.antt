@@ -113,7 +113,8 @@ objects_in (None ∷ states) = objects_in states
 objects_in (Some state ∷ states) = length state.objects + objects_in states
 
 -- A point was reached, or else states have fewer objects, or fewer points are listed.
-pub record IsLess (before after : List (Option State)) (work also : List ℕ) (new : Bool) : Type 0 where
+pub record IsLess (before after : List (Option State)) (work also : List ℕ) (new : Bool)
+    : Type 0 where
   pub fewer : unreached_in after ≤ unreached_in before
   pub reaches : IsTrue new → unreached_in after < unreached_in before
   pub lighter : IsFalse new

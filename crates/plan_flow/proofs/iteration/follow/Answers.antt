@@ -14,7 +14,8 @@ returns-then-leads c =
 pub raised-requires : goal.raised-requires
 raised-requires c = λ state is.
     let links = c.a_tree_has_links.ensures in
-    same_places c.args.tree.now c.args.flat.now c.args.states.now c.args.edge.now links.0 state links.1 c.requires.start (sym c.get-old.ensures ∙ is)
+    same_places c.args.tree.now c.args.flat.now c.args.states.now c.args.edge.now links.0 state links.1 c.requires.start
+    (sym c.get-old.ensures ∙ is)
 
 pub put-requires : goal.put-requires
 put-requires c =
@@ -27,7 +28,8 @@ returns c =
     let edge = c.args.edge.now in
     let above = c.in_ok-above.above in
     let new = c.is_none-new.result in
-    followed_one c.args.tree.now c.args.flat.now c.args.states.now c.put.new.self c.args.work.now c.add.new.self edge above new links.0 links.1 c.requires.start
+    followed_one c.args.tree.now c.args.flat.now c.args.states.now c.put.new.self c.args.work.now c.add.new.self edge above new links.0
+    links.1 c.requires.start
     (λ lead. both_ways c.leads.result c.if-leads.false (c.leads.ensures.1 lead))
     (λ s same at. subst (λ (o : Option State). IsRaised s edge.to edge.state o above) c.get-old.ensures (c.in_ok-above.ensures s same at))
     c.in_ok-add.ensures

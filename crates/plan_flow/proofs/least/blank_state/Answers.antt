@@ -9,7 +9,8 @@ use Rattle.virtual_state.specs.declared.slot.VObject.{VObject}
 pub of-requires : goal.of-requires
 of-requires c =
     let types = c.args.types.now in
-    let blank = subst (λ (objects : List VObject). CanBeState (blank_slots types.locals types.stack) objects) (sym c.new.ensures) (can_be_blank types.locals types.stack) in
+    let blank = subst (λ (objects : List VObject). CanBeState (blank_slots types.locals types.stack) objects) (sym c.new.ensures)
+    (can_be_blank types.locals types.stack) in
     subst (λ (slots : List Slot). CanBeState slots c.new.result) (sym c.in_ok-slots.ensures) blank
 
 pub returns : goal.returns
@@ -17,4 +18,5 @@ returns c =
     let types = c.args.types.now in
     let state = c.in_ok-state.state in
     let empty = subst (λ (objects : List VObject). IsStateOf c.in_ok-slots.slots objects state) c.new.ensures c.in_ok-state.ensures in
-    blank_is types.locals types.stack state c.is_state.ensures (subst (λ (slots : List Slot). IsStateOf slots [] state) c.in_ok-slots.ensures empty)
+    blank_is types.locals types.stack state c.is_state.ensures
+    (subst (λ (slots : List Slot). IsStateOf slots [] state) c.in_ok-slots.ensures empty)

@@ -10,7 +10,8 @@ pub returns : goal.returns
 returns c = λ links are.
     let states = c.args.states.now in
     let state = c.in-Some.state.now in
-    point_planned c.args.tree.now c.args.flat.now states c.args.at state c.in_ok-left.left c.in_ok-edges.edges c.in_ok-state.state c.in_ok-made.made c.in_ok-edges-2.edges.items links are c.requires.reaching
+    point_planned c.args.tree.now c.args.flat.now states c.args.at state c.in_ok-left.left c.in_ok-edges.edges c.in_ok-state.state
+    c.in_ok-made.made c.in_ok-edges-2.edges.items links are c.requires.reaching
     (sym c.get.ensures ∙ ap option_copied c.in-Some.is) c.is_state.ensures c.in_ok-left.ensures c.in_ok-edges.ensures
     c.in_ok-state.ensures c.in_ok-made.ensures
     (c.in_ok-edges-2.ensures ∙ ap (λ (edges : List Edge). made_edges (reached_in states) edges) c.as_slice.ensures)

@@ -9,4 +9,6 @@ returns-then-is_empty c =
     cleaned_same c.args.flat.now c.args.at c.args.state c.in_ok-sites.sites c.in_ok-sites.ensures none
 
 pub returns : goal.returns
-returns c = cleaned_without c.args.flat.now c.args.at c.args.state c.in_ok-clean.clean c.in_ok-sites.sites c.in_ok-away.away c.is_state.ensures c.in_ok-sites.ensures c.in_ok-away.ensures c.in_ok-clean.ensures
+returns c =
+    cleaned_without c.args.flat.now c.args.at c.args.state c.in_ok-clean.clean c.in_ok-sites.sites c.in_ok-away.away
+    c.is_state.ensures c.in_ok-sites.ensures c.in_ok-away.ensures c.in_ok-clean.ensures

@@ -13,8 +13,9 @@ returns-then-not-has_top c = λ site.
     let types = c.in-Some.types.now in
     let are = types_of c.args.flat.now c.args.at types (sym c.typed.ensures ∙ ap option_copied c.in-Some.is) in
     let no : c.has_top.result ≡ false = search rules in
+    let none = ap (list_any is_top) (sym c.as_slice-stack.ensures) ∙ sym c.has_top.ensures ∙ no in
     ap (λ (list : List ℕ). has list site) c.new-sites.ensures
-    ∙ none_there c.args.flat.now c.args.at c.args.state.now types.locals types.stack are (ap (list_any is_top) (sym c.as_slice-stack.ensures) ∙ sym c.has_top.ensures ∙ no) site
+    ∙ none_there c.args.flat.now c.args.at c.args.state.now types.locals types.stack are none site
 
 pub returns : goal.returns
 returns c =
@@ -22,6 +23,11 @@ returns c =
     let state = c.args.state.now in
     let entries = c.slots_from-entries.result.now in
     let are = types_of c.args.flat.now c.args.at types (sym c.typed.ensures ∙ ap option_copied c.in-Some.is) in
-    let entries_are : entries ≡ drop (length types.locals) state.slots = c.slots_from-entries.ensures ∙ (λ i. drop (c.len.ensures i) (c.slots.ensures i)) in
-    some_there c.args.flat.now c.args.at state types.locals types.stack entries c.add_entries.new.sites c.is_state.ensures are entries_are
-    (subst (λ (T : Type 0). T) (λ i. HasAdded (c.new-sites.ensures i) c.add_entries.new.sites (IsBeneath state (c.as_slice-stack.ensures i) (fit_stack (c.as_slice-stack.ensures i) entries))) c.in_ok-add_entries.ensures)
+    let stack_is = c.as_slice-stack.ensures in
+    let entries_are : entries ≡ drop (length types.locals) state.slots =
+    c.slots_from-entries.ensures ∙ (λ i. drop (c.len.ensures i) (c.slots.ensures i)) in
+    let after = c.add_entries.new.sites in
+    some_there c.args.flat.now c.args.at state types.locals types.stack entries after c.is_state.ensures are entries_are
+    (subst (λ (T : Type 0). T)
+    (λ i. HasAdded (c.new-sites.ensures i) after (IsBeneath state (stack_is i) (fit_stack (stack_is i) entries)))
+    c.in_ok-add_entries.ensures)
