@@ -3,8 +3,9 @@
 # take with no times; the sizes take turns, and the least time of each counts. Constants are added to a pool and looked up, and to a
 # pool of 65,000 entries: in constant time each. A code of 8,000 items is laid out, in at most 3 times the time of decoding its bytes.
 # States of 256 virtual objects with 4,096 field units are joined and compared, in proportion to their places and fields; joins of
-# equal states are kept, and share what they have: memory does not grow with the fields. Prints what is wanted and what came, and
-# fails where a want is not met.
+# equal states are kept, and share what they have: memory does not grow with the fields. Plans are made of straight code of 2,000 to 8,000
+# points with 256 sites, and of six loops in one another of as many points, in proportion to the points. Prints what is wanted and what
+# came, and fails where a want is not met.
 set -eu
 cd "$(dirname "$0")/.."
 . bench/measures.sh
@@ -20,6 +21,10 @@ layouts 8000 500
 decodes 8000 500
 joins 256 5000
 below 256 20000
+straight 4000 10
+straight 8000 10
+nested 4000 10
+nested 8000 10
 WORDS
 
 for _ in $(seq 1 "$runs"); do
@@ -46,7 +51,8 @@ doubles() {
     wanted "$(ratio "$whole" "$half") times the first (at most $4 is wanted)" "$half > 0 && $whole <= $4 * $half"
 }
 
-for word in 'edits 65000 1000000' 'layouts 8000 500' 'joins 256 5000' 'below 256 20000'; do
+for word in 'edits 65000 1000000' 'layouts 8000 500' 'joins 256 5000' 'below 256 20000' \
+    'straight 4000 10' 'straight 8000 10' 'nested 4000 10' 'nested 8000 10'; do
     read -r what count times <<<"$word"
     doubles "$what" "$count" "$times" 2.6
 done

@@ -11,7 +11,9 @@
 //!   appended and taken back (`bench/rewriting.sh`, as what follows); it counts the additions;
 //! - `layouts` or `decodes`: a code of so many items is laid out, or its bytes are decoded; it counts bytes, or instructions;
 //! - `joins`, `below` or `kept`: two states of so many virtual objects and sixteen times as many fields are joined, or compared, or equal
-//!   ones are joined and the joins kept; it counts joins that keep the last site, answers by yes, or joins.
+//!   ones are joined and the joins kept; it counts joins that keep the last site, answers by yes, or joins;
+//! - `straight` or `nested`: plans are made of straight code of so many points and 256 sites, or of six loops in one another; it counts the
+//!   points that are reached, and one for each plan that saves something.
 #![tactic(auto)]
 
 mod codes;
@@ -19,6 +21,8 @@ mod edits;
 mod layouts;
 mod link_input;
 mod links;
+mod plan_input;
+mod plans;
 mod states;
 mod tree_input;
 mod trees;
@@ -27,6 +31,7 @@ use codes::{read_jumps, read_tables};
 use edits::{edit_pool, grow_pools};
 use layouts::{decode_laid, lay_out};
 use links::link;
+use plans::{plan_nested, plan_straight};
 use states::{ask_below, join_states, keep_joins};
 use std::alloc::Global;
 use std::env;
@@ -84,6 +89,8 @@ fn count_rewriting(alloc: Global, what: &str, count: u32, times: u32) -> Option<
         "decodes" => decode_laid(alloc, count, times),
         "joins" => join_states(alloc, count.try_into().ok()?, times),
         "below" => ask_below(alloc, count.try_into().ok()?, times),
+        "straight" => plan_straight(alloc, count, times),
+        "nested" => plan_nested(alloc, count, times),
         "kept" => keep_joins(alloc, count.try_into().ok()?, times),
         _ => None,
     }

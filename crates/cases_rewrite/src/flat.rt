@@ -1,9 +1,10 @@
 //! Flat code.
 ghost use Rattle.std.specs.Prelude.{◌≡◌, IfSome, IsTrue};
 ghost use Rattle.std.specs.List.{AllByRecursion};
+ghost use Rattle.class_model.specs.Code.{FitsLocal};
 ghost use Rattle.flow_code.specs.FlatCode.{FitsFlat, IsPoint, NamesPoint};
 
-use class_model::{Instr, MethodAt};
+use class_model::{Instr, Kind, MethodAt};
 use flow_code::{Flat, FlatHandler, FlatInstr, Point, PointList, Site, SiteList};
 
 /// The flat code of these points and sites, of a few kinds of instructions, if it is as `Flat::of` asks.
@@ -43,9 +44,29 @@ fn fits_instr(count: usize, locals: u16, instr: &FlatInstr) -> bool
         FlatInstr::NullTest(local) => *local < locals,
         FlatInstr::Of { instr, .. } => match instr {
             Instr::Nop | Instr::New(_) | Instr::Return(_) | Instr::Throw => true,
+            Instr::Const(_) | Instr::Shuffle(_) | Instr::Pure(_) | Instr::Divide(_) => true,
+            Instr::GetField(_) | Instr::PutField(_) | Instr::Invoke(_, _, _) => true,
+            Instr::Cast(_) | Instr::InstanceOf(_) | Instr::Enter | Instr::Leave => true,
+            Instr::Load(kind, local) => fits_local(locals, *kind, *local),
+            Instr::Store(kind, local) => fits_local(locals, *kind, *local),
+            Instr::Iinc(local, _) => *local < locals,
             Instr::Goto(to) => (*to as usize) < count,
+            Instr::If(_, to) => (*to as usize) < count,
+            Instr::If2(_, to) => (*to as usize) < count,
+            Instr::IfSame(_, to) => (*to as usize) < count,
+            Instr::IfNull(_, to) => (*to as usize) < count,
             _ => false,
         },
+    }
+}
+
+fn fits_local(locals: u16, kind: Kind, local: u16) -> bool
+    ensures { IsTrue result → FitsLocal locals kind local }
+{
+    match kind {
+        Kind::Long => u32::from(local) + 2 <= u32::from(locals),
+        Kind::Double => u32::from(local) + 2 <= u32::from(locals),
+        Kind::Int | Kind::Float | Kind::Ref => local < locals,
     }
 }
 

@@ -35,3 +35,4 @@ pub mod Rounds
 pub mod Cleaning
 pub mod DoneEdges
 pub mod Narrows
+pub mod PlanGains

@@ -24,6 +24,7 @@ mod plan;
 mod point_states;
 mod reference;
 mod rows;
+mod saving;
 mod settling;
 mod shuffles;
 mod slots;
@@ -38,3 +39,4 @@ pub use laws::{effect_grows, flat_code_has_one_least_plan, must_grows, no_valid_
 pub use least::least_plan;
 pub use needs::must;
 pub use plan::Plan;
+pub use saving::gain;

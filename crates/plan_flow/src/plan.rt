@@ -86,8 +86,8 @@ impl Plan {
         Some(&self.point(at)?.edges.get(edge)?.made)
     }
 
-    // What is planned for a point, if it is reached.
-    fn point(&self, at: usize) -> Option<&PointPlan>
+    /// What is planned for a point, if it is reached.
+    pub(crate) fn point(&self, at: usize) -> Option<&PointPlan>
         ensures { option_copied result ≡ planned self.now at }
     {
         self.points.get(at)?.as_ref()

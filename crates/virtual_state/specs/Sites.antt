@@ -1,5 +1,5 @@
 -- Sets of sites, as lists of their numbers.
-use Rattle.std.specs.Prelude.{◌==◌, ℕ, Bool, not, List, IsTrue}
+use Rattle.std.specs.Prelude.{◌≤◌, ◌<◌, ◌==◌, ℕ, Bool, not, List, Option, Some, None, IsTrue, IsFalse}
 use Rattle.std.specs.List.{filter, list_any}
 use Rattle.virtual_state.specs.States.{State, is_present, sites_of}
 use Rattle.virtual_state.specs.Without.{IsClosed}
@@ -13,6 +13,15 @@ has sites site = list_any (λ one. one == site) sites
 abbrev pub differing : State → State → List ℕ
 differing state other =
     filter (λ site. not (is_present other.objects site)) (sites_of state.objects)
+
+-- the lowest site from a number on that has an object, if there is one
+abbrev pub IsSiteFrom : List VObject → ℕ → Option ℕ → Type 0
+IsSiteFrom objects first None =
+    (site : ℕ) → first ≤ site → IsFalse (is_present objects site)
+IsSiteFrom objects first (Some site) =
+    (first ≤ site)
+    × IsTrue (is_present objects site)
+    × ((other : ℕ) → first ≤ other → other < site → IsFalse (is_present objects other))
 
 -- The least closed set that has some sites.
 pub record IsClosure (sites : List ℕ) (objects : List VObject) (closed_set : List ℕ) : Type 0 where

@@ -3,7 +3,8 @@ ghost use Rattle.std.specs.Prelude.{◌≡◌, IfOk, slice_get};
 ghost use Rattle.std.specs.Option.{option_and_then, option_copied, option_map};
 ghost use Rattle.std.specs.Rc.{rc_value};
 ghost use Rattle.virtual_state.specs.Depths.{depth_of};
-ghost use Rattle.virtual_state.specs.States.{IsState, is_present, object_of};
+ghost use Rattle.virtual_state.specs.Sites.{IsSiteFrom};
+ghost use Rattle.virtual_state.specs.States.{IsState, is_present, object_of, sites_of};
 
 use crate::slot::{Slot, SlotList, VObject};
 use crate::table::ObjectTable;
@@ -65,6 +66,22 @@ impl VState {
         ensures { result ≡ is_present self.now.objects site }
     {
         self.objects.get(usize::from(site)).is_some()
+    }
+
+    /// The site of a number among those whose objects are present, by increasing site. Takes time proportional to the highest
+    /// site, and does not allocate.
+    pub fn site(&self, number: usize) -> Option<u16>
+        ensures { result ≡ slice_get (sites_of self.now.objects) number }
+    {
+        self.objects.site(number)
+    }
+
+    /// The lowest site from a number on whose object is present. All sites of a state are found in time proportional to the
+    /// highest one, each from the number behind the one before. Does not allocate.
+    pub fn site_from(&self, first: usize) -> Option<u16>
+        ensures { IsSiteFrom self.now.objects first result }
+    {
+        self.objects.site_from(first)
     }
 
     /// The slot of a field of a site's object, where it is present and has such a field. Fields are counted from 0.

@@ -1,7 +1,8 @@
 //! Virtual objects by their sites.
-ghost use Rattle.std.specs.Prelude.{◌≡◌, ◌<◌, ◌≤◌, ℕ, [], length, IfOk, OnOk};
+ghost use Rattle.std.specs.Prelude.{◌≡◌, ◌<◌, ◌≤◌, ℕ, [], length, slice_get, IfOk, OnOk};
 ghost use Rattle.std.specs.Option.{option_copied};
-ghost use Rattle.virtual_state.specs.Inner.Tables.{entry_at, HasSet, HasSetEntry, HaveSameEntries};
+ghost use Rattle.virtual_state.specs.Inner.Tables.{entry_at, listed, HasSet, HasSetEntry, HaveSameEntries};
+ghost use Rattle.virtual_state.specs.Sites.{IsSiteFrom};
 ghost use Rattle.virtual_state.specs.States.{IsIncreasing, is_present, object_of, sites_of};
 
 use crate::shared::SharedObject;
@@ -66,6 +67,25 @@ impl ObjectTable {
         self.get(usize::from(site)).is_some()
     }
 
+    /// The site of a number, by increasing site.
+    pub(crate) fn site(&self, number: usize) -> Option<u16>
+        ensures { result ≡ slice_get (sites_of self.now) number }
+    {
+        nth_site(self.entries.as_slice(), number)
+    }
+
+    /// The lowest site from a number on.
+    pub(crate) fn site_from(&self, first: usize) -> Option<u16>
+        ensures { IsSiteFrom self.now first result }
+    {
+        for at in first..self.end() {
+            if let Some(object) = self.get(at) {
+                return Some(object.get().site);
+            }
+        }
+        None
+    }
+
     /// Puts an object in the place of that of its site.
     pub(crate) fn put(&mut self, object: SharedObject) -> Result<(), NoMemory>
         ensures { OnOk result (HasSet self.old self.new object.site (Some object)) }
@@ -112,6 +132,22 @@ fn entry_of(entries: &[Option<SharedObject>], at: usize) -> Option<&SharedObject
     ensures { option_copied result ≡ entry_at entries.now at }
 {
     entries.get(at)?.as_ref()
+}
+
+// The site of the object of a number among those at the indices.
+fn nth_site(entries: &[Option<SharedObject>], number: usize) -> Option<u16>
+    ensures { result ≡ slice_get (sites_of (listed entries.now)) number }
+{
+    let mut before = number;
+    for entry in entries {
+        if let Some(object) = entry {
+            if before == 0 {
+                return Some(object.get().site);
+            }
+            before -= 1;
+        }
+    }
+    None
 }
 
 // Appends empty entries, until there is one at an index.

@@ -1,0 +1,306 @@
+//! Flat code of so many points and about 256 sites, of which plans are made.
+use cases_notation::{Input, last_method};
+use cases_rewrite::PlanCode;
+use class_model::opcodes::{IFEQ, INVOKESTATIC};
+use class_model::{
+    Attr, FieldType, Frame, Instr, Kind, ListOf, LocalTypeList, MethodAt, NoMemory, Text, VType,
+};
+use class_tree::Tree;
+use code_bytes::decode;
+use flow_code::{FlatHandlerList, FlatInstr, Point, PointList, Site, SiteList};
+use std::alloc::Global;
+use std::cmp::Ordering;
+
+// A pair of ints, and a class with a method that names what the points name: a field, a class and a method to which objects are passed.
+const FOLDER: &str = "public P Object / field public x I / field public y I | \
+public L Object / method public+static use (LP;)V / \
+method public+static run ()V, exact, new P, getfield P x I, invokestatic L use (LP;)V";
+
+/// The hierarchy of the classes that the points name.
+pub(crate) fn folder(alloc: Global) -> Option<Tree> {
+    Input::of(alloc, FOLDER, "").ok()?.build(alloc).ok()
+}
+
+/// Straight code of so many points: blocks with a site each, whose object is stored into one of 16 local units, written and read.
+pub(crate) fn straight(alloc: Global, tree: &Tree, count: u32) -> Option<PlanCode> {
+    let shape = Shape {
+        levels: 1,
+        slots: 16,
+        sites: sites_in(count, 1),
+        points: count.saturating_sub(1),
+    };
+    let mut maker = Maker::new(alloc, tree, shape)?;
+    maker.push_blocks(0).ok()?;
+    maker.push(Instr::Return(None), 0, shape.sites, b"").ok()?;
+    maker.end()
+}
+
+// How many loops stand in one another.
+const LEVELS: u16 = 6;
+
+/// Six loops in one another, of so many points in all: each begins with blocks as those of straight code, and objects of each level are
+/// passed to a method in the innermost loop.
+pub(crate) fn nested(alloc: Global, tree: &Tree, count: u32) -> Option<PlanCode> {
+    let shape = Shape {
+        levels: LEVELS,
+        slots: 3,
+        sites: sites_in(count, LEVELS),
+        // without the tests, the calls, the jumps back and the return
+        points: count.saturating_sub(31) / 6,
+    };
+    let mut maker = Maker::new(alloc, tree, shape)?;
+    for level in 0..LEVELS {
+        maker.push_head(level).ok()?;
+        maker.push_blocks(level).ok()?;
+    }
+    for level in 0..LEVELS {
+        maker.push_call(level).ok()?;
+    }
+    for out in 0..LEVELS {
+        maker
+            .push_back(LEVELS.saturating_sub(out).saturating_sub(1))
+            .ok()?;
+    }
+    maker.push(Instr::Return(None), 0, 0, b"").ok()?;
+    maker.end()
+}
+
+// How many sites each of so many levels has: 256 in all, where the blocks have at least seven points.
+fn sites_in(count: u32, levels: u16) -> u16 {
+    let most = 256 / levels.max(1);
+    let fit = (count / 8) / u32::from(levels.max(1));
+    most.min((fit & 0xFFFF) as u16).max(1)
+}
+
+// How many levels there are, how many local units with objects, sites and points of straight code each has.
+#[derive(Clone, Copy)]
+struct Shape {
+    levels: u16,
+    slots: u16,
+    sites: u16,
+    points: u32,
+}
+
+// Points and sites that are appended, and what they name.
+#[derive(Drop)]
+struct Maker {
+    alloc: Global,
+    shape: Shape,
+    host: MethodAt,
+    class: Text,
+    // the constants of the class, of its field and of the method
+    names: [u16; 3],
+    points: PointList,
+    sites: SiteList,
+}
+
+impl Maker {
+    fn new(alloc: Global, tree: &Tree, shape: Shape) -> Option<Maker> {
+        let host = last_method(tree, &Text::of_bytes(alloc, b"L").ok()?)?;
+        Some(Maker {
+            alloc,
+            shape,
+            host,
+            class: Text::of_bytes(alloc, b"P").ok()?,
+            names: names_in(alloc, code_of(tree, host)?)?,
+            points: ListOf::new(alloc),
+            sites: ListOf::new(alloc),
+        })
+    }
+
+    fn end(self) -> Option<PlanCode> {
+        let locals = self
+            .shape
+            .levels
+            .saturating_mul(self.shape.slots)
+            .saturating_add(1);
+        PlanCode::of(self.host, locals, self.points, self.sites)
+    }
+
+    // Appends a point of a level, at which so many sites of the level have been stored.
+    fn push(
+        &mut self,
+        instr: Instr,
+        level: u16,
+        stored: u16,
+        stack: &[u8],
+    ) -> Result<(), NoMemory> {
+        let typed = self.frame(level, stored, stack)?;
+        self.points.push(Point {
+            instr: FlatInstr::Of {
+                class: self.host.class,
+                instr,
+            },
+            typed,
+            handlers: FlatHandlerList::new(self.alloc),
+        })?;
+        Ok(())
+    }
+
+    // An int, the objects of the levels, and a stack of ints and objects.
+    fn frame(&self, level: u16, stored: u16, stack: &[u8]) -> Result<Frame, NoMemory> {
+        let mut frame = Frame {
+            locals: LocalTypeList::new(self.alloc),
+            stack: ListOf::new(self.alloc),
+        };
+        frame.locals.push(VType::Int)?;
+        for one in 0..self.shape.levels {
+            let set = match one.cmp(&level) {
+                Ordering::Less => self.shape.sites,
+                Ordering::Equal => stored,
+                Ordering::Greater => 0,
+            };
+            self.push_objects(&mut frame.locals, set)?;
+        }
+        for letter in stack {
+            frame.stack.push(self.type_of(*letter == b'p')?)?;
+        }
+        Ok(frame)
+    }
+
+    // Appends the local units of a level of which so many are set.
+    fn push_objects(&self, locals: &mut LocalTypeList, set: u16) -> Result<(), NoMemory> {
+        for slot in 0..self.shape.slots {
+            locals.push(if slot < set {
+                self.type_of(true)?
+            } else {
+                VType::Top
+            })?;
+        }
+        Ok(())
+    }
+
+    fn type_of(&self, is_object: bool) -> Result<VType, NoMemory> {
+        if is_object {
+            Ok(VType::Object(self.class.copy()?))
+        } else {
+            Ok(VType::Int)
+        }
+    }
+
+    // The local unit of a site of a level.
+    fn local(&self, level: u16, site: u16) -> u16 {
+        let slot = site.checked_rem(self.shape.slots).unwrap_or(0);
+        level
+            .saturating_mul(self.shape.slots)
+            .saturating_add(slot)
+            .saturating_add(1)
+    }
+
+    // Appends the straight code of a level.
+    fn push_blocks(&mut self, level: u16) -> Result<(), NoMemory> {
+        let sites = u32::from(self.shape.sites.max(1));
+        let size = self.shape.points / sites;
+        for site in 0..self.shape.sites {
+            self.push_block(level, site, size)?;
+        }
+        for _ in size.saturating_mul(sites)..self.shape.points {
+            self.push(Instr::Nop, level, self.shape.sites, b"")?;
+        }
+        Ok(())
+    }
+
+    // Appends a block of so many points: a new object, which is stored, written and read.
+    fn push_block(&mut self, level: u16, site: u16, size: u32) -> Result<(), NoMemory> {
+        let local = self.local(level, site);
+        self.push_site()?;
+        self.push(Instr::New(self.names[0]), level, site, b"")?;
+        self.push(Instr::Store(Kind::Ref, local), level, site, b"p")?;
+        let stored = site.saturating_add(1);
+        let uses = size.saturating_sub(2) / 3;
+        for number in 0..uses {
+            self.push(Instr::Load(Kind::Ref, local), level, stored, b"")?;
+            self.push_use(number % 2 == 0, level, stored)?;
+        }
+        for _ in uses.saturating_mul(3).saturating_add(2)..size {
+            self.push(Instr::Nop, level, stored, b"")?;
+        }
+        Ok(())
+    }
+
+    // Appends a write or a read of the field of the object on the stack.
+    fn push_use(&mut self, writes: bool, level: u16, stored: u16) -> Result<(), NoMemory> {
+        if writes {
+            self.push(Instr::Load(Kind::Int, 0), level, stored, b"p")?;
+            self.push(Instr::PutField(self.names[1]), level, stored, b"pi")
+        } else {
+            self.push(Instr::GetField(self.names[1]), level, stored, b"p")?;
+            self.push(Instr::Store(Kind::Int, 0), level, stored, b"i")
+        }
+    }
+
+    // Appends the site of the next point.
+    fn push_site(&mut self) -> Result<(), NoMemory> {
+        let mut fields = ListOf::new(self.alloc);
+        fields.push(FieldType::Int)?;
+        fields.push(FieldType::Int)?;
+        self.sites.push(Site {
+            at: self.points.len(),
+            class: self.class.copy()?,
+            fields,
+        })?;
+        Ok(())
+    }
+
+    // Appends the test of a loop, which goes on behind its jump back.
+    fn push_head(&mut self, level: u16) -> Result<(), NoMemory> {
+        let end = self.back(level).saturating_add(1);
+        self.push(Instr::Load(Kind::Int, 0), level, 0, b"")?;
+        self.push(Instr::If(IFEQ, end), level, 0, b"i")
+    }
+
+    // Appends a call, in the innermost loop, to which the first object of a level is passed.
+    fn push_call(&mut self, level: u16) -> Result<(), NoMemory> {
+        let last = LEVELS.saturating_sub(1);
+        let local = self.local(level, 0);
+        self.push(Instr::Load(Kind::Ref, local), last, self.shape.sites, b"")?;
+        self.push(
+            Instr::Invoke(INVOKESTATIC, self.names[2], 0),
+            last,
+            self.shape.sites,
+            b"p",
+        )
+    }
+
+    // Appends the jump back to the head of a loop.
+    fn push_back(&mut self, level: u16) -> Result<(), NoMemory> {
+        let head = self.head(level);
+        self.push(Instr::Goto(head), level, self.shape.sites, b"")
+    }
+
+    // The point where a loop begins.
+    fn head(&self, level: u16) -> u32 {
+        u32::from(level).saturating_mul(self.shape.points.saturating_add(2))
+    }
+
+    // The point of the jump back to it.
+    fn back(&self, level: u16) -> u32 {
+        let inner = u32::from(LEVELS.saturating_sub(level));
+        self.head(LEVELS)
+            .saturating_add(u32::from(LEVELS) * 2)
+            .saturating_add(inner)
+            .saturating_sub(1)
+    }
+}
+
+// The bytes of the code of a method.
+fn code_of(tree: &Tree, host: MethodAt) -> Option<&[u8]> {
+    let method = tree.folder().get(host.class)?.methods.get(host.method)?;
+    match method.attrs.get(0)? {
+        Attr::Code { part, .. } => Some(part.code.as_slice()),
+        Attr::Raw { .. } => None,
+    }
+}
+
+// The constants of a new, a getfield and a call, which are all that a code has.
+fn names_in(alloc: Global, code: &[u8]) -> Option<[u16; 3]> {
+    let placed = decode(alloc, code).ok()?;
+    let (Instr::New(class), Instr::GetField(field), Instr::Invoke(_, method, _)) = (
+        &placed.get(0)?.instr,
+        &placed.get(1)?.instr,
+        &placed.get(2)?.instr,
+    ) else {
+        return None;
+    };
+    Some([*class, *field, *method])
+}
