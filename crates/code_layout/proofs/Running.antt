@@ -18,7 +18,8 @@ use Rattle.member_link.specs.Machine.Programs.{Catch, Code, Links, Point, number
 use Rattle.member_link.specs.Machine.Replaced.{map_numbered}
 use Rattle.member_link.specs.RowScope.{RowScope}
 use Rattle.member_link.specs.Scope.{Scope, instructions, row_scope}
-use Rattle.code_layout.specs.Emitting.{IsEmitted, NamesItem, pair_to, with_targets}
+use Rattle.member_link.specs.Targets.{pair_to, with_targets}
+use Rattle.code_layout.specs.Emitting.{IsEmitted, NamesItem}
 use Rattle.code_layout.specs.EmittedCode.{HasCodeOf, catch_of, item_point, item_points, items_code, items_scope}
 use Rattle.code_layout.specs.Layout.{IsLaid, end_from, placed_from, placed_items, range_of, ranges_from, short_len, short_starts, start_in, starts_from}
 use Rattle.code_layout.specs.declared.emitted.Catch.{Catch as EmittedCatch}

@@ -1,0 +1,2 @@
+mod BothWays
+mod SameShown
