@@ -1,2 +1,1 @@
-mod BothWays
 mod SameShown

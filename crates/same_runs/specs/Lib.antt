@@ -6,3 +6,4 @@ pub mod Renamings
 pub mod SameMemories
 pub mod SamePrograms
 pub mod SameCompletions
+pub mod Laws

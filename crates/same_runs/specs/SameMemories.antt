@@ -1,15 +1,20 @@
 -- Memories of two runs that are the same but for the numbers of references, for objects that only one of them has, and for classes that
 -- the first alone has begun: the second has not yet had a reason to.
-use Rattle.std.specs.Prelude.{◌≡◌, ◌+◌, ℕ, List, [], ◌∷◌, length, slice_get, Option, Some, None, IsTrue, IsFalse}
-use Rattle.machine_values.specs.Heaps.{Heap, class_of_constant, constant_in, kept_in, object_at}
+use Rattle.std.specs.Prelude.{◌≡◌, ◌+◌, ◌==◌, ℕ, List, [], ◌∷◌, slice_get, Option, Some, None, IsSome, IsTrue, IsFalse, option_map, if◌then◌else◌}
+use Rattle.std.specs.List.{AllByRecursion}
+use Rattle.class_model.specs.Descriptors.{type_of}
+use Rattle.machine_values.specs.Heaps.{Heap, Kept, class_of_constant, constant_in, kept_in, object_at}
+use Rattle.machine_values.specs.Values.{narrowed}
 use Rattle.machine_values.specs.declared.object.Constant.{Constant}
+use Rattle.machine_values.specs.declared.object.Constant.TheVariants.{Str}
 use Rattle.machine_values.specs.declared.object.Object.{Object}
 use Rattle.machine_values.specs.declared.object.Shape.TheVariants.{External}
-use Rattle.member_link.specs.Machine.Beginnings.{come_first, initialiser_of, starts_of, with_starts}
-use Rattle.member_link.specs.Machine.Programs.{Program, RunClass, folder_number, name_of_class}
-use Rattle.member_link.specs.Machine.Worlds.{Memory, is_begun, static_value, written_static}
+use Rattle.machine_values.specs.declared.value.Value.{Value}
+use Rattle.machine_values.specs.declared.value.Value.TheVariants as values
+use Rattle.member_link.specs.Machine.Beginnings.{come_first, initialiser_of, starts_of}
+use Rattle.member_link.specs.Machine.Programs.{Program, RunClass, StartValue, StaticStart, start_string, start_value, folder_number, name_of_class}
+use Rattle.member_link.specs.Machine.Worlds.{Memory, field_desc, is_begun, static_value, written_static}
 use Rattle.same_runs.specs.Renamings.{IsRenaming, Names, SameObject, SameValue}
-use Rattle.std.specs.List.{AllByRecursion}
 
 -- ---- heaps
 
@@ -74,13 +79,36 @@ HasFirstBegun P memory class =
     → folder_number P name ≡ Some first
     → IsTrue (is_begun memory first)
 
--- Its static fields are as when it began: to set them once more changes nothing.
+-- what a static field begins with, by the constants of a heap
+abbrev pub start_in : List Kept → StartValue → Option Value
+start_in constants (start_value value) = Some value
+start_in constants (start_string text) = option_map values.Ref (kept_in constants (Str text))
+
+-- What the static field of a number is set to where its class begins: by the last of its ConstantValues, if it has one.
+abbrev pub started : Program → ℕ → List Kept → List StaticStart → ℕ → Option Value
+started P class constants [] field = None
+started P class constants (start ∷ starts) field =
+    or_else (started P class constants starts field)
+    (if start.field == field then set_to start else None) where
+      set_to : StaticStart → Option Value
+      set_to start =
+          option_map (narrowed (type_of (field_desc P class start.field)))
+          (start_in constants start.value)
+
+      or_else : Option Value → Option Value → Option Value
+      or_else None value = value
+      or_else (Some later) value = Some later
+
+-- a string that a field begins with is a constant of a heap
+abbrev pub IsKeptStart : List Kept → StaticStart → Type 0
+IsKeptStart constants start = IsSome (start_in constants start.value)
+
+-- its static fields are as they were when it began
 pub record IsAsBegun (P : Program) (memory : Memory) (class : ℕ) : Type 0 where
-  pub heap : (with_starts P class memory (starts_of P class)).heap ≡ memory.heap
+  pub kept : AllByRecursion (IsKeptStart memory.heap.constants) (starts_of P class)
   pub statics : (field : ℕ)
       → written_static memory.statics class field
-      ≡ written_static
-      (with_starts P class (record memory { statics = [] }) (starts_of P class)).statics class field
+      ≡ started P class memory.heap.constants (starts_of P class) field
 
 -- A class of the first run alone: it is inert, as it began, and no beginning above it is still to come, unless it is one of those that
 -- are begun just now.

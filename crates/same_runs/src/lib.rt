@@ -3,7 +3,5 @@
 #![tactic(auto)]
 
 mod equal_runs;
-mod simulations;
 
 pub use equal_runs::{programs_that_are_equal_run_equally, running_equally_is_running_the_same};
-pub use simulations::{a_simulation_runs_the_same, a_simulation_shows_both_ways};
