@@ -1,3 +1,6 @@
 -- What follows from the definitions, stated once for every crate that shows that programs run the same. All of it is proved: a reader of
 -- the definitions need not believe it, and may pass it over.
 pub mod BothWays
+pub mod Objects
+pub mod Names
+pub mod Heaps
