@@ -1,12 +1,12 @@
 -- Heaps of two runs stay the same where both or one of them change.
-use Rattle.std.proofs.Common.{◌≡◌, ◌+◌, ◌-◌, ℕ, List, [], ◌∷◌, ◌++◌, length, slice_get, slice_set, Option, Some, None, refl, sym, ap, subst, ◌∙◌, inl, inr, ◌⊎◌, arith}
+use Rattle.std.proofs.Common.{◌≡◌, ◌+◌, ◌-◌, ℕ, zero, suc, List, [], ◌∷◌, ◌++◌, length, slice_get, slice_set, Option, Some, None, refl, sym, ap, subst, ◌∙◌, inl, inr, ◌⊎◌, arith}
 use Rattle.std.proofs.lemmas.Option.{none-some, same_Some}
 use Rattle.machine_values.specs.Heaps.{Heap, Made, object_at, allocated, with_object, with_value, with_monitor, monitor_count, entered, left, kept_in, constant_in}
 use Rattle.machine_values.specs.declared.object.Constant.{Constant}
 use Rattle.machine_values.specs.declared.object.Object.{Object}
 use Rattle.machine_values.specs.declared.object.Shape.{Shape}
 use Rattle.machine_values.specs.declared.value.Value.{Value}
-use Rattle.same_runs.specs.Renamings.{IsRenaming, Names, NamesMore, SameObject, SameValues}
+use Rattle.same_runs.specs.Renamings.{IsRenaming, Names, NamesMore, SameObject, SameValue, SameValues, no_values, and_value}
 use Rattle.same_runs.specs.SameMemories.{HasOwnConstants, SameHeaps, fresh_constant}
 use Rattle.same_runs.specs.Laws.Names.{named_too, named_here, named_other, named_too_more, object_more, values_more}
 use Rattle.same_runs.specs.Laws.Objects.{get_old, get_new, get_before, none_at_end, set_here, set_other}
@@ -136,3 +136,202 @@ both_allocate {names = names} {one = one} {other = other} same shape values also
           object_more grows old.4,
         )
   ]
+
+-- the first alone allocates: its object has no name
+pub first_allocates :
+    {names : Names} {one other : Heap}
+    → SameHeaps names one other
+    → (shape : Shape) (values : List Value)
+    → SameHeaps names (allocated one shape values).heap other
+first_allocates {names = names} {one = one} {other = other} same shape values = record {
+  renaming = same.renaming;
+  objects = λ reference named is.
+      let old = same.objects reference named is in
+      (old.0, old.1, get_old one.objects (record { shape = shape; values = values; monitor = 0 }) reference old.0 old.2, old.3, old.4);
+  own = own_allocated one shape values same.own;
+  own_also = same.own_also;
+  kept = same.kept;
+  named = same.named;
+  fresh = λ constant reference is none.
+      get_old one.objects (record { shape = shape; values = values; monitor = 0 }) reference (fresh_constant constant) (same.fresh constant reference is none);
+}
+
+-- the second alone allocates: no reference has the new one for its name
+pub second_allocates :
+    {names : Names} {one other : Heap}
+    → SameHeaps names one other
+    → (shape : Shape) (values : List Value)
+    → SameHeaps names one (allocated other shape values).heap
+second_allocates {names = names} {one = one} {other = other} same shape values = record {
+  renaming = same.renaming;
+  objects = λ reference named is.
+      let old = same.objects reference named is in
+      (old.0, old.1, old.2, get_old other.objects (record { shape = shape; values = values; monitor = 0 }) named old.1 old.3, old.4);
+  own = same.own;
+  own_also = own_allocated other shape values same.own_also;
+  kept = same.kept;
+  named = same.named;
+  fresh = same.fresh;
+}
+
+-- ---- an object changes
+
+own_changed : (heap : Heap) (reference : ℕ) (object new : Object) → object_at heap reference ≡ Some object → HasOwnConstants heap → HasOwnConstants (with_object heap reference new)
+own_changed heap reference object new there own = own_kept refl stays own where
+  stays : (at : ℕ) (old : Object) → object_at heap at ≡ Some old → (also : Object) × (object_at (with_object heap reference new) at ≡ Some also)
+  stays at old is = elim (same_or_not reference at) [
+    | inl e ↦ (new, ap (slice_get (slice_set heap.objects reference new)) (sym e) ∙ set_here heap.objects reference object new there)
+    | inr differ ↦ (old, set_other heap.objects reference at new differ ∙ is)
+  ]
+
+-- an object of the first and the one under its name change alike
+pub both_change :
+    {names : Names} {one other : Heap}
+    → SameHeaps names one other
+    → (reference named : ℕ) (object also new new_also : Object)
+    → names reference ≡ Some named
+    → object_at one reference ≡ Some object
+    → object_at other named ≡ Some also
+    → SameObject names new new_also
+    → SameHeaps names (with_object one reference new) (with_object other named new_also)
+both_change {names = names} {one = one} {other = other} same reference named object also new new_also is there there_also alike = record {
+  renaming = same.renaming;
+  objects = objects;
+  own = own_changed one reference object new there same.own;
+  own_also = own_changed other named also new_also there_also same.own_also;
+  kept = same.kept;
+  named = same.named;
+  fresh = λ constant at kept none.
+      set_other one.objects reference at new (λ e. none-some named (sym none ∙ ap names (sym e) ∙ is)) ∙ same.fresh constant at kept none;
+} where
+  objects :
+      (at name : ℕ)
+      → names at ≡ Some name
+      → (old old_also : Object)
+      × (object_at (with_object one reference new) at ≡ Some old)
+      × (object_at (with_object other named new_also) name ≡ Some old_also)
+      × SameObject names old old_also
+  objects at name has = elim (same_or_not reference at) [
+    | inl e ↦
+        let e_also : named ≡ name = same_Some named name (sym is ∙ ap names e ∙ has) in (
+          new,
+          new_also,
+          ap (slice_get (slice_set one.objects reference new)) (sym e) ∙ set_here one.objects reference object new there,
+          ap (slice_get (slice_set other.objects named new_also)) (sym e_also) ∙ set_here other.objects named also new_also there_also,
+          alike,
+        )
+    | inr differ ↦
+        let old = same.objects at name has in
+        let differ_also : named ≡ name → ⊥ = λ e. differ (same.renaming.once reference at name (is ∙ ap Some e) has) in (
+          old.0,
+          old.1,
+          set_other one.objects reference at new differ ∙ old.2,
+          set_other other.objects named name new_also differ_also ∙ old.3,
+          old.4,
+        )
+  ]
+
+-- an object of the first that has no name changes, and is no constant
+pub first_changes :
+    {names : Names} {one other : Heap}
+    → SameHeaps names one other
+    → (reference : ℕ) (object new : Object)
+    → names reference ≡ None
+    → object_at one reference ≡ Some object
+    → ((constant : Constant) → kept_in one.constants constant ≡ Some reference → ⊥)
+    → SameHeaps names (with_object one reference new) other
+first_changes {names = names} {one = one} {other = other} same reference object new none there no_constant = record {
+  renaming = same.renaming;
+  objects = λ at name has.
+      let old = same.objects at name has in
+      (old.0, old.1, set_other one.objects reference at new (λ e. none-some name (sym none ∙ ap names e ∙ has)) ∙ old.2, old.3, old.4);
+  own = own_changed one reference object new there same.own;
+  own_also = same.own_also;
+  kept = same.kept;
+  named = same.named;
+  fresh = λ constant at kept unnamed.
+      set_other one.objects reference at new (λ e. no_constant constant (kept ∙ ap Some (sym e))) ∙ same.fresh constant at kept unnamed;
+}
+
+-- ---- values and monitors
+
+with_value_there : (heap : Heap) (reference index : ℕ) (value : Value) (object : Object) → object_at heap reference ≡ Some object
+    → with_value heap reference index value ≡ with_object heap reference (record object { values = slice_set object.values index value })
+with_value_there heap reference index value object is = rw (is) refl
+
+with_monitor_there : (heap : Heap) (reference count : ℕ) (object : Object) → object_at heap reference ≡ Some object
+    → with_monitor heap reference count ≡ with_object heap reference (record object { monitor = count })
+with_monitor_there heap reference count object is = rw (is) refl
+
+pub monitor_there : (heap : Heap) (reference : ℕ) (object : Object) → object_at heap reference ≡ Some object → monitor_count heap reference ≡ object.monitor
+monitor_there heap reference object is = rw (is) refl
+
+values_set :
+    {names : Names} {ones others : List Value} {value also : Value}
+    → SameValues names ones others
+    → SameValue names value also
+    → (index : ℕ)
+    → SameValues names (slice_set ones index value) (slice_set others index also)
+values_set no_values same index = no_values
+values_set (and_value first rest) same zero = and_value same rest
+values_set (and_value first rest) same (suc index) = and_value first (values_set rest same index)
+
+pub both_write :
+    {names : Names} {one other : Heap} {value also : Value}
+    → SameHeaps names one other
+    → (reference named index : ℕ)
+    → names reference ≡ Some named
+    → SameValue names value also
+    → SameHeaps names (with_value one reference index value) (with_value other named index also)
+both_write {names = names} {one = one} {other = other} {value = value} {also = also} same reference named index is alike =
+    let old = same.objects reference named is in
+    subst (λ (h : Heap). SameHeaps names h (with_value other named index also)) (sym (with_value_there one reference index value old.0 old.2))
+    (subst (SameHeaps names (with_object one reference (record old.0 { values = slice_set old.0.values index value })))
+    (sym (with_value_there other named index also old.1 old.3))
+    (both_change same reference named old.0 old.1 (record old.0 { values = slice_set old.0.values index value }) (record old.1 { values = slice_set old.1.values index also })
+    is old.2 old.3 (record { shape = old.4.shape; values = values_set old.4.values alike index; monitor = old.4.monitor })))
+
+both_monitor :
+    {names : Names} {one other : Heap}
+    → SameHeaps names one other
+    → (reference named count : ℕ)
+    → names reference ≡ Some named
+    → SameHeaps names (with_monitor one reference count) (with_monitor other named count)
+both_monitor {names = names} {one = one} {other = other} same reference named count is =
+    let old = same.objects reference named is in
+    subst (λ (h : Heap). SameHeaps names h (with_monitor other named count)) (sym (with_monitor_there one reference count old.0 old.2))
+    (subst (SameHeaps names (with_object one reference (record old.0 { monitor = count })))
+    (sym (with_monitor_there other named count old.1 old.3))
+    (both_change same reference named old.0 old.1 (record old.0 { monitor = count }) (record old.1 { monitor = count })
+    is old.2 old.3 (record { shape = old.4.shape; values = old.4.values; monitor = refl })))
+
+-- a monitor is entered as often as that of the object under its name
+pub same_monitor :
+    {names : Names} {one other : Heap}
+    → SameHeaps names one other
+    → (reference named : ℕ)
+    → names reference ≡ Some named
+    → monitor_count other named ≡ monitor_count one reference
+same_monitor {one = one} {other = other} same reference named is =
+    let old = same.objects reference named is in
+    monitor_there other named old.1 old.3 ∙ old.4.monitor ∙ sym (monitor_there one reference old.0 old.2)
+
+pub both_enter :
+    {names : Names} {one other : Heap}
+    → SameHeaps names one other
+    → (reference named : ℕ)
+    → names reference ≡ Some named
+    → SameHeaps names (entered one reference) (entered other named)
+both_enter {names = names} {one = one} {other = other} same reference named is =
+    subst (λ (count : ℕ). SameHeaps names (entered one reference) (with_monitor other named (count + 1))) (sym (same_monitor same reference named is))
+    (both_monitor same reference named (monitor_count one reference + 1) is)
+
+pub both_leave :
+    {names : Names} {one other : Heap}
+    → SameHeaps names one other
+    → (reference named : ℕ)
+    → names reference ≡ Some named
+    → SameHeaps names (left one reference) (left other named)
+both_leave {names = names} {one = one} {other = other} same reference named is =
+    subst (λ (count : ℕ). SameHeaps names (left one reference) (with_monitor other named (count - 1))) (sym (same_monitor same reference named is))
+    (both_monitor same reference named (monitor_count one reference - 1) is)
