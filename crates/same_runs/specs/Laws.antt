@@ -4,3 +4,4 @@ pub mod BothWays
 pub mod Objects
 pub mod Names
 pub mod Heaps
+pub mod Constants

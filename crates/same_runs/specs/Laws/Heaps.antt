@@ -46,7 +46,7 @@ own_kept {before = before} {after = after} same stays own = record {
   has = λ constant reference is. ap (λ kept. kept_in kept constant) same ∙ own.has constant reference (ap (λ kept. constant_in kept reference) (sym same) ∙ is);
 }
 
-own_allocated : (heap : Heap) (shape : Shape) (values : List Value) → HasOwnConstants heap → HasOwnConstants (allocated heap shape values).heap
+pub own_allocated : (heap : Heap) (shape : Shape) (values : List Value) → HasOwnConstants heap → HasOwnConstants (allocated heap shape values).heap
 own_allocated heap shape values own =
     own_kept refl (λ reference object is. (object, get_old heap.objects (record { shape = shape; values = values; monitor = 0 }) reference object is)) own
 
