@@ -5,3 +5,4 @@ pub mod Objects
 pub mod Names
 pub mod Heaps
 pub mod Constants
+pub mod Programs

@@ -1,30 +1,27 @@
--- Programs that are the same but for the code of methods, for private and final flags of fields, and for instance initialisers that the
--- second has besides; and operations of theirs that do the same.
-use Rattle.std.specs.Prelude.{◌≡◌, ◌+◌, ◌++◌, ℕ, List, [], ◌∷◌, map, length, slice_get, is_some, Option, Some, None, IsSome, IsTrue, IsFalse}
+-- Programs that are the same but for the code of methods, for flags of fields other than static, and for instance initialisers that classes of
+-- the second have besides; and operations of theirs that do the same.
+use Rattle.std.specs.Prelude.{◌≡◌, ◌++◌, List, [], ◌∷◌, map, is_some, Option, Some, IsSome, IsTrue, IsFalse}
 use Rattle.std.specs.List.{AllByRecursion}
-use Rattle.class_model.specs.Members.{PRIVATE, FINAL}
+use Rattle.class_model.specs.Members.{has, STATIC}
 use Rattle.class_model.specs.Names.{init}
 use Rattle.class_model.specs.declared.header.Member.{Member}
 use Rattle.class_tree.specs.Headers.{Name}
+use Rattle.class_tree.specs.Names.{is_interface}
 use Rattle.member_link.specs.Machine.Acting.{is_handled}
 use Rattle.member_link.specs.Machine.FieldSteps.{is_barred}
 use Rattle.member_link.specs.Machine.Ops.{Op, put_static, put_field, call_special}
 use Rattle.member_link.specs.Machine.Programs.{Program, RunClass, RunMethod, code_run, method_of}
-use Rattle.member_link.specs.Machine.Replaced.{without_flags}
 use Rattle.member_link.specs.References.{Reference}
 
 -- ---- classes
 
-abbrev pub bare_flags : ℕ → ℕ
-bare_flags flags = without_flags flags (PRIVATE + FINAL)
-
--- fields one by one: the same but for those flags
+-- fields one by one: the same, and static in both or in none
 abbrev pub SameFields : List Member → List Member → Type 0
 SameFields [] [] = Unit {0}
 SameFields (one ∷ ones) (other ∷ others) =
     (other.name ≡ one.name)
     × (other.desc ≡ one.desc)
-    × (bare_flags other.flags ≡ bare_flags one.flags)
+    × (has other.flags STATIC ≡ has one.flags STATIC)
     × SameFields ones others
 SameFields ones others = ⊥
 
@@ -60,6 +57,7 @@ pub record SameClass (P : Program) (one other : RunClass) : Type 0 where
   pub header_methods : other.header.methods ≡ map (λ method. method.member) (same ++ added)
   pub are_same : SameMethods one.methods same
   pub are_added : AllByRecursion (IsAdded P one) added
+  pub of_interface : IsTrue (is_interface one.header) → added ≡ []
 
 abbrev pub SameClasses : Program → List RunClass → List RunClass → Type 0
 SameClasses P [] [] = Unit {0}
