@@ -241,3 +241,25 @@ module _ {P Q : Program} (same : SamePrograms P Q) where
     by None (Some other) is is_also impossible = elim impossible [ ]
     by (Some one) None is is_also impossible = elim impossible [ ]
     by (Some one) (Some other) is is_also (at_both alike) = rw (is, is_also) (field_numbers r one.header.fields other.header.fields alike.fields)
+
+  descs_same : (field : ℕ) (ones others : List Member) → SameFields ones others
+      → option_map (λ (m : Member). m.desc) (slice_get others field) ≡ option_map (λ (m : Member). m.desc) (slice_get ones field)
+  descs_same field [] [] alike = refl
+  descs_same field [] (other ∷ others) alike = absurd alike
+  descs_same field (one ∷ ones) [] alike = absurd alike
+  descs_same zero (one ∷ ones) (other ∷ others) alike = rw (alike.1) refl
+  descs_same (suc field) (one ∷ ones) (other ∷ others) alike = descs_same field ones others alike.3
+
+  pub same_field_desc : (class field : ℕ) → field_desc Q class field ≡ field_desc P class field
+  same_field_desc class field = by (slice_get P.classes class) (slice_get Q.classes class) refl refl (at_number class) where
+    by : (one other : Option RunClass) → slice_get P.classes class ≡ one → slice_get Q.classes class ≡ other → SameAt P one other → field_desc Q class field ≡ field_desc P class field
+    by None None is is_also at_none = rw (is, is_also) refl
+    by None (Some other) is is_also impossible = elim impossible [ ]
+    by (Some one) None is is_also impossible = elim impossible [ ]
+    by (Some one) (Some other) is is_also (at_both alike) = rw (is, is_also) (at (slice_get one.header.fields field) (slice_get other.header.fields field) refl refl (descs_same field one.header.fields other.header.fields alike.fields)) where
+      at : (m n : Option Member) → slice_get one.header.fields field ≡ m → slice_get other.header.fields field ≡ n → option_map (λ (m : Member). m.desc) (slice_get other.header.fields field) ≡ option_map (λ (m : Member). m.desc) (slice_get one.header.fields field)
+          → field_desc (record Q { classes = other ∷ [] }) 0 field ≡ field_desc (record P { classes = one ∷ [] }) 0 field
+      at None None is is_also e = rw (is, is_also) refl
+      at None (Some n) is is_also e = let f : Some n.desc ≡ None = sym (rw (is_also) refl) ∙ e ∙ rw (is) refl in absurd (none-some n.desc (sym f))
+      at (Some m) None is is_also e = let f : None ≡ Some m.desc = sym (rw (is_also) refl) ∙ e ∙ rw (is) refl in absurd (none-some m.desc f)
+      at (Some m) (Some n) is is_also e = let f : Some n.desc ≡ Some m.desc = sym (rw (is_also) refl) ∙ e ∙ rw (is) refl in rw (is, is_also) (same_Some n.desc m.desc f)
