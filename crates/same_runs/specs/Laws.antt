@@ -6,3 +6,4 @@ pub mod Names
 pub mod Heaps
 pub mod Constants
 pub mod Programs
+pub mod Layouts

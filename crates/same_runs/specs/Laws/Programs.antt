@@ -103,7 +103,7 @@ first_behind r (x ∷ xs) ys none = by (member_of r x) none (first_behind r xs y
   by false none rest = rest none
 
 -- an instance initialiser is no member of another name
-no_init : (r : Reference) (member : Member) → r.name ≢ init → member.name ≡ init → member_of r member ≡ false
+pub no_init : (r : Reference) (member : Member) → r.name ≢ init → member.name ≡ init → member_of r member ≡ false
 no_init r member other is = by (member_of r member) refl where
   by : (b : Bool) → member_of r member ≡ b → member_of r member ≡ false
   by false e = e
@@ -134,7 +134,7 @@ header_of_class {P = P} {one = one} {other = other} same = record {
       same.header_methods ∙ map-append (λ (method : RunMethod). method.member) same.same same.added
       ∙ ap (λ (old : List Member). old ++ members same.added) (same_members one.methods same.same same.are_same ∙ same.members)
 
-headers_named : (P : Program) (name : Name) (library : List Header) (ones others : List RunClass) → SameClasses P ones others
+pub headers_named : (P : Program) (name : Name) (library : List Header) (ones others : List RunClass) → SameClasses P ones others
     → SameNamed (named name (map (λ (class : RunClass). class.header) ones ++ library)) (named name (map (λ (class : RunClass). class.header) others ++ library))
 headers_named P name library [] [] same = library_named name library
 headers_named P name library [] (other ∷ others) same = absurd same
