@@ -7,3 +7,4 @@ pub mod Heaps
 pub mod Constants
 pub mod Programs
 pub mod Layouts
+pub mod Methods
