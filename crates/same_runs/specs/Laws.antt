@@ -8,3 +8,6 @@ pub mod Constants
 pub mod Programs
 pub mod Layouts
 pub mod Methods
+pub mod Shapes
+pub mod Statics
+pub mod OperandWork

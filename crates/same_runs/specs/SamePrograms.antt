@@ -7,9 +7,11 @@ use Rattle.class_model.specs.Names.{init}
 use Rattle.class_model.specs.declared.header.Member.{Member}
 use Rattle.class_tree.specs.Headers.{Name}
 use Rattle.class_tree.specs.Names.{is_interface}
+use Rattle.machine_values.specs.declared.value.Value.{Value}
+use Rattle.machine_values.specs.declared.value.Value.TheVariants.{Ref}
 use Rattle.member_link.specs.Machine.Acting.{is_handled}
 use Rattle.member_link.specs.Machine.FieldSteps.{is_barred}
-use Rattle.member_link.specs.Machine.Ops.{Op, put_static, put_field, call_special}
+use Rattle.member_link.specs.Machine.Ops.{Op, push_value, put_static, put_field, call_special}
 use Rattle.member_link.specs.Machine.Programs.{Program, RunClass, RunMethod, code_run, method_of}
 use Rattle.member_link.specs.References.{Reference}
 
@@ -78,8 +80,15 @@ SameBar P Q r one other =
     → P.links.field r ≡ Some field
     → is_barred Q field other ≡ is_barred P field one
 
--- an operation that is in both: where it stores, it is barred in both or in none, and an instance initialiser that it calls is declared
+-- a value by itself names no object
+abbrev pub IsNoReference : Value → Type 0
+IsNoReference (Ref reference) = ⊥
+IsNoReference value = Unit {0}
+
+-- an operation that is in both: where it stores, it is barred in both or in none; an instance initialiser that it calls is declared; and
+-- what it pushes by itself is no reference
 abbrev pub IsInBoth : Program → Program → Op → Type 0
+IsInBoth P Q (push_value value) = IsNoReference value
 IsInBoth P Q (put_static r one) = SameBar P Q r one one
 IsInBoth P Q (put_field r one) = SameBar P Q r one one
 IsInBoth P Q (call_special r from) = r.name ≡ init → IsSome (method_of P r)

@@ -40,10 +40,10 @@ is_same one other same = cc
 
 -- ---- what a heap keeps, with one constant more at the end
 
-one_more : List Kept → Constant → ℕ → List Kept
+pub one_more : List Kept → Constant → ℕ → List Kept
 one_more kept constant reference = kept ++ record { constant = constant; reference = reference } ∷ []
 
-kept_before : (kept : List Kept) (constant last : Constant) (reference at : ℕ) → kept_in kept constant ≡ Some at → kept_in (one_more kept last reference) constant ≡ Some at
+pub kept_before : (kept : List Kept) (constant last : Constant) (reference at : ℕ) → kept_in kept constant ≡ Some at → kept_in (one_more kept last reference) constant ≡ Some at
 unfolding one_more
 kept_before [] constant last reference at is = absurd (none-some at is)
 kept_before (first ∷ kept) constant last reference at is = by (same_constant first.constant constant) is (kept_before kept constant last reference at) where
@@ -369,3 +369,11 @@ first_has {names = names} {one = one} {other = other} same constant = by (kept_i
   by : (found : Option ℕ) → kept_in one.constants constant ≡ found → SameHeaps names (constant_made one constant).heap other
   by (Some reference) is = subst (λ (m : Made). SameHeaps names m.heap other) (sym (made_kept one constant reference is)) same
   by None none = subst (λ (m : Made). SameHeaps names m.heap other) (sym (made_new one constant none)) (kept_new none)
+
+-- what was kept is kept where a constant is made
+pub kept_by_made : (heap : Heap) (constant also : Constant) (reference : ℕ) → kept_in heap.constants also ≡ Some reference → kept_in (constant_made heap constant).heap.constants also ≡ Some reference
+unfolding keeping
+kept_by_made heap constant also reference is = by (kept_in heap.constants constant) refl where
+  by : (found : Option ℕ) → kept_in heap.constants constant ≡ found → kept_in (constant_made heap constant).heap.constants also ≡ Some reference
+  by (Some at) there = ap (λ (m : Made). kept_in m.heap.constants also) (made_kept heap constant at there) ∙ is
+  by None none = ap (λ (m : Made). kept_in m.heap.constants also) (made_new heap constant none) ∙ kept_before heap.constants also constant (length heap.objects) reference is
