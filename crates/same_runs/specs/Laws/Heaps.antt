@@ -335,3 +335,23 @@ pub both_leave :
 both_leave {names = names} {one = one} {other = other} same reference named is =
     subst (λ (count : ℕ). SameHeaps names (left one reference) (with_monitor other named (count - 1))) (sym (same_monitor same reference named is))
     (both_monitor same reference named (monitor_count one reference - 1) is)
+
+-- ---- constants stay
+
+pub value_constants : (heap : Heap) (reference index : ℕ) (value : Value) → (with_value heap reference index value).constants ≡ heap.constants
+value_constants heap reference index value = by (object_at heap reference) refl where
+  by : (found : Option Object) → object_at heap reference ≡ found → (with_value heap reference index value).constants ≡ heap.constants
+  by None is = rw (is) refl
+  by (Some object) is = rw (is) refl
+
+monitor_constants : (heap : Heap) (reference count : ℕ) → (with_monitor heap reference count).constants ≡ heap.constants
+monitor_constants heap reference count = by (object_at heap reference) refl where
+  by : (found : Option Object) → object_at heap reference ≡ found → (with_monitor heap reference count).constants ≡ heap.constants
+  by None is = rw (is) refl
+  by (Some object) is = rw (is) refl
+
+pub entered_constants : (heap : Heap) (reference : ℕ) → (entered heap reference).constants ≡ heap.constants
+entered_constants heap reference = monitor_constants heap reference (monitor_count heap reference + 1)
+
+pub left_constants : (heap : Heap) (reference : ℕ) → (left heap reference).constants ≡ heap.constants
+left_constants heap reference = monitor_constants heap reference (monitor_count heap reference - 1)

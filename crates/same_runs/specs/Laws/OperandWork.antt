@@ -1,10 +1,10 @@
 -- Operations on operands come to the same in both runs: constants, arithmetic, casts, tests of classes, monitors and throwing.
-use Rattle.std.proofs.Common.{◌≡◌, ◌==◌, ◌&&◌, ◌+◌, ◌-◌, ℕ, ℤ, Bool, true, false, List, [], ◌∷◌, Option, Some, None, if◌then◌else◌, refl, sym, ap, subst, ◌∙◌}
+use Rattle.std.proofs.Common.{◌≡◌, ◌==◌, ◌&&◌, ◌+◌, ◌-◌, ℕ, ℤ, Bool, true, false, List, [], ◌∷◌, Option, Some, None, if◌then◌else◌, refl, sym, ap, subst, ◌∙◌, arith}
 use Rattle.std.proofs.lemmas.Option.{none-some}
 use Rattle.class_model.specs.declared.descriptor.Kind.{Kind}
 use Rattle.class_tree.specs.Headers.{Name}
 use Rattle.class_tree.specs.Names.{throwable}
-use Rattle.machine_values.specs.Heaps.{Heap, constant_made, object_at}
+use Rattle.machine_values.specs.Heaps.{Heap, constant_made, entered, left, object_at}
 use Rattle.machine_values.specs.Values.{has_kind}
 use Rattle.machine_values.specs.declared.object.Constant.{Constant}
 use Rattle.machine_values.specs.declared.object.Object.{Object}
@@ -25,10 +25,10 @@ use Rattle.same_runs.specs.SameCompletions.{SameAsked, same_compute, SameComplet
 use Rattle.same_runs.specs.SameMemories.{IsComparison, SameHeaps, SameMemories, SameStatics}
 use Rattle.same_runs.specs.SamePrograms.{IsNoReference, SamePrograms}
 use Rattle.same_runs.specs.Laws.Names.{names_themselves, value_more}
-use Rattle.same_runs.specs.Laws.Heaps.{both_enter, both_leave}
+use Rattle.same_runs.specs.Laws.Heaps.{both_enter, both_leave, entered_constants, left_constants, same_monitor}
 use Rattle.same_runs.specs.Laws.Constants.{SameConstant, both_have}
 use Rattle.same_runs.specs.Laws.Shapes.{same_conforms, same_instance}
-use Rattle.same_runs.specs.Laws.Statics.{keeps_made, memories_still}
+use Rattle.same_runs.specs.Laws.Statics.{keeps_all, keeps_made, memories_counted, memories_still}
 
 -- ---- operands without references
 
@@ -91,3 +91,85 @@ module _ {P Q : Program} {Allocated Entered : ℕ → ℕ → Type 0} {names : N
         tested object also alike false e =
             rw (e, ap (λ (s : Shape). is_instance Q s name) alike.shape ∙ same_instance same object.shape name ∙ e) both_raise
   casts name (and_value (same_reference is) (and_value more rest)) = both_end
+
+  tests : (name : Name) {ones others : List Value} → SameValues names ones others → Both (instance_of_work P one name ones) (instance_of_work Q other name others)
+  tests name no_values = both_end
+  tests name (and_value same_int rest) = both_end
+  tests name (and_value same_long rest) = both_end
+  tests name (and_value same_float rest) = both_end
+  tests name (and_value same_double rest) = both_end
+  tests name (and_value same_null no_values) = gives_value same_int
+  tests name (and_value same_null (and_value more rest)) = both_end
+  tests name (and_value (same_reference {reference = reference} {named = named} is) no_values) =
+      of_objects reference named _ _ is (λ object also there there_also alike.
+      rw (ap (λ (s : Shape). is_instance Q s name) alike.shape ∙ same_instance same object.shape name) (gives_value same_int))
+  tests name (and_value (same_reference is) (and_value more rest)) = both_end
+
+  throws_same : {ones others : List Value} → SameValues names ones others → Both (throw_work P one ones) (throw_work Q other others)
+  throws_same no_values = both_end
+  throws_same (and_value same_int rest) = both_end
+  throws_same (and_value same_long rest) = both_end
+  throws_same (and_value same_float rest) = both_end
+  throws_same (and_value same_double rest) = both_end
+  throws_same (and_value same_null no_values) = both_raise
+  throws_same (and_value same_null (and_value more rest)) = both_end
+  throws_same (and_value (same_reference {reference = reference} {named = named} is) no_values) =
+      of_objects reference named _ _ is (λ object also there there_also alike. tested object also alike (shape_conforms P object.shape throwable) refl) where
+        tested : (object also : Object) → SameObject names object also → (b : Bool) → shape_conforms P object.shape throwable ≡ b
+            → Both (if shape_conforms P object.shape throwable then throws reference else ends stuck) (if shape_conforms Q also.shape throwable then throws named else ends stuck)
+        tested object also alike true e =
+            rw (e, ap (λ (s : Shape). shape_conforms Q s throwable) alike.shape ∙ same_conforms same object.shape throwable ∙ e) (both_throw is)
+        tested object also alike false e =
+            rw (e, ap (λ (s : Shape). shape_conforms Q s throwable) alike.shape ∙ same_conforms same object.shape throwable ∙ e) both_end
+  throws_same (and_value (same_reference is) (and_value more rest)) = both_end
+
+  -- ---- monitors
+
+  entered_same : IsComparison Entered → (reference named : ℕ) → names reference ≡ Some named → Both (gives (with_entered one reference) []) (gives (with_entered other named) [])
+  entered_same compares reference named is =
+      let still = memories_still (names_themselves names) (keeps_all one.heap (entered one.heap reference) (entered_constants one.heap reference)) (both_enter memories.heaps reference named is) memories in
+      both_give names (names_themselves names)
+      (memories_counted one.allocations other.allocations (one.entries + 1) (other.entries + 1) memories.allocations (compares.both one.entries other.entries 1 memories.entries) still) no_values
+
+  enters : IsComparison Entered → {ones others : List Value} → SameValues names ones others → Both (enter_monitor_work one ones) (enter_monitor_work other others)
+  enters compares no_values = both_end
+  enters compares (and_value same_int rest) = both_end
+  enters compares (and_value same_long rest) = both_end
+  enters compares (and_value same_float rest) = both_end
+  enters compares (and_value same_double rest) = both_end
+  enters compares (and_value same_null no_values) = both_raise
+  enters compares (and_value same_null (and_value more rest)) = both_end
+  enters compares (and_value (same_reference {reference = reference} {named = named} is) no_values) =
+      of_objects reference named _ _ is (λ object also there there_also alike. entered_same compares reference named is)
+  enters compares (and_value (same_reference is) (and_value more rest)) = both_end
+
+  leaves : {ones others : List Value} → SameValues names ones others → Both (leave_monitor_work one ones) (leave_monitor_work other others)
+  leaves no_values = both_end
+  leaves (and_value same_int rest) = both_end
+  leaves (and_value same_long rest) = both_end
+  leaves (and_value same_float rest) = both_end
+  leaves (and_value same_double rest) = both_end
+  leaves (and_value same_null no_values) = both_raise
+  leaves (and_value same_null (and_value more rest)) = both_end
+  leaves (and_value (same_reference {reference = reference} {named = named} is) no_values) =
+      of_objects reference named _ _ is (λ object also there there_also alike. tested object also alike (object.monitor == 0) refl) where
+        tested : (object also : Object) → SameObject names object also → (b : Bool) → (object.monitor == 0) ≡ b
+            → Both (if object.monitor == 0 then raises illegal_monitor else gives (with_heap one (left one.heap reference)) [])
+            (if also.monitor == 0 then raises illegal_monitor else gives (with_heap other (left other.heap named)) [])
+        tested object also alike true e = rw (e, ap (λ (count : ℕ). count == 0) alike.monitor ∙ e) both_raise
+        tested object also alike false e =
+            rw (e, ap (λ (count : ℕ). count == 0) alike.monitor ∙ e)
+            (both_give names (names_themselves names)
+            (memories_still (names_themselves names) (keeps_all one.heap (left one.heap reference) (left_constants one.heap reference)) (both_leave memories.heaps reference named is) memories)
+            no_values)
+  leaves (and_value (same_reference is) (and_value more rest)) = both_end
+
+  -- ---- what is asked of the library
+
+  kind_same : (kind : Kind) {value also : Value} → SameValue names value also → has_kind kind also ≡ has_kind kind value
+  kind_same kind same_int = refl
+  kind_same kind same_long = refl
+  kind_same kind same_float = refl
+  kind_same kind same_double = refl
+  kind_same kind same_null = refl
+  kind_same kind (same_reference is) = grind (arith)

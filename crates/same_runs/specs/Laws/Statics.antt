@@ -88,3 +88,38 @@ memories_still grows keeps heaps same = record {
   allocations = same.allocations;
   entries = same.entries;
 }
+
+-- counts do not matter to static fields
+pub statics_counted :
+    {P : Program} {names : Names} {now : List ℕ} {one other : Memory}
+    → (allocations also entries entries_also : ℕ)
+    → SameStatics P names now one other
+    → SameStatics P names now (record one { allocations = allocations; entries = entries }) (record other { allocations = also; entries = entries_also })
+statics_counted {P = P} {one = one} allocations also entries entries_also same = record {
+  begun = same.begun;
+  values = same.values;
+  alone = λ class is none.
+      let alone = same.alone class is none in
+      record {
+        inert = alone.inert;
+        as_begun = record { kept = alone.as_begun.kept; statics = alone.as_begun.statics };
+        first = alone.first;
+      };
+  unwritten = same.unwritten;
+  unwritten_also = same.unwritten_also;
+}
+
+-- the same memories, with counts that compare
+pub memories_counted :
+    {P : Program} {Allocated Entered : ℕ → ℕ → Type 0} {names : Names} {now : List ℕ} {one other : Memory}
+    → (allocations also entries entries_also : ℕ)
+    → Allocated allocations also
+    → Entered entries entries_also
+    → SameMemories P Allocated Entered names now one other
+    → SameMemories P Allocated Entered names now (record one { allocations = allocations; entries = entries }) (record other { allocations = also; entries = entries_also })
+memories_counted allocations also entries entries_also allocated entered same = record {
+  heaps = same.heaps;
+  statics = statics_counted allocations also entries entries_also same.statics;
+  allocations = allocated;
+  entries = entered;
+}
