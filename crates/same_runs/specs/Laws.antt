@@ -11,3 +11,4 @@ pub mod Methods
 pub mod Shapes
 pub mod Statics
 pub mod OperandWork
+pub mod ArithmeticWork

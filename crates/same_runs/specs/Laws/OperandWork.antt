@@ -32,7 +32,7 @@ use Rattle.same_runs.specs.Laws.Statics.{keeps_all, keeps_made, memories_counted
 
 -- ---- operands without references
 
-itself : (names : Names) (value : Value) → IsNoReference value → SameValue names value value
+pub itself : (names : Names) (value : Value) → IsNoReference value → SameValue names value value
 itself names (values.Int number) none = same_int
 itself names (values.Long number) none = same_long
 itself names (values.Float bits) none = same_float
@@ -53,7 +53,7 @@ module _ {P Q : Program} {Allocated Entered : ℕ → ℕ → Type 0} {names : N
   pub gives_value : {value also : Value} → SameValue names value also → Both (gives one (value ∷ [])) (gives other (also ∷ []))
   gives_value is = gives_same (and_value is no_values)
 
-  gives_nothing : Both (gives one []) (gives other [])
+  pub gives_nothing : Both (gives one []) (gives other [])
   gives_nothing = gives_same no_values
 
   -- ---- constants
@@ -74,7 +74,7 @@ module _ {P Q : Program} {Allocated Entered : ℕ → ℕ → Type 0} {names : N
       let old = memories.heaps.objects reference named is in
       rw (old.2, old.3) (each old.0 old.1 old.2 old.3 old.4)
 
-  casts : (name : Name) {ones others : List Value} → SameValues names ones others → Both (check_cast_work P one name ones) (check_cast_work Q other name others)
+  pub casts : (name : Name) {ones others : List Value} → SameValues names ones others → Both (check_cast_work P one name ones) (check_cast_work Q other name others)
   casts name no_values = both_end
   casts name (and_value same_int rest) = both_end
   casts name (and_value same_long rest) = both_end
@@ -92,7 +92,7 @@ module _ {P Q : Program} {Allocated Entered : ℕ → ℕ → Type 0} {names : N
             rw (e, ap (λ (s : Shape). is_instance Q s name) alike.shape ∙ same_instance same object.shape name ∙ e) both_raise
   casts name (and_value (same_reference is) (and_value more rest)) = both_end
 
-  tests : (name : Name) {ones others : List Value} → SameValues names ones others → Both (instance_of_work P one name ones) (instance_of_work Q other name others)
+  pub tests : (name : Name) {ones others : List Value} → SameValues names ones others → Both (instance_of_work P one name ones) (instance_of_work Q other name others)
   tests name no_values = both_end
   tests name (and_value same_int rest) = both_end
   tests name (and_value same_long rest) = both_end
@@ -105,7 +105,7 @@ module _ {P Q : Program} {Allocated Entered : ℕ → ℕ → Type 0} {names : N
       rw (ap (λ (s : Shape). is_instance Q s name) alike.shape ∙ same_instance same object.shape name) (gives_value same_int))
   tests name (and_value (same_reference is) (and_value more rest)) = both_end
 
-  throws_same : {ones others : List Value} → SameValues names ones others → Both (throw_work P one ones) (throw_work Q other others)
+  pub throws_same : {ones others : List Value} → SameValues names ones others → Both (throw_work P one ones) (throw_work Q other others)
   throws_same no_values = both_end
   throws_same (and_value same_int rest) = both_end
   throws_same (and_value same_long rest) = both_end
@@ -125,13 +125,13 @@ module _ {P Q : Program} {Allocated Entered : ℕ → ℕ → Type 0} {names : N
 
   -- ---- monitors
 
-  entered_same : IsComparison Entered → (reference named : ℕ) → names reference ≡ Some named → Both (gives (with_entered one reference) []) (gives (with_entered other named) [])
+  pub entered_same : IsComparison Entered → (reference named : ℕ) → names reference ≡ Some named → Both (gives (with_entered one reference) []) (gives (with_entered other named) [])
   entered_same compares reference named is =
       let still = memories_still (names_themselves names) (keeps_all one.heap (entered one.heap reference) (entered_constants one.heap reference)) (both_enter memories.heaps reference named is) memories in
       both_give names (names_themselves names)
       (memories_counted one.allocations other.allocations (one.entries + 1) (other.entries + 1) memories.allocations (compares.both one.entries other.entries 1 memories.entries) still) no_values
 
-  enters : IsComparison Entered → {ones others : List Value} → SameValues names ones others → Both (enter_monitor_work one ones) (enter_monitor_work other others)
+  pub enters : IsComparison Entered → {ones others : List Value} → SameValues names ones others → Both (enter_monitor_work one ones) (enter_monitor_work other others)
   enters compares no_values = both_end
   enters compares (and_value same_int rest) = both_end
   enters compares (and_value same_long rest) = both_end
@@ -143,7 +143,7 @@ module _ {P Q : Program} {Allocated Entered : ℕ → ℕ → Type 0} {names : N
       of_objects reference named _ _ is (λ object also there there_also alike. entered_same compares reference named is)
   enters compares (and_value (same_reference is) (and_value more rest)) = both_end
 
-  leaves : {ones others : List Value} → SameValues names ones others → Both (leave_monitor_work one ones) (leave_monitor_work other others)
+  pub leaves : {ones others : List Value} → SameValues names ones others → Both (leave_monitor_work one ones) (leave_monitor_work other others)
   leaves no_values = both_end
   leaves (and_value same_int rest) = both_end
   leaves (and_value same_long rest) = both_end
@@ -166,7 +166,7 @@ module _ {P Q : Program} {Allocated Entered : ℕ → ℕ → Type 0} {names : N
 
   -- ---- what is asked of the library
 
-  kind_same : (kind : Kind) {value also : Value} → SameValue names value also → has_kind kind also ≡ has_kind kind value
+  pub kind_same : (kind : Kind) {value also : Value} → SameValue names value also → has_kind kind also ≡ has_kind kind value
   kind_same kind same_int = refl
   kind_same kind same_long = refl
   kind_same kind same_float = refl
