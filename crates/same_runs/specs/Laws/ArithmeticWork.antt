@@ -162,3 +162,27 @@ module _ {P Q : Program} {Allocated Entered : ℕ → ℕ → Type 0} {names : N
     by (Some value) None is is_also impossible b e = elim impossible [ ]
     by (Some value) (Some also) is is_also (one_result none) true e = rw (is, is_also, e, zero_same are ∙ e) both_raise
     by (Some value) (Some also) is is_also (one_result none) false e = rw (is, is_also, e, zero_same are ∙ e) (gives_value same memories (itself names value none))
+
+  -- ---- floats and doubles
+
+  abbrev have_all : List Kind → List Value → Bool
+  have_all [] [] = true
+  have_all (kind ∷ kinds) (value ∷ values) = has_kind kind value && have_all kinds values
+  have_all kinds values = false
+
+  have_same : (kinds : List Kind) {ones others : List Value} → SameValues names ones others → have_all kinds others ≡ have_all kinds ones
+  have_same [] no_values = refl
+  have_same [] (and_value is are) = refl
+  have_same (kind ∷ kinds) no_values = refl
+  have_same (kind ∷ kinds) (and_value is are) = rw (kind_same same memories kind is, have_same kinds are) refl
+
+  pub asks_same : (opcode : ℕ) (operation : Option Operation) {ones others : List Value} → SameValues names ones others → Both (float_work opcode operation ones) (float_work opcode operation others)
+  asks_same opcode None are = both_end
+  asks_same opcode (Some operation) {ones = ones} {others = others} are = by (have_all operation.takes ones) refl where
+    by : (b : Bool) → have_all operation.takes ones ≡ b → Both (float_work opcode (Some operation) ones) (float_work opcode (Some operation) others)
+    by true e =
+        let also : have_all operation.takes others ≡ true = have_same operation.takes are ∙ e in
+        rw e (rw also (both_ask (same_compute are)))
+    by false e =
+        let also : have_all operation.takes others ≡ false = have_same operation.takes are ∙ e in
+        rw e (rw also both_end)
