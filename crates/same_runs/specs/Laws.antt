@@ -12,3 +12,4 @@ pub mod Shapes
 pub mod Statics
 pub mod OperandWork
 pub mod ArithmeticWork
+pub mod FieldWork
