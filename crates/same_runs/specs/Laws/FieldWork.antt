@@ -125,3 +125,65 @@ module _ {P Q : Program} {Allocated Entered : ℕ → ℕ → Type 0} {names : N
       both_give (named_too names (length one.heap.objects) (length other.heap.objects)) grows
       (memories_counted (one.allocations + more) (other.allocations + more) one.entries other.entries (compares.both one.allocations other.allocations more memories.allocations) memories.entries still)
       (and_value (same_reference (named_here names (length one.heap.objects) (length other.heap.objects))) no_values)
+
+  pub makes_object : IsComparison Allocated → (class : Name) → Both (new_object_work P one class) (new_object_work Q other class)
+  makes_object compares class =
+      begun_both class _ _
+      (λ none. rw (none, same_number same class ∙ none) (allocates compares (shapes.External class []) [] [] 1 no_values))
+      (λ number is begun.
+      rw (is, same_number same class ∙ is, same_name same number, same_blanks same (name_of_class P number))
+      (allocates compares (shapes.Folder number) (blank_values (instance_fields (headers_in P) (name_of_class P number))) (blank_values (instance_fields (headers_in P) (name_of_class P number))) 1
+      (blanks_themselves (named_too names (length one.heap.objects) (length other.heap.objects)) (instance_fields (headers_in P) (name_of_class P number)))))
+
+  -- ---- static fields
+
+  static_value_same : (memory : Memory) (class field : ℕ) → static_value Q memory class field ≡ static_value P memory class field
+  static_value_same memory class field = by (written_static memory.statics class field) refl where
+    by : (found : Option Value) → written_static memory.statics class field ≡ found → static_value Q memory class field ≡ static_value P memory class field
+    by None is = rw (is) (ap blank_value (same_field_desc same class field))
+    by (Some value) is = rw (is) refl
+
+  got_static_same : (field : Reference) (found : Option ℕ) → ((number : ℕ) → found ≡ Some number → IsTrue (is_begun other number)) → Both (got_static P one field found) (got_static Q other field found)
+  got_static_same field None begun = both_ask (same_get no_value)
+  got_static_same field (Some class) begun = by (static_number P class field) refl where
+    by : (found : Option ℕ) → static_number P class field ≡ found → Both (got_static P one field (Some class)) (got_static Q other field (Some class))
+    by None is = rw (is, same_static_number same class field ∙ is) both_end
+    by (Some number) is = rw (is, same_static_number same class field ∙ is) (gives_value same memories
+        (subst (SameValue names (static_value P one class number)) (sym (static_value_same other class number)) (memories.statics.values class number (begun class refl))))
+
+  pub gets_static : (found : Option Reference) → Both (get_static_work P one found) (get_static_work Q other found)
+  gets_static None = both_end
+  gets_static (Some field) = by (has_flag (field_of P field) STATIC) refl where
+    by : (b : Bool) → has_flag (field_of P field) STATIC ≡ b → Both (get_static_work P one (Some field)) (get_static_work Q other (Some field))
+    by false e = rw (e, same_static_field same field ∙ e) both_end
+    by true e = rw (e, same_static_field same field ∙ e)
+        (subst (λ (number : Option ℕ). Both (begun_first P one field.class (got_static P one field (folder_number P field.class))) (begun_first Q other field.class (got_static Q other field number)))
+        (sym (same_number same field.class))
+        (begun_both field.class _ _
+        (λ none. got_static_same field (folder_number P field.class) (λ number is. absurd (none-some number (sym none ∙ is))))
+        (λ number is begun. got_static_same field (folder_number P field.class)
+        (λ also is_also. subst (λ (n : ℕ). IsTrue (is_begun other n)) (same_Some number also (sym is ∙ is_also)) begun))))
+
+  -- what is written is found, and all else is as it was
+  written_here : (statics : List StaticValue) (class field : ℕ) (value : Value) → written_static (put_static_in statics class field value) class field ≡ Some value
+  written_here [] class field value = rw (eq-eqb class class refl, eq-eqb field field refl) refl
+  written_here (first ∷ statics) class field value = by (is_static_of class field first) refl (written_here statics class field value) where
+    by : (b : Bool) → is_static_of class field first ≡ b → written_static (put_static_in statics class field value) class field ≡ Some value
+        → written_static (if b then record first { value = value } ∷ statics else first ∷ put_static_in statics class field value) class field ≡ Some value
+    by true e rest = rw (e) refl
+    by false e rest = rw (e) rest
+
+  written_elsewhere : (statics : List StaticValue) (class field : ℕ) (value : Value) (at index : ℕ)
+      → ((class == at) && (field == index)) ≡ false
+      → written_static (put_static_in statics class field value) at index ≡ written_static statics at index
+  written_elsewhere [] class field value at index differ = rw (differ) refl
+  written_elsewhere (first ∷ statics) class field value at index differ = by (is_static_of class field first) refl (written_elsewhere statics class field value at index differ) where
+    by : (b : Bool) → is_static_of class field first ≡ b → written_static (put_static_in statics class field value) at index ≡ written_static statics at index
+        → written_static (if b then record first { value = value } ∷ statics else first ∷ put_static_in statics class field value) at index ≡ written_static (first ∷ statics) at index
+    by false e rest = rw (rest) refl
+    by true e rest =
+        let parts = and_parts (first.class == class) (first.field == field) e in
+        let other_one : is_static_of at index first ≡ false =
+            ap (λ (n : ℕ). (n == at) && (first.field == index)) (eqb-true first.class class parts.0)
+            ∙ ap (λ (n : ℕ). (class == at) && (n == index)) (eqb-true first.field field parts.1) ∙ differ in
+        rw (other_one) refl
