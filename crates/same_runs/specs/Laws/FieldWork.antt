@@ -187,3 +187,94 @@ module _ {P Q : Program} {Allocated Entered : ℕ → ℕ → Type 0} {names : N
             ap (λ (n : ℕ). (n == at) && (first.field == index)) (eqb-true first.class class parts.0)
             ∙ ap (λ (n : ℕ). (class == at) && (n == index)) (eqb-true first.field field parts.1) ∙ differ in
         rw (other_one) refl
+
+  put_both : (class field : ℕ) {value also : Value} → IsTrue (is_begun other class) → SameValue names value also → SameMemories P Allocated Entered names [] (with_static one class field value) (with_static other class field also)
+  put_both class field {value = value} {also = also} begun is = record {
+    heaps = memories.heaps;
+    statics = record {
+      begun = memories.statics.begun;
+      values = λ at index at_begun. values_then at index at_begun ((class == at) && (field == index)) refl;
+      alone = λ at at_begun at_none.
+          let alone = memories.statics.alone at at_begun at_none in
+          record {
+            inert = alone.inert;
+            as_begun = record {
+              kept = alone.as_begun.kept;
+              statics = λ index. written_elsewhere one.statics class field value at index (elsewhere at index at_none) ∙ alone.as_begun.statics index;
+            };
+            first = alone.first;
+          };
+      unwritten = λ at index at_none.
+          written_elsewhere one.statics class field value at index (not_begun at index at_none) ∙ memories.statics.unwritten at index at_none;
+      unwritten_also = λ at index at_none.
+          written_elsewhere other.statics class field also at index (elsewhere at index at_none) ∙ memories.statics.unwritten_also at index at_none;
+    };
+    allocations = memories.allocations;
+    entries = memories.entries;
+  } where
+    elsewhere : (at index : ℕ) → IsFalse (is_begun other at) → ((class == at) && (field == index)) ≡ false
+    elsewhere at index none = by (class == at) refl where
+      by : (b : Bool) → (class == at) ≡ b → ((class == at) && (field == index)) ≡ false
+      by false e = rw (e) refl
+      by true e = absurd (false≢true (sym none ∙ ap (is_begun other) (sym (eqb-true class at e)) ∙ begun))
+
+    not_begun : (at index : ℕ) → IsFalse (is_begun one at) → ((class == at) && (field == index)) ≡ false
+    not_begun at index none = by (class == at) refl where
+      by : (b : Bool) → (class == at) ≡ b → ((class == at) && (field == index)) ≡ false
+      by false e = rw (e) refl
+      by true e = absurd (false≢true (sym none ∙ ap (is_begun one) (sym (eqb-true class at e)) ∙ memories.statics.begun class begun))
+
+    values_then : (at index : ℕ) → IsTrue (is_begun other at) → (b : Bool) → ((class == at) && (field == index)) ≡ b
+        → SameValue names (static_value P (with_static one class field value) at index) (static_value P (with_static other class field also) at index)
+    values_then at index at_begun false e =
+        rw (written_elsewhere one.statics class field value at index e, written_elsewhere other.statics class field also at index e) (memories.statics.values at index at_begun)
+    values_then at index at_begun true e =
+        let parts = and_parts (class == at) (field == index) e in
+        subst (λ (n : ℕ). SameValue names (static_value P (with_static one class field value) n index) (static_value P (with_static other class field also) n index)) (eqb-true class at parts.0)
+        (subst (λ (n : ℕ). SameValue names (static_value P (with_static one class field value) class n) (static_value P (with_static other class field also) class n)) (eqb-true field index parts.1)
+        (rw (written_here one.statics class field value, written_here other.statics class field also) is))
+
+  put_static_same : (field : Reference) {value also : Value} (found : Option ℕ) → SameValue names value also → ((number : ℕ) → found ≡ Some number → IsTrue (is_begun other number))
+      → Both (put_static_value P one field value found) (put_static_value Q other field also found)
+  put_static_same field None is begun = both_ask (same_put no_value is)
+  put_static_same field {value = value} {also = also} (Some class) is begun = by (static_number P class field) refl where
+    by : (found : Option ℕ) → static_number P class field ≡ found → Both (put_static_value P one field value (Some class)) (put_static_value Q other field also (Some class))
+    by None e = rw (e, same_static_number same class field ∙ e) both_end
+    by (Some number) e = rw (e, same_static_number same class field ∙ e) (both_give names (names_themselves names) (put_both class number (begun class refl) is) no_values)
+
+  put_begun_same :
+      (field : Reference) (initialises : Option Name) {value also : Value}
+      → is_barred Q field initialises ≡ is_barred P field initialises
+      → SameValue names value also
+      → ((number : ℕ) → folder_number P field.class ≡ Some number → IsTrue (is_begun other number))
+      → Both (put_static_begun P one field initialises value) (put_static_begun Q other field initialises also)
+  put_begun_same field initialises {value = value} {also = also} bar is begun = by (is_barred P field initialises) refl where
+    by : (b : Bool) → is_barred P field initialises ≡ b → Both (put_static_begun P one field initialises value) (put_static_begun Q other field initialises also)
+    by true e = rw (e, bar ∙ e) both_raise
+    by false e = rw (e, bar ∙ e)
+        (subst (λ (number : Option ℕ). Both (put_static_value P one field (narrowed (type_of field.desc) value) (folder_number P field.class)) (put_static_value Q other field (narrowed (type_of field.desc) also) number))
+        (sym (same_number same field.class))
+        (put_static_same field (folder_number P field.class) (narrowed_same (type_of field.desc) is) begun))
+
+  fits_same : (field : Reference) {value also : Value} (completion completion_also : Completion) → SameValue names value also → Both completion completion_also → Both (if_fits field value completion) (if_fits field also completion_also)
+  fits_same field {value = value} {also = also} completion completion_also is both = by (has_kind (kind_of (type_of field.desc)) value) refl where
+    by : (b : Bool) → has_kind (kind_of (type_of field.desc)) value ≡ b → Both (if_fits field value completion) (if_fits field also completion_also)
+    by true e = rw (e, kind_same same memories (kind_of (type_of field.desc)) is ∙ e) both
+    by false e = rw (e, kind_same same memories (kind_of (type_of field.desc)) is ∙ e) both_end
+
+  pub puts_static : (found : Option Reference) (initialises : Option Name) {ones others : List Value}
+      → ((field : Reference) → found ≡ Some field → is_barred Q field initialises ≡ is_barred P field initialises)
+      → SameValues names ones others
+      → Both (put_static_work P one found initialises ones) (put_static_work Q other found initialises others)
+  puts_static None initialises bar are = both_end
+  puts_static (Some field) initialises bar no_values = both_end
+  puts_static (Some field) initialises bar (and_value is (and_value more rest)) = both_end
+  puts_static (Some field) initialises bar (and_value {one = value} {other = also} is no_values) = by (has_flag (field_of P field) STATIC) refl where
+    by : (b : Bool) → has_flag (field_of P field) STATIC ≡ b → Both (put_static_work P one (Some field) initialises (value ∷ [])) (put_static_work Q other (Some field) initialises (also ∷ []))
+    by false e = rw (e, same_static_field same field ∙ e) both_end
+    by true e = rw (e, same_static_field same field ∙ e)
+        (fits_same field _ _ is
+        (begun_both field.class _ _
+        (λ none. put_begun_same field initialises (bar field refl) is (λ number found. absurd (none-some number (sym none ∙ found))))
+        (λ number found begun. put_begun_same field initialises (bar field refl) is
+        (λ n found_also. subst (λ (m : ℕ). IsTrue (is_begun other m)) (same_Some number n (sym found ∙ found_also)) begun))))
