@@ -1,5 +1,5 @@
 -- Fields and new objects come to the same in both runs.
-use Rattle.std.proofs.Common.{◌≡◌, ◌==◌, ◌&&◌, ◌+◌, ℕ, ℤ, Bool, true, false, not, List, [], ◌∷◌, ◌++◌, length, slice_get, Option, Some, None, if◌then◌else◌, IsTrue, IsFalse, refl, sym, ap, subst, ◌∙◌, inl, inr, ◌⊎◌, arith}
+use Rattle.std.proofs.Common.{◌≡◌, ◌==◌, ◌&&◌, ◌+◌, ℕ, zero, suc, ℤ, Bool, true, false, not, List, [], ◌∷◌, ◌++◌, length, slice_get, Option, Some, None, if◌then◌else◌, IsTrue, IsFalse, refl, sym, ap, subst, ◌∙◌, inl, inr, ◌⊎◌, arith}
 use Rattle.std.proofs.lemmas.Bool.{and_parts, eq-eqb, eqb-true, false≢true}
 use Rattle.std.proofs.lemmas.Option.{none-some, same_Some}
 use Rattle.class_model.specs.Descriptors.{kind_of, type_of}
@@ -278,3 +278,129 @@ module _ {P Q : Program} {Allocated Entered : ℕ → ℕ → Type 0} {names : N
         (λ none. put_begun_same field initialises (bar field refl) is (λ number found. absurd (none-some number (sym none ∙ found))))
         (λ number found begun. put_begun_same field initialises (bar field refl) is
         (λ n found_also. subst (λ (m : ℕ). IsTrue (is_begun other m)) (same_Some number n (sym found ∙ found_also)) begun))))
+
+  -- ---- instance fields
+
+  pub conforms_same : (reference named : ℕ) (name : Name) → names reference ≡ Some named → reference_conforms Q other.heap named name ≡ reference_conforms P one.heap reference name
+  conforms_same reference named name is =
+      let old = memories.heaps.objects reference named is in
+      rw (old.2, old.3) (ap (λ (shape : Shape). shape_conforms Q shape name) old.4.shape ∙ same_conforms same old.0.shape name)
+
+  -- a value of an object of both, by its number
+  value_at : (ones others : List Value) (number : ℕ) → SameValues names ones others
+      → ((slice_get ones number ≡ None) × (slice_get others number ≡ None))
+      ⊎ ((value also : Value) × (slice_get ones number ≡ Some value) × (slice_get others number ≡ Some also) × SameValue names value also)
+  value_at [] [] number no_values = inl (refl, refl)
+  value_at [] (also ∷ others) number impossible = elim impossible [ ]
+  value_at (value ∷ ones) [] number impossible = elim impossible [ ]
+  value_at (value ∷ ones) (also ∷ others) zero (and_value is are) = inr (value, also, refl, refl, is)
+  value_at (value ∷ ones) (also ∷ others) (suc number) (and_value is are) = value_at ones others number are
+
+  got_field_same : (field : Reference) (object also : Object) → SameObject names object also → Both (got_field P one field (Some object)) (got_field Q other field (Some also))
+  got_field_same field object also alike = by object.shape refl where
+    with_slot : (class : ℕ) → object.shape ≡ shapes.Folder class → (found : Option ℕ) → slot_number P (name_of_class P class) field ≡ found
+        → Both (got_field P one field (Some object)) (got_field Q other field (Some also))
+    with_slot class e None found = rw (e, alike.shape ∙ e, found, same_name same class, same_slot same (name_of_class P class) field ∙ found) both_end
+    with_slot class e (Some number) found = elim (value_at object.values also.values number alike.values) [
+      | inl none ↦ rw (e, alike.shape ∙ e, found, same_name same class, same_slot same (name_of_class P class) field ∙ found, none.0, none.1) both_end
+      | inr there ↦ rw (e, alike.shape ∙ e, found, same_name same class, same_slot same (name_of_class P class) field ∙ found, there.2, there.3) (gives_value same memories there.4)
+    ]
+
+    by : (shape : Shape) → object.shape ≡ shape → Both (got_field P one field (Some object)) (got_field Q other field (Some also))
+    by (shapes.Array desc len) e = rw (e, alike.shape ∙ e) both_end
+    by (shapes.External class interfaces) e = rw (e, alike.shape ∙ e) both_end
+    by (shapes.Folder class) e = with_slot class e (slot_number P (name_of_class P class) field) refl
+
+  gets_from : (field : Reference) (reference named : ℕ) (found : Option ℕ) → names reference ≡ Some named → Both (get_from P one field reference found) (get_from Q other field named found)
+  gets_from field reference named None is = both_ask (same_get (has_value (same_reference is)))
+  gets_from field reference named (Some class) is =
+      let old = memories.heaps.objects reference named is in
+      rw (old.2, old.3) (got_field_same field old.0 old.1 old.4)
+
+  pub gets_field : (name : Name) (found : Option Reference) {ones others : List Value} → SameValues names ones others → Both (get_field_work P one name found ones) (get_field_work Q other name found others)
+  gets_field name None no_values = both_end
+  gets_field name None (and_value is are) = both_end
+  gets_field name (Some field) no_values = both_end
+  gets_field name (Some field) (and_value same_int are) = both_end
+  gets_field name (Some field) (and_value same_long are) = both_end
+  gets_field name (Some field) (and_value same_float are) = both_end
+  gets_field name (Some field) (and_value same_double are) = both_end
+  gets_field name (Some field) (and_value same_null (and_value more are)) = both_end
+  gets_field name (Some field) (and_value (same_reference is) (and_value more are)) = both_end
+  gets_field name (Some field) (and_value same_null no_values) = by (has_flag (field_of P field) STATIC) refl where
+    by : (b : Bool) → has_flag (field_of P field) STATIC ≡ b → Both (get_field_work P one name (Some field) (values.Null ∷ [])) (get_field_work Q other name (Some field) (values.Null ∷ []))
+    by true e = rw (e, same_static_field same field ∙ e) both_end
+    by false e = rw (e, same_static_field same field ∙ e) both_raise
+  gets_field name (Some field) (and_value (same_reference {reference = reference} {named = named} is) no_values) = by (not (has_flag (field_of P field) STATIC) && reference_conforms P one.heap reference name) refl where
+    test : (not (has_flag (field_of Q field) STATIC) && reference_conforms Q other.heap named name) ≡ (not (has_flag (field_of P field) STATIC) && reference_conforms P one.heap reference name)
+    test = rw (same_static_field same field, conforms_same reference named name is) refl
+
+    by : (b : Bool) → (not (has_flag (field_of P field) STATIC) && reference_conforms P one.heap reference name) ≡ b
+        → Both (get_field_work P one name (Some field) (values.Ref reference ∷ [])) (get_field_work Q other name (Some field) (values.Ref named ∷ []))
+    by false e = rw (e, test ∙ e) both_end
+    by true e = rw (e, test ∙ e)
+        (subst (λ (number : Option ℕ). Both (get_from P one field reference (folder_number P field.class)) (get_from Q other field named number)) (sym (same_number same field.class))
+        (gets_from field reference named (folder_number P field.class) is))
+
+  put_value_same : (field : Reference) (reference named : ℕ) {value also : Value} (object object_also : Object)
+      → names reference ≡ Some named
+      → SameValue names value also
+      → SameObject names object object_also
+      → Both (put_field_value P one field reference value (Some object)) (put_field_value Q other field named also (Some object_also))
+  put_value_same field reference named {value = value} {also = also} object object_also is alike_value alike = by object.shape refl where
+    with_slot : (class : ℕ) → object.shape ≡ shapes.Folder class → (found : Option ℕ) → slot_number P (name_of_class P class) field ≡ found
+        → Both (put_field_value P one field reference value (Some object)) (put_field_value Q other field named also (Some object_also))
+    with_slot class e None found = rw (e, alike.shape ∙ e, found, same_name same class, same_slot same (name_of_class P class) field ∙ found) both_end
+    with_slot class e (Some number) found = rw (e, alike.shape ∙ e, found, same_name same class, same_slot same (name_of_class P class) field ∙ found)
+        (both_give names (names_themselves names)
+        (memories_still (names_themselves names) (keeps_all one.heap (with_value one.heap reference number value) (value_constants one.heap reference number value))
+        (both_write memories.heaps reference named number is alike_value) memories) no_values)
+
+    by : (shape : Shape) → object.shape ≡ shape → Both (put_field_value P one field reference value (Some object)) (put_field_value Q other field named also (Some object_also))
+    by (shapes.Array desc len) e = rw (e, alike.shape ∙ e) both_end
+    by (shapes.External class interfaces) e = rw (e, alike.shape ∙ e) both_end
+    by (shapes.Folder class) e = with_slot class e (slot_number P (name_of_class P class) field) refl
+
+  puts_into : (field : Reference) (reference named : ℕ) {value also : Value} (found : Option ℕ) → names reference ≡ Some named → SameValue names value also
+      → Both (put_into P one field reference value found) (put_into Q other field named also found)
+  puts_into field reference named None is alike = both_ask (same_put (has_value (same_reference is)) alike)
+  puts_into field reference named (Some class) is alike =
+      let old = memories.heaps.objects reference named is in
+      rw (old.2, old.3) (put_value_same field reference named old.0 old.1 is alike old.4)
+
+  puts_in : (name : Name) (field : Reference) {receiver receiver_also value also : Value} → SameValue names receiver receiver_also → SameValue names value also
+      → Both (put_field_in P one name field receiver value) (put_field_in Q other name field receiver_also also)
+  puts_in name field same_int alike = both_end
+  puts_in name field same_long alike = both_end
+  puts_in name field same_float alike = both_end
+  puts_in name field same_double alike = both_end
+  puts_in name field same_null alike = both_raise
+  puts_in name field {value = value} {also = also} (same_reference {reference = reference} {named = named} is) alike = by (reference_conforms P one.heap reference name) refl where
+    by : (b : Bool) → reference_conforms P one.heap reference name ≡ b → Both (put_field_in P one name field (values.Ref reference) value) (put_field_in Q other name field (values.Ref named) also)
+    by false e = rw (e, conforms_same reference named name is ∙ e) both_end
+    by true e = rw (e, conforms_same reference named name is ∙ e)
+        (subst (λ (number : Option ℕ). Both (put_into P one field reference (narrowed (type_of field.desc) value) (folder_number P field.class)) (put_into Q other field named (narrowed (type_of field.desc) also) number))
+        (sym (same_number same field.class))
+        (puts_into field reference named (folder_number P field.class) is (narrowed_same (type_of field.desc) alike)))
+
+  pub puts_field : (name : Name) (found : Option Reference) (initialises initialises_also : Option Name) {ones others : List Value}
+      → ((field : Reference) → found ≡ Some field → is_barred Q field initialises_also ≡ is_barred P field initialises)
+      → SameValues names ones others
+      → Both (put_field_work P one name found initialises ones) (put_field_work Q other name found initialises_also others)
+  puts_field name None initialises initialises_also bar no_values = both_end
+  puts_field name None initialises initialises_also bar (and_value receiver no_values) = both_end
+  puts_field name None initialises initialises_also bar (and_value receiver (and_value value no_values)) = both_end
+  puts_field name None initialises initialises_also bar (and_value receiver (and_value value (and_value more are))) = both_end
+  puts_field name (Some field) initialises initialises_also bar no_values = both_end
+  puts_field name (Some field) initialises initialises_also bar (and_value receiver no_values) = both_end
+  puts_field name (Some field) initialises initialises_also bar (and_value receiver (and_value value (and_value more are))) = both_end
+  puts_field name (Some field) initialises initialises_also bar (and_value {one = receiver} {other = receiver_also} is (and_value {one = value} {other = also} alike no_values)) =
+      by (has_flag (field_of P field) STATIC) refl where
+        tested : (b : Bool) → is_barred P field initialises ≡ b → Both (put_field_tested P one name field initialises receiver value) (put_field_tested Q other name field initialises_also receiver_also also)
+        tested true e = rw (e, bar field refl ∙ e) both_raise
+        tested false e = rw (e, bar field refl ∙ e) (puts_in name field is alike)
+
+        by : (b : Bool) → has_flag (field_of P field) STATIC ≡ b
+            → Both (put_field_work P one name (Some field) initialises (receiver ∷ value ∷ [])) (put_field_work Q other name (Some field) initialises_also (receiver_also ∷ also ∷ []))
+        by true e = rw (e, same_static_field same field ∙ e) both_end
+        by false e = rw (e, same_static_field same field ∙ e) (fits_same field _ _ alike (tested (is_barred P field initialises) refl))
