@@ -1,0 +1,12 @@
+mod NumberedTypes
+mod NumberedRows
+mod NumberedLocals
+mod NumberedArithmetic
+mod NumberedMembers
+mod NumberedTable
+mod AloneNumbers
+mod NumberedEntry
+mod StackRoom
+mod FlatPlaces
+mod NumberedTargets
+mod TypedAlone
