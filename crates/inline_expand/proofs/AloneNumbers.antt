@@ -26,7 +26,7 @@ number_cons placed instrs at = by (placed.at == at) refl (number_of_first (λ p.
 pub number_if : (placed : Placed) (instrs : List Placed) (at : ℕ) (here : Bool) → (placed.at == at) ≡ here → number_in (placed ∷ instrs) at ≡ (if here then zero else suc (number_in instrs at))
 number_if placed instrs at here is = number_cons placed instrs at ∙ ap (λ (b : Bool). if b then zero else suc (number_in instrs at)) is
 
-number_here : (placed : Placed) (instrs : List Placed) (at : ℕ) → placed.at ≡ at → number_in (placed ∷ instrs) at ≡ zero
+pub number_here : (placed : Placed) (instrs : List Placed) (at : ℕ) → placed.at ≡ at → number_in (placed ∷ instrs) at ≡ zero
 number_here placed instrs at is = number_if placed instrs at true (eq-eqb placed.at at is)
 
 number_behind : (placed : Placed) (instrs : List Placed) (at : ℕ) → placed.at ≢ at → number_in (placed ∷ instrs) at ≡ suc (number_in instrs at)

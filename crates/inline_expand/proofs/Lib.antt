@@ -10,3 +10,6 @@ mod StackRoom
 mod FlatPlaces
 mod NumberedTargets
 mod TypedAlone
+mod TypedHandlers
+mod TypedAloneBody
+mod TypedAloneLaw

@@ -92,25 +92,25 @@ some_point f (Some point) name is = (point, refl)
 -- ---- the body
 
 module _ (classes : Classes) (s : Scope) (at : MethodAt) (frames : List Frame) (pool_is : pool_of classes at.class ≡ s.class.pool) (order : AreInOrder (body_of s).points) (has : HasFrames (body_of s) frames) (goes : AllByRecursion (GoesToStated (body_of s) frames) (body_of s).points) where
-  abbrev number : ℕ → ℕ
+  abbrev pub number : ℕ → ℕ
   number = number_at s
 
-  abbrev own : Body
+  abbrev pub own : Body
   own = body_of s
 
-  abbrev flat : FlatCode
+  abbrev pub flat : FlatCode
   flat = flat_alone s at frames
 
-  abbrev body : Body
+  abbrev pub body : Body
   body = body_of_flat classes s flat
 
-  abbrev typed : List Frame
+  abbrev pub typed : List Frame
   typed = typed_points flat
 
-  abbrev news : ℕ → Option Name
+  abbrev pub news : ℕ → Option Name
   news = class_of_flat_new classes flat
 
-  abbrev scope : RowScope
+  abbrev pub scope : RowScope
   scope = renumbered (row_scope s) (stack_room flat) news
 
   pub counted : length frames ≡ length (instructions s)
@@ -234,10 +234,10 @@ module _ (classes : Classes) (s : Scope) (at : MethodAt) (frames : List Frame) (
       )
 
   module _ (n : ℕ) (placed : Placed) (stands : slice_get (instructions s) n ≡ Some placed) (fits : PointFits own frames (point_of s placed)) (edges : GoesToStated own frames (point_of s placed)) where
-    abbrev before : Frame
+    abbrev pub before : Frame
     before = fits.frame
 
-    number_is : number placed.at ≡ n
+    pub number_is : number placed.at ≡ n
     number_is = number_of_placed s (instructions s) order n placed stands
 
     next_is : number (placed.at + placed.len) ≡ number placed.at + 1
@@ -256,7 +256,7 @@ module _ (classes : Classes) (s : Scope) (at : MethodAt) (frames : List Frame) (
     targets_go = subst (λ (f : Frame). AllByRecursion (GoesInto own frames (frame_behind (point_of s placed) f)) (targets placed.instr)) same_before edges.targets
 
     -- the point at its number, in the scope of its rows
-    abbrev flat_point : RowScope → ℕ → BodyPoint
+    abbrev pub flat_point : RowScope → ℕ → BodyPoint
     flat_point t k = record {
       place = k;
       next = k + 1;
@@ -266,7 +266,7 @@ module _ (classes : Classes) (s : Scope) (at : MethodAt) (frames : List Frame) (
       catches = map body_catch (handlers_at s placed.at);
     }
 
-    abbrev here : BodyPoint
+    abbrev pub here : BodyPoint
     here = flat_point scope (number placed.at)
 
     abbrev row : Row
@@ -280,7 +280,7 @@ module _ (classes : Classes) (s : Scope) (at : MethodAt) (frames : List Frame) (
         let within : number placed.at < length (instructions s) = subst (λ (k : ℕ). k < length (instructions s)) (sym number_is) (slice_get_within (instructions s) n placed stands) in
         row_moves number (row_scope s) (stack_room flat) news keeps before placed.at (apart (instructions s) placed.at within) placed.instr fits.row.further
 
-    row_fits : RowHolds scope (numbered_frame number before) (access_aside also)
+    pub row_fits : RowHolds scope (numbered_frame number before) (access_aside also)
     row_fits = record {
       operands = operands_fit number before row also moves (row_scope s) (stack_room flat) news fits.row.operands;
       local = moves.local fits.row.local;
@@ -311,12 +311,12 @@ module _ (classes : Classes) (s : Scope) (at : MethodAt) (frames : List Frame) (
         chosen true = refl
         chosen false = refl
 
-    next_flows : FlowsInto body typed here.next (flows_on here (numbered_frame number before))
+    pub next_flows : FlowsInto body typed here.next (flows_on here (numbered_frame number before))
     next_flows =
         subst (λ (k : ℕ). FlowsInto body typed k (flows_on here (numbered_frame number before))) next_is
         (subst (FlowsInto body typed (number (placed.at + placed.len))) (sym flows_same) (flows_carried (placed.at + placed.len) (flows_on (point_of s placed) before) fits.next))
 
-    targets_fit : AllByRecursion (λ target. MayGoTo body.scope (frame_behind here (numbered_frame number before)) (body.stated target)) (targets (with_targets number placed.instr))
+    pub targets_fit : AllByRecursion (λ target. MayGoTo body.scope (frame_behind here (numbered_frame number before)) (body.stated target)) (targets (with_targets number placed.instr))
     targets_fit =
         subst (λ (places : List ℕ). AllByRecursion (λ target. MayGoTo body.scope (frame_behind here (numbered_frame number before)) (body.stated target)) places) (sym (targets_numbered number placed.instr))
         (subst (λ (from : Option Frame). AllByRecursion (λ target. MayGoTo body.scope from (body.stated target)) (map number (targets placed.instr))) (sym behind_same)
