@@ -16,20 +16,24 @@ use Rattle.type_rules.specs.MethodBodies.{point_of}
 
 -- ---- numbers
 
-number_cons : (placed : Placed) (instrs : List Placed) (at : ℕ) → number_in (placed ∷ instrs) at ≡ (if placed.at == at then zero else suc (number_in instrs at))
+number_cons : (placed : Placed) (instrs : List Placed) (at : ℕ)
+    → number_in (placed ∷ instrs) at ≡ (if placed.at == at then zero else suc (number_in instrs at))
 number_cons placed instrs at = by (placed.at == at) refl (number_of_first (λ p. p.at == at) instrs) refl where
-  by : (here : Bool) → (placed.at == at) ≡ here → (found : Option ℕ) → number_of_first (λ p. p.at == at) instrs ≡ found → number_in (placed ∷ instrs) at ≡ (if placed.at == at then zero else suc (number_in instrs at))
+  by : (here : Bool) → (placed.at == at) ≡ here → (found : Option ℕ) → number_of_first (λ p. p.at == at) instrs ≡ found
+      → number_in (placed ∷ instrs) at ≡ (if placed.at == at then zero else suc (number_in instrs at))
   by true e found is = rw e refl
   by false e None is = rw (e, is) refl
   by false e (Some n) is = rw (e, is) refl
 
-pub number_if : (placed : Placed) (instrs : List Placed) (at : ℕ) (here : Bool) → (placed.at == at) ≡ here → number_in (placed ∷ instrs) at ≡ (if here then zero else suc (number_in instrs at))
+pub number_if : (placed : Placed) (instrs : List Placed) (at : ℕ) (here : Bool) → (placed.at == at) ≡ here
+    → number_in (placed ∷ instrs) at ≡ (if here then zero else suc (number_in instrs at))
 number_if placed instrs at here is = number_cons placed instrs at ∙ ap (λ (b : Bool). if b then zero else suc (number_in instrs at)) is
 
 pub number_here : (placed : Placed) (instrs : List Placed) (at : ℕ) → placed.at ≡ at → number_in (placed ∷ instrs) at ≡ zero
 number_here placed instrs at is = number_if placed instrs at true (eq-eqb placed.at at is)
 
-number_behind : (placed : Placed) (instrs : List Placed) (at : ℕ) → placed.at ≢ at → number_in (placed ∷ instrs) at ≡ suc (number_in instrs at)
+number_behind : (placed : Placed) (instrs : List Placed) (at : ℕ) → placed.at ≢ at
+    → number_in (placed ∷ instrs) at ≡ suc (number_in instrs at)
 number_behind placed instrs at not = number_if placed instrs at false (ne_eqb placed.at at not)
 
 -- ---- in order
@@ -46,11 +50,13 @@ ascend s (p ∷ (q ∷ ps)) order =
     let one : p.at < p.at + p.len = order.0 in
     let same : q.at ≡ p.at + p.len = order.1 in
     let before : p.at < q.at = omega (arith, one, same) in (
-      (before, AllByRecursion-weaker (λ (r : Placed). q.at < r.at) (λ (r : Placed). p.at < r.at) (λ r is. omega (arith, before, is)) ps rest.0),
+      (before, AllByRecursion-weaker (λ (r : Placed). q.at < r.at) (λ (r : Placed). p.at < r.at)
+          (λ r is. omega (arith, before, is)) ps rest.0),
       rest,
     )
 
-in_ascent : (instrs : List Placed) → Ascend instrs → (n : ℕ) (placed : Placed) → slice_get instrs n ≡ Some placed → number_in instrs placed.at ≡ n
+in_ascent : (instrs : List Placed) → Ascend instrs → (n : ℕ) (placed : Placed) → slice_get instrs n ≡ Some placed
+    → number_in instrs placed.at ≡ n
 in_ascent [] order n placed is = absurd cc
 in_ascent (first ∷ instrs) order zero placed is = number_here first instrs placed.at (ap (λ (p : Placed). p.at) (same_Some first placed is))
 in_ascent (first ∷ instrs) order (suc n) placed is =
@@ -58,20 +64,25 @@ in_ascent (first ∷ instrs) order (suc n) placed is =
     number_behind first instrs placed.at (λ e. omega (arith, before, e)) ∙ ap suc (in_ascent instrs order.1 n placed is)
 
 -- the number of an instruction's offset is its own
-pub number_of_placed : (s : Scope) (instrs : List Placed) → AreInOrder (map (point_of s) instrs) → (n : ℕ) (placed : Placed) → slice_get instrs n ≡ Some placed → number_in instrs placed.at ≡ n
+pub number_of_placed : (s : Scope) (instrs : List Placed) → AreInOrder (map (point_of s) instrs) → (n : ℕ) (placed : Placed)
+    → slice_get instrs n ≡ Some placed → number_in instrs placed.at ≡ n
 number_of_placed s instrs order = in_ascent instrs (ascend s instrs order)
 
 -- the number of the offset behind it is the next one
-pub number_of_next : (s : Scope) (instrs : List Placed) → AreInOrder (map (point_of s) instrs) → (n : ℕ) (placed : Placed) → slice_get instrs n ≡ Some placed → number_in instrs (placed.at + placed.len) ≡ suc n
+pub number_of_next : (s : Scope) (instrs : List Placed) → AreInOrder (map (point_of s) instrs) → (n : ℕ) (placed : Placed)
+    → slice_get instrs n ≡ Some placed → number_in instrs (placed.at + placed.len) ≡ suc n
 number_of_next s [] order n placed is = absurd cc
 number_of_next s (first ∷ []) order zero placed is =
-    subst (λ (p : Placed). number_in (first ∷ []) (p.at + p.len) ≡ 1) (same_Some first placed is) (number_behind first [] (first.at + first.len) (λ e. omega (arith, order.0, e)))
+    subst (λ (p : Placed). number_in (first ∷ []) (p.at + p.len) ≡ 1) (same_Some first placed is)
+        (number_behind first [] (first.at + first.len) (λ e. omega (arith, order.0, e)))
 number_of_next s (first ∷ second ∷ instrs) order zero placed is =
     subst (λ (p : Placed). number_in (first ∷ second ∷ instrs) (p.at + p.len) ≡ 1) (same_Some first placed is)
-    (number_behind first (second ∷ instrs) (first.at + first.len) (λ e. omega (arith, order.0, e)) ∙ ap suc (number_here second instrs (first.at + first.len) order.1))
+    (number_behind first (second ∷ instrs) (first.at + first.len) (λ e. omega (arith, order.0, e))
+        ∙ ap suc (number_here second instrs (first.at + first.len) order.1))
 number_of_next s (first ∷ instrs) order (suc n) placed is =
     let before : first.at < placed.at = at_index (λ (q : Placed). first.at < q.at) instrs n placed (ascend s (first ∷ instrs) order).0 is in
-    number_behind first instrs (placed.at + placed.len) (λ e. omega (arith, before, e)) ∙ ap suc (number_of_next s instrs order.2 n placed is)
+    number_behind first instrs (placed.at + placed.len) (λ e. omega (arith, before, e))
+        ∙ ap suc (number_of_next s instrs order.2 n placed is)
 
 -- ---- what stands at a number
 
@@ -99,7 +110,8 @@ is_number (first ∷ instrs) at n is within = by (first.at == at) refl n is with
       record { placed = found.placed; stands = found.stands; place_is = found.place_is }
 
 -- no other offset has the number of an instruction
-pub apart : (instrs : List Placed) (at : ℕ) → number_in instrs at < length instrs → (other : ℕ) → (number_in instrs other == number_in instrs at) ≡ (other == at)
+pub apart : (instrs : List Placed) (at : ℕ) → number_in instrs at < length instrs → (other : ℕ)
+    → (number_in instrs other == number_in instrs at) ≡ (other == at)
 apart instrs at within other = by (other == at) refl where
   by : (same : Bool) → (other == at) ≡ same → (number_in instrs other == number_in instrs at) ≡ same
   by true e = eq-eqb (number_in instrs other) (number_in instrs at) (ap (number_in instrs) (eqb-true other at e))
@@ -112,20 +124,27 @@ apart instrs at within other = by (other == at) refl where
 
 -- ---- frames by place, and points by number
 
-pub frame_found : (s : Scope) (instrs : List Placed) (frames : List Frame) (place : ℕ) (frame : Frame) → frame_among (map (point_of s) instrs) frames place ≡ Some frame → slice_get frames (number_in instrs place) ≡ Some frame
+pub frame_found : (s : Scope) (instrs : List Placed) (frames : List Frame) (place : ℕ) (frame : Frame)
+    → frame_among (map (point_of s) instrs) frames place ≡ Some frame → slice_get frames (number_in instrs place) ≡ Some frame
 frame_found s [] frames place frame is = absurd cc
 frame_found s (placed ∷ instrs) [] place frame is = absurd cc
-frame_found s (placed ∷ instrs) (own ∷ frames) place frame is = by (placed.at == place) refl is (frame_found s instrs frames place frame) where
-  by : (here : Bool) → (placed.at == place) ≡ here → (if here then Some own else frame_among (map (point_of s) instrs) frames place) ≡ Some frame
-      → (frame_among (map (point_of s) instrs) frames place ≡ Some frame → slice_get frames (number_in instrs place) ≡ Some frame) → slice_get (own ∷ frames) (number_in (placed ∷ instrs) place) ≡ Some frame
+frame_found s (placed ∷ instrs) (own ∷ frames) place frame is =
+    by (placed.at == place) refl is (frame_found s instrs frames place frame) where
+  by : (here : Bool) → (placed.at == place) ≡ here
+      → (if here then Some own else frame_among (map (point_of s) instrs) frames place) ≡ Some frame
+      → (frame_among (map (point_of s) instrs) frames place ≡ Some frame → slice_get frames (number_in instrs place) ≡ Some frame)
+          → slice_get (own ∷ frames) (number_in (placed ∷ instrs) place) ≡ Some frame
   by true e found below = ap (slice_get (own ∷ frames)) (number_if placed instrs place true e) ∙ found
   by false e found below = ap (slice_get (own ∷ frames)) (number_if placed instrs place false e) ∙ below found
 
 module _ (s : Scope) (class : ℕ) where
-  pub point_there : (instrs : List Placed) (frames : List Frame) (n : ℕ) (placed : Placed) (frame : Frame) → slice_get instrs n ≡ Some placed → slice_get frames n ≡ Some frame → slice_get (alone_points s class instrs frames) n ≡ Some (alone_point s class placed frame)
+  pub point_there : (instrs : List Placed) (frames : List Frame) (n : ℕ) (placed : Placed) (frame : Frame)
+      → slice_get instrs n ≡ Some placed → slice_get frames n ≡ Some frame
+      → slice_get (alone_points s class instrs frames) n ≡ Some (alone_point s class placed frame)
   point_there [] frames n placed frame is frame_is = absurd cc
   point_there (first ∷ instrs) [] n placed frame is frame_is = absurd cc
-  point_there (first ∷ instrs) (own ∷ frames) zero placed frame is frame_is = rw (same_Some first placed is, same_Some own frame frame_is) refl
+  point_there (first ∷ instrs) (own ∷ frames) zero placed frame is frame_is =
+      rw (same_Some first placed is, same_Some own frame frame_is) refl
   point_there (first ∷ instrs) (own ∷ frames) (suc n) placed frame is frame_is = point_there instrs frames n placed frame is frame_is
 
   pub record IsPointOf (instrs : List Placed) (frames : List Frame) (n : ℕ) (point : Point) : Type 0 where
@@ -135,7 +154,8 @@ module _ (s : Scope) (class : ℕ) where
     pub frame_is : slice_get frames n ≡ Some frame
     pub point_is : alone_point s class placed frame ≡ point
 
-  pub point_parts : (instrs : List Placed) (frames : List Frame) (n : ℕ) (point : Point) → slice_get (alone_points s class instrs frames) n ≡ Some point → IsPointOf instrs frames n point
+  pub point_parts : (instrs : List Placed) (frames : List Frame) (n : ℕ) (point : Point)
+      → slice_get (alone_points s class instrs frames) n ≡ Some point → IsPointOf instrs frames n point
   point_parts [] [] n point is = absurd cc
   point_parts [] (own ∷ frames) n point is = absurd cc
   point_parts (first ∷ instrs) [] n point is = absurd cc
@@ -151,7 +171,8 @@ module _ (s : Scope) (class : ℕ) where
       record { placed = later.placed; stands = later.stands; frame = later.frame; frame_is = later.frame_is; point_is = later.point_is }
 
   -- one for each instruction
-  pub points_counted : (instrs : List Placed) (frames : List Frame) → length frames ≡ length instrs → length (alone_points s class instrs frames) ≡ length instrs
+  pub points_counted : (instrs : List Placed) (frames : List Frame) → length frames ≡ length instrs
+      → length (alone_points s class instrs frames) ≡ length instrs
   points_counted [] [] same = refl
   points_counted [] (own ∷ frames) same = refl
   points_counted (first ∷ instrs) [] same = absurd (omega (arith, same))

@@ -14,7 +14,7 @@ use Rattle.class_model.specs.declared.frame.Frame.{Frame}
 use Rattle.class_model.specs.declared.frame.VType.{VType}
 use Rattle.class_model.specs.declared.frame.VType.TheVariants as types
 use Rattle.class_tree.specs.Headers.{Name, Headers}
-use Rattle.inline_expand.proofs.NumberedTypes.{units_same, verification_same}
+use Rattle.inline_expand.proofs.RenumberedTypes.{units_same, verification_same}
 use Rattle.inline_expand.specs.Alone.{numbered_type, numbered_frame}
 use Rattle.member_link.specs.Assignability.{to_same}
 use Rattle.member_link.specs.Rows.FrameAssignability.{AreAssignable, IsFrameAssignable}
@@ -22,7 +22,8 @@ use Rattle.member_link.specs.Scope.{Scope}
 use Rattle.type_rules.specs.Stated.{entry}
 
 module _ (number : ℕ → ℕ) where
-  all_units_same : (entries : List VType) → map (numbered_type number) (units_of_entries entries) ≡ units_of_entries (map (numbered_type number) entries)
+  all_units_same : (entries : List VType)
+      → map (numbered_type number) (units_of_entries entries) ≡ units_of_entries (map (numbered_type number) entries)
   all_units_same [] = refl
   all_units_same (type ∷ entries) =
       map-append (numbered_type number) (units type) (units_of_entries entries)
@@ -33,11 +34,14 @@ module _ (number : ℕ → ℕ) where
   tops_same zero = refl
   tops_same (suc count) = ap (λ (l : List VType). types.Top ∷ l) (tops_same count)
 
-  filled_same : (max : ℕ) (entries : List VType) → map (numbered_type number) entries ≡ entries → map (numbered_type number) (filled max entries) ≡ filled max entries
+  filled_same : (max : ℕ) (entries : List VType) → map (numbered_type number) entries ≡ entries
+      → map (numbered_type number) (filled max entries) ≡ filled max entries
   filled_same max entries same =
       map-append (numbered_type number) (units_of_entries entries) (replicate (max - length (units_of_entries entries)) types.Top)
-      ∙ ap (λ (l : List VType). map (numbered_type number) (units_of_entries entries) ++ l) (tops_same (max - length (units_of_entries entries)))
-      ∙ ap (λ (l : List VType). l ++ replicate (max - length (units_of_entries entries)) types.Top) (all_units_same entries ∙ ap units_of_entries same)
+      ∙ ap (λ (l : List VType). map (numbered_type number) (units_of_entries entries) ++ l)
+          (tops_same (max - length (units_of_entries entries)))
+      ∙ ap (λ (l : List VType). l ++ replicate (max - length (units_of_entries entries)) types.Top)
+          (all_units_same entries ∙ ap units_of_entries same)
 
   params_same : (params : List FieldType) → map (numbered_type number) (map verification_type params) ≡ map verification_type params
   params_same [] = refl
@@ -50,7 +54,8 @@ module _ (number : ℕ → ℕ) where
   abbrev this_of : Bool → Bool → Option Name → List VType
   this_of is_static is_init class = if is_static then [] else (if is_init then types.UninitThis ∷ [] else this_or_top class)
 
-  this_same : (is_static is_init : Bool) (class : Option Name) → map (numbered_type number) (this_of is_static is_init class) ≡ this_of is_static is_init class
+  this_same : (is_static is_init : Bool) (class : Option Name)
+      → map (numbered_type number) (this_of is_static is_init class) ≡ this_of is_static is_init class
   this_same true is_init class = refl
   this_same false true class = refl
   this_same false false (Some name) = refl
@@ -59,7 +64,8 @@ module _ (number : ℕ → ℕ) where
   pub entry_same : (s : Scope) → numbered_frame number (entry s) ≡ entry s
   entry_same s =
       let home = home_of s.class in
-      let this : List VType = this_of (has s.method.flags STATIC) (is_text init (Some (text_or_empty (utf8_at home.pool s.method.name)))) home.name in
+      let this : List VType =
+      this_of (has s.method.flags STATIC) (is_text init (Some (text_or_empty (utf8_at home.pool s.method.name)))) home.name in
       let params : List FieldType = parameters_of (text_or_empty (utf8_at home.pool s.method.desc)) in
       ap (λ (locals : List VType). record { locals = locals; stack = [] })
       (filled_same s.part.max_locals (this ++ map verification_type params)

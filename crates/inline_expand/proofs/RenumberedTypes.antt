@@ -71,40 +71,50 @@ module _ (number : ℕ → ℕ) where
 
   -- ---- assignability
 
-  pub assignable_kept : (headers : Headers) {from to : VType} → IsAssignable headers from to → IsAssignable headers (numbered_type number from) (numbered_type number to)
+  pub assignable_kept : (headers : Headers) {from to : VType} → IsAssignable headers from to
+      → IsAssignable headers (numbered_type number from) (numbered_type number to)
   assignable_kept headers (to_same type) = to_same (numbered_type number type)
   assignable_kept headers (to_top type) = to_top (numbered_type number type)
   assignable_kept headers (from_null name) = from_null name
   assignable_kept headers (of_names low high is) = of_names low high is
 
-  are_assignable_kept : (headers : Headers) (from to : List VType) → AreAssignable headers from to → AreAssignable headers (map (numbered_type number) from) (map (numbered_type number) to)
+  are_assignable_kept : (headers : Headers) (from to : List VType) → AreAssignable headers from to
+      → AreAssignable headers (map (numbered_type number) from) (map (numbered_type number) to)
   are_assignable_kept headers [] [] are = tt
   are_assignable_kept headers [] (high ∷ highs) are = absurd are
   are_assignable_kept headers (low ∷ lows) [] are = absurd are
-  are_assignable_kept headers (low ∷ lows) (high ∷ highs) are = (assignable_kept headers are.0, are_assignable_kept headers lows highs are.1)
+  are_assignable_kept headers (low ∷ lows) (high ∷ highs) are =
+      (assignable_kept headers are.0, are_assignable_kept headers lows highs are.1)
 
   any_this_same : (entries : List VType) → list_any is_uninit_this (map (numbered_type number) entries) ≡ list_any is_uninit_this entries
   any_this_same [] = refl
   any_this_same (entry ∷ entries) = rw (this_same entry, any_this_same entries) refl
 
-  pub frame_assignable_kept : (headers : Headers) (from to : Frame) → IsFrameAssignable headers from to → IsFrameAssignable headers (numbered_frame number from) (numbered_frame number to)
+  pub frame_assignable_kept : (headers : Headers) (from to : Frame) → IsFrameAssignable headers from to
+      → IsFrameAssignable headers (numbered_frame number from) (numbered_frame number to)
   frame_assignable_kept headers from to is = record {
     locals = are_assignable_kept headers from.locals to.locals is.locals;
     stack = are_assignable_kept headers from.stack to.stack is.stack;
-    keeps_this = λ has. subst (λ (b : Bool). IsTrue b) (sym (any_this_same to.locals)) (is.keeps_this (subst (λ (b : Bool). IsTrue b) (any_this_same from.locals) has));
+    keeps_this =
+        λ has. subst (λ (b : Bool). IsTrue b) (sym (any_this_same to.locals))
+        (is.keeps_this (subst (λ (b : Bool). IsTrue b) (any_this_same from.locals) has));
   }
 
   -- ---- the stack
 
-  pub topmost_same : (count : ℕ) (stack : List VType) → topmost count (map (numbered_type number) stack) ≡ map (numbered_type number) (topmost count stack)
+  pub topmost_same : (count : ℕ) (stack : List VType)
+      → topmost count (map (numbered_type number) stack) ≡ map (numbered_type number) (topmost count stack)
   topmost_same count stack = rw (length-map stack (numbered_type number)) (drop-map (numbered_type number) (length stack - count) stack)
 
-  pub under_same : (count : ℕ) (stack : List VType) → under count (map (numbered_type number) stack) ≡ map (numbered_type number) (under count stack)
+  pub under_same : (count : ℕ) (stack : List VType)
+      → under count (map (numbered_type number) stack) ≡ map (numbered_type number) (under count stack)
   under_same count stack = rw (length-map stack (numbered_type number)) (take-map (numbered_type number) (length stack - count) stack)
 
-  pub lowest_same : (count : ℕ) (stack : List VType) → lowest_of count (map (numbered_type number) stack) ≡ numbered_type number (lowest_of count stack)
+  pub lowest_same : (count : ℕ) (stack : List VType)
+      → lowest_of count (map (numbered_type number) stack) ≡ numbered_type number (lowest_of count stack)
   lowest_same count stack = by (topmost count stack) refl where
-    by : (entries : List VType) → topmost count stack ≡ entries → lowest_of count (map (numbered_type number) stack) ≡ numbered_type number (lowest_of count stack)
+    by : (entries : List VType) → topmost count stack ≡ entries
+        → lowest_of count (map (numbered_type number) stack) ≡ numbered_type number (lowest_of count stack)
     by [] are = rw (topmost_same count stack, are) refl
     by (entry ∷ entries) are = rw (topmost_same count stack, are) refl
 
@@ -115,7 +125,8 @@ module _ (number : ℕ → ℕ) where
   numbered_need (assignable_or_this wanted) = assignable_or_this (numbered_type number wanted)
   numbered_need need = need
 
-  fits_kept : (s : RowScope) (room : ℕ) (news : ℕ → Option Name) (need : Need) (type : VType) → Fits s need type → Fits (renumbered s room news) (numbered_need need) (numbered_type number type)
+  fits_kept : (s : RowScope) (room : ℕ) (news : ℕ → Option Name) (need : Need) (type : VType) → Fits s need type
+      → Fits (renumbered s room news) (numbered_need need) (numbered_type number type)
   fits_kept s room news (of_kind kind) type fits = kind_kept kind type fits
   fits_kept s room news initialised type fits = initialised_kept type fits
   fits_kept s room news uninitialised type fits = uninitialised_kept type fits
@@ -129,8 +140,10 @@ module _ (number : ℕ → ℕ) where
   fits_kept s room news double type fits = subst (λ (b : Bool). IsTrue b) (sym (wide_same type)) fits
   fits_kept s room news nothing type fits = fits
 
-  pub all_fit_kept : (s : RowScope) (room : ℕ) (news : ℕ → Option Name) (needs : List Need) (entries : List VType) → AllFit s needs entries → AllFit (renumbered s room news) (map numbered_need needs) (map (numbered_type number) entries)
+  pub all_fit_kept : (s : RowScope) (room : ℕ) (news : ℕ → Option Name) (needs : List Need) (entries : List VType) → AllFit s needs entries
+      → AllFit (renumbered s room news) (map numbered_need needs) (map (numbered_type number) entries)
   all_fit_kept s room news [] [] fit = tt
   all_fit_kept s room news [] (entry ∷ entries) fit = absurd fit
   all_fit_kept s room news (need ∷ needs) [] fit = absurd fit
-  all_fit_kept s room news (need ∷ needs) (entry ∷ entries) fit = (fits_kept s room news need entry fit.0, all_fit_kept s room news needs entries fit.1)
+  all_fit_kept s room news (need ∷ needs) (entry ∷ entries) fit =
+      (fits_kept s room news need entry fit.0, all_fit_kept s room news needs entries fit.1)

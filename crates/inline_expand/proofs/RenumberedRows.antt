@@ -6,7 +6,7 @@ use Rattle.std.proofs.lemmas.List.{length-map, map-append}
 use Rattle.class_model.specs.declared.frame.Frame.{Frame}
 use Rattle.class_model.specs.declared.frame.VType.{VType}
 use Rattle.class_tree.specs.Headers.{Name}
-use Rattle.inline_expand.proofs.NumberedTypes.{all_fit_kept, numbered_need, renumbered, topmost_same, under_same}
+use Rattle.inline_expand.proofs.RenumberedTypes.{all_fit_kept, numbered_need, renumbered, topmost_same, under_same}
 use Rattle.inline_expand.specs.Alone.{numbered_type, numbered_frame}
 use Rattle.member_link.specs.RowScope.{RowScope}
 use Rattle.member_link.specs.Rows.Operands.{AllFit, Need, topmost, under}
@@ -24,14 +24,16 @@ module _ (number : ℕ → ℕ) where
     pub gives : also.gives ≡ map (numbered_type number) row.gives
     pub further : row.further → also.further
     pub locals : also.locals ≡ map (numbered_type number) row.locals
-    pub becomes : (entries : List VType) → also.becomes (map (numbered_type number) entries) ≡ map (numbered_type number) (row.becomes entries)
+    pub becomes : (entries : List VType)
+        → also.becomes (map (numbered_type number) entries) ≡ map (numbered_type number) (row.becomes entries)
     pub goes_on : also.goes_on ≡ row.goes_on
     -- where control does not go on, nothing is pushed
     pub ends : (row.goes_on ≡ true) ⊎ Leaves row
 
   -- ---- forms of rows
 
-  pub plain_moves : (f : Frame) (takes needs : List Need) (gives given : List VType) → needs ≡ map (numbered_need number) takes → given ≡ map (numbered_type number) gives → Moves (plain f takes gives) (plain (numbered_frame number f) needs given)
+  pub plain_moves : (f : Frame) (takes needs : List Need) (gives given : List VType) → needs ≡ map (numbered_need number) takes
+      → given ≡ map (numbered_type number) gives → Moves (plain f takes gives) (plain (numbered_frame number f) needs given)
   plain_moves f takes needs gives given needs_are given_are = record {
     takes = needs_are;
     local = λ held. held;
@@ -46,7 +48,8 @@ module _ (number : ℕ → ℕ) where
   pub no_row_moves : (f : Frame) → Moves (no_row f) (no_row (numbered_frame number f))
   no_row_moves f = plain_moves f _ _ _ _ refl refl
 
-  pub conditional_moves : (f : Frame) (takes needs : List Need) (gives given : List VType) (Further Also Access Asked : Type 0) → needs ≡ map (numbered_need number) takes → given ≡ map (numbered_type number) gives → (Further → Also)
+  pub conditional_moves : (f : Frame) (takes needs : List Need) (gives given : List VType) (Further Also Access Asked : Type 0)
+      → needs ≡ map (numbered_need number) takes → given ≡ map (numbered_type number) gives → (Further → Also)
       → Moves (conditional f takes gives Further Access) (conditional (numbered_frame number f) needs given Also Asked)
   conditional_moves f takes needs gives given Further Also Access Asked needs_are given_are also = record {
     takes = needs_are;
@@ -59,7 +62,8 @@ module _ (number : ℕ → ℕ) where
     ends = inl refl;
   }
 
-  pub ending_moves : (f : Frame) (takes needs : List Need) (Further Also : Type 0) → needs ≡ map (numbered_need number) takes → (Further → Also) → Moves (ending f takes Further) (ending (numbered_frame number f) needs Also)
+  pub ending_moves : (f : Frame) (takes needs : List Need) (Further Also : Type 0) → needs ≡ map (numbered_need number) takes
+      → (Further → Also) → Moves (ending f takes Further) (ending (numbered_frame number f) needs Also)
   ending_moves f takes needs Further Also needs_are also = record {
     takes = needs_are;
     local = λ held. held;
@@ -71,7 +75,8 @@ module _ (number : ℕ → ℕ) where
     ends = inr (record { none_given = refl; as_before = λ entries. refl });
   }
 
-  pub either_moves : (test : Bool) (row also other other_also : Row) → Moves row also → Moves other other_also → Moves (either test row other) (either test also other_also)
+  pub either_moves : (test : Bool) (row also other other_also : Row) → Moves row also → Moves other other_also
+      → Moves (either test row other) (either test also other_also)
   either_moves true row also other other_also one two = one
   either_moves false row also other other_also one two = two
 
@@ -81,23 +86,34 @@ module _ (number : ℕ → ℕ) where
     as_many : length also.takes ≡ length row.takes
     as_many = ap (λ (needs : List Need). length needs) moves.takes ∙ length-map row.takes (numbered_need number)
 
-    pub operands_fit : (s : RowScope) (room : ℕ) (news : ℕ → Option Name) → AllFit s row.takes (topmost (length row.takes) f.stack) → AllFit (renumbered s room news) also.takes (topmost (length also.takes) (map (numbered_type number) f.stack))
+    pub operands_fit : (s : RowScope) (room : ℕ) (news : ℕ → Option Name) → AllFit s row.takes (topmost (length row.takes) f.stack)
+        → AllFit (renumbered s room news) also.takes (topmost (length also.takes) (map (numbered_type number) f.stack))
     operands_fit s room news fit =
-        let same : map (numbered_type number) (topmost (length row.takes) f.stack) ≡ topmost (length also.takes) (map (numbered_type number) f.stack) =
-        sym (topmost_same number (length row.takes) f.stack) ∙ ap (λ (n : ℕ). topmost n (map (numbered_type number) f.stack)) (sym as_many) in
+        let same : map (numbered_type number) (topmost (length row.takes) f.stack) ≡ topmost (length also.takes)
+            (map (numbered_type number) f.stack) =
+        sym (topmost_same number (length row.takes) f.stack)
+            ∙ ap (λ (n : ℕ). topmost n (map (numbered_type number) f.stack)) (sym as_many) in
         subst (λ (entries : List VType). AllFit (renumbered s room news) also.takes entries) same
-        (subst (λ (needs : List Need). AllFit (renumbered s room news) needs (map (numbered_type number) (topmost (length row.takes) f.stack))) (sym moves.takes) (all_fit_kept number s room news row.takes _ fit))
+        (subst (λ (needs : List Need). AllFit (renumbered s room news) needs
+            (map (numbered_type number) (topmost (length row.takes) f.stack))) (sym moves.takes)
+            (all_fit_kept number s room news row.takes _ fit))
 
     pub stack_moves : stack_behind (numbered_frame number f) also ≡ map (numbered_type number) (stack_behind f row)
     stack_moves =
-        let left : also.becomes (under (length also.takes) (map (numbered_type number) f.stack)) ≡ map (numbered_type number) (row.becomes (under (length row.takes) f.stack)) =
-        ap (λ (n : ℕ). also.becomes (under n (map (numbered_type number) f.stack))) as_many ∙ ap also.becomes (under_same number (length row.takes) f.stack) ∙ moves.becomes (under (length row.takes) f.stack) in
-        ap (λ (entries : List VType). entries ++ also.gives) left ∙ ap (λ (entries : List VType). map (numbered_type number) (stack_left f row) ++ entries) moves.gives ∙ sym (map-append (numbered_type number) (stack_left f row) row.gives)
+        let left : also.becomes (under (length also.takes) (map (numbered_type number) f.stack)) ≡ map (numbered_type number)
+            (row.becomes (under (length row.takes) f.stack)) =
+        ap (λ (n : ℕ). also.becomes (under n (map (numbered_type number) f.stack))) as_many
+            ∙ ap also.becomes (under_same number (length row.takes) f.stack) ∙ moves.becomes (under (length row.takes) f.stack) in
+        ap (λ (entries : List VType). entries ++ also.gives) left
+            ∙ ap (λ (entries : List VType). map (numbered_type number) (stack_left f row) ++ entries) moves.gives
+            ∙ sym (map-append (numbered_type number) (stack_left f row) row.gives)
 
     abbrev framed : Bool → List VType → List VType → Option Frame
     framed on locals stack = if on then Some (record { locals = locals; stack = stack }) else None
 
-    framed_same : (on : Bool) (locals stack : List VType) → framed on (map (numbered_type number) locals) (map (numbered_type number) stack) ≡ option_map (numbered_frame number) (framed on locals stack)
+    framed_same : (on : Bool) (locals stack : List VType)
+        → framed on (map (numbered_type number) locals) (map (numbered_type number) stack) ≡ option_map (numbered_frame number)
+        (framed on locals stack)
     framed_same true locals stack = refl
     framed_same false locals stack = refl
 

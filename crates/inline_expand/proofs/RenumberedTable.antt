@@ -12,11 +12,13 @@ use Rattle.class_model.specs.declared.instr.Instr.{Instr}
 use Rattle.class_model.specs.declared.instr.Instr.TheVariants.{Nop, Const, Ldc, Ldc2, Load, Store, Iinc, ArrayLoad, ArrayStore, Shuffle, Pure, Divide, FloatAsk, If, If2, IfSame, IfNull, Goto, Table, Lookup, Return, GetStatic, PutStatic, GetField, PutField, Invoke, Dynamic, New, NewArray, NewRefArray, NewMulti, Length, Throw, Cast, InstanceOf, Enter, Leave}
 use Rattle.class_model.specs.declared.opcodes.TheConstants.{IFEQ, IFLE, IF_ICMPEQ, IF_ICMPLE, IF_ACMPEQ, IF_ACMPNE, IFNULL, IFNONNULL}
 use Rattle.class_tree.specs.Headers.{Name}
-use Rattle.inline_expand.proofs.NumberedArithmetic.{array_load_moves, array_store_moves, length_moves, made_moves, operation_moves, shuffle_moves}
-use Rattle.inline_expand.proofs.NumberedLocals.{const_moves, iinc_moves, imm_moves, load_moves, store_moves}
-use Rattle.inline_expand.proofs.NumberedMembers.{KeepsNews, call_moves, dynamic_moves, get_field_moves, get_static_moves, put_field_moves, put_static_moves, return_moves}
-use Rattle.inline_expand.proofs.NumberedRows.{Moves, either_moves, ending_moves, no_row_moves, plain_moves}
-use Rattle.inline_expand.proofs.NumberedTypes.{numbered_need, renumbered}
+use Rattle.inline_expand.proofs.RenumberedArithmetic.{operation_moves}
+use Rattle.inline_expand.proofs.RenumberedArrays.{array_load_moves, array_store_moves, length_moves, made_moves}
+use Rattle.inline_expand.proofs.RenumberedLocals.{const_moves, iinc_moves, imm_moves, load_moves, store_moves}
+use Rattle.inline_expand.proofs.RenumberedMembers.{KeepsNews, call_moves, dynamic_moves, get_field_moves, get_static_moves, put_field_moves, put_static_moves, return_moves}
+use Rattle.inline_expand.proofs.RenumberedRows.{Moves, either_moves, ending_moves, no_row_moves, plain_moves}
+use Rattle.inline_expand.proofs.RenumberedShuffles.{shuffle_moves}
+use Rattle.inline_expand.proofs.RenumberedTypes.{numbered_need, renumbered}
 use Rattle.inline_expand.specs.Alone.{numbered_type, numbered_frame}
 use Rattle.member_link.specs.RowScope.{RowScope}
 use Rattle.member_link.specs.Rows.ArithmeticRows.{pure_operations, divide_operations, float_operations, operation_in}
@@ -31,17 +33,22 @@ module _ (number : ℕ → ℕ) where
 
   module _ (at : ℕ) (apart : (other : ℕ) → (number other == number at) ≡ (other == at)) where
     older_same : (type : VType) → without_older (number at) (numbered_type number type) ≡ numbered_type number (without_older at type)
-    older_same (types.Uninit other) = ap (λ (same : Bool). if same then types.Top else types.Uninit (number other)) (apart other) ∙ chosen (other == at) where
-      chosen : (same : Bool) → (if same then types.Top else types.Uninit (number other)) ≡ numbered_type number (if same then types.Top else types.Uninit other)
+    older_same (types.Uninit other) =
+        ap (λ (same : Bool). if same then types.Top else types.Uninit (number other)) (apart other) ∙ chosen (other == at) where
+      chosen : (same : Bool)
+          → (if same then types.Top else types.Uninit (number other)) ≡ numbered_type number
+          (if same then types.Top else types.Uninit other)
       chosen true = refl
       chosen false = refl
     older_same type = refl
 
-    all_older_same : (locals : List VType) → map (without_older (number at)) (map (numbered_type number) locals) ≡ map (numbered_type number) (map (without_older at) locals)
+    all_older_same : (locals : List VType)
+        → map (without_older (number at)) (map (numbered_type number) locals) ≡ map (numbered_type number) (map (without_older at) locals)
     all_older_same [] = refl
     all_older_same (type ∷ locals) = rw (older_same type, all_older_same locals) refl
 
-    none_kept : (entries : List VType) → AllByRecursion (λ type. type ≢ types.Uninit at) entries → AllByRecursion (λ type. type ≢ types.Uninit (number at)) (map (numbered_type number) entries)
+    none_kept : (entries : List VType) → AllByRecursion (λ type. type ≢ types.Uninit at) entries
+        → AllByRecursion (λ type. type ≢ types.Uninit (number at)) (map (numbered_type number) entries)
     none_kept [] none = tt
     none_kept (entry ∷ entries) none = (other_kept entry none.0, none_kept entries none.1) where
       other_kept : (type : VType) → type ≢ types.Uninit at → numbered_type number type ≢ types.Uninit (number at)
@@ -69,14 +76,17 @@ module _ (number : ℕ → ℕ) where
   throw_moves : (f : Frame) → Moves number (throw_row f) (throw_row (numbered_frame number f))
   throw_moves f = ending_moves number f _ _ _ _ refl (λ held. held)
 
-  jump_moves : (f : Frame) (is_known : Bool) (takes : List Need) → takes ≡ map (numbered_need number) takes → Moves number (jump_row f is_known takes) (jump_row (numbered_frame number f) is_known takes)
+  jump_moves : (f : Frame) (is_known : Bool) (takes : List Need) → takes ≡ map (numbered_need number) takes
+      → Moves number (jump_row f is_known takes) (jump_row (numbered_frame number f) is_known takes)
   jump_moves f is_known takes same = either_moves number is_known _ _ _ _ (plain_moves number f _ _ _ _ same refl) (no_row_moves number f)
 
   -- ---- the table
 
   module _ (s : RowScope) (room : ℕ) (news : ℕ → Option Name) (keeps : KeepsNews number s room news) where
-    pub row_moves : (f : Frame) (at : ℕ) → ((other : ℕ) → (number other == number at) ≡ (other == at)) → (instr : Instr) → (row_of s f at instr).further
-        → Moves number (row_of s f at instr) (row_of (renumbered s room news) (numbered_frame number f) (number at) (with_targets number instr))
+    pub row_moves : (f : Frame) (at : ℕ) → ((other : ℕ) → (number other == number at) ≡ (other == at)) → (instr : Instr)
+        → (row_of s f at instr).further
+        → Moves number (row_of s f at instr)
+            (row_of (renumbered s room news) (numbered_frame number f) (number at) (with_targets number instr))
     row_moves f at apart Nop held = plain_moves number f _ _ _ _ refl refl
     row_moves f at apart (Const imm) held = imm_moves number f imm
     row_moves f at apart (Ldc index) held = const_moves number f (constant_at s.pool index)
@@ -102,7 +112,8 @@ module _ (number : ℕ → ℕ) where
     row_moves f at apart (PutStatic index) held = put_static_moves number f (reference_of s.pool (constant_at s.pool index))
     row_moves f at apart (GetField index) held = get_field_moves number s room news f (reference_of s.pool (constant_at s.pool index))
     row_moves f at apart (PutField index) held = put_field_moves number s room news f (reference_of s.pool (constant_at s.pool index))
-    row_moves f at apart (Invoke opcode index count) held = call_moves number s room news keeps f opcode (reference_of s.pool (constant_at s.pool index)) held
+    row_moves f at apart (Invoke opcode index count) held =
+        call_moves number s room news keeps f opcode (reference_of s.pool (constant_at s.pool index)) held
     row_moves f at apart (Dynamic index) held = dynamic_moves number s room news f (constant_at s.pool index)
     row_moves f at apart (New index) held = new_moves at apart f
     row_moves f at apart (NewArray code) held = made_moves number f 1 (primitive_array code)

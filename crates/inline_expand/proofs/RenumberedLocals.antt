@@ -13,8 +13,8 @@ use Rattle.class_model.specs.declared.instr.Imm.{Imm}
 use Rattle.class_model.specs.declared.instr.Imm.TheVariants as imms
 use Rattle.class_model.specs.declared.pool.Const.{Const}
 use Rattle.class_model.specs.declared.pool.Const.TheVariants as consts
-use Rattle.inline_expand.proofs.NumberedRows.{Moves, no_row_moves, plain_moves}
-use Rattle.inline_expand.proofs.NumberedTypes.{kind_kept, lowest_same, units_same, wide_same}
+use Rattle.inline_expand.proofs.RenumberedRows.{Moves, no_row_moves, plain_moves}
+use Rattle.inline_expand.proofs.RenumberedTypes.{kind_kept, lowest_same, units_same, wide_same}
 use Rattle.inline_expand.specs.Alone.{numbered_type, numbered_frame}
 use Rattle.member_link.specs.Rows.LocalRows.{HasRoom, HoldsKind, const_row, cut_before, iinc_row, imm_row, load_row, local_entry, null_test_row, store_row, stored, type_of_imm, with_units}
 use Rattle.member_link.specs.Rows.Operands.{lowest_of}
@@ -32,7 +32,8 @@ module _ (number : ℕ → ℕ) where
   pub imm_moves : (f : Frame) (imm : Imm) → Moves number (imm_row f imm) (imm_row (numbered_frame number f) imm)
   imm_moves f imm = plain_moves number f _ _ _ _ refl (ap (λ (type : VType). type ∷ []) (imm_same imm))
 
-  pub const_moves : (f : Frame) (constant : Option Const) → Moves number (const_row f constant) (const_row (numbered_frame number f) constant)
+  pub const_moves : (f : Frame) (constant : Option Const)
+      → Moves number (const_row f constant) (const_row (numbered_frame number f) constant)
   const_moves f None = no_row_moves number f
   const_moves f (Some (consts.Integer n)) = plain_moves number f _ _ _ _ refl refl
   const_moves f (Some (consts.Float bits)) = plain_moves number f _ _ _ _ refl refl
@@ -46,16 +47,19 @@ module _ (number : ℕ → ℕ) where
 
   -- ---- locals
 
-  holds_kept : (kind : Kind) (locals : List VType) (at : ℕ) → HoldsKind kind locals at → HoldsKind kind (map (numbered_type number) locals) at
+  holds_kept : (kind : Kind) (locals : List VType) (at : ℕ) → HoldsKind kind locals at
+      → HoldsKind kind (map (numbered_type number) locals) at
   holds_kept kind locals at (type, is, of) = (
     numbered_type number type,
     slice_get-map (numbered_type number) locals at ∙ ap (option_map (numbered_type number)) is,
     kind_kept number kind type of,
   )
 
-  entry_same : (locals : List VType) (at : ℕ) → local_entry (map (numbered_type number) locals) at ≡ map (numbered_type number) (local_entry locals at)
+  entry_same : (locals : List VType) (at : ℕ)
+      → local_entry (map (numbered_type number) locals) at ≡ map (numbered_type number) (local_entry locals at)
   entry_same locals at = by (slice_get locals at) refl where
-    by : (found : Option VType) → slice_get locals at ≡ found → local_entry (map (numbered_type number) locals) at ≡ map (numbered_type number) (local_entry locals at)
+    by : (found : Option VType) → slice_get locals at ≡ found
+        → local_entry (map (numbered_type number) locals) at ≡ map (numbered_type number) (local_entry locals at)
     by None is = rw (slice_get-map (numbered_type number) locals at, is) refl
     by (Some type) is = rw (slice_get-map (numbered_type number) locals at, is) refl
 
@@ -71,26 +75,35 @@ module _ (number : ℕ → ℕ) where
     ends = inl refl;
   }
 
-  set_same : (locals : List VType) (at : ℕ) (type : VType) → slice_set (map (numbered_type number) locals) at (numbered_type number type) ≡ map (numbered_type number) (slice_set locals at type)
+  set_same : (locals : List VType) (at : ℕ) (type : VType)
+      → slice_set (map (numbered_type number) locals) at (numbered_type number type) ≡ map (numbered_type number) (slice_set locals at type)
   set_same locals at type = sym (map-set (numbered_type number) locals at type)
 
-  with_units_same : (at : ℕ) (unit_types locals : List VType) → with_units at (map (numbered_type number) unit_types) (map (numbered_type number) locals) ≡ map (numbered_type number) (with_units at unit_types locals)
+  with_units_same : (at : ℕ) (unit_types locals : List VType)
+      → with_units at (map (numbered_type number) unit_types) (map (numbered_type number) locals) ≡ map (numbered_type number)
+      (with_units at unit_types locals)
   with_units_same at [] locals = refl
   with_units_same at (type ∷ rest) locals =
-      ap (with_units (at + 1) (map (numbered_type number) rest)) (set_same locals at type) ∙ with_units_same (at + 1) rest (slice_set locals at type)
+      ap (with_units (at + 1) (map (numbered_type number) rest)) (set_same locals at type)
+          ∙ with_units_same (at + 1) rest (slice_set locals at type)
 
-  cut_same : (at : ℕ) (locals : List VType) → cut_before at (map (numbered_type number) locals) ≡ map (numbered_type number) (cut_before at locals)
+  cut_same : (at : ℕ) (locals : List VType)
+      → cut_before at (map (numbered_type number) locals) ≡ map (numbered_type number) (cut_before at locals)
   cut_same zero locals = refl
   cut_same (suc at) locals = by (slice_get locals at) refl where
-    chosen : (wide : Bool) → (if wide then slice_set (map (numbered_type number) locals) at types.Top else map (numbered_type number) locals) ≡ map (numbered_type number) (if wide then slice_set locals at types.Top else locals)
+    chosen : (wide : Bool)
+        → (if wide then slice_set (map (numbered_type number) locals) at types.Top else map (numbered_type number) locals) ≡ map
+        (numbered_type number) (if wide then slice_set locals at types.Top else locals)
     chosen true = set_same locals at types.Top
     chosen false = refl
 
-    by : (found : Option VType) → slice_get locals at ≡ found → cut_before (suc at) (map (numbered_type number) locals) ≡ map (numbered_type number) (cut_before (suc at) locals)
+    by : (found : Option VType) → slice_get locals at ≡ found
+        → cut_before (suc at) (map (numbered_type number) locals) ≡ map (numbered_type number) (cut_before (suc at) locals)
     by None is = rw (slice_get-map (numbered_type number) locals at, is) refl
     by (Some type) is = rw (slice_get-map (numbered_type number) locals at, is, wide_same number type) (chosen (is_wide type))
 
-  stored_same : (at : ℕ) (type : VType) (locals : List VType) → stored at (numbered_type number type) (map (numbered_type number) locals) ≡ map (numbered_type number) (stored at type locals)
+  stored_same : (at : ℕ) (type : VType) (locals : List VType)
+      → stored at (numbered_type number type) (map (numbered_type number) locals) ≡ map (numbered_type number) (stored at type locals)
   stored_same at type locals =
       ap (λ (written : List VType). with_units at written (cut_before at (map (numbered_type number) locals))) (units_same number type)
       ∙ ap (with_units at (map (numbered_type number) (units type))) (cut_same at locals)
@@ -107,7 +120,9 @@ module _ (number : ℕ → ℕ) where
     local = room_kept kind f.locals at;
     gives = refl;
     further = λ held. held;
-    locals = ap (λ (type : VType). stored at type (map (numbered_type number) f.locals)) (lowest_same number 1 f.stack) ∙ stored_same at (lowest_of 1 f.stack) f.locals;
+    locals =
+        ap (λ (type : VType). stored at type (map (numbered_type number) f.locals)) (lowest_same number 1 f.stack)
+        ∙ stored_same at (lowest_of 1 f.stack) f.locals;
     becomes = λ entries. refl;
     goes_on = refl;
     ends = inl refl;
