@@ -1,11 +1,10 @@
 -- The places of the body of flat code are the numbers of its points.
-use Rattle.std.proofs.Common.{◌≡◌, ◌≤◌, ◌<◌, ◌+◌, ℕ, zero, suc, Bool, true, false, List, [], ◌∷◌, length, map, slice_get, Option, Some, None, option_map, if◌then◌else◌, refl, sym, ap, subst, ◌∙◌, arith, eq-eqb}
+use Rattle.std.proofs.Common.{◌≡◌, ◌+◌, ℕ, zero, suc, Bool, true, false, List, [], ◌∷◌, length, map, slice_get, Some, option_map, if◌then◌else◌, refl, ap, subst, ◌∙◌, arith, eq-eqb}
 use Rattle.std.specs.Prelude.{◌==◌}
 use Rattle.std.specs.List.{AllByRecursion}
 use Rattle.std.proofs.lemmas.Bool.{ne_eqb}
-use Rattle.class_model.specs.declared.frame.Frame.{Frame}
 use Rattle.class_tree.specs.Headers.{Classes}
-use Rattle.flow_code.specs.FlatCode.{FlatCode, point_at}
+use Rattle.flow_code.specs.FlatCode.{FlatCode}
 use Rattle.flow_code.specs.declared.point.Point.{Point}
 use Rattle.member_link.specs.Bodies.{BodyPoint}
 use Rattle.member_link.specs.BodyTyping.{AreInOrder, BeginAt, frame_among, frame_at}
@@ -21,22 +20,22 @@ module _ (classes : Classes) (s : Scope) (flat : FlatCode) where
   typed_among (point ∷ points) from zero =
       let here : (from == from + 0) ≡ true = eq-eqb from (from + 0) (omega arith) in
       ap (λ (b : Bool). if b then Some point.typed else frame_among (map_numbered (body_point classes s flat) (suc from) points)
-          (map (λ (p : Point). p.typed) points) (from + 0)) here
+      (map (λ (p : Point). p.typed) points) (from + 0)) here
   typed_among (point ∷ points) from (suc n) =
       let apart : (from == from + suc n) ≡ false = ne_eqb from (from + suc n) (λ e. omega (arith, e)) in
       let later : suc from + n ≡ from + suc n = omega arith in
       ap (λ (b : Bool). if b then Some point.typed else frame_among (map_numbered (body_point classes s flat) (suc from) points)
-          (map (λ (p : Point). p.typed) points) (from + suc n)) apart
+      (map (λ (p : Point). p.typed) points) (from + suc n)) apart
       ∙ subst (λ (place : ℕ). frame_among (map_numbered (body_point classes s flat) (suc from) points)
-          (map (λ (p : Point). p.typed) points) place ≡ option_map (λ (p : Point). p.typed) (slice_get points n)) later
-          (typed_among points (suc from) n)
+      (map (λ (p : Point). p.typed) points) place ≡ option_map (λ (p : Point). p.typed) (slice_get points n)) later
+      (typed_among points (suc from) n)
 
   -- the typed frame of a point stands at its number, and each is stated
   pub frame_is_stated : (n : ℕ) → frame_at (body_of_flat classes s flat) (typed_points flat) n ≡ (body_of_flat classes s flat).stated n
   frame_is_stated n =
       let same : 0 + n ≡ n = omega arith in
       subst (λ (place : ℕ). frame_at (body_of_flat classes s flat) (typed_points flat) place ≡ (body_of_flat classes s flat).stated n) same
-          (typed_among flat.points zero n)
+      (typed_among flat.points zero n)
 
   begin_there : (points : List Point) (from : ℕ) → BeginAt (from + 1) (map_numbered (body_point classes s flat) (suc from) points)
   begin_there [] from = tt

@@ -1,23 +1,14 @@
 -- Arithmetic, behind frames whose uninitialised objects have other numbers.
-use Rattle.std.proofs.Common.{◌≡◌, ◌-◌, ℕ, zero, suc, Bool, true, false, List, [], ◌∷◌, ◌++◌, length, map, replicate, slice_get, Option, Some, None, option_map, if◌then◌else◌, refl, sym, ap, subst, ◌∙◌}
-use Rattle.std.specs.Prelude.{◌==◌, ◌&&◌, nat_lt, codes}
-use Rattle.std.proofs.lemmas.List.{map-append}
-use Rattle.std.proofs.lemmas.Option.{slice_get-map}
-use Rattle.class_model.specs.PoolChecks.{class_at}
+use Rattle.std.proofs.Common.{◌≡◌, ℕ, List, [], ◌∷◌, map, Option, Some, None, refl, ap}
 use Rattle.class_model.specs.declared.descriptor.Kind.{Kind}
 use Rattle.class_model.specs.declared.descriptor.Kind.TheVariants as kinds
 use Rattle.class_model.specs.declared.frame.Frame.{Frame}
 use Rattle.class_model.specs.declared.frame.VType.{VType}
-use Rattle.class_model.specs.declared.frame.VType.TheVariants as types
-use Rattle.class_model.specs.declared.opcodes.TheConstants.{AALOAD, IALOAD, AASTORE, IASTORE}
-use Rattle.class_tree.specs.Headers.{Name}
-use Rattle.inline_expand.proofs.RenumberedRows.{Moves, either_moves, no_row_moves, plain_moves}
-use Rattle.inline_expand.proofs.RenumberedTypes.{lowest_same, numbered_need, single_same, topmost_same, wide_same}
+use Rattle.inline_expand.proofs.RenumberedRows.{Moves, no_row_moves, plain_moves}
+use Rattle.inline_expand.proofs.RenumberedTypes.{numbered_need}
 use Rattle.inline_expand.specs.Alone.{numbered_type, numbered_frame}
 use Rattle.member_link.specs.Rows.ArithmeticRows.{Operation, operation_row, type_of_kind}
-use Rattle.member_link.specs.Rows.ArrayRows.{Elements, array_load_row, array_store_row, component_type, elements_from, elements_load_row, elements_of, elements_store_row, length_row, made_row, need_of_value}
-use Rattle.member_link.specs.Rows.Operands.{Need, array_among, of_kind, lowest_of, topmost}
-use Rattle.member_link.specs.Rows.ShuffleRows.{Form, Width, one, two, form_in, form_row, forms_of, has_width, have_widths, need_of, picked, shuffle_row}
+use Rattle.member_link.specs.Rows.Operands.{Need, of_kind}
 
 module _ (number : ℕ → ℕ) where
   kinds_same : (kinds : List Kind) → map of_kind kinds ≡ map (numbered_need number) (map of_kind kinds)

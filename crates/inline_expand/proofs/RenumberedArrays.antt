@@ -1,10 +1,6 @@
 -- Instructions on arrays, behind frames whose uninitialised objects have other numbers.
-use Rattle.std.proofs.Common.{◌≡◌, ◌-◌, ℕ, zero, suc, Bool, true, false, List, [], ◌∷◌, ◌++◌, length, map, replicate, slice_get, Option, Some, None, option_map, if◌then◌else◌, refl, sym, ap, subst, ◌∙◌}
-use Rattle.std.specs.Prelude.{◌==◌, ◌&&◌, nat_lt, codes}
-use Rattle.std.proofs.lemmas.List.{map-append}
-use Rattle.std.proofs.lemmas.Option.{slice_get-map}
-use Rattle.class_model.specs.PoolChecks.{class_at}
-use Rattle.class_model.specs.declared.descriptor.Kind.{Kind}
+use Rattle.std.proofs.Common.{◌≡◌, ◌-◌, ℕ, zero, suc, Bool, true, false, List, [], ◌∷◌, map, replicate, Option, Some, None, if◌then◌else◌, refl, ap, ◌∙◌}
+use Rattle.std.specs.Prelude.{◌==◌, nat_lt}
 use Rattle.class_model.specs.declared.descriptor.Kind.TheVariants as kinds
 use Rattle.class_model.specs.declared.frame.Frame.{Frame}
 use Rattle.class_model.specs.declared.frame.VType.{VType}
@@ -12,12 +8,10 @@ use Rattle.class_model.specs.declared.frame.VType.TheVariants as types
 use Rattle.class_model.specs.declared.opcodes.TheConstants.{AALOAD, IALOAD, AASTORE, IASTORE}
 use Rattle.class_tree.specs.Headers.{Name}
 use Rattle.inline_expand.proofs.RenumberedRows.{Moves, either_moves, no_row_moves, plain_moves}
-use Rattle.inline_expand.proofs.RenumberedTypes.{lowest_same, numbered_need, single_same, topmost_same, wide_same}
+use Rattle.inline_expand.proofs.RenumberedTypes.{lowest_same, numbered_need}
 use Rattle.inline_expand.specs.Alone.{numbered_type, numbered_frame}
-use Rattle.member_link.specs.Rows.ArithmeticRows.{Operation, operation_row, type_of_kind}
 use Rattle.member_link.specs.Rows.ArrayRows.{Elements, array_load_row, array_store_row, component_type, elements_from, elements_load_row, elements_of, elements_store_row, length_row, made_row, need_of_value}
-use Rattle.member_link.specs.Rows.Operands.{Need, array_among, of_kind, lowest_of, topmost}
-use Rattle.member_link.specs.Rows.ShuffleRows.{Form, Width, one, two, form_in, form_row, forms_of, has_width, have_widths, need_of, picked, shuffle_row}
+use Rattle.member_link.specs.Rows.Operands.{Need, array_among, of_kind, lowest_of}
 
 module _ (number : ℕ → ℕ) where
   abbrev IsPlain : Option Elements → Type 0
@@ -48,8 +42,8 @@ module _ (number : ℕ → ℕ) where
   pub array_load_moves : (f : Frame) (opcode : ℕ) → Moves number (array_load_row f opcode) (array_load_row (numbered_frame number f) opcode)
   array_load_moves f opcode = either_moves number (opcode == AALOAD) _ _ _ _
       (plain_moves number f _ _ _ _ refl
-          (ap (λ (type : VType). component_type type ∷ []) (lowest_same number 2 f.stack)
-          ∙ ap (λ (type : VType). type ∷ []) (component_same (lowest_of 2 f.stack))))
+      (ap (λ (type : VType). component_type type ∷ []) (lowest_same number 2 f.stack)
+      ∙ ap (λ (type : VType). type ∷ []) (component_same (lowest_of 2 f.stack))))
       (elements_load_moves f (elements_from IALOAD opcode) (from_plain IALOAD opcode))
 
   value_need_same : (type : VType) → need_of_value type ≡ numbered_need number (need_of_value type)

@@ -1,7 +1,6 @@
 -- The frame that a code begins with has no uninitialised objects but this, and a frame is assignable to itself.
-use Rattle.std.proofs.Common.{◌≡◌, ◌-◌, ℕ, zero, suc, Bool, true, false, List, [], ◌∷◌, ◌++◌, length, map, replicate, Option, Some, None, if◌then◌else◌, refl, sym, ap, subst, ◌∙◌}
+use Rattle.std.proofs.Common.{◌≡◌, ◌-◌, ℕ, zero, suc, Bool, true, false, List, [], ◌∷◌, ◌++◌, length, map, replicate, Option, Some, None, if◌then◌else◌, refl, sym, ap, ◌∙◌}
 use Rattle.std.proofs.lemmas.List.{map-append}
-use Rattle.std.specs.List.{flat_map}
 use Rattle.class_model.specs.Code.{verification_type}
 use Rattle.class_model.specs.Descriptors.{parameters_of}
 use Rattle.class_model.specs.Frames.{filled, units, units_of_entries}
@@ -39,9 +38,9 @@ module _ (number : ℕ → ℕ) where
   filled_same max entries same =
       map-append (numbered_type number) (units_of_entries entries) (replicate (max - length (units_of_entries entries)) types.Top)
       ∙ ap (λ (l : List VType). map (numbered_type number) (units_of_entries entries) ++ l)
-          (tops_same (max - length (units_of_entries entries)))
+      (tops_same (max - length (units_of_entries entries)))
       ∙ ap (λ (l : List VType). l ++ replicate (max - length (units_of_entries entries)) types.Top)
-          (all_units_same entries ∙ ap units_of_entries same)
+      (all_units_same entries ∙ ap units_of_entries same)
 
   params_same : (params : List FieldType) → map (numbered_type number) (map verification_type params) ≡ map verification_type params
   params_same [] = refl

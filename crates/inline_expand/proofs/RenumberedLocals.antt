@@ -1,5 +1,5 @@
 -- Constants, and instructions on locals, behind frames whose uninitialised objects have other numbers.
-use Rattle.std.proofs.Common.{◌≡◌, inl, ◌+◌, ◌≤◌, ℕ, zero, suc, Bool, true, false, List, [], ◌∷◌, length, map, slice_get, Option, Some, None, option_map, if◌then◌else◌, refl, sym, ap, subst, ◌∙◌}
+use Rattle.std.proofs.Common.{◌≡◌, inl, ◌+◌, ℕ, zero, suc, Bool, true, false, List, [], ◌∷◌, map, slice_get, Option, Some, None, option_map, if◌then◌else◌, refl, sym, ap, ◌∙◌}
 use Rattle.std.specs.Prelude.{slice_set}
 use Rattle.std.proofs.lemmas.List.{length-map, map-set}
 use Rattle.std.proofs.lemmas.Option.{slice_get-map}
@@ -85,7 +85,7 @@ module _ (number : ℕ → ℕ) where
   with_units_same at [] locals = refl
   with_units_same at (type ∷ rest) locals =
       ap (with_units (at + 1) (map (numbered_type number) rest)) (set_same locals at type)
-          ∙ with_units_same (at + 1) rest (slice_set locals at type)
+      ∙ with_units_same (at + 1) rest (slice_set locals at type)
 
   cut_same : (at : ℕ) (locals : List VType)
       → cut_before at (map (numbered_type number) locals) ≡ map (numbered_type number) (cut_before at locals)

@@ -1,15 +1,12 @@
 -- Fields, calls and returns, behind frames whose uninitialised objects have other numbers.
-use Rattle.std.proofs.Common.{◌≡◌, ◌≢◌, ◌+◌, ℕ, zero, suc, Bool, true, false, List, [], ◌∷◌, ◌++◌, length, map, Option, Some, None, IsTrue, if◌then◌else◌, refl, sym, ap, subst, ◌∙◌, inl, inr}
+use Rattle.std.proofs.Common.{◌≡◌, ◌≢◌, ◌+◌, ℕ, Bool, true, false, List, [], ◌∷◌, length, map, Option, Some, None, if◌then◌else◌, refl, sym, ap, subst, ◌∙◌, inl}
 use Rattle.std.specs.Prelude.{◌==◌, bytes_eq}
-use Rattle.std.specs.List.{AllByRecursion}
-use Rattle.std.proofs.lemmas.Bool.{eqb-true}
 use Rattle.class_model.specs.Code.{verification_type}
 use Rattle.class_model.specs.Descriptors.{parameters_of, type_of}
 use Rattle.class_model.specs.Names.{init}
 use Rattle.class_model.specs.PoolChecks.{descriptor_at}
 use Rattle.class_model.specs.declared.descriptor.FieldType.{FieldType}
 use Rattle.class_model.specs.declared.descriptor.Kind.{Kind}
-use Rattle.class_model.specs.declared.descriptor.Kind.TheVariants as kinds
 use Rattle.class_model.specs.declared.frame.Frame.{Frame}
 use Rattle.class_model.specs.declared.frame.VType.{VType}
 use Rattle.class_model.specs.declared.frame.VType.TheVariants as types
@@ -17,14 +14,14 @@ use Rattle.class_model.specs.declared.opcodes.TheConstants.{INVOKESTATIC, INVOKE
 use Rattle.class_model.specs.declared.pool.Const.{Const}
 use Rattle.class_model.specs.declared.pool.Const.TheVariants as consts
 use Rattle.class_tree.specs.Headers.{Name}
-use Rattle.inline_expand.proofs.RenumberedRows.{Moves, conditional_moves, either_moves, ending_moves, no_row_moves, plain_moves}
+use Rattle.inline_expand.proofs.RenumberedRows.{Moves, conditional_moves, ending_moves, no_row_moves, plain_moves}
 use Rattle.inline_expand.proofs.RenumberedTypes.{assignable_kept, lowest_same, numbered_need, renumbered, verification_same}
 use Rattle.inline_expand.specs.Alone.{numbered_type, numbered_frame}
 use Rattle.member_link.specs.References.{Reference}
 use Rattle.member_link.specs.RowScope.{RowScope}
 use Rattle.member_link.specs.Rows.Assigning.{IsAssignableIn}
 use Rattle.member_link.specs.Rows.MemberRows.{MayInitialise, MayPut, MayReturn, MayReturnValue, NoUninitThis, PassesMethod, argument_needs, call_row, dynamic_row, get_field_row, get_static_row, init_row, initialised_type, instance_row, put_field_row, put_static_row, receiver, result_types, return_row, special_row, static_row}
-use Rattle.member_link.specs.Rows.Operands.{Need, assignable_to, assignable_or_this, lowest_of, of_kind, uninitialised}
+use Rattle.member_link.specs.Rows.Operands.{Need, assignable_to, assignable_or_this, lowest_of, uninitialised}
 use Rattle.member_link.specs.Rows.Row.{Row, either}
 use Rattle.member_link.specs.Signatures.{field_type, result_of}
 
@@ -38,7 +35,7 @@ module _ (number : ℕ → ℕ) where
   params_same (param ∷ params) =
       ap (λ (needs : List Need). assignable_to (verification_type param) ∷ needs) (params_same params)
       ∙ ap (λ (type : VType). assignable_to type ∷ map (numbered_need number)
-          (map (λ other. assignable_to (verification_type other)) params)) (sym (verification_same number param))
+      (map (λ other. assignable_to (verification_type other)) params)) (sym (verification_same number param))
 
   arguments_same : (desc : List ℕ) → argument_needs desc ≡ map (numbered_need number) (argument_needs desc)
   arguments_same desc = params_same (parameters_of desc)
@@ -89,7 +86,7 @@ module _ (number : ℕ → ℕ) where
         → Moves number (instance_row f r Further Access) (instance_row (numbered_frame number f) r Also Asked)
     instance_moves f r Further Also Access Asked also = conditional_moves number f _ _ _ _ _ _ _ _
         (ap (λ (needs : List Need). assignable_to (types.Object r.class) ∷ needs) (arguments_same r.desc))
-            (results_same (result_of r.desc)) also
+        (results_same (result_of r.desc)) also
 
     static_moves : (f : Frame) (r : Reference) → Moves number (static_row f r) (static_row (numbered_frame number f) r)
     static_moves f r = plain_moves number f _ _ _ _ (arguments_same r.desc) (results_same (result_of r.desc))
@@ -108,7 +105,7 @@ module _ (number : ℕ → ℕ) where
     dynamic_moves f (Some (consts.InvokeDynamic bootstrap member)) = by (descriptor_at s.pool member) refl where
       by : (desc : Option (List ℕ)) → descriptor_at s.pool member ≡ desc
           → Moves number (dynamic_row s f (Some (consts.InvokeDynamic bootstrap member)))
-              (dynamic_row (renumbered s room news) (numbered_frame number f) (Some (consts.InvokeDynamic bootstrap member)))
+          (dynamic_row (renumbered s room news) (numbered_frame number f) (Some (consts.InvokeDynamic bootstrap member)))
       by None is = rw is (no_row_moves number f)
       by (Some desc) is = rw is (plain_moves number f _ _ _ _ (arguments_same desc) (results_same (result_of desc)))
     dynamic_moves f (Some other) = no_row_moves number f
@@ -144,7 +141,7 @@ module _ (number : ℕ → ℕ) where
     return_moves f None = ending_moves number f _ _ _ _ refl (may_return f)
     return_moves f (Some kind) = ending_moves number f _ _ _ _ refl
         (λ may. subst (MayReturnValue (renumbered s room news) kind) (sym (lowest_same number 1 f.stack))
-            (may_return_value kind (lowest_of 1 f.stack) may))
+        (may_return_value kind (lowest_of 1 f.stack) may))
 
     -- ---- instance initialisers
 
@@ -162,10 +159,10 @@ module _ (number : ℕ → ℕ) where
 
       of_object_same : (r : Reference) (at : ℕ) (type : VType) → s.new_class at ≡ Some r.class
           → initialised_type (renumbered s room news) r (types.Uninit (number at)) (numbered_type number type) ≡ numbered_type number
-              (initialised_type s r (types.Uninit at) type)
+          (initialised_type s r (types.Uninit at) type)
       of_object_same r at (types.Uninit other) is =
           ap (λ (same : Bool). if same then types.Object r.class else types.Uninit (number other)) (keeps.apart at r.class is other)
-              ∙ chosen (other == at)
+          ∙ chosen (other == at)
         where
           chosen : (same : Bool)
               → (if same then types.Object r.class else types.Uninit (number other)) ≡ numbered_type number
@@ -182,14 +179,14 @@ module _ (number : ℕ → ℕ) where
 
       type_same : (r : Reference) (object : VType) → MayInitialise s r object → (type : VType)
           → initialised_type (renumbered s room news) r (numbered_type number object) (numbered_type number type) ≡ numbered_type number
-              (initialised_type s r object type)
+          (initialised_type s r object type)
       type_same r (types.Uninit at) may type = of_object_same r at type may
       type_same r types.UninitThis may type = of_this_same r type
       type_same r other may type = absurd may
 
       entries_same : (r : Reference) (object : VType) → MayInitialise s r object → (entries : List VType)
           → map (initialised_type (renumbered s room news) r (numbered_type number object)) (map (numbered_type number) entries) ≡ map
-              (numbered_type number) (map (initialised_type s r object) entries)
+          (numbered_type number) (map (initialised_type s r object) entries)
       entries_same r object may [] = refl
       entries_same r object may (entry ∷ entries) = rw (type_same r object may entry, entries_same r object may entries) refl
 
@@ -212,7 +209,7 @@ module _ (number : ℕ → ℕ) where
             (map (numbered_type number) entries) ≡ map (numbered_type number) (map (initialised_type s r (receiver f r.desc)) entries)
         becoming entries =
             ap (λ (object : VType). map (initialised_type (renumbered s room news) r object) (map (numbered_type number) entries))
-                (receiver_same f r.desc) ∙ entries_same r (receiver f r.desc) may entries
+            (receiver_same f r.desc) ∙ entries_same r (receiver f r.desc) may entries
 
       abbrev call_by : RowScope → Frame → Reference → Bool → Bool → Bool → Row
       call_by t f r is_static is_special is_init =

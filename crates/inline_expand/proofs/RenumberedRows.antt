@@ -1,6 +1,6 @@
 -- Rows of an instruction at another number, behind frames whose uninitialised objects have other numbers: what they ask holds where it
 -- held, and they leave the same with the other numbers.
-use Rattle.std.proofs.Common.{◌≡◌, inl, inr, ℕ, Bool, true, false, List, [], ◌∷◌, ◌++◌, length, map, Option, Some, None, option_map, if◌then◌else◌, refl, sym, ap, subst, ◌∙◌}
+use Rattle.std.proofs.Common.{◌≡◌, inl, inr, ℕ, Bool, true, false, List, [], ◌++◌, length, map, Option, Some, None, option_map, if◌then◌else◌, refl, sym, ap, subst, ◌∙◌}
 use Rattle.std.specs.Prelude.{◌⊎◌}
 use Rattle.std.proofs.lemmas.List.{length-map, map-append}
 use Rattle.class_model.specs.declared.frame.Frame.{Frame}
@@ -90,23 +90,23 @@ module _ (number : ℕ → ℕ) where
         → AllFit (renumbered s room news) also.takes (topmost (length also.takes) (map (numbered_type number) f.stack))
     operands_fit s room news fit =
         let same : map (numbered_type number) (topmost (length row.takes) f.stack) ≡ topmost (length also.takes)
-            (map (numbered_type number) f.stack) =
+        (map (numbered_type number) f.stack) =
         sym (topmost_same number (length row.takes) f.stack)
-            ∙ ap (λ (n : ℕ). topmost n (map (numbered_type number) f.stack)) (sym as_many) in
+        ∙ ap (λ (n : ℕ). topmost n (map (numbered_type number) f.stack)) (sym as_many) in
         subst (λ (entries : List VType). AllFit (renumbered s room news) also.takes entries) same
         (subst (λ (needs : List Need). AllFit (renumbered s room news) needs
-            (map (numbered_type number) (topmost (length row.takes) f.stack))) (sym moves.takes)
-            (all_fit_kept number s room news row.takes _ fit))
+        (map (numbered_type number) (topmost (length row.takes) f.stack))) (sym moves.takes)
+        (all_fit_kept number s room news row.takes _ fit))
 
     pub stack_moves : stack_behind (numbered_frame number f) also ≡ map (numbered_type number) (stack_behind f row)
     stack_moves =
         let left : also.becomes (under (length also.takes) (map (numbered_type number) f.stack)) ≡ map (numbered_type number)
-            (row.becomes (under (length row.takes) f.stack)) =
+        (row.becomes (under (length row.takes) f.stack)) =
         ap (λ (n : ℕ). also.becomes (under n (map (numbered_type number) f.stack))) as_many
-            ∙ ap also.becomes (under_same number (length row.takes) f.stack) ∙ moves.becomes (under (length row.takes) f.stack) in
+        ∙ ap also.becomes (under_same number (length row.takes) f.stack) ∙ moves.becomes (under (length row.takes) f.stack) in
         ap (λ (entries : List VType). entries ++ also.gives) left
-            ∙ ap (λ (entries : List VType). map (numbered_type number) (stack_left f row) ++ entries) moves.gives
-            ∙ sym (map-append (numbered_type number) (stack_left f row) row.gives)
+        ∙ ap (λ (entries : List VType). map (numbered_type number) (stack_left f row) ++ entries) moves.gives
+        ∙ sym (map-append (numbered_type number) (stack_left f row) row.gives)
 
     abbrev framed : Bool → List VType → List VType → Option Frame
     framed on locals stack = if on then Some (record { locals = locals; stack = stack }) else None

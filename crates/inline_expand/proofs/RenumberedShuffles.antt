@@ -1,22 +1,12 @@
 -- Moves of stack entries, behind frames whose uninitialised objects have other numbers.
-use Rattle.std.proofs.Common.{◌≡◌, ◌-◌, ℕ, zero, suc, Bool, true, false, List, [], ◌∷◌, ◌++◌, length, map, replicate, slice_get, Option, Some, None, option_map, if◌then◌else◌, refl, sym, ap, subst, ◌∙◌}
-use Rattle.std.specs.Prelude.{◌==◌, ◌&&◌, nat_lt, codes}
-use Rattle.std.proofs.lemmas.List.{map-append}
+use Rattle.std.proofs.Common.{◌≡◌, ℕ, Bool, List, [], ◌∷◌, length, map, slice_get, Option, Some, None, if◌then◌else◌, refl, sym, ap, subst, ◌∙◌}
 use Rattle.std.proofs.lemmas.Option.{slice_get-map}
-use Rattle.class_model.specs.PoolChecks.{class_at}
-use Rattle.class_model.specs.declared.descriptor.Kind.{Kind}
-use Rattle.class_model.specs.declared.descriptor.Kind.TheVariants as kinds
 use Rattle.class_model.specs.declared.frame.Frame.{Frame}
 use Rattle.class_model.specs.declared.frame.VType.{VType}
-use Rattle.class_model.specs.declared.frame.VType.TheVariants as types
-use Rattle.class_model.specs.declared.opcodes.TheConstants.{AALOAD, IALOAD, AASTORE, IASTORE}
-use Rattle.class_tree.specs.Headers.{Name}
-use Rattle.inline_expand.proofs.RenumberedRows.{Moves, either_moves, no_row_moves, plain_moves}
-use Rattle.inline_expand.proofs.RenumberedTypes.{lowest_same, numbered_need, single_same, topmost_same, wide_same}
+use Rattle.inline_expand.proofs.RenumberedRows.{Moves, no_row_moves, plain_moves}
+use Rattle.inline_expand.proofs.RenumberedTypes.{numbered_need, single_same, topmost_same, wide_same}
 use Rattle.inline_expand.specs.Alone.{numbered_type, numbered_frame}
-use Rattle.member_link.specs.Rows.ArithmeticRows.{Operation, operation_row, type_of_kind}
-use Rattle.member_link.specs.Rows.ArrayRows.{Elements, array_load_row, array_store_row, component_type, elements_from, elements_load_row, elements_of, elements_store_row, length_row, made_row, need_of_value}
-use Rattle.member_link.specs.Rows.Operands.{Need, array_among, of_kind, lowest_of, topmost}
+use Rattle.member_link.specs.Rows.Operands.{Need, topmost}
 use Rattle.member_link.specs.Rows.ShuffleRows.{Form, Width, one, two, form_in, form_row, forms_of, has_width, have_widths, need_of, picked, shuffle_row}
 
 module _ (number : ℕ → ℕ) where
@@ -35,11 +25,11 @@ module _ (number : ℕ → ℕ) where
   form_same [] stack = refl
   form_same (first ∷ others) stack =
       ap (λ (entries : List VType). if have_widths first.takes entries then Some first else form_in others
-          (map (numbered_type number) stack)) (topmost_same number (length first.takes) stack)
+      (map (numbered_type number) stack)) (topmost_same number (length first.takes) stack)
       ∙ ap (λ (have : Bool). if have then Some first else form_in others (map (numbered_type number) stack))
-          (widths_same first.takes (topmost (length first.takes) stack))
+      (widths_same first.takes (topmost (length first.takes) stack))
       ∙ ap (λ (found : Option Form). if have_widths first.takes (topmost (length first.takes) stack) then Some first else found)
-          (form_same others stack)
+      (form_same others stack)
 
   picked_same : (operands : List VType) (numbers : List ℕ)
       → picked (map (numbered_type number) operands) numbers ≡ map (numbered_type number) (picked operands numbers)
@@ -62,7 +52,7 @@ module _ (number : ℕ → ℕ) where
   form_moves f None = no_row_moves number f
   form_moves f (Some form) = plain_moves number f _ _ _ _ (needs_same form.takes)
       (ap (λ (entries : List VType). picked entries form.gives) (topmost_same number (length form.takes) f.stack)
-          ∙ picked_same (topmost (length form.takes) f.stack) form.gives)
+      ∙ picked_same (topmost (length form.takes) f.stack) form.gives)
 
   pub shuffle_moves : (f : Frame) (opcode : ℕ) → Moves number (shuffle_row f opcode) (shuffle_row (numbered_frame number f) opcode)
   shuffle_moves f opcode =

@@ -1,5 +1,5 @@
 -- The row of each instruction at another number, behind frames whose uninitialised objects have other numbers.
-use Rattle.std.proofs.Common.{◌≡◌, inl, ◌≢◌, ℕ, Bool, true, false, List, [], ◌∷◌, map, Option, Some, None, if◌then◌else◌, refl, sym, ap, subst, ◌∙◌, eq-eqb}
+use Rattle.std.proofs.Common.{◌≡◌, inl, ◌≢◌, ℕ, Bool, true, false, List, [], ◌∷◌, map, Option, Some, None, if◌then◌else◌, refl, sym, ap, ◌∙◌, eq-eqb}
 use Rattle.std.specs.Prelude.{◌==◌, ◌&&◌, nat_le}
 use Rattle.std.specs.List.{AllByRecursion}
 use Rattle.std.proofs.lemmas.Bool.{eqb-true}
@@ -35,11 +35,11 @@ module _ (number : ℕ → ℕ) where
     older_same : (type : VType) → without_older (number at) (numbered_type number type) ≡ numbered_type number (without_older at type)
     older_same (types.Uninit other) =
         ap (λ (same : Bool). if same then types.Top else types.Uninit (number other)) (apart other) ∙ chosen (other == at) where
-      chosen : (same : Bool)
-          → (if same then types.Top else types.Uninit (number other)) ≡ numbered_type number
-          (if same then types.Top else types.Uninit other)
-      chosen true = refl
-      chosen false = refl
+          chosen : (same : Bool)
+              → (if same then types.Top else types.Uninit (number other)) ≡ numbered_type number
+              (if same then types.Top else types.Uninit other)
+          chosen true = refl
+          chosen false = refl
     older_same type = refl
 
     all_older_same : (locals : List VType)
@@ -86,7 +86,7 @@ module _ (number : ℕ → ℕ) where
     pub row_moves : (f : Frame) (at : ℕ) → ((other : ℕ) → (number other == number at) ≡ (other == at)) → (instr : Instr)
         → (row_of s f at instr).further
         → Moves number (row_of s f at instr)
-            (row_of (renumbered s room news) (numbered_frame number f) (number at) (with_targets number instr))
+        (row_of (renumbered s room news) (numbered_frame number f) (number at) (with_targets number instr))
     row_moves f at apart Nop held = plain_moves number f _ _ _ _ refl refl
     row_moves f at apart (Const imm) held = imm_moves number f imm
     row_moves f at apart (Ldc index) held = const_moves number f (constant_at s.pool index)

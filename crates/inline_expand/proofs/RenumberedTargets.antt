@@ -1,5 +1,5 @@
 -- An instruction with other targets: it goes to these, and else where it went.
-use Rattle.std.proofs.Common.{◌≡◌, ℕ, Bool, List, [], ◌∷◌, map, refl, ap}
+use Rattle.std.proofs.Common.{◌≡◌, ℕ, List, [], ◌∷◌, map, refl, ap}
 use Rattle.class_model.specs.Instructions.{targets}
 use Rattle.class_model.specs.declared.instr.Instr.{Instr}
 use Rattle.class_model.specs.declared.instr.Instr.TheVariants.{If, If2, IfSame, IfNull, Goto, Table, Lookup}

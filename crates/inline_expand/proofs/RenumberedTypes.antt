@@ -1,9 +1,9 @@
 -- Types whose uninitialised objects have other numbers: what a row asks of them, and what they are assignable to, is the same.
-use Rattle.std.proofs.Common.{◌≡◌, ◌-◌, ℕ, zero, suc, Bool, List, [], ◌∷◌, ◌++◌, length, map, drop, take, Option, Some, None, IsTrue, refl, sym, ap, subst, ◌∙◌, inl, inr}
+use Rattle.std.proofs.Common.{◌≡◌, ◌-◌, ℕ, Bool, List, [], ◌∷◌, length, map, Option, IsTrue, refl, sym, ap, subst, inl, inr}
 use Rattle.std.specs.List.{list_any}
 use Rattle.std.proofs.lemmas.List.{drop-map, take-map, length-map}
 use Rattle.class_model.specs.Code.{verification_type}
-use Rattle.class_model.specs.Frames.{is_wide, is_top, units}
+use Rattle.class_model.specs.Frames.{is_wide, units}
 use Rattle.class_model.specs.declared.descriptor.FieldType.{FieldType}
 use Rattle.class_model.specs.declared.descriptor.FieldType.TheVariants.{Named}
 use Rattle.class_model.specs.declared.descriptor.Kind.{Kind}

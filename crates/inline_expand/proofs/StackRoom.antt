@@ -1,5 +1,5 @@
 -- The room of a stack: two units for each of the most entries that a stack of typed points has.
-use Rattle.std.proofs.Common.{◌≡◌, ◌≤◌, ◌+◌, ◌*◌, ℕ, zero, suc, Bool, true, false, List, [], ◌∷◌, ◌++◌, length, map, slice_get, Option, Some, None, option_map, refl, sym, ap, subst, ◌∙◌, arith, length-append, inl, inr}
+use Rattle.std.proofs.Common.{◌≡◌, ◌≤◌, ◌+◌, ◌*◌, ℕ, zero, suc, List, [], ◌∷◌, ◌++◌, length, slice_get, Some, option_map, subst, arith, length-append}
 use Rattle.std.specs.Prelude.{max}
 use Rattle.std.proofs.Math.Nat.{le-max_left, le-max_right}
 use Rattle.std.proofs.lemmas.Option.{same_Some}
@@ -31,7 +31,7 @@ pub no_deeper : (points : List Point) (n : ℕ) (frame : Frame)
 no_deeper [] n frame is = absurd cc
 no_deeper (first ∷ points) zero frame is =
     subst (λ (f : Frame). length f.stack ≤ deepest (first ∷ points)) (same_Some first.typed frame is)
-        (le-max_left (length first.typed.stack) (deepest points))
+    (le-max_left (length first.typed.stack) (deepest points))
 no_deeper (first ∷ points) (suc n) frame is =
     let below : length frame.stack ≤ deepest points = no_deeper points n frame is in
     let above : deepest points ≤ max (length first.typed.stack) (deepest points) =

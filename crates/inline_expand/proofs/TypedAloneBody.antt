@@ -1,28 +1,23 @@
 -- The typed points of the flat code of a method by itself are frames of its body at each place.
-use Rattle.std.proofs.Common.{◌≡◌, ℕ, zero, suc, List, [], ◌∷◌, length, map, slice_get, Option, Some, None, option_map, refl, sym, ap, subst, ◌∙◌, arith}
-use Rattle.std.specs.List.{AllByRecursion}
+use Rattle.std.proofs.Common.{◌≡◌, ℕ, zero, List, [], ◌∷◌, length, map, Some, refl, sym, subst, ◌∙◌, arith}
 use Rattle.std.proofs.lemmas.Option.{same_Some}
-use Rattle.class_model.specs.Pool.{Constants}
 use Rattle.class_model.specs.declared.class_file.MethodAt.{MethodAt}
 use Rattle.class_model.specs.declared.frame.Frame.{Frame}
 use Rattle.class_model.specs.declared.instr.Placed.{Placed}
-use Rattle.class_tree.specs.Headers.{Name, Classes}
+use Rattle.class_tree.specs.Headers.{Classes}
 use Rattle.flow_code.specs.FlatCode.{FlatCode}
-use Rattle.flow_code.specs.declared.point.Point.{Point}
-use Rattle.inline_expand.proofs.TypedAloneNumbers.{number_here, point_parts}
+use Rattle.inline_expand.proofs.TypedAloneNumbers.{number_here}
 use Rattle.inline_expand.proofs.FlatPlaces.{each_point, frame_is_stated, one_each}
 use Rattle.inline_expand.proofs.RenumberedEntry.{entry_same}
 use Rattle.inline_expand.proofs.TypedAloneEdges.{IsTypedMethod, counted, flows_carried}
 use Rattle.inline_expand.proofs.TypedAlonePoints.{each_fits}
 use Rattle.inline_expand.proofs.TypedAloneHandlers.{table_throws}
-use Rattle.inline_expand.specs.Alone.{alone_point, alone_points, flat_alone, number_at, number_in, numbered_frame}
-use Rattle.member_link.specs.Bodies.{Body, BodyCatch, BodyPoint, catch_frame}
-use Rattle.member_link.specs.BodyTyping.{AreInOrder, FlowsInto, GoesInto, GoesToStated, HasFrames, MayGoTo, PointFits, begins_at, frame_at}
+use Rattle.inline_expand.specs.Alone.{alone_points, flat_alone, number_at, number_in}
+use Rattle.member_link.specs.Bodies.{Body}
+use Rattle.member_link.specs.BodyTyping.{FlowsInto, HasFrames, PointFits, begins_at}
 use Rattle.member_link.specs.Machine.Replaced.{map_numbered}
-use Rattle.member_link.specs.RowScope.{RowScope}
 use Rattle.member_link.specs.Scope.{Scope, instructions}
 use Rattle.same_runs.specs.FlatBodies.{body_of_flat, body_point, typed_points}
-use Rattle.same_runs.specs.Flats.{pool_of}
 use Rattle.type_rules.specs.MethodBodies.{body_of, point_of}
 use Rattle.type_rules.specs.Stated.{entry}
 
@@ -37,7 +32,7 @@ module _ (classes : Classes) (s : Scope) (at : MethodAt) (frames : List Frame) (
 
   first_place : (instrs : List Placed) (own : List Frame) (end : ℕ) → length own ≡ length instrs
       → number_in instrs (begins_at (map (point_of s) instrs) end) ≡ begins_at
-          (map_numbered (body_point classes s flat) zero (alone_points s at.class instrs own)) (length (alone_points s at.class instrs own))
+      (map_numbered (body_point classes s flat) zero (alone_points s at.class instrs own)) (length (alone_points s at.class instrs own))
   first_place [] [] end same = refl
   first_place [] (f ∷ own) end same = refl
   first_place (placed ∷ instrs) [] end same = absurd (omega (arith, same))
@@ -49,7 +44,7 @@ module _ (classes : Classes) (s : Scope) (at : MethodAt) (frames : List Frame) (
       let flows = flows_carried classes s at frames m (begins_at (body_of s).points (body_of s).end) (Some (entry s)) m.has.entry in
       subst (λ (place : ℕ). FlowsInto body (typed_points flat) place (Some body.entry)) first
       (subst (λ (f : Frame). FlowsInto body (typed_points flat) (number_at s (begins_at (body_of s).points (body_of s).end)) (Some f))
-          (entry_same (number_at s) s) flows)
+      (entry_same (number_at s) s) flows)
 
   -- ---- the whole
 

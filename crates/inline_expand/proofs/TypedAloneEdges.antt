@@ -1,45 +1,35 @@
 -- Where control goes in the flat code of a method by itself, and how deep its stack is there.
-use Rattle.std.proofs.Common.{◌≡◌, ◌≤◌, ◌<◌, ◌+◌, ◌*◌, ◌-◌, ℕ, zero, suc, Bool, true, false, List, [], ◌∷◌, ◌++◌, length, map, slice_get, take, Option, Some, None, option_map, if◌then◌else◌, refl, sym, ap, subst, ◌∙◌, arith, inl, inr, append-nil, length-take}
-use Rattle.std.specs.Prelude.{◌==◌, ◌⊎◌, IsSome, option_and_then}
+use Rattle.std.proofs.Common.{◌≡◌, ◌≤◌, ◌<◌, ◌-◌, ℕ, Bool, true, List, [], ◌∷◌, ◌++◌, length, map, slice_get, Option, Some, None, option_map, if◌then◌else◌, refl, sym, ap, subst, ◌∙◌, arith, inl, inr, append-nil, length-take}
+use Rattle.std.specs.Prelude.{◌⊎◌, IsSome}
 use Rattle.std.specs.List.{AllByRecursion}
 use Rattle.std.proofs.lemmas.List.{length-map}
-use Rattle.std.proofs.lemmas.Option.{same_Some, slice_get-map, slice_get_within}
-use Rattle.class_model.specs.Frames.{depth}
+use Rattle.std.proofs.lemmas.Option.{same_Some, slice_get_within}
 use Rattle.class_model.specs.Instructions.{targets}
-use Rattle.class_model.specs.Laws.Lists.{at_index}
-use Rattle.class_model.specs.PoolChecks.{class_at}
 use Rattle.class_model.specs.declared.class_file.MethodAt.{MethodAt}
 use Rattle.class_model.specs.declared.frame.Frame.{Frame}
 use Rattle.class_model.specs.declared.frame.VType.{VType}
 use Rattle.class_model.specs.declared.instr.Instr.{Instr}
-use Rattle.class_model.specs.declared.instr.Instr.TheVariants.{Goto, Table, Lookup, Return, Throw, New, If, If2, IfSame, IfNull}
-use Rattle.class_model.specs.declared.instr.Placed.{Placed}
+use Rattle.class_model.specs.declared.instr.Instr.TheVariants.{Goto, Table, Lookup, Return, Throw}
 use Rattle.class_tree.specs.Headers.{Name, Classes}
-use Rattle.flow_code.specs.FlatCode.{FlatCode, point_at}
+use Rattle.flow_code.specs.FlatCode.{FlatCode}
 use Rattle.flow_code.specs.FlatRoom.{deepest, stack_room}
-use Rattle.flow_code.specs.declared.point.FlatInstr.{FlatInstr}
-use Rattle.flow_code.specs.declared.point.FlatInstr.TheVariants.{Of}
 use Rattle.flow_code.specs.declared.point.Point.{Point}
-use Rattle.inline_expand.proofs.TypedAloneNumbers.{apart, frame_found, is_number, number_if, number_of_next, number_of_placed, point_parts, point_there, points_counted, IsNumber}
+use Rattle.inline_expand.proofs.TypedAloneNumbers.{frame_found, is_number, point_there, IsNumber}
 use Rattle.inline_expand.proofs.FlatPlaces.{frame_is_stated}
 use Rattle.inline_expand.proofs.RenumberedEntry.{as_many, to_itself}
-use Rattle.inline_expand.proofs.RenumberedMembers.{KeepsNews}
-use Rattle.inline_expand.proofs.RenumberedRows.{Leaves, Moves, frame_moves, operands_fit, stack_moves}
-use Rattle.inline_expand.proofs.RenumberedTable.{row_moves}
-use Rattle.inline_expand.proofs.RenumberedTargets.{falls_same, targets_numbered}
+use Rattle.inline_expand.proofs.RenumberedRows.{Leaves}
 use Rattle.inline_expand.proofs.RenumberedTypes.{frame_assignable_kept, renumbered}
-use Rattle.inline_expand.proofs.StackRoom.{no_deeper, two_each}
-use Rattle.inline_expand.specs.Alone.{alone_point, alone_points, flat_alone, handlers_at, number_at, number_in, numbered_frame, numbered_type}
-use Rattle.member_link.specs.Bodies.{Body, BodyCatch, BodyPoint, falls_through, flows_on, frame_behind, item_instr, point_row}
-use Rattle.member_link.specs.BodyTyping.{AreInOrder, FlowsInto, GoesInto, GoesToStated, HasFrames, MayGoTo, PointFits, Reaches, RowHolds, frame_at}
+use Rattle.inline_expand.proofs.StackRoom.{no_deeper}
+use Rattle.inline_expand.specs.Alone.{flat_alone, number_at, numbered_frame, numbered_type}
+use Rattle.member_link.specs.Bodies.{Body, falls_through}
+use Rattle.member_link.specs.BodyTyping.{AreInOrder, FlowsInto, GoesInto, GoesToStated, HasFrames, MayGoTo, Reaches, frame_at}
 use Rattle.member_link.specs.RowScope.{RowScope}
 use Rattle.member_link.specs.Rows.FrameAssignability.{IsFrameAssignable}
 use Rattle.member_link.specs.Rows.Operands.{under}
-use Rattle.member_link.specs.Rows.Row.{Row, access_aside, row_frame, stack_behind}
+use Rattle.member_link.specs.Rows.Row.{Row, row_frame, stack_behind}
 use Rattle.member_link.specs.Rows.Table.{row_of}
-use Rattle.member_link.specs.Scope.{Scope, class_of_new, instructions, row_scope}
-use Rattle.member_link.specs.Targets.{with_targets}
-use Rattle.same_runs.specs.FlatBodies.{body_of_flat, body_point, body_catch, typed_points}
+use Rattle.member_link.specs.Scope.{Scope, instructions, row_scope}
+use Rattle.same_runs.specs.FlatBodies.{body_of_flat, typed_points}
 use Rattle.same_runs.specs.Flats.{class_of_flat_new, pool_of}
 use Rattle.type_rules.specs.MethodBodies.{body_of, point_of}
 
@@ -84,7 +74,7 @@ module _ (classes : Classes) (s : Scope) (at : MethodAt) (frames : List Frame) (
       subst (λ (n : ℕ). number place < n) counted (slice_get_within frames (number place) frame there) in
       let placed : IsNumber (instructions s) place (number place) = is_number (instructions s) place (number place) refl within in
       ap (option_map (λ (point : Point). point.typed))
-          (point_there s at.class (instructions s) frames (number place) placed.placed frame placed.stands there)
+      (point_there s at.class (instructions s) frames (number place) placed.placed frame placed.stands there)
 
   pub is_there : (place : ℕ) (frame : Frame) → frame_at own frames place ≡ Some frame
       → frame_at body typed (number place) ≡ Some (numbered_frame number frame)
@@ -112,9 +102,9 @@ module _ (classes : Classes) (s : Scope) (at : MethodAt) (frames : List Frame) (
       → MayGoTo body.scope (option_map (numbered_frame number) from) (body.stated (number place))
   goes_carried from place into =
       subst (λ (o : Option Frame). MayGoTo body.scope (option_map (numbered_frame number) o) (body.stated (number place)))
-          (sym into.goes_is)
+      (sym into.goes_is)
       (subst (MayGoTo body.scope (Some (numbered_frame number into.frame))) (sym (carried place into.stated into.is_at))
-          (frame_assignable_kept number s.headers into.frame into.stated into.assignable))
+      (frame_assignable_kept number s.headers into.frame into.stated into.assignable))
 
   pub all_go : (from : Option Frame) (places : List ℕ) → AllByRecursion (GoesInto own frames from) places
       → AllByRecursion (λ place. MayGoTo body.scope (option_map (numbered_frame number) from) (body.stated place)) (map number places)
@@ -136,14 +126,14 @@ module _ (classes : Classes) (s : Scope) (at : MethodAt) (frames : List Frame) (
   few_flowing place from into =
       let assignable : IsFrameAssignable s.headers from into.0 = reached from into.0 (own.stated place) into.2 in
       subst (λ (n : ℕ). n ≤ deepest flat.points) (sym (as_many s.headers from.stack into.0.stack assignable.stack))
-          (few place into.0 into.1)
+      (few place into.0 into.1)
 
   few_going : (place : ℕ) (from : Frame) → GoesInto own frames (Some from) place → length from.stack ≤ deepest flat.points
   few_going place from into =
       let same : into.frame ≡ from = same_Some into.frame from (sym into.goes_is) in
       subst (λ (n : ℕ). n ≤ deepest flat.points)
-          (sym (as_many s.headers from.stack into.stated.stack
-          (subst (λ (f : Frame). IsFrameAssignable s.headers f into.stated) same into.assignable).stack)) (few place into.stated into.is_at)
+      (sym (as_many s.headers from.stack into.stated.stack
+      (subst (λ (f : Frame). IsFrameAssignable s.headers f into.stated) same into.assignable).stack)) (few place into.stated into.is_at)
 
   -- what ends has no more entries than before
   few_under : (count : ℕ) (stack : List VType) → length (under count stack) ≤ length stack
@@ -153,7 +143,7 @@ module _ (classes : Classes) (s : Scope) (at : MethodAt) (frames : List Frame) (
   few_left f row leaves =
       let left : stack_behind f row ≡ under (length row.takes) f.stack =
       ap (λ (given : List VType). row.becomes (under (length row.takes) f.stack) ++ given) leaves.none_given ∙ append-nil _
-          ∙ leaves.as_before (under (length row.takes) f.stack) in
+      ∙ leaves.as_before (under (length row.takes) f.stack) in
       subst (λ (entries : List VType). length entries ≤ length f.stack) (sym left) (few_under (length row.takes) f.stack)
 
   framed_on : (row : Row) (f : Frame) → row.goes_on ≡ true → row_frame f row ≡ Some (as_frame row f)
@@ -175,7 +165,7 @@ module _ (classes : Classes) (s : Scope) (at : MethodAt) (frames : List Frame) (
       omega (arith, left, there)
   few_behind f place next (Return (Some kind)) is ends flows all =
       let left = few_left f (row_of (row_scope s) f place (Return (Some kind)))
-          (record { none_given = refl; as_before = λ entries. refl }) in
+      (record { none_given = refl; as_before = λ entries. refl }) in
       let there = few place f is in
       omega (arith, left, there)
   few_behind f place next Throw is ends flows all =

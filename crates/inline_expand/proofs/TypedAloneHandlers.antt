@@ -1,15 +1,13 @@
 -- The handlers around the points of a method by itself: they catch throwables, and go where the handlers of the method go.
-use Rattle.std.proofs.Common.{◌≡◌, ◌==◌, ℕ, zero, suc, Bool, true, false, List, [], ◌∷◌, ◌++◌, map, Option, Some, None, if◌then◌else◌, refl, sym, ap, subst}
+use Rattle.std.proofs.Common.{◌==◌, ℕ, suc, Bool, true, false, List, [], ◌∷◌, ◌++◌, map, Option, Some, None, if◌then◌else◌}
 use Rattle.std.specs.List.{AllByRecursion, flat_map}
 use Rattle.class_model.specs.PoolChecks.{class_at}
 use Rattle.class_model.specs.declared.class_file.Handler.{Handler}
-use Rattle.class_model.specs.declared.class_file.MethodAt.{MethodAt}
 use Rattle.class_model.specs.declared.frame.Frame.{Frame}
 use Rattle.class_model.specs.declared.instr.Placed.{Placed}
-use Rattle.class_tree.specs.Headers.{Name, Headers}
+use Rattle.class_tree.specs.Headers.{Name}
 use Rattle.class_tree.specs.Names.{throwable}
 use Rattle.flow_code.specs.declared.handlers.FlatHandler.{FlatHandler}
-use Rattle.flow_code.specs.declared.point.Point.{Point}
 use Rattle.inline_expand.specs.Alone.{alone_points, handler_of, handlers_at, number_at}
 use Rattle.member_link.specs.Bodies.{BodyCatch, BodyCaught}
 use Rattle.member_link.specs.BodyTyping.{IsThrowable}
@@ -52,7 +50,7 @@ module _ (s : Scope) (place : ℕ) where
     this_goes : (handler : Handler) (covered : Bool) (catches : List BodyCatch) (others : List FlatHandler)
         → AllByRecursion (λ catch. Goes catch.class catch.to) (if covered then catch_of s handler ∷ catches else catches)
         → (AllByRecursion (λ catch. Goes catch.class catch.to) catches → AllByRecursion May (map body_catch others))
-            → AllByRecursion May (map body_catch ((if covered then handler_of s handler else []) ++ others))
+        → AllByRecursion May (map body_catch ((if covered then handler_of s handler else []) ++ others))
     this_goes handler true catches others all rest =
         one_goes handler.at (handler.catch_type == 0) (class_at s.class.pool handler.catch_type) others all.0 (rest all.1)
     this_goes handler false catches others all rest = rest all
@@ -94,7 +92,7 @@ module _ (s : Scope)
   of_point : (number : ℕ) (handlers : List FlatHandler)
       → AllByRecursion (λ (handler : FlatHandler). IsThrowable s.headers (caught_class handler.catch_class)) handlers
       → AllByRecursion (λ (entry : BodyCaught). IsThrowable s.headers entry.class)
-          (map (λ (handler : FlatHandler). record { start = number; class = caught_class handler.catch_class }) handlers)
+      (map (λ (handler : FlatHandler). record { start = number; class = caught_class handler.catch_class }) handlers)
   of_point number [] throw = tt
   of_point number (handler ∷ handlers) throw = (throw.0, of_point number handlers throw.1)
 
@@ -106,7 +104,7 @@ module _ (s : Scope)
   table_throws class (placed ∷ instrs) [] number = tt
   table_throws class (placed ∷ instrs) (own ∷ frames) number =
       all_append (λ (entry : BodyCaught). IsThrowable s.headers entry.class)
-          (map (λ (handler : FlatHandler). record { start = number; class = caught_class handler.catch_class }) (handlers_at s placed.at))
-          (handlers_from (suc number) (alone_points s class instrs frames))
+      (map (λ (handler : FlatHandler). record { start = number; class = caught_class handler.catch_class }) (handlers_at s placed.at))
+      (handlers_from (suc number) (alone_points s class instrs frames))
       (of_point number (handlers_at s placed.at) (all_throw s placed.at s.part.handlers all))
-          (table_throws class instrs frames (suc number))
+      (table_throws class instrs frames (suc number))

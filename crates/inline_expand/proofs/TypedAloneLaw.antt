@@ -1,5 +1,5 @@
 -- The law that the typed points of the flat code of a method by itself type it, from what typed folders and bodies promise.
-use Rattle.std.proofs.Common.{◌≡◌, ℕ, List, [], length, slice_get, Option, Some, None, option_map, option_and_then, refl, sym, ap, subst, ◌∙◌}
+use Rattle.std.proofs.Common.{◌≡◌, List, [], slice_get, Option, Some, None, option_map, option_and_then, sym, ap, subst, ◌∙◌}
 use Rattle.std.specs.List.{AllByRecursion}
 use Rattle.std.proofs.lemmas.Option.{same_Some}
 use Rattle.class_model.specs.MethodCode.{code_of}
@@ -9,7 +9,7 @@ use Rattle.class_model.specs.declared.class_file.CodePart.{CodePart}
 use Rattle.class_model.specs.declared.class_file.Method.{Method}
 use Rattle.class_model.specs.declared.class_file.MethodAt.{MethodAt}
 use Rattle.class_model.specs.declared.frame.Frame.{Frame}
-use Rattle.class_tree.specs.Headers.{Classes, Headers, headers_of}
+use Rattle.class_tree.specs.Headers.{Classes, headers_of}
 use Rattle.flow_code.specs.FlatCode.{FlatCode}
 use Rattle.inline_expand.proofs.FlatPlaces.{points_in_order}
 use Rattle.inline_expand.proofs.TypedAloneBody.{has_frames}
@@ -72,7 +72,7 @@ module _ (laws : Laws) (classes : Classes) (typed : FolderFrames) (at : MethodAt
       → TypesBody (body_of s) frames
   typed_by frames types there are =
       subst (λ (o : Option (List Frame)). TypesMethod (Some s) o) are
-          (subst (λ (o : Option Scope). TypesMethod o (typed_frames_at typed at)) there (laws.types_each classes typed types at))
+      (subst (λ (o : Option Scope). TypesMethod o (typed_frames_at typed at)) there (laws.types_each classes typed types at))
 
   alone_typed : (frames : List Frame) → TypesBody (body_of s) frames → scope_at classes at ≡ Some s
       → TypesBody (body_of_flat classes s (flat_alone s at frames)) (typed_points (flat_alone s at frames))
@@ -92,4 +92,4 @@ module _ (laws : Laws) (classes : Classes) (typed : FolderFrames) (at : MethodAt
       let same : alone.scope ≡ s = same_Some alone.scope s (sym alone.is_scope ∙ there) in
       let flat_is : flat ≡ flat_alone s at alone.frames = alone.is ∙ ap (λ (scope : Scope). flat_alone scope at alone.frames) same in
       subst (λ (f : FlatCode). TypesBody (body_of_flat classes s f) (typed_points f)) (sym flat_is)
-          (alone_typed alone.frames (typed_by alone.frames types there alone.are_frames) there)
+      (alone_typed alone.frames (typed_by alone.frames types there alone.are_frames) there)

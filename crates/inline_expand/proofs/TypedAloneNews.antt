@@ -1,47 +1,21 @@
 -- The class of a new is that of the new at its number in the flat code of a method by itself.
-use Rattle.std.proofs.Common.{◌≡◌, ◌≤◌, ◌<◌, ◌+◌, ◌*◌, ◌-◌, ℕ, zero, suc, Bool, true, false, List, [], ◌∷◌, ◌++◌, length, map, slice_get, take, Option, Some, None, option_map, if◌then◌else◌, refl, sym, ap, subst, ◌∙◌, arith, inl, inr, append-nil, length-take}
-use Rattle.std.specs.Prelude.{◌==◌, ◌⊎◌, IsSome, option_and_then}
-use Rattle.std.specs.List.{AllByRecursion}
-use Rattle.std.proofs.lemmas.List.{length-map}
-use Rattle.std.proofs.lemmas.Option.{same_Some, slice_get-map, slice_get_within}
-use Rattle.class_model.specs.Frames.{depth}
-use Rattle.class_model.specs.Instructions.{targets}
-use Rattle.class_model.specs.Laws.Lists.{at_index}
+use Rattle.std.proofs.Common.{◌≡◌, ℕ, Bool, true, false, List, [], ◌∷◌, length, slice_get, Option, Some, None, if◌then◌else◌, refl, ap, ◌∙◌, arith}
+use Rattle.std.specs.Prelude.{◌==◌, option_and_then}
 use Rattle.class_model.specs.PoolChecks.{class_at}
 use Rattle.class_model.specs.declared.class_file.MethodAt.{MethodAt}
 use Rattle.class_model.specs.declared.frame.Frame.{Frame}
-use Rattle.class_model.specs.declared.frame.VType.{VType}
 use Rattle.class_model.specs.declared.instr.Instr.{Instr}
-use Rattle.class_model.specs.declared.instr.Instr.TheVariants.{Goto, Table, Lookup, Return, Throw, New, If, If2, IfSame, IfNull}
+use Rattle.class_model.specs.declared.instr.Instr.TheVariants.{Goto, Table, Lookup, New, If, If2, IfSame, IfNull}
 use Rattle.class_model.specs.declared.instr.Placed.{Placed}
 use Rattle.class_tree.specs.Headers.{Name, Classes}
-use Rattle.flow_code.specs.FlatCode.{FlatCode, point_at}
-use Rattle.flow_code.specs.FlatRoom.{deepest, stack_room}
 use Rattle.flow_code.specs.declared.point.FlatInstr.{FlatInstr}
 use Rattle.flow_code.specs.declared.point.FlatInstr.TheVariants.{Of}
 use Rattle.flow_code.specs.declared.point.Point.{Point}
-use Rattle.inline_expand.proofs.TypedAloneNumbers.{apart, frame_found, is_number, number_if, number_of_next, number_of_placed, point_parts, point_there, points_counted, IsNumber}
-use Rattle.inline_expand.proofs.FlatPlaces.{frame_is_stated}
-use Rattle.inline_expand.proofs.RenumberedEntry.{as_many, to_itself}
-use Rattle.inline_expand.proofs.RenumberedMembers.{KeepsNews}
-use Rattle.inline_expand.proofs.RenumberedRows.{Leaves, Moves, frame_moves, operands_fit, stack_moves}
-use Rattle.inline_expand.proofs.RenumberedTable.{row_moves}
-use Rattle.inline_expand.proofs.RenumberedTargets.{falls_same, targets_numbered}
-use Rattle.inline_expand.proofs.RenumberedTypes.{frame_assignable_kept, renumbered}
-use Rattle.inline_expand.proofs.StackRoom.{no_deeper, two_each}
-use Rattle.inline_expand.specs.Alone.{alone_point, alone_points, flat_alone, handlers_at, number_at, number_in, numbered_frame, numbered_type}
-use Rattle.member_link.specs.Bodies.{Body, BodyCatch, BodyPoint, falls_through, flows_on, frame_behind, item_instr, point_row}
-use Rattle.member_link.specs.BodyTyping.{AreInOrder, FlowsInto, GoesInto, GoesToStated, HasFrames, MayGoTo, PointFits, Reaches, RowHolds, frame_at}
-use Rattle.member_link.specs.RowScope.{RowScope}
-use Rattle.member_link.specs.Rows.FrameAssignability.{IsFrameAssignable}
-use Rattle.member_link.specs.Rows.Operands.{under}
-use Rattle.member_link.specs.Rows.Row.{Row, access_aside, row_frame, stack_behind}
-use Rattle.member_link.specs.Rows.Table.{row_of}
-use Rattle.member_link.specs.Scope.{Scope, class_of_new, instructions, row_scope}
+use Rattle.inline_expand.proofs.TypedAloneNumbers.{number_if}
+use Rattle.inline_expand.specs.Alone.{alone_points, flat_alone, number_at, number_in}
+use Rattle.member_link.specs.Scope.{Scope, class_of_new, instructions}
 use Rattle.member_link.specs.Targets.{with_targets}
-use Rattle.same_runs.specs.FlatBodies.{body_of_flat, body_point, body_catch, typed_points}
 use Rattle.same_runs.specs.Flats.{class_of_flat_new, pool_of}
-use Rattle.type_rules.specs.MethodBodies.{body_of, point_of}
 
 module _ (classes : Classes) (s : Scope) (at : MethodAt) (pool_is : pool_of classes at.class ≡ s.class.pool) where
   abbrev made : Instr → Option Name
@@ -78,7 +52,7 @@ module _ (classes : Classes) (s : Scope) (at : MethodAt) (pool_is : pool_of clas
   same_new (placed ∷ instrs) (own ∷ frames) same n = by (placed.at == n) refl (same_new instrs frames (omega (arith, same)) n) where
     by : (here : Bool) → (placed.at == n) ≡ here → made_at instrs frames (number_in instrs n) ≡ new_among n instrs
         → made_at (placed ∷ instrs) (own ∷ frames) (number_in (placed ∷ instrs) n) ≡
-            (if here then made placed.instr else new_among n instrs)
+        (if here then made placed.instr else new_among n instrs)
     by true e below = ap (made_at (placed ∷ instrs) (own ∷ frames)) (number_if placed instrs n true e) ∙ made_same placed.instr
     by false e below = ap (made_at (placed ∷ instrs) (own ∷ frames)) (number_if placed instrs n false e) ∙ below
 

@@ -1,5 +1,5 @@
 -- The numbers of instructions by their offsets, and the points of a method by itself by their numbers.
-use Rattle.std.proofs.Common.{◌≡◌, ◌≢◌, ◌<◌, ◌≤◌, ◌+◌, ℕ, zero, suc, Bool, true, false, List, [], ◌∷◌, length, map, slice_get, Option, Some, None, option_map, if◌then◌else◌, refl, sym, ap, subst, ◌∙◌, arith, eq-eqb}
+use Rattle.std.proofs.Common.{◌≡◌, ◌≢◌, ◌<◌, ◌+◌, ℕ, zero, suc, Bool, true, false, List, [], ◌∷◌, length, map, slice_get, Option, Some, None, if◌then◌else◌, refl, sym, ap, subst, ◌∙◌, arith, eq-eqb}
 use Rattle.std.specs.Prelude.{◌==◌}
 use Rattle.std.specs.List.{AllByRecursion}
 use Rattle.std.proofs.lemmas.Bool.{eqb-true, ne_eqb, false≢true}
@@ -50,8 +50,11 @@ ascend s (p ∷ (q ∷ ps)) order =
     let one : p.at < p.at + p.len = order.0 in
     let same : q.at ≡ p.at + p.len = order.1 in
     let before : p.at < q.at = omega (arith, one, same) in (
-      (before, AllByRecursion-weaker (λ (r : Placed). q.at < r.at) (λ (r : Placed). p.at < r.at)
-          (λ r is. omega (arith, before, is)) ps rest.0),
+      (
+        before,
+        AllByRecursion-weaker (λ (r : Placed). q.at < r.at) (λ (r : Placed). p.at < r.at)
+            (λ r is. omega (arith, before, is)) ps rest.0,
+      ),
       rest,
     )
 
@@ -74,15 +77,15 @@ pub number_of_next : (s : Scope) (instrs : List Placed) → AreInOrder (map (poi
 number_of_next s [] order n placed is = absurd cc
 number_of_next s (first ∷ []) order zero placed is =
     subst (λ (p : Placed). number_in (first ∷ []) (p.at + p.len) ≡ 1) (same_Some first placed is)
-        (number_behind first [] (first.at + first.len) (λ e. omega (arith, order.0, e)))
+    (number_behind first [] (first.at + first.len) (λ e. omega (arith, order.0, e)))
 number_of_next s (first ∷ second ∷ instrs) order zero placed is =
     subst (λ (p : Placed). number_in (first ∷ second ∷ instrs) (p.at + p.len) ≡ 1) (same_Some first placed is)
     (number_behind first (second ∷ instrs) (first.at + first.len) (λ e. omega (arith, order.0, e))
-        ∙ ap suc (number_here second instrs (first.at + first.len) order.1))
+    ∙ ap suc (number_here second instrs (first.at + first.len) order.1))
 number_of_next s (first ∷ instrs) order (suc n) placed is =
     let before : first.at < placed.at = at_index (λ (q : Placed). first.at < q.at) instrs n placed (ascend s (first ∷ instrs) order).0 is in
     number_behind first instrs (placed.at + placed.len) (λ e. omega (arith, before, e))
-        ∙ ap suc (number_of_next s instrs order.2 n placed is)
+    ∙ ap suc (number_of_next s instrs order.2 n placed is)
 
 -- ---- what stands at a number
 
@@ -130,12 +133,12 @@ frame_found s [] frames place frame is = absurd cc
 frame_found s (placed ∷ instrs) [] place frame is = absurd cc
 frame_found s (placed ∷ instrs) (own ∷ frames) place frame is =
     by (placed.at == place) refl is (frame_found s instrs frames place frame) where
-  by : (here : Bool) → (placed.at == place) ≡ here
-      → (if here then Some own else frame_among (map (point_of s) instrs) frames place) ≡ Some frame
-      → (frame_among (map (point_of s) instrs) frames place ≡ Some frame → slice_get frames (number_in instrs place) ≡ Some frame)
+      by : (here : Bool) → (placed.at == place) ≡ here
+          → (if here then Some own else frame_among (map (point_of s) instrs) frames place) ≡ Some frame
+          → (frame_among (map (point_of s) instrs) frames place ≡ Some frame → slice_get frames (number_in instrs place) ≡ Some frame)
           → slice_get (own ∷ frames) (number_in (placed ∷ instrs) place) ≡ Some frame
-  by true e found below = ap (slice_get (own ∷ frames)) (number_if placed instrs place true e) ∙ found
-  by false e found below = ap (slice_get (own ∷ frames)) (number_if placed instrs place false e) ∙ below found
+      by true e found below = ap (slice_get (own ∷ frames)) (number_if placed instrs place true e) ∙ found
+      by false e found below = ap (slice_get (own ∷ frames)) (number_if placed instrs place false e) ∙ below found
 
 module _ (s : Scope) (class : ℕ) where
   pub point_there : (instrs : List Placed) (frames : List Frame) (n : ℕ) (placed : Placed) (frame : Frame)

@@ -1,6 +1,5 @@
 -- Each point of the flat code of a method by itself fits its typed frame.
-use Rattle.std.proofs.Common.{◌≡◌, ◌≤◌, ◌<◌, ◌+◌, ◌*◌, ◌-◌, ℕ, zero, suc, Bool, true, false, List, [], ◌∷◌, ◌++◌, length, map, slice_get, take, Option, Some, None, option_map, if◌then◌else◌, refl, sym, ap, subst, ◌∙◌, arith, inl, inr, append-nil, length-take}
-use Rattle.std.specs.Prelude.{◌==◌, ◌⊎◌, IsSome, option_and_then}
+use Rattle.std.proofs.Common.{◌≡◌, ◌≤◌, ◌<◌, ◌+◌, ℕ, suc, Bool, true, false, List, length, map, slice_get, Option, Some, None, option_map, if◌then◌else◌, refl, sym, ap, subst, ◌∙◌, arith}
 use Rattle.std.specs.List.{AllByRecursion}
 use Rattle.std.proofs.lemmas.List.{length-map}
 use Rattle.std.proofs.lemmas.Option.{same_Some, slice_get-map, slice_get_within}
@@ -8,40 +7,31 @@ use Rattle.class_model.specs.Frames.{depth}
 use Rattle.class_model.specs.Instructions.{targets}
 use Rattle.class_model.specs.Laws.Lists.{at_index}
 use Rattle.class_model.specs.Pool.{Constants}
-use Rattle.class_model.specs.PoolChecks.{class_at}
 use Rattle.class_model.specs.declared.class_file.MethodAt.{MethodAt}
 use Rattle.class_model.specs.declared.frame.Frame.{Frame}
 use Rattle.class_model.specs.declared.frame.VType.{VType}
-use Rattle.class_model.specs.declared.instr.Instr.{Instr}
-use Rattle.class_model.specs.declared.instr.Instr.TheVariants.{Goto, Table, Lookup, Return, Throw, New, If, If2, IfSame, IfNull}
 use Rattle.class_model.specs.declared.instr.Placed.{Placed}
 use Rattle.class_tree.specs.Headers.{Name, Classes}
 use Rattle.flow_code.specs.FlatCode.{FlatCode, point_at}
 use Rattle.flow_code.specs.FlatRoom.{deepest, stack_room}
-use Rattle.flow_code.specs.declared.point.FlatInstr.{FlatInstr}
-use Rattle.flow_code.specs.declared.point.FlatInstr.TheVariants.{Of}
 use Rattle.flow_code.specs.declared.point.Point.{Point}
-use Rattle.inline_expand.proofs.TypedAloneNumbers.{apart, frame_found, is_number, number_if, number_of_next, number_of_placed, point_parts, point_there, points_counted, IsNumber}
-use Rattle.inline_expand.proofs.FlatPlaces.{frame_is_stated}
-use Rattle.inline_expand.proofs.RenumberedEntry.{as_many, to_itself}
+use Rattle.inline_expand.proofs.TypedAloneNumbers.{apart, number_of_next, number_of_placed, point_parts, points_counted}
 use Rattle.inline_expand.proofs.RenumberedMembers.{KeepsNews}
-use Rattle.inline_expand.proofs.RenumberedRows.{Leaves, Moves, frame_moves, operands_fit, stack_moves}
+use Rattle.inline_expand.proofs.RenumberedRows.{Moves, frame_moves, operands_fit, stack_moves}
 use Rattle.inline_expand.proofs.RenumberedTable.{row_moves}
 use Rattle.inline_expand.proofs.RenumberedTargets.{falls_same, targets_numbered}
-use Rattle.inline_expand.proofs.RenumberedTypes.{frame_assignable_kept, renumbered}
-use Rattle.inline_expand.proofs.StackRoom.{no_deeper, two_each}
+use Rattle.inline_expand.proofs.RenumberedTypes.{renumbered}
+use Rattle.inline_expand.proofs.StackRoom.{two_each}
 use Rattle.inline_expand.proofs.TypedAloneEdges.{IsTypedMethod, all_go, counted, few_behind, flows_carried, goes_carried, is_there}
 use Rattle.inline_expand.proofs.TypedAloneHandlers.{all_catch}
 use Rattle.inline_expand.proofs.TypedAloneNews.{new_is_same, some_point}
-use Rattle.inline_expand.specs.Alone.{alone_point, alone_points, flat_alone, handlers_at, number_at, number_in, numbered_frame, numbered_type}
-use Rattle.member_link.specs.Bodies.{Body, BodyCatch, BodyPoint, catch_frame, falls_through, flows_on, frame_behind, item_instr, point_row}
-use Rattle.member_link.specs.BodyTyping.{AreInOrder, FlowsInto, GoesInto, GoesToStated, HasFrames, MayGoTo, PointFits, Reaches, RowHolds, frame_at}
+use Rattle.inline_expand.specs.Alone.{alone_point, flat_alone, handlers_at, number_at, numbered_frame, numbered_type}
+use Rattle.member_link.specs.Bodies.{Body, BodyCatch, BodyPoint, catch_frame, falls_through, flows_on, frame_behind, item_instr}
+use Rattle.member_link.specs.BodyTyping.{FlowsInto, GoesInto, GoesToStated, MayGoTo, PointFits, RowHolds}
 use Rattle.member_link.specs.RowScope.{RowScope}
-use Rattle.member_link.specs.Rows.FrameAssignability.{IsFrameAssignable}
-use Rattle.member_link.specs.Rows.Operands.{under}
-use Rattle.member_link.specs.Rows.Row.{Row, access_aside, row_frame, stack_behind}
+use Rattle.member_link.specs.Rows.Row.{Row, access_aside, stack_behind}
 use Rattle.member_link.specs.Rows.Table.{row_of}
-use Rattle.member_link.specs.Scope.{Scope, class_of_new, instructions, row_scope}
+use Rattle.member_link.specs.Scope.{Scope, instructions, row_scope}
 use Rattle.member_link.specs.Targets.{with_targets}
 use Rattle.same_runs.specs.FlatBodies.{body_of_flat, body_point, body_catch, typed_points}
 use Rattle.same_runs.specs.Flats.{class_of_flat_new, pool_of}
@@ -84,11 +74,11 @@ module _ (classes : Classes) (s : Scope) (at : MethodAt) (frames : List Frame) (
   keeps = record {
     apart = λ there class is other.
         let found = some_point _ (point_at flat (number there)) class
-            (new_is_same classes s at m.pool_is frames (counted classes s at frames m) there ∙ is) in
+        (new_is_same classes s at m.pool_is frames (counted classes s at frames m) there ∙ is) in
         let within : number there < length flat.points = slice_get_within flat.points (number there) found.0 found.1 in
         apart (instructions s) there
-            (subst (λ (n : ℕ). number there < n)
-            (points_counted s at.class (instructions s) frames (counted classes s at frames m)) within) other;
+        (subst (λ (n : ℕ). number there < n)
+        (points_counted s at.class (instructions s) frames (counted classes s at frames m)) within) other;
     class_kept = λ there class is. new_is_same classes s at m.pool_is frames (counted classes s at frames m) there ∙ is;
   }
 
@@ -137,7 +127,7 @@ module _ (classes : Classes) (s : Scope) (at : MethodAt) (frames : List Frame) (
         let within : number placed.at < length (instructions s) =
         subst (λ (k : ℕ). k < length (instructions s)) (sym number_is) (slice_get_within (instructions s) n placed stands) in
         row_moves number (row_scope s) (stack_room flat) news keeps before placed.at
-            (apart (instructions s) placed.at within) placed.instr fits.row.further
+        (apart (instructions s) placed.at within) placed.instr fits.row.further
 
     row_fits : RowHolds scope (numbered_frame number before) (access_aside also)
     row_fits = record {
@@ -155,7 +145,7 @@ module _ (classes : Classes) (s : Scope) (at : MethodAt) (frames : List Frame) (
       deep =
           let many : length (stack_behind (numbered_frame number before) also) ≡ length (stack_behind before row) =
           ap (λ (entries : List VType). length entries) (stack_moves number before row also moves)
-              ∙ length-map (stack_behind before row) (numbered_type number) in
+          ∙ length-map (stack_behind before row) (numbered_type number) in
           let two = two_each (stack_behind (numbered_frame number before) also) in
           omega (arith, left, many, two)
 
@@ -179,16 +169,16 @@ module _ (classes : Classes) (s : Scope) (at : MethodAt) (frames : List Frame) (
     next_flows =
         subst (λ (k : ℕ). FlowsInto body typed k (flows_on here (numbered_frame number before))) next_is
         (subst (FlowsInto body typed (number (placed.at + placed.len))) (sym flows_same)
-            (flows_carried classes s at frames m (placed.at + placed.len) (flows_on (point_of s placed) before) fits.next))
+        (flows_carried classes s at frames m (placed.at + placed.len) (flows_on (point_of s placed) before) fits.next))
 
     targets_fit : AllByRecursion (λ target. MayGoTo body.scope (frame_behind here (numbered_frame number before)) (body.stated target))
         (targets (with_targets number placed.instr))
     targets_fit =
         subst (λ (places : List ℕ). AllByRecursion
-            (λ target. MayGoTo body.scope (frame_behind here (numbered_frame number before)) (body.stated target)) places)
-            (sym (targets_numbered number placed.instr))
+        (λ target. MayGoTo body.scope (frame_behind here (numbered_frame number before)) (body.stated target)) places)
+        (sym (targets_numbered number placed.instr))
         (subst (λ (from : Option Frame). AllByRecursion (λ target. MayGoTo body.scope from (body.stated target))
-            (map number (targets placed.instr))) (sym behind_same)
+        (map number (targets placed.instr))) (sym behind_same)
         (all_go classes s at frames m (frame_behind (point_of s placed) before) (targets placed.instr) targets_go))
 
     -- ---- its handlers
@@ -209,7 +199,7 @@ module _ (classes : Classes) (s : Scope) (at : MethodAt) (frames : List Frame) (
         (body.stated catch.to)) here.catches
     handlers_fit = all_catch s placed.at (λ class to. GoesInto own frames (Some (catch_frame before class)) to)
         (λ catch. MayGoTo body.scope (Some (catch_frame (numbered_frame number before) catch.class))
-            (body.stated catch.to)) may_go s.part.handlers handlers_go
+        (body.stated catch.to)) may_go s.part.handlers handlers_go
 
     -- ---- the whole
 
@@ -227,13 +217,13 @@ module _ (classes : Classes) (s : Scope) (at : MethodAt) (frames : List Frame) (
     fits_flat : (frame : Frame) → PointFits body typed (body_point classes s flat n (alone_point s at.class placed frame))
     fits_flat frame =
         let same : (record scope { pool = pool_of classes at.class }) ≡ scope = ap
-            (λ (pool : Constants). record scope { pool = pool }) m.pool_is in
+        (λ (pool : Constants). record scope { pool = pool }) m.pool_is in
         subst (λ (t : RowScope). PointFits body typed (point_in s placed t n)) (sym same)
-            (subst (λ (k : ℕ). PointFits body typed (point_in s placed scope k)) number_is fits_numbered)
+        (subst (λ (k : ℕ). PointFits body typed (point_in s placed scope k)) number_is fits_numbered)
 
   pub each_fits : (n : ℕ) (point : Point) → slice_get flat.points n ≡ Some point → PointFits body typed (body_point classes s flat n point)
   each_fits n point is =
       let parts = point_parts s at.class (instructions s) frames n point is in
       let fits = fits_at n parts.placed parts.stands in
       subst (λ (p : Point). PointFits body typed (body_point classes s flat n p)) parts.point_is
-          (fits_flat n parts.placed parts.stands fits.0 fits.1 parts.frame)
+      (fits_flat n parts.placed parts.stands fits.0 fits.1 parts.frame)
