@@ -287,7 +287,7 @@ module _ {P Q : Program} {Allocated Entered : ℕ → ℕ → Type 0} {names : N
       rw (old.2, old.3) (ap (λ (shape : Shape). shape_conforms Q shape name) old.4.shape ∙ same_conforms same old.0.shape name)
 
   -- a value of an object of both, by its number
-  value_at : (ones others : List Value) (number : ℕ) → SameValues names ones others
+  pub value_at : (ones others : List Value) (number : ℕ) → SameValues names ones others
       → ((slice_get ones number ≡ None) × (slice_get others number ≡ None))
       ⊎ ((value also : Value) × (slice_get ones number ≡ Some value) × (slice_get others number ≡ Some also) × SameValue names value also)
   value_at [] [] number no_values = inl (refl, refl)
