@@ -158,3 +158,111 @@ module _ {P Q : Program} {Allocated Entered : ℕ → ℕ → Type 0} {names : N
   pub makes_arrays : IsComparison Allocated → (desc : Name) {ones others : List Value} → SameValues names ones others → Both (new_arrays_work one desc ones) (new_arrays_work other desc others)
   makes_arrays compares desc {ones = ones} are =
       subst (λ (counts : Counts). Both (arrays_of_counts one desc (counts_of ones)) (arrays_of_counts other desc counts)) (sym (counts_same are)) (makes_counted compares desc (counts_of ones))
+
+  -- ---- lengths and elements
+
+  length_same : (object also : Object) → SameObject names object also → Both (length_of one (Some object)) (length_of other (Some also))
+  length_same object also alike = by object.shape refl where
+    by : (shape : Shape) → object.shape ≡ shape → Both (length_of one (Some object)) (length_of other (Some also))
+    by (shapes.Folder class) e = rw (e, alike.shape ∙ e) both_end
+    by (shapes.External class interfaces) e = rw (e, alike.shape ∙ e) both_end
+    by (shapes.Array desc len) e = rw (e, alike.shape ∙ e) (gives_value same memories same_int)
+
+  pub lengths : {ones others : List Value} → SameValues names ones others → Both (array_length_work one ones) (array_length_work other others)
+  lengths no_values = both_end
+  lengths (and_value same_int are) = both_end
+  lengths (and_value same_long are) = both_end
+  lengths (and_value same_float are) = both_end
+  lengths (and_value same_double are) = both_end
+  lengths (and_value same_null no_values) = both_raise
+  lengths (and_value same_null (and_value more are)) = both_end
+  lengths (and_value (same_reference is) (and_value more are)) = both_end
+  lengths (and_value (same_reference {reference = reference} {named = named} is) no_values) =
+      let old = memories.heaps.objects reference named is in
+      rw (old.2, old.3) (length_same old.0 old.1 old.4)
+
+  element_same : (number : ℕ) (index : ℤ) (object also : Object) → SameObject names object also → Both (element_of one number index (Some object)) (element_of other number index (Some also))
+  element_same number index object also alike = by object.shape refl where
+    at_index : (desc : Name) (len : ℕ) → object.shape ≡ shapes.Array desc len → takes_array number desc ≡ true → (found : Option ℕ) → index_in index len ≡ found
+        → Both (element_of one number index (Some object)) (element_of other number index (Some also))
+    at_index desc len e takes None found = rw (e, alike.shape ∙ e, takes, found) both_raise
+    at_index desc len e takes (Some at) found = elim (value_at same memories object.values also.values at alike.values) [
+      | inl none ↦ rw (e, alike.shape ∙ e, takes, found, none.0, none.1) both_end
+      | inr there ↦ rw (e, alike.shape ∙ e, takes, found, there.2, there.3) (gives_value same memories there.4)
+    ]
+
+    of_array : (desc : Name) (len : ℕ) → object.shape ≡ shapes.Array desc len → (b : Bool) → takes_array number desc ≡ b
+        → Both (element_of one number index (Some object)) (element_of other number index (Some also))
+    of_array desc len e false takes = rw (e, alike.shape ∙ e, takes) both_end
+    of_array desc len e true takes = at_index desc len e takes (index_in index len) refl
+
+    by : (shape : Shape) → object.shape ≡ shape → Both (element_of one number index (Some object)) (element_of other number index (Some also))
+    by (shapes.Folder class) e = rw (e, alike.shape ∙ e) both_end
+    by (shapes.External class interfaces) e = rw (e, alike.shape ∙ e) both_end
+    by (shapes.Array desc len) e = of_array desc len e (takes_array number desc) refl
+
+  pub loads : (number : ℕ) {ones others : List Value} → SameValues names ones others → Both (load_element_work one number ones) (load_element_work other number others)
+  loads number no_values = both_end
+  loads number (and_value same_int are) = both_end
+  loads number (and_value same_long are) = both_end
+  loads number (and_value same_float are) = both_end
+  loads number (and_value same_double are) = both_end
+  loads number (and_value same_null no_values) = both_end
+  loads number (and_value same_null (and_value same_int no_values)) = both_raise
+  loads number (and_value same_null (and_value same_int (and_value more are))) = both_end
+  loads number (and_value same_null (and_value same_long are)) = both_end
+  loads number (and_value same_null (and_value same_float are)) = both_end
+  loads number (and_value same_null (and_value same_double are)) = both_end
+  loads number (and_value same_null (and_value same_null are)) = both_end
+  loads number (and_value same_null (and_value (same_reference is) are)) = both_end
+  loads number (and_value (same_reference is) no_values) = both_end
+  loads number (and_value (same_reference {reference = reference} {named = named} is) (and_value (same_int {number = index}) no_values)) =
+      let old = memories.heaps.objects reference named is in
+      rw (old.2, old.3) (element_same number index old.0 old.1 old.4)
+  loads number (and_value (same_reference is) (and_value same_int (and_value more are))) = both_end
+  loads number (and_value (same_reference is) (and_value same_long are)) = both_end
+  loads number (and_value (same_reference is) (and_value same_float are)) = both_end
+  loads number (and_value (same_reference is) (and_value same_double are)) = both_end
+  loads number (and_value (same_reference is) (and_value same_null are)) = both_end
+  loads number (and_value (same_reference is) (and_value (same_reference also) are)) = both_end
+
+  component_same : (desc : Name) {value also : Value} → SameValue names value also → fits_component Q other desc also ≡ fits_component P one desc value
+  component_same desc same_int = refl
+  component_same desc same_long = refl
+  component_same desc same_float = refl
+  component_same desc same_double = refl
+  component_same desc same_null = refl
+  component_same desc (same_reference {reference = reference} {named = named} is) = by (component_named (component_text desc)) refl where
+    old : (object also : Object) × (object_at one.heap reference ≡ Some object) × (object_at other.heap named ≡ Some also) × SameObject names object also
+    old = memories.heaps.objects reference named is
+
+    by : (found : Option Name) → component_named (component_text desc) ≡ found → fits_component Q other desc (values.Ref named) ≡ fits_component P one desc (values.Ref reference)
+    by None e = rw (e) refl
+    by (Some name) e = rw (e, old.2, old.3) (ap (λ (shape : Shape). is_instance Q shape name) old.4.shape ∙ same_instance same old.0.shape name)
+
+  put_same : (number : ℕ) (reference named : ℕ) (index : ℤ) {value also : Value} (object object_also : Object) → names reference ≡ Some named → SameValue names value also → SameObject names object object_also
+      → Both (put_element P one number reference index value (Some object)) (put_element Q other number named index also (Some object_also))
+  put_same number reference named index {value = value} {also = also} object object_also is alike_value alike = by object.shape refl where
+    fitting : (desc : Name) (len at : ℕ) → object.shape ≡ shapes.Array desc len → takes_array number desc ≡ true → index_in index len ≡ Some at → (b : Bool) → fits_component P one desc value ≡ b
+        → Both (put_element P one number reference index value (Some object)) (put_element Q other number named index also (Some object_also))
+    fitting desc len at e takes found false fits = rw (e, alike.shape ∙ e, takes, found, fits, component_same desc alike_value ∙ fits) both_raise
+    fitting desc len at e takes found true fits = rw (e, alike.shape ∙ e, takes, found, fits, component_same desc alike_value ∙ fits)
+        (both_give names (names_themselves names)
+        (memories_still (names_themselves names)
+        (keeps_all one.heap (with_value one.heap reference at (narrowed (type_of (component_text desc)) value)) (value_constants one.heap reference at (narrowed (type_of (component_text desc)) value)))
+        (both_write memories.heaps reference named at is (narrowed_same (type_of (component_text desc)) alike_value)) memories) no_values)
+
+    at_index : (desc : Name) (len : ℕ) → object.shape ≡ shapes.Array desc len → takes_array number desc ≡ true → (found : Option ℕ) → index_in index len ≡ found
+        → Both (put_element P one number reference index value (Some object)) (put_element Q other number named index also (Some object_also))
+    at_index desc len e takes None found = rw (e, alike.shape ∙ e, takes, found) both_raise
+    at_index desc len e takes (Some at) found = fitting desc len at e takes found (fits_component P one desc value) refl
+
+    of_array : (desc : Name) (len : ℕ) → object.shape ≡ shapes.Array desc len → (b : Bool) → takes_array number desc ≡ b
+        → Both (put_element P one number reference index value (Some object)) (put_element Q other number named index also (Some object_also))
+    of_array desc len e false takes = rw (e, alike.shape ∙ e, takes) both_end
+    of_array desc len e true takes = at_index desc len e takes (index_in index len) refl
+
+    by : (shape : Shape) → object.shape ≡ shape → Both (put_element P one number reference index value (Some object)) (put_element Q other number named index also (Some object_also))
+    by (shapes.Folder class) e = rw (e, alike.shape ∙ e) both_end
+    by (shapes.External class interfaces) e = rw (e, alike.shape ∙ e) both_end
+    by (shapes.Array desc len) e = of_array desc len e (takes_array number desc) refl
