@@ -266,3 +266,30 @@ module _ {P Q : Program} {Allocated Entered : ℕ → ℕ → Type 0} {names : N
     by (shapes.Folder class) e = rw (e, alike.shape ∙ e) both_end
     by (shapes.External class interfaces) e = rw (e, alike.shape ∙ e) both_end
     by (shapes.Array desc len) e = of_array desc len e (takes_array number desc) refl
+
+  into_same : (number : ℕ) (index : ℤ) {array array_also value also : Value} → SameValue names array array_also → SameValue names value also → stores_value number value ≡ true
+      → Both (store_element_work P one number (array ∷ values.Int index ∷ value ∷ [])) (store_element_work Q other number (array_also ∷ values.Int index ∷ also ∷ []))
+  into_same number index same_int alike fits = rw (fits, stores_same number alike ∙ fits) both_end
+  into_same number index same_long alike fits = rw (fits, stores_same number alike ∙ fits) both_end
+  into_same number index same_float alike fits = rw (fits, stores_same number alike ∙ fits) both_end
+  into_same number index same_double alike fits = rw (fits, stores_same number alike ∙ fits) both_end
+  into_same number index same_null alike fits = rw (fits, stores_same number alike ∙ fits) both_raise
+  into_same number index (same_reference {reference = reference} {named = named} is) alike fits =
+      let old = memories.heaps.objects reference named is in
+      rw (fits, stores_same number alike ∙ fits, old.2, old.3) (put_same number reference named index old.0 old.1 is alike old.4)
+
+  pub stores : (number : ℕ) {ones others : List Value} → SameValues names ones others → Both (store_element_work P one number ones) (store_element_work Q other number others)
+  stores number no_values = both_end
+  stores number (and_value array no_values) = both_end
+  stores number (and_value array (and_value same_long are)) = both_end
+  stores number (and_value array (and_value same_float are)) = both_end
+  stores number (and_value array (and_value same_double are)) = both_end
+  stores number (and_value array (and_value same_null are)) = both_end
+  stores number (and_value array (and_value (same_reference is) are)) = both_end
+  stores number (and_value array (and_value same_int no_values)) = both_end
+  stores number (and_value array (and_value same_int (and_value value (and_value more are)))) = both_end
+  stores number (and_value {one = first} {other = first_also} array (and_value (same_int {number = index}) (and_value {one = value} {other = also} alike no_values))) = by (stores_value number value) refl where
+    by : (b : Bool) → stores_value number value ≡ b
+        → Both (store_element_work P one number (first ∷ values.Int index ∷ value ∷ [])) (store_element_work Q other number (first_also ∷ values.Int index ∷ also ∷ []))
+    by true fits = into_same number index array alike fits
+    by false fits = rw (fits, stores_same number alike ∙ fits) both_end
