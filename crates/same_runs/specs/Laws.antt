@@ -14,3 +14,4 @@ pub mod OperandWork
 pub mod ArithmeticWork
 pub mod FieldWork
 pub mod ArrayWork
+pub mod Numbering
