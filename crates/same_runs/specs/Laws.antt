@@ -15,3 +15,4 @@ pub mod ArithmeticWork
 pub mod FieldWork
 pub mod ArrayWork
 pub mod Numbering
+pub mod Unwinding
