@@ -13,3 +13,4 @@ pub mod Statics
 pub mod OperandWork
 pub mod ArithmeticWork
 pub mod FieldWork
+pub mod CallWork
