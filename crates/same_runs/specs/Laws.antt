@@ -16,3 +16,4 @@ pub mod FieldWork
 pub mod ArrayWork
 pub mod Numbering
 pub mod Unwinding
+pub mod CallWork

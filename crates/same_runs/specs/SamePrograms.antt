@@ -1,6 +1,6 @@
 -- Programs that are the same but for the code of methods, for flags of fields other than static, and for instance initialisers that classes of
 -- the second have besides; and operations of theirs that do the same.
-use Rattle.std.specs.Prelude.{◌≡◌, ◌++◌, List, [], ◌∷◌, map, is_some, Option, Some, IsSome, IsTrue, IsFalse}
+use Rattle.std.specs.Prelude.{◌≡◌, ◌≢◌, ◌++◌, List, [], ◌∷◌, map, is_some, Option, Some, IsSome, IsTrue, IsFalse}
 use Rattle.std.specs.List.{AllByRecursion}
 use Rattle.class_model.specs.Members.{has, STATIC}
 use Rattle.class_model.specs.Names.{init}
@@ -12,8 +12,9 @@ use Rattle.machine_values.specs.declared.value.Value.TheVariants.{Ref}
 use Rattle.member_link.specs.Machine.Acting.{is_handled}
 use Rattle.member_link.specs.Machine.FieldSteps.{is_barred}
 use Rattle.member_link.specs.Machine.Ops.{Op, push_value, put_static, put_field, call_special}
-use Rattle.member_link.specs.Machine.Programs.{Program, RunClass, RunMethod, code_run, method_of}
+use Rattle.member_link.specs.Machine.Programs.{Links, Program, RunClass, RunMethod, chosen, code_run, method_of}
 use Rattle.member_link.specs.References.{Reference}
+use Rattle.member_link.specs.declared.selection.CallForm.{CallForm}
 
 -- ---- classes
 
@@ -66,10 +67,19 @@ SameClasses P [] [] = Unit {0}
 SameClasses P (one ∷ ones) (other ∷ others) = SameClass P one other × SameClasses P ones others
 SameClasses P ones others = ⊥
 
+-- Links find no instance initialiser, and choose none for another method: it is looked up in the named class alone.
+pub record LinksNoInit (links : Links) : Type 0 where
+  pub found : (r found : Reference) → links.method r ≡ Some found → found.name ≢ init
+  pub selected : (receiver : Name) (r found : Reference) (form : CallForm)
+      → r.name ≢ init
+      → links.select receiver r form ≡ chosen found
+      → found.name ≢ init
+
 pub record SamePrograms (P Q : Program) : Type 0 where
   pub classes : SameClasses P P.classes Q.classes
   pub library : Q.library ≡ P.library
   pub links : Q.links ≡ P.links
+  pub no_init : LinksNoInit P.links
 
 -- ---- operations
 
