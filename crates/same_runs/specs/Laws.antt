@@ -16,4 +16,5 @@ pub mod FieldWork
 pub mod ArrayWork
 pub mod Numbering
 pub mod Unwinding
+pub mod Work
 pub mod CallWork
