@@ -10,6 +10,8 @@ pub mod Layouts
 pub mod Methods
 pub mod Shapes
 pub mod Statics
+pub mod Written
+pub mod Starts
 pub mod OperandWork
 pub mod ArithmeticWork
 pub mod FieldWork
