@@ -19,4 +19,5 @@ pub mod ArrayWork
 pub mod Numbering
 pub mod Unwinding
 pub mod Work
+pub mod Begun
 pub mod CallWork
