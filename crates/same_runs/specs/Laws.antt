@@ -20,4 +20,5 @@ pub mod Numbering
 pub mod Unwinding
 pub mod Work
 pub mod Begun
+pub mod BegunAlone
 pub mod CallWork

@@ -26,7 +26,7 @@ use Rattle.same_runs.specs.Laws.Statics.{KeepsConstants, as_begun_still, keeps_m
 
 -- ---- a class is marked
 
-pub marked : Memory → ℕ → Memory
+abbrev pub marked : Memory → ℕ → Memory
 marked memory class = record memory { begun = memory.begun ++ class ∷ [] }
 
 any_more : (begun : List ℕ) (class at : ℕ) → list_any (λ (other : ℕ). other == at) (begun ++ class ∷ []) ≡ (list_any (λ (other : ℕ). other == at) begun || (class == at))
@@ -41,7 +41,6 @@ any_more (first ∷ begun) class at = by (first == at) (any_more begun class at)
   by false rest = rest
 
 pub begun_where_marked : (memory : Memory) (class at : ℕ) → is_begun (marked memory class) at ≡ (is_begun memory at || (class == at))
-unfolding marked
 begun_where_marked memory class at = any_more memory.begun class at
 
 pub marked_itself : (memory : Memory) (class : ℕ) → IsTrue (is_begun (marked memory class) class)
@@ -67,17 +66,17 @@ unmarked memory class at none = (
   by true e = absurd (false≢true (sym none ∙ marked_still memory class at e))
 
 -- what is begun before a class stays begun
-first_still : (P : Program) (before after : Memory) (class : ℕ) → ((at : ℕ) → IsTrue (is_begun before at) → IsTrue (is_begun after at)) → HasFirstBegun P before class → HasFirstBegun P after class
+pub first_still : (P : Program) (before after : Memory) (class : ℕ) → ((at : ℕ) → IsTrue (is_begun before at) → IsTrue (is_begun after at)) → HasFirstBegun P before class → HasFirstBegun P after class
 first_still P before after class more first = λ found name number at is is_name is_number. more at (first found name number at is is_name is_number)
 
-start_begun : (R : Program) (class at : ℕ) (memory : Memory) (start : StaticStart) → is_begun (with_start R class memory start) at ≡ is_begun memory at
+pub start_begun : (R : Program) (class at : ℕ) (memory : Memory) (start : StaticStart) → is_begun (with_start R class memory start) at ≡ is_begun memory at
 start_begun R class at memory start = by start.value refl where
   by : (value : StartValue) → start.value ≡ value → is_begun (with_start R class memory start) at ≡ is_begun memory at
   by (start_value value) is = rw (is) refl
   by (start_string text) is = rw (is) refl
 
 module _ {P Q : Program} (same : SamePrograms P Q) where
-  same_starts : (class : ℕ) → starts_of Q class ≡ starts_of P class
+  pub same_starts : (class : ℕ) → starts_of Q class ≡ starts_of P class
   same_starts class = by (slice_get P.classes class) (slice_get Q.classes class) refl refl (at_number same class) where
     by : (one other : Option RunClass) → slice_get P.classes class ≡ one → slice_get Q.classes class ≡ other → SameAt P one other → starts_of Q class ≡ starts_of P class
     by None None is is_also at_none = rw (is, is_also) refl
@@ -85,7 +84,7 @@ module _ {P Q : Program} (same : SamePrograms P Q) where
     by (Some one) None is is_also impossible = elim impossible [ ]
     by (Some one) (Some other) is is_also (at_both alike) = rw (is, is_also) alike.starts
 
-  plain_starts : (class : ℕ) → AllByRecursion IsPlainStart (starts_of P class)
+  pub plain_starts : (class : ℕ) → AllByRecursion IsPlainStart (starts_of P class)
   plain_starts class = by (slice_get P.classes class) (slice_get Q.classes class) refl refl (at_number same class) where
     by : (one other : Option RunClass) → slice_get P.classes class ≡ one → slice_get Q.classes class ≡ other → SameAt P one other → AllByRecursion IsPlainStart (starts_of P class)
     by None None is is_also at_none = rw (is) tt
@@ -98,7 +97,6 @@ module _ {P Q : Program} {Allocated Entered : ℕ → ℕ → Type 0} (same : Sa
 
   mark_both : {names : Names} {now : List ℕ} {one other : Memory} (class : ℕ) → IsFalse (is_begun one class) → SameMemories P Allocated Entered names now one other
       → SameMemories P Allocated Entered names now (marked one class) (marked other class)
-  unfolding marked
   mark_both {names = names} {now = now} {one = one} {other = other} class none memories = record {
     heaps = memories.heaps;
     statics = record {
@@ -182,7 +180,6 @@ module _ {P Q : Program} {Allocated Entered : ℕ → ℕ → Type 0} (same : Sa
       → IsFalse (is_begun one class)
       → SameMemories P Allocated Entered names [] one other
       → (more : Names) × NamesMore names more × SameMemories P Allocated Entered more [] (begun_memory P class one) (begun_memory Q class other)
-  unfolding marked
   begin_both {names = names} {one = one} {other = other} class none memories =
       subst (λ (starts : List StaticStart). (more : Names) × NamesMore names more × SameMemories P Allocated Entered more [] (begun_memory P class one) (with_starts Q class (marked other class) starts))
       (sym (same_starts same class))

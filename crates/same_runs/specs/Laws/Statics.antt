@@ -39,12 +39,12 @@ start_same before after (start_string text) keeps some = by (kept_in before.cons
   by None is some = absurd (false≢true some)
   by (Some reference) is some = rw (is, keeps.keeps (Str text) reference is) refl
 
-kept_still : (before after : Heap) (starts : List StaticStart) → KeepsConstants before after → AllByRecursion (IsKeptStart before.constants) starts → AllByRecursion (IsKeptStart after.constants) starts
+pub kept_still : (before after : Heap) (starts : List StaticStart) → KeepsConstants before after → AllByRecursion (IsKeptStart before.constants) starts → AllByRecursion (IsKeptStart after.constants) starts
 kept_still before after [] keeps all = tt
 kept_still before after (start ∷ starts) keeps all =
     (subst IsSome (sym (start_same before after start.value keeps all.0)) all.0, kept_still before after starts keeps all.1)
 
-started_same : (P : Program) (class field : ℕ) (before after : Heap) (starts : List StaticStart) → KeepsConstants before after → AllByRecursion (IsKeptStart before.constants) starts
+pub started_same : (P : Program) (class field : ℕ) (before after : Heap) (starts : List StaticStart) → KeepsConstants before after → AllByRecursion (IsKeptStart before.constants) starts
     → started P class after.constants starts field ≡ started P class before.constants starts field
 started_same P class field before after [] keeps all = refl
 started_same P class field before after (start ∷ starts) keeps all =
