@@ -14,3 +14,4 @@ pub mod OperandWork
 pub mod ArithmeticWork
 pub mod FieldWork
 pub mod CallWork
+pub mod NoInitLinks
