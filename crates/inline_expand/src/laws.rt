@@ -36,4 +36,9 @@ pub fn a_flat_code_alone_is_typed()
         → IsFlatAlone classes typed at flat
         → scope_at classes at ≡ Some s
         → TypesBody (body_of_flat classes s flat) (typed_points flat) }
-{}
+{
+    type_rules::a_typed_folder_types_each_method();
+    type_rules::a_method_stands_in_order();
+    type_rules::frames_type_a_body_by_its_places();
+    type_rules::a_typed_body_goes_to_stated_frames();
+}

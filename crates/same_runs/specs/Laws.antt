@@ -10,8 +10,14 @@ pub mod Layouts
 pub mod Methods
 pub mod Shapes
 pub mod Statics
+pub mod Written
+pub mod Starts
 pub mod OperandWork
 pub mod ArithmeticWork
 pub mod FieldWork
+pub mod ArrayWork
+pub mod Numbering
+pub mod Unwinding
+pub mod Work
 pub mod CallWork
 pub mod NoInitLinks

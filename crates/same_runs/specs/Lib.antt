@@ -6,4 +6,5 @@ pub mod Renamings
 pub mod SameMemories
 pub mod SamePrograms
 pub mod SameCompletions
+pub mod SameFrames
 pub mod Laws

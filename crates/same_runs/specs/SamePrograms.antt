@@ -12,7 +12,7 @@ use Rattle.machine_values.specs.declared.value.Value.TheVariants.{Ref}
 use Rattle.member_link.specs.Machine.Acting.{is_handled}
 use Rattle.member_link.specs.Machine.FieldSteps.{is_barred}
 use Rattle.member_link.specs.Machine.Ops.{Op, push_value, put_static, put_field, call_special}
-use Rattle.member_link.specs.Machine.Programs.{Links, Program, RunClass, RunMethod, chosen, code_run, method_of}
+use Rattle.member_link.specs.Machine.Programs.{Links, Program, RunClass, RunMethod, StartValue, StaticStart, chosen, code_run, method_of, start_string, start_value}
 use Rattle.member_link.specs.References.{Reference}
 use Rattle.member_link.specs.declared.selection.CallForm.{CallForm}
 
@@ -45,6 +45,18 @@ pub record IsAdded (P : Program) (class : RunClass) (method : RunMethod) : Type 
       class.methods
   pub unhandled : IsFalse (is_handled P class.header.name method.member.desc)
 
+-- a value by itself names no object
+abbrev pub IsNoReference : Value → Type 0
+IsNoReference (Ref reference) = ⊥
+IsNoReference value = Unit {0}
+
+-- a static field begins with a value by itself, or with a string
+abbrev pub IsPlainStart : StaticStart → Type 0
+IsPlainStart start = is_plain start.value where
+  is_plain : StartValue → Type 0
+  is_plain (start_value value) = IsNoReference value
+  is_plain (start_string text) = Unit {0}
+
 pub record SameClass (P : Program) (one other : RunClass) : Type 0 where
   pub name : other.header.name ≡ one.header.name
   pub flags : other.header.flags ≡ one.header.flags
@@ -52,6 +64,7 @@ pub record SameClass (P : Program) (one other : RunClass) : Type 0 where
   pub interfaces : other.header.interfaces ≡ one.header.interfaces
   pub fields : SameFields one.header.fields other.header.fields
   pub starts : other.starts ≡ one.starts
+  pub plain_starts : AllByRecursion IsPlainStart one.starts
   pub handles : other.handles ≡ one.handles
   pub members : map (λ method. method.member) one.methods ≡ one.header.methods
   pub same : List RunMethod
@@ -89,11 +102,6 @@ SameBar P Q r one other =
     (field : Reference)
     → P.links.field r ≡ Some field
     → is_barred Q field other ≡ is_barred P field one
-
--- a value by itself names no object
-abbrev pub IsNoReference : Value → Type 0
-IsNoReference (Ref reference) = ⊥
-IsNoReference value = Unit {0}
 
 -- an operation that is in both: where it stores, it is barred in both or in none; an instance initialiser that it calls is declared; and
 -- what it pushes by itself is no reference

@@ -377,3 +377,14 @@ kept_by_made heap constant also reference is = by (kept_in heap.constants consta
   by : (found : Option ℕ) → kept_in heap.constants constant ≡ found → kept_in (constant_made heap constant).heap.constants also ≡ Some reference
   by (Some at) there = ap (λ (m : Made). kept_in m.heap.constants also) (made_kept heap constant at there) ∙ is
   by None none = ap (λ (m : Made). kept_in m.heap.constants also) (made_new heap constant none) ∙ kept_before heap.constants also constant (length heap.objects) reference is
+
+-- a constant that is made is kept
+pub made_is_kept : (heap : Heap) (constant : Constant) → kept_in (constant_made heap constant).heap.constants constant ≡ Some (constant_made heap constant).reference
+unfolding keeping
+made_is_kept heap constant = by (kept_in heap.constants constant) refl where
+  by : (found : Option ℕ) → kept_in heap.constants constant ≡ found → kept_in (constant_made heap constant).heap.constants constant ≡ Some (constant_made heap constant).reference
+  by (Some at) there =
+      ap (λ (m : Made). kept_in m.heap.constants constant) (made_kept heap constant at there) ∙ there ∙ ap (λ (m : Made). Some m.reference) (sym (made_kept heap constant at there))
+  by None none =
+      ap (λ (m : Made). kept_in m.heap.constants constant) (made_new heap constant none) ∙ kept_last heap.constants constant (length heap.objects) none
+      ∙ ap (λ (m : Made). Some m.reference) (sym (made_new heap constant none))

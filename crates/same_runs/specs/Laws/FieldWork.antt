@@ -38,6 +38,7 @@ use Rattle.same_runs.specs.Laws.OperandWork.{gives_value, itself, kind_same}
 use Rattle.same_runs.specs.Laws.Programs.{same_field_desc, same_name, same_number, same_static_field, same_static_number}
 use Rattle.same_runs.specs.Laws.Shapes.{same_conforms}
 use Rattle.same_runs.specs.Laws.Statics.{keeps_all, memories_counted, memories_still}
+use Rattle.same_runs.specs.Laws.Written.{written_elsewhere, written_here}
 
 -- ---- values
 
@@ -164,31 +165,7 @@ module _ {P Q : Program} {Allocated Entered : ℕ → ℕ → Type 0} {names : N
         (λ number is begun. got_static_same field (folder_number P field.class)
         (λ also is_also. subst (λ (n : ℕ). IsTrue (is_begun other n)) (same_Some number also (sym is ∙ is_also)) begun))))
 
-  -- what is written is found, and all else is as it was
-  written_here : (statics : List StaticValue) (class field : ℕ) (value : Value) → written_static (put_static_in statics class field value) class field ≡ Some value
-  written_here [] class field value = rw (eq-eqb class class refl, eq-eqb field field refl) refl
-  written_here (first ∷ statics) class field value = by (is_static_of class field first) refl (written_here statics class field value) where
-    by : (b : Bool) → is_static_of class field first ≡ b → written_static (put_static_in statics class field value) class field ≡ Some value
-        → written_static (if b then record first { value = value } ∷ statics else first ∷ put_static_in statics class field value) class field ≡ Some value
-    by true e rest = rw (e) refl
-    by false e rest = rw (e) rest
-
-  written_elsewhere : (statics : List StaticValue) (class field : ℕ) (value : Value) (at index : ℕ)
-      → ((class == at) && (field == index)) ≡ false
-      → written_static (put_static_in statics class field value) at index ≡ written_static statics at index
-  written_elsewhere [] class field value at index differ = rw (differ) refl
-  written_elsewhere (first ∷ statics) class field value at index differ = by (is_static_of class field first) refl (written_elsewhere statics class field value at index differ) where
-    by : (b : Bool) → is_static_of class field first ≡ b → written_static (put_static_in statics class field value) at index ≡ written_static statics at index
-        → written_static (if b then record first { value = value } ∷ statics else first ∷ put_static_in statics class field value) at index ≡ written_static (first ∷ statics) at index
-    by false e rest = rw (rest) refl
-    by true e rest =
-        let parts = and_parts (first.class == class) (first.field == field) e in
-        let other_one : is_static_of at index first ≡ false =
-            ap (λ (n : ℕ). (n == at) && (first.field == index)) (eqb-true first.class class parts.0)
-            ∙ ap (λ (n : ℕ). (class == at) && (n == index)) (eqb-true first.field field parts.1) ∙ differ in
-        rw (other_one) refl
-
-  put_both : (class field : ℕ) {value also : Value} → IsTrue (is_begun other class) → SameValue names value also → SameMemories P Allocated Entered names [] (with_static one class field value) (with_static other class field also)
+  pub put_both : (class field : ℕ) {value also : Value} → IsTrue (is_begun other class) → SameValue names value also → SameMemories P Allocated Entered names [] (with_static one class field value) (with_static other class field also)
   put_both class field {value = value} {also = also} begun is = record {
     heaps = memories.heaps;
     statics = record {
@@ -287,7 +264,7 @@ module _ {P Q : Program} {Allocated Entered : ℕ → ℕ → Type 0} {names : N
       rw (old.2, old.3) (ap (λ (shape : Shape). shape_conforms Q shape name) old.4.shape ∙ same_conforms same old.0.shape name)
 
   -- a value of an object of both, by its number
-  value_at : (ones others : List Value) (number : ℕ) → SameValues names ones others
+  pub value_at : (ones others : List Value) (number : ℕ) → SameValues names ones others
       → ((slice_get ones number ≡ None) × (slice_get others number ≡ None))
       ⊎ ((value also : Value) × (slice_get ones number ≡ Some value) × (slice_get others number ≡ Some also) × SameValue names value also)
   value_at [] [] number no_values = inl (refl, refl)

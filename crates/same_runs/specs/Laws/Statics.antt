@@ -32,7 +32,7 @@ keeps_made heap constant = record { keeps = kept_by_made heap constant }
 
 -- ---- what a class was begun with
 
-start_same : (before after : Heap) (value : StartValue) → KeepsConstants before after → IsSome (start_in before.constants value) → start_in after.constants value ≡ start_in before.constants value
+pub start_same : (before after : Heap) (value : StartValue) → KeepsConstants before after → IsSome (start_in before.constants value) → start_in after.constants value ≡ start_in before.constants value
 start_same before after (start_value value) keeps some = refl
 start_same before after (start_string text) keeps some = by (kept_in before.constants (Str text)) refl some where
   by : (found : Option ℕ) → kept_in before.constants (Str text) ≡ found → IsSome (option_map values.Ref found) → option_map values.Ref (kept_in after.constants (Str text)) ≡ option_map values.Ref (kept_in before.constants (Str text))
