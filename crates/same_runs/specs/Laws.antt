@@ -22,3 +22,4 @@ pub mod Work
 pub mod Begun
 pub mod BegunAlone
 pub mod CallWork
+pub mod NoInitLinks
