@@ -7,4 +7,5 @@ pub mod SameMemories
 pub mod SamePrograms
 pub mod SameCompletions
 pub mod SameFrames
+pub mod SameWorlds
 pub mod Laws
