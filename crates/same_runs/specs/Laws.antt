@@ -23,3 +23,4 @@ pub mod Begun
 pub mod BegunAlone
 pub mod CallWork
 pub mod NoInitLinks
+pub mod Performed

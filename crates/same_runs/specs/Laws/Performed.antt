@@ -1,0 +1,114 @@
+-- What an operation comes to in both runs changes both worlds alike: calls, throwing, and what the library sees of it.
+use Rattle.std.proofs.Common.{◌≡◌, ◌≢◌, ◌&&◌, not, ℕ, Bool, true, false, List, [], ◌∷◌, ◌++◌, Option, Some, None, IsTrue, IsFalse, if◌then◌else◌, refl, sym, ap, subst, ◌∙◌, inl, inr, ◌⊎◌}
+use Rattle.class_model.specs.declared.class_file.MethodAt.{MethodAt}
+use Rattle.class_model.specs.declared.header.Member.{Member}
+use Rattle.class_tree.specs.Headers.{Name}
+use Rattle.machine_values.specs.Frames.{MethodState}
+use Rattle.machine_values.specs.Heaps.{Heap, Made, constant_made, entered, external}
+use Rattle.machine_values.specs.declared.event.Event.{Event}
+use Rattle.machine_values.specs.declared.event.EventKind.{EventKind}
+use Rattle.machine_values.specs.declared.event.EventKind.TheVariants as kinds
+use Rattle.machine_values.specs.declared.frame.RunFrame.{RunFrame}
+use Rattle.machine_values.specs.declared.frame.RunFrame.TheVariants.{Library, Beginning, Method}
+use Rattle.machine_values.specs.declared.object.Constant.TheVariants.{Class}
+use Rattle.machine_values.specs.declared.object.Shape.TheVariants.{External}
+use Rattle.machine_values.specs.declared.value.Value.{Value}
+use Rattle.member_link.specs.Machine.Completions.{Asked, Completion, begins, calls, ends}
+use Rattle.member_link.specs.Machine.ObjectSteps.{with_entered}
+use Rattle.member_link.specs.Machine.Performing.{Landing, Locked, Locking, no_lock, receiver_lock, class_lock, called, landed, locked, locked_by, locking_of, perform, raised, thrown, thrown_in}
+use Rattle.member_link.specs.Machine.Programs.{Program, RunMethod, name_of_class, run_method}
+use Rattle.member_link.specs.Machine.Showing.{Numbered, showing}
+use Rattle.member_link.specs.Machine.Worlds.{Halt, Memory, World, going, stopped, faulted, init_threw, array_too_long, stuck, is_begun, with_heap}
+use Rattle.same_runs.specs.Renamings.{Names, NamesMore, SameHeld, none_held, one_held, SameValues, no_values, and_value, same_int, same_long, same_float, same_double, same_null, same_reference}
+use Rattle.same_runs.specs.SameCompletions.{SameCompletions, both_give, both_raise, both_throw, both_begin, both_call, both_ask, both_end, begins_alone}
+use Rattle.same_runs.specs.SameFrames.{SameLanding, both_catch, both_leave, both_nowhere, both_reach_library, Unwinds}
+use Rattle.same_runs.specs.SameMemories.{SameMemories}
+use Rattle.same_runs.specs.SamePrograms.{SamePrograms}
+use Rattle.same_runs.specs.SameWorlds.{Comparison, Compares, Goes, SameEvent, SameEvents, no_events, and_event, SameSeen, SameAfter, both_go, both_landed, both_over}
+use Rattle.same_runs.specs.Laws.Begun.{begin_both}
+use Rattle.same_runs.specs.Laws.Constants.{both_have}
+use Rattle.same_runs.specs.Laws.Heaps.{both_allocate, both_enter, entered_constants, new_unnamed}
+use Rattle.same_runs.specs.Laws.Methods.{same_run_method}
+use Rattle.same_runs.specs.Laws.Names.{more_and_more, named_here, named_too, named_too_more, names_themselves, references_more, values_more}
+use Rattle.same_runs.specs.Laws.Numbering.{SameNumbered, asked_numbered, monitors_same, reference_numbered}
+use Rattle.same_runs.specs.Laws.Programs.{same_name}
+use Rattle.same_runs.specs.Laws.Statics.{keeps_all, keeps_made, memories_counted, memories_still}
+use Rattle.same_runs.specs.Laws.Unwinding.{unwind_same}
+
+-- ---- what was seen
+
+-- what was seen is the same under more names
+pub seen_more : {c : Comparison} {names more : Names} {first second : World} → NamesMore names more → SameSeen c names first second → SameSeen c more first second
+seen_more grows seen = record { known = references_more grows seen.known; events = seen.events }
+
+-- one event more on both sides
+pub one_event_more : {c : Comparison} {ones others : List Event} {one other : Event} → SameEvents c ones others → SameEvent c one other → SameEvents c (ones ++ one ∷ []) (others ++ other ∷ [])
+one_event_more no_events last = and_event last no_events
+one_event_more (and_event here rest) last = and_event here (one_event_more rest last)
+
+module _ {P Q : Program} {c : Comparison} (same : SamePrograms P Q) (compares : Compares c) where
+  -- the library sees the same event in both
+  pub shown_same :
+      {names : Names} (first second : World) {kind also : Numbered EventKind}
+      → SameMemories P c.allocated c.entered names [] first.memory second.memory
+      → SameEvents c first.events second.events
+      → SameNumbered EventKind names kind also
+      → SameSeen c names (showing first kind) (showing second also)
+  shown_same first second memories events number = record {
+    known = number.known;
+    events =
+        one_event_more events (record {
+          kind = number.seen;
+          monitors = monitors_same same memories.heaps number.known;
+          allocations = compares.shows_allocated first.memory.allocations second.memory.allocations memories.allocations;
+          entries = compares.shows_entered first.memory.entries second.memory.entries memories.entries;
+        });
+  }
+
+  -- ---- throwing
+
+  -- an object of both lands at the same place
+  pub landed_same :
+      {names more : Names} {first second : World} {landing also : Landing} (reference named : ℕ)
+      → NamesMore names more
+      → more reference ≡ Some named
+      → SameSeen c names first second
+      → first.halt ≡ going
+      → second.halt ≡ going
+      → SameLanding P c.allocated c.entered c.frames c.lands more landing also
+      → SameAfter P c names (landed P first reference landing) (landed Q second named also)
+  landed_same {more = more} reference named grows is seen goes goes_also (both_catch memories lands) =
+      both_landed more grows lands memories (record { known = references_more grows seen.known; events = seen.events }) goes goes_also
+  landed_same {more = more} {first = first} {second = second} reference named grows is seen goes goes_also
+      (both_reach_library {memory = memory} {also = memory_also} {ones = ones} {others = others} memories frames) =
+          let number = reference_numbered same memories.heaps (references_more grows seen.known) reference named is in
+          both_go more grows frames memories
+          (shown_same (record first { memory = memory; frames = Library None ∷ ones }) (record second { memory = memory_also; frames = Library None ∷ others })
+          memories seen.events (record { seen = ap kinds.Threw number.seen; known = number.known })) goes goes_also
+  landed_same {more = more} reference named grows is seen goes goes_also (both_leave memories) =
+      both_over more (record { known = references_more grows seen.known; events = seen.events }) (λ impossible. cc impossible) refl
+  landed_same {more = more} reference named grows is seen goes goes_also both_nowhere =
+      both_over more (record { known = references_more grows seen.known; events = seen.events }) (λ impossible. cc impossible) refl
+
+  -- an object of both is thrown
+  pub thrown_same :
+      {names more : Names} {first second : World} {ones others : List RunFrame} (reference named : ℕ) (one other : Memory)
+      → NamesMore names more
+      → more reference ≡ Some named
+      → SameSeen c names first second
+      → first.halt ≡ going
+      → second.halt ≡ going
+      → SameMemories P c.allocated c.entered more [] one other
+      → Unwinds P Q c.frames c.lands more ones others
+      → SameAfter P c names (thrown_in P first reference ones one) (thrown_in Q second named others other)
+  thrown_same reference named one other grows is seen goes goes_also memories unwinds =
+      landed_same reference named grows is seen goes goes_also (unwind_same same reference named one other unwinds memories is)
+
+  -- ---- calls
+
+  -- both enter the monitor of a method that they call, if it has one, under names that are perhaps more
+  pub record SameLocked (names : Names) (one other : Locked) : Type 0 where
+    pub more : Names
+    pub grows : NamesMore names more
+    pub memories : SameMemories P c.allocated c.entered more [] one.memory other.memory
+    pub held : SameHeld more one.held other.held
