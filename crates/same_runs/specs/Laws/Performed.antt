@@ -1,5 +1,5 @@
 -- What an operation comes to in both runs changes both worlds alike: calls, throwing, and what the library sees of it.
-use Rattle.std.proofs.Common.{◌≡◌, ◌≢◌, ◌&&◌, not, ℕ, Bool, true, false, List, [], ◌∷◌, ◌++◌, Option, Some, None, IsTrue, IsFalse, if◌then◌else◌, refl, sym, ap, subst, ◌∙◌, inl, inr, ◌⊎◌}
+use Rattle.std.proofs.Common.{◌≡◌, ◌≢◌, ◌+◌, ℕ, Bool, true, false, List, [], ◌∷◌, ◌++◌, Option, Some, None, IsTrue, IsFalse, if◌then◌else◌, refl, sym, ap, subst, ◌∙◌, inl, inr, ◌⊎◌}
 use Rattle.class_model.specs.declared.class_file.MethodAt.{MethodAt}
 use Rattle.class_model.specs.declared.header.Member.{Member}
 use Rattle.class_tree.specs.Headers.{Name}
@@ -112,3 +112,76 @@ module _ {P Q : Program} {c : Comparison} (same : SamePrograms P Q) (compares : 
     pub grows : NamesMore names more
     pub memories : SameMemories P c.allocated c.entered more [] one.memory other.memory
     pub held : SameHeld more one.held other.held
+
+  enters_both : {names : Names} {one other : Memory} (reference named : ℕ)
+      → names reference ≡ Some named
+      → SameMemories P c.allocated c.entered names [] one other
+      → SameMemories P c.allocated c.entered names [] (with_entered one reference) (with_entered other named)
+  enters_both {names = names} {one = one} {other = other} reference named is memories =
+      let still =
+      memories_still (names_themselves names) (keeps_all one.heap (entered one.heap reference) (entered_constants one.heap reference))
+      (both_enter memories.heaps reference named is) memories in
+      memories_counted one.allocations other.allocations (one.entries + 1) (other.entries + 1)
+      memories.allocations (compares.entered one.entries other.entries 1 memories.entries) still
+
+  locks_none : {names : Names} {one other : Memory} → SameMemories P c.allocated c.entered names [] one other
+      → SameLocked names (record { memory = one; held = None }) (record { memory = other; held = None })
+  locks_none {names = names} memories = record { more = names; grows = names_themselves names; memories = memories; held = none_held }
+
+  locked_by_same : {names : Names} {one other : Memory} {ones others : List Value} (class : Name) (locking : Locking)
+      → SameMemories P c.allocated c.entered names [] one other
+      → SameValues names ones others
+      → SameLocked names (locked_by one class locking ones) (locked_by other class locking others)
+  locked_by_same class no_lock memories are = locks_none memories
+  locked_by_same class receiver_lock memories no_values = locks_none memories
+  locked_by_same class receiver_lock memories (and_value same_int are) = locks_none memories
+  locked_by_same class receiver_lock memories (and_value same_long are) = locks_none memories
+  locked_by_same class receiver_lock memories (and_value same_float are) = locks_none memories
+  locked_by_same class receiver_lock memories (and_value same_double are) = locks_none memories
+  locked_by_same class receiver_lock memories (and_value same_null are) = locks_none memories
+  locked_by_same {names = names} class receiver_lock memories (and_value (same_reference {reference = reference} {named = named} is) are) =
+      record { more = names; grows = names_themselves names; memories = enters_both reference named is memories; held = one_held is }
+  locked_by_same {one = one} {other = other} class class_lock memories are =
+      let made = both_have memories.heaps (Class class) in
+      record {
+        more = made.more;
+        grows = made.grows;
+        memories =
+            enters_both (constant_made one.heap (Class class)).reference (constant_made other.heap (Class class)).reference made.is
+            (memories_still made.grows (keeps_made one.heap (Class class)) made.heaps memories);
+        held = one_held made.is;
+      }
+
+  same_locking : (at : MethodAt) (method : RunMethod) → run_method P at ≡ Some method → locking_of (run_method Q at) ≡ locking_of (run_method P at)
+  same_locking at method is =
+      let found = same_run_method same at method is in
+      rw (is, found.1, found.2.member) refl
+
+  -- a method of both that is called enters the same monitor
+  pub locked_same : {names : Names} {one other : Memory} {ones others : List Value} (at : MethodAt) (method : RunMethod)
+      → run_method P at ≡ Some method
+      → SameMemories P c.allocated c.entered names [] one other
+      → SameValues names ones others
+      → SameLocked names (locked P one at ones) (locked Q other at others)
+  locked_same {names = names} {one = one} {other = other} {ones = ones} {others = others} at method is memories are =
+      subst (λ (class : Name). SameLocked names (locked P one at ones) (locked_by other class (locking_of (run_method Q at)) others)) (sym (same_name same at.class))
+      (subst (λ (locking : Locking). SameLocked names (locked P one at ones) (locked_by other (name_of_class P at.class) locking others)) (sym (same_locking at method is))
+      (locked_by_same (name_of_class P at.class) (locking_of (run_method P at)) memories are))
+
+  -- a throwable of the machine is made in both, and thrown
+  pub raised_same :
+      {names : Names} {first second : World} {ones others : List RunFrame} (class : Name)
+      → SameMemories P c.allocated c.entered names [] first.memory second.memory
+      → SameSeen c names first second
+      → first.halt ≡ going
+      → second.halt ≡ going
+      → ((more : Names) → NamesMore names more → Unwinds P Q c.frames c.lands more ones others)
+      → SameAfter P c names (raised P first class ones) (raised Q second class others)
+  raised_same {names = names} {first = first} {second = second} class memories seen goes goes_also unwinds =
+      let made = external first.memory.heap class in
+      let also = external second.memory.heap class in
+      let grows = named_too_more names made.reference also.reference (new_unnamed memories.heaps) in
+      thrown_same made.reference also.reference (with_heap first.memory made.heap) (with_heap second.memory also.heap)
+      grows (named_here names made.reference also.reference) seen goes goes_also
+      (memories_still grows (keeps_all first.memory.heap made.heap refl) (both_allocate memories.heaps (External class []) [] [] no_values) memories)
+      (unwinds (named_too names made.reference also.reference) grows)
