@@ -185,3 +185,64 @@ module _ {P Q : Program} {c : Comparison} (same : SamePrograms P Q) (compares : 
       grows (named_here names made.reference also.reference) seen goes goes_also
       (memories_still grows (keeps_all first.memory.heap made.heap refl) (both_allocate memories.heaps (External class []) [] [] no_values) memories)
       (unwinds (named_too names made.reference also.reference) grows)
+
+-- ---- completions
+
+-- a class that the second has to begin first, which the first has begun before
+pub record MustBegin (one other : Memory) (completion : Completion) : Type 0 where
+  pub class : ℕ
+  pub is : completion ≡ begins class
+  pub begun : IsTrue (is_begun one class)
+  pub begun_not : IsFalse (is_begun other class)
+
+module _ {P Q : Program} {c : Comparison} {names : Names} {first second : World} {before taken also taken_also : MethodState} {rest rest_also : List RunFrame}
+    (same : SamePrograms P Q) (compares : Compares c)
+    (memories : SameMemories P c.allocated c.entered names [] first.memory second.memory) (seen : SameSeen c names first second)
+    (goes : first.halt ≡ going) (goes_also : second.halt ≡ going)
+    (frames : Goes P Q c names before taken also taken_also rest rest_also) where
+  abbrev After : Completion → Completion → Type 0
+  After one other = SameAfter P c names (perform P first before taken rest one) (perform Q second also taken_also rest_also other)
+
+  begins_both : (class : ℕ) → IsFalse (is_begun first.memory class) → After (begins class) (begins class)
+  begins_both class none =
+      let begun = begin_both same class none memories in
+      both_go begun.0 begun.1 (frames.begins begun.0 class begun.1) begun.2 (record { known = references_more begun.1 seen.known; events = seen.events }) goes goes_also
+
+  calls_both : (at : MethodAt) (method : RunMethod) → run_method P at ≡ Some method → {ones others : List Value} → SameValues names ones others
+      → After (calls at ones) (calls at others)
+  calls_both at method is {ones = ones} {others = others} are =
+      let held = locked_same same compares at method is memories are in
+      both_go held.more held.grows
+      (frames.called held.more at ones others (locked P first.memory at ones).held (locked Q second.memory at others).held held.grows (values_more held.grows are) held.held)
+      held.memories (record { known = references_more held.grows seen.known; events = seen.events }) goes goes_also
+
+  -- Both worlds go on in the same way, or both are over; or the second has to begin a class first. A method that is called is one of the first
+  -- program, and an operation that ends as one that goes on leaves the frames as they are.
+  pub performs_same :
+      {one other : Completion}
+      → ((at : MethodAt) (values : List Value) → one ≡ calls at values → (method : RunMethod) × (run_method P at ≡ Some method))
+      → (one ≡ ends going → c.frames names first.frames second.frames)
+      → SameCompletions P c.allocated c.entered names first.memory second.memory one other
+      → MustBegin first.memory second.memory other
+      ⊎ SameAfter P c names (perform P first before taken rest one) (perform Q second also taken_also rest_also other)
+  performs_same known stay (both_give {ones = ones} {others = others} more grows now are) =
+      inr (both_go more grows (frames.given more ones others grows are) now (record { known = references_more grows seen.known; events = seen.events }) goes goes_also)
+  performs_same known stay (both_raise {class = class}) = inr (raised_same same compares class memories seen goes goes_also frames.unwinds)
+  performs_same known stay (both_throw {reference = reference} {named = named} is) =
+      inr (thrown_same same compares reference named first.memory second.memory (names_themselves names) is seen goes goes_also memories
+      (frames.unwinds names (names_themselves names)))
+  performs_same known stay (both_begin {class = class} none) = inr (begins_both class none)
+  performs_same known stay (both_call {at = at} {ones = ones} are) =
+      let method = known at ones refl in
+      inr (calls_both at method.0 method.1 are)
+  performs_same known stay (both_ask {asked = asked} {also = asked_also} is) =
+      inr (both_go names (names_themselves names) (frames.asks names (names_themselves names)) memories
+      (shown_same same compares (record first { frames = Library None ∷ Method taken ∷ rest }) (record second { frames = Library None ∷ Method taken_also ∷ rest_also })
+      memories seen.events (asked_numbered same memories.heaps seen.known is)) goes goes_also)
+  performs_same known stay (both_end {halt = going}) = inr (both_go names (names_themselves names) (stay refl) memories (record { known = seen.known; events = seen.events }) refl refl)
+  performs_same known stay (both_end {halt = stopped}) = inr (both_over names (record { known = seen.known; events = seen.events }) (λ impossible. cc impossible) refl)
+  performs_same known stay (both_end {halt = faulted}) = inr (both_over names (record { known = seen.known; events = seen.events }) (λ impossible. cc impossible) refl)
+  performs_same known stay (both_end {halt = init_threw}) = inr (both_over names (record { known = seen.known; events = seen.events }) (λ impossible. cc impossible) refl)
+  performs_same known stay (both_end {halt = array_too_long}) = inr (both_over names (record { known = seen.known; events = seen.events }) (λ impossible. cc impossible) refl)
+  performs_same known stay (both_end {halt = stuck}) = inr (both_over names (record { known = seen.known; events = seen.events }) (λ impossible. cc impossible) refl)
+  performs_same known stay (begins_alone {class = class} begun none) = inl (record { class = class; is = refl; begun = begun; begun_not = none })
