@@ -423,49 +423,52 @@ module _ {P : Program} where
   asks_float_of opcode None operands = is_stuck
   asks_float_of opcode (Some operation) operands = either _ may_ask is_stuck
 
-  -- each operation comes to something that may be
-  pub work_is_possible : (memory : Memory) (op : Op) (operands : List Value) → IsPossible P (work P memory op operands)
-  work_is_possible memory (push_value value) operands = may_give
-  work_is_possible memory (push_constant constant) operands = may_give
-  work_is_possible memory (pure_arithmetic opcode) operands = computes memory (meaning_in pure_meanings opcode) operands
-  work_is_possible memory (division opcode) operands = divides memory (meaning_in divide_meanings opcode) operands
-  work_is_possible memory (float_arithmetic opcode) operands = asks_float_of opcode (operation_in float_operations opcode) operands
-  work_is_possible memory throw_reference operands = throws_one memory operands
-  work_is_possible memory (get_static r) operands = gets_static memory (P.links.field r)
-  work_is_possible memory (put_static r initialises) operands = puts_static memory (P.links.field r) initialises operands
-  work_is_possible memory (get_field r) operands = gets_field memory r.class (P.links.field r) operands
-  work_is_possible memory (put_field r initialises) operands = puts_field memory r.class (P.links.field r) initialises operands
-  work_is_possible memory (call_static r) operands = calls_static memory r (P.links.method r) operands
-  work_is_possible memory (call_virtual r) operands = calls_virtual memory r (P.links.method r) operands
-  work_is_possible memory (call_interface r) operands = calls_interface memory r (P.links.method r) operands
-  work_is_possible memory (call_special r from) operands = calls_special memory r from (found_special P r) operands
-  work_is_possible memory (call_dynamic class bootstrap name desc) operands = either (have_kinds (parameters_of desc) operands) may_ask is_stuck
-  work_is_possible memory (new_object class) operands = makes memory class
-  work_is_possible memory (new_array desc) operands = makes_array memory desc operands
-  work_is_possible memory (new_arrays desc dimensions) operands = makes_counted memory desc (counts_of operands)
-  work_is_possible memory (load_element opcode) operands = loads memory (opcode - IALOAD) operands
-  work_is_possible memory (store_element opcode) operands = stores memory (opcode - IASTORE) operands
-  work_is_possible memory array_length operands = lengths memory operands
-  work_is_possible memory (check_cast name) operands = casts memory name operands
-  work_is_possible memory (instance_of name) operands = tests memory name operands
-  work_is_possible memory enter_monitor operands = enters memory operands
-  work_is_possible memory leave_monitor operands = leaves memory operands
-  work_is_possible memory no_operation operands = is_stuck
-  work_is_possible memory meaningless operands = is_stuck
-  work_is_possible memory (load_local kind at) operands = is_stuck
-  work_is_possible memory (store_local kind at) operands = is_stuck
-  work_is_possible memory (increment_local at by) operands = is_stuck
-  work_is_possible memory (test_local at) operands = is_stuck
-  work_is_possible memory (shuffle_stack opcode) operands = is_stuck
-  work_is_possible memory (jump_by_int opcode to) operands = is_stuck
-  work_is_possible memory (jump_by_ints opcode to) operands = is_stuck
-  work_is_possible memory (jump_by_references opcode to) operands = is_stuck
-  work_is_possible memory (jump_by_null opcode to) operands = is_stuck
-  work_is_possible memory (jump_to to) operands = is_stuck
-  work_is_possible memory (table_switch low default targets) operands = is_stuck
-  work_is_possible memory (lookup_switch default pairs) operands = is_stuck
-  work_is_possible memory return_nothing operands = is_stuck
-  work_is_possible memory (return_value type) operands = is_stuck
+  works : (memory : Memory) (op : Op) (operands : List Value) → IsPossible P (work P memory op operands)
+  works memory (push_value value) operands = may_give
+  works memory (push_constant constant) operands = may_give
+  works memory (pure_arithmetic opcode) operands = computes memory (meaning_in pure_meanings opcode) operands
+  works memory (division opcode) operands = divides memory (meaning_in divide_meanings opcode) operands
+  works memory (float_arithmetic opcode) operands = asks_float_of opcode (operation_in float_operations opcode) operands
+  works memory throw_reference operands = throws_one memory operands
+  works memory (get_static r) operands = gets_static memory (P.links.field r)
+  works memory (put_static r initialises) operands = puts_static memory (P.links.field r) initialises operands
+  works memory (get_field r) operands = gets_field memory r.class (P.links.field r) operands
+  works memory (put_field r initialises) operands = puts_field memory r.class (P.links.field r) initialises operands
+  works memory (call_static r) operands = calls_static memory r (P.links.method r) operands
+  works memory (call_virtual r) operands = calls_virtual memory r (P.links.method r) operands
+  works memory (call_interface r) operands = calls_interface memory r (P.links.method r) operands
+  works memory (call_special r from) operands = calls_special memory r from (found_special P r) operands
+  works memory (call_dynamic class bootstrap name desc) operands = either (have_kinds (parameters_of desc) operands) may_ask is_stuck
+  works memory (new_object class) operands = makes memory class
+  works memory (new_array desc) operands = makes_array memory desc operands
+  works memory (new_arrays desc dimensions) operands = makes_counted memory desc (counts_of operands)
+  works memory (load_element opcode) operands = loads memory (opcode - IALOAD) operands
+  works memory (store_element opcode) operands = stores memory (opcode - IASTORE) operands
+  works memory array_length operands = lengths memory operands
+  works memory (check_cast name) operands = casts memory name operands
+  works memory (instance_of name) operands = tests memory name operands
+  works memory enter_monitor operands = enters memory operands
+  works memory leave_monitor operands = leaves memory operands
+  works memory no_operation operands = is_stuck
+  works memory meaningless operands = is_stuck
+  works memory (load_local kind at) operands = is_stuck
+  works memory (store_local kind at) operands = is_stuck
+  works memory (increment_local at by) operands = is_stuck
+  works memory (test_local at) operands = is_stuck
+  works memory (shuffle_stack opcode) operands = is_stuck
+  works memory (jump_by_int opcode to) operands = is_stuck
+  works memory (jump_by_ints opcode to) operands = is_stuck
+  works memory (jump_by_references opcode to) operands = is_stuck
+  works memory (jump_by_null opcode to) operands = is_stuck
+  works memory (jump_to to) operands = is_stuck
+  works memory (table_switch low default targets) operands = is_stuck
+  works memory (lookup_switch default pairs) operands = is_stuck
+  works memory return_nothing operands = is_stuck
+  works memory (return_value type) operands = is_stuck
+
+-- each operation comes to something that may be
+pub work_is_possible : (P : Program) (memory : Memory) (op : Op) (operands : List Value) → IsPossible P (work P memory op operands)
+work_is_possible P memory op operands = works {P = P} memory op operands
 
 -- a method that is called is one of the program
 pub called_there : {P : Program} {completion : Completion} → IsPossible P completion → (at : MethodAt) (given : List Value) → completion ≡ calls at given

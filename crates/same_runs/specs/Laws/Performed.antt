@@ -15,17 +15,20 @@ use Rattle.machine_values.specs.declared.object.Shape.TheVariants.{External}
 use Rattle.machine_values.specs.declared.value.Value.{Value}
 use Rattle.member_link.specs.Machine.Completions.{Asked, Completion, begins, calls, ends}
 use Rattle.member_link.specs.Machine.ObjectSteps.{with_entered}
+use Rattle.member_link.specs.Machine.Ops.{Op}
 use Rattle.member_link.specs.Machine.Performing.{Landing, Locked, Locking, no_lock, receiver_lock, class_lock, called, landed, locked, locked_by, locking_of, perform, raised, thrown, thrown_in}
 use Rattle.member_link.specs.Machine.Programs.{Program, RunMethod, name_of_class, run_method}
 use Rattle.member_link.specs.Machine.Showing.{Numbered, showing}
+use Rattle.member_link.specs.Machine.Work.{work}
 use Rattle.member_link.specs.Machine.Worlds.{Halt, Memory, World, going, stopped, faulted, init_threw, array_too_long, stuck, is_begun, with_heap}
 use Rattle.same_runs.specs.Renamings.{Names, NamesMore, SameHeld, none_held, one_held, SameValues, no_values, and_value, same_int, same_long, same_float, same_double, same_null, same_reference}
 use Rattle.same_runs.specs.SameCompletions.{SameCompletions, both_give, both_raise, both_throw, both_begin, both_call, both_ask, both_end, begins_alone}
 use Rattle.same_runs.specs.SameFrames.{SameLanding, both_catch, both_leave, both_nowhere, both_reach_library, Unwinds}
 use Rattle.same_runs.specs.SameMemories.{SameMemories}
-use Rattle.same_runs.specs.SamePrograms.{SamePrograms}
+use Rattle.same_runs.specs.SamePrograms.{SameOp, SamePrograms}
 use Rattle.same_runs.specs.SameWorlds.{Comparison, Compares, Goes, SameEvent, SameEvents, no_events, and_event, SameSeen, SameAfter, both_go, both_landed, both_over}
 use Rattle.same_runs.specs.Laws.Begun.{begin_both}
+use Rattle.same_runs.specs.Laws.Completed.{called_there, ends_over, work_is_possible}
 use Rattle.same_runs.specs.Laws.Constants.{both_have}
 use Rattle.same_runs.specs.Laws.Heaps.{both_allocate, both_enter, entered_constants, new_unnamed}
 use Rattle.same_runs.specs.Laws.Methods.{same_run_method}
@@ -34,6 +37,7 @@ use Rattle.same_runs.specs.Laws.Numbering.{SameNumbered, asked_numbered, monitor
 use Rattle.same_runs.specs.Laws.Programs.{same_name}
 use Rattle.same_runs.specs.Laws.Statics.{keeps_all, keeps_made, memories_counted, memories_still}
 use Rattle.same_runs.specs.Laws.Unwinding.{unwind_same}
+use Rattle.same_runs.specs.Laws.Work.{work_same}
 
 -- ---- what was seen
 
@@ -246,3 +250,16 @@ module _ {P Q : Program} {c : Comparison} {names : Names} {first second : World}
   performs_same known stay (both_end {halt = array_too_long}) = inr (both_over names (record { known = seen.known; events = seen.events }) (λ impossible. cc impossible) refl)
   performs_same known stay (both_end {halt = stuck}) = inr (both_over names (record { known = seen.known; events = seen.events }) (λ impossible. cc impossible) refl)
   performs_same known stay (begins_alone {class = class} begun none) = inl (record { class = class; is = refl; begun = begun; begun_not = none })
+
+  -- The same operation with the same operands changes both worlds alike; or the second has to begin a class first that the first has begun.
+  pub operation_performed :
+      {op also_op : Op} {ones others : List Value}
+      → SameOp P Q op also_op
+      → SameValues names ones others
+      → MustBegin first.memory second.memory (work Q second.memory also_op others)
+      ⊎ SameAfter P c names (perform P first before taken rest (work P first.memory op ones))
+      (perform Q second also taken_also rest_also (work Q second.memory also_op others))
+  operation_performed {op = op} {ones = ones} is are =
+      let possible = work_is_possible P first.memory op ones in
+      performs_same (called_there possible) (λ over. absurd (ends_over possible over))
+      (work_same same (record { both = compares.allocated }) (record { both = compares.entered }) memories is are)
