@@ -23,3 +23,5 @@ pub mod Begun
 pub mod BegunAlone
 pub mod CallWork
 pub mod NoInitLinks
+pub mod Completed
+pub mod Performed
