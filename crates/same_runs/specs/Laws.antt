@@ -21,5 +21,6 @@ pub mod Unwinding
 pub mod Work
 pub mod Begun
 pub mod BegunAlone
+pub mod QuietBeginnings
 pub mod CallWork
 pub mod NoInitLinks

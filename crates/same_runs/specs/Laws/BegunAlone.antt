@@ -26,7 +26,7 @@ use Rattle.same_runs.specs.Laws.Statics.{KeepsConstants, kept_still, started_sam
 
 -- ---- what setting static fields leaves as it was
 
-starts_begun : (R : Program) (class at : ℕ) (memory : Memory) (starts : List StaticStart) → is_begun (with_starts R class memory starts) at ≡ is_begun memory at
+pub starts_begun : (R : Program) (class at : ℕ) (memory : Memory) (starts : List StaticStart) → is_begun (with_starts R class memory starts) at ≡ is_begun memory at
 starts_begun R class at memory [] = refl
 starts_begun R class at memory (start ∷ starts) = starts_begun R class at (with_start R class memory start) starts ∙ start_begun R class at memory start
 
