@@ -212,3 +212,152 @@ turn_ends :
     → initialiser_of R class ≡ None
     → turn R (standing r (Beginning class ∷ rest) memory steps) ≡ standing r rest memory (steps + 1)
 turn_ends R r class rest memory steps found goes is none no_code = rw (goes, is, none, no_code) refl
+
+-- ---- beginnings that go by
+
+-- From a run with a beginning on top to one without it, by turns that show nothing: more classes are begun, and memories are the same.
+pub record GoesBy (P Q : Program) (Allocated Entered : ℕ → ℕ → Type 0) (names : Names) (one : Memory) (r from : Run) (rest : List RunFrame)
+    (before : Memory)
+    : Type 0 where
+  pub after : Memory
+  pub steps : ℕ
+  pub quietly : Quietly Q from (standing r rest after steps)
+  pub more : Names
+  pub grows : NamesMore names more
+  pub memories : SameMemories P Allocated Entered more [] one after
+  pub begun : (at : ℕ) → IsTrue (is_begun before at) → IsTrue (is_begun after at)
+
+also_there : {P Q : Program} → SamePrograms P Q → (class : ℕ) (found : RunClass) → slice_get P.classes class ≡ Some found → (also : RunClass) × (slice_get Q.classes class ≡ Some also)
+also_there {P = P} {Q = Q} same class found is = by (slice_get P.classes class) (slice_get Q.classes class) refl refl (at_number same class) where
+  by : (one other : Option RunClass) → slice_get P.classes class ≡ one → slice_get Q.classes class ≡ other → SameAt P one other → (also : RunClass) × (slice_get Q.classes class ≡ Some also)
+  by None None here here_also at_none = absurd (none-some found (sym here ∙ is))
+  by None (Some other) here here_also impossible = elim impossible [ ]
+  by (Some one) None here here_also impossible = elim impossible [ ]
+  by (Some one) (Some other) here here_also (at_both alike) = (other, here_also)
+
+module _ {P Q : Program} (Allocated Entered : ℕ → ℕ → Type 0) (same : SamePrograms P Q) (alike : BeginAlike P Q) (one : Memory) (r : Run) (goes : r.world.halt ≡ going) where
+  abbrev AllGoBy : ℕ → Type 0
+  AllGoBy left =
+      (class : ℕ) (rest : List RunFrame) (memory : Memory) (steps : ℕ) (names : Names)
+      → unbegun one.begun memory < left
+      → is_library_turn rest ≡ false
+      → BeginsQuietly P one class
+      → SameMemories P Allocated Entered names [] one memory
+      → GoesBy P Q Allocated Entered names one r (standing r (Beginning class ∷ rest) memory steps) rest memory
+
+  -- nothing comes first: the beginning is over
+  goes_at_once :
+      (class : ℕ) (rest : List RunFrame) (memory : Memory) (steps : ℕ) (names : Names) (also : RunClass)
+      → slice_get Q.classes class ≡ Some also
+      → first_unbegun Q memory (come_first Q also.header) ≡ None
+      → is_library_turn rest ≡ false
+      → BeginsQuietly P one class
+      → SameMemories P Allocated Entered names [] one memory
+      → GoesBy P Q Allocated Entered names one r (standing r (Beginning class ∷ rest) memory steps) rest memory
+  goes_at_once class rest memory steps names also is none no_turn quiet memories = record {
+    after = memory;
+    steps = steps + 1;
+    quietly = turn_first
+        (ap shown ends ∙ shows_running r rest memory (steps + 1) goes no_turn ∙ sym (shows_running r (Beginning class ∷ rest) memory steps goes refl))
+        (subst (λ (later : Run). Quietly Q later (standing r rest memory (steps + 1))) (sym ends) at_once);
+    more = names;
+    grows = names_themselves names;
+    memories = memories;
+    begun = λ at before. before;
+  } where
+    no_code : initialiser_of Q class ≡ None
+    no_code = no_initialiser same class (quiet.inert class (alike.itself (name_of_class P class)))
+
+    ends : turn Q (standing r (Beginning class ∷ rest) memory steps) ≡ standing r rest memory (steps + 1)
+    ends = turn_ends Q r class rest memory steps also goes is none no_code
+
+  -- a class that comes first goes by, and then the beginning itself
+  goes_behind :
+      (left : ℕ) → AllGoBy left
+      → (class : ℕ) (rest : List RunFrame) (memory : Memory) (steps : ℕ) (names : Names) (also : RunClass) (first : ℕ)
+      → unbegun one.begun memory < suc left
+      → slice_get Q.classes class ≡ Some also
+      → first_unbegun Q memory (come_first Q also.header) ≡ Some first
+      → is_library_turn rest ≡ false
+      → BeginsQuietly P one class
+      → SameMemories P Allocated Entered names [] one memory
+      → GoesBy P Q Allocated Entered names one r (standing r (Beginning class ∷ rest) memory steps) rest memory
+  goes_behind left again class rest memory steps names also first low is unbegun_one no_turn quiet memories = record {
+    after = second.after;
+    steps = second.steps;
+    quietly = turn_first
+        (ap shown begins ∙ shows_running r (Beginning first ∷ Beginning class ∷ rest) (begun_memory Q first memory) (steps + 1) goes refl
+        ∙ sym (shows_running r (Beginning class ∷ rest) memory steps goes refl))
+        (subst (λ (later : Run). Quietly Q later (standing r rest second.after second.steps)) (sym begins) (quietly_then before.quietly second.quietly));
+    more = second.more;
+    grows = more_and_more made.1 (more_and_more before.grows second.grows);
+    memories = second.memories;
+    begun = λ at was. second.begun at (before.begun at (begins_more Q first memory at was));
+  } where
+    begins : turn Q (standing r (Beginning class ∷ rest) memory steps) ≡ standing r (Beginning first ∷ Beginning class ∷ rest) (begun_memory Q first memory) (steps + 1)
+    begins = turn_begins Q r class rest memory steps first also goes is unbegun_one
+
+    found : IsUnbegun Q memory (come_first Q also.header) first
+    found = unbegun_is Q memory (come_first Q also.header) first unbegun_one
+
+    in_first : folder_number P found.name ≡ Some first
+    in_first = sym (same_number same found.name) ∙ found.is_number
+
+    has_begun : IsTrue (is_begun one first)
+    has_begun = quiet.first quiet.found found.name found.number first quiet.is
+        (ap (λ (all : List Name). slice_get all found.number) (sym (alike.first class quiet.found also quiet.is is)) ∙ found.is_name)
+        in_first
+
+    there : (x : RunClass) × (slice_get P.classes first ≡ Some x)
+    there = number_there (λ (x : RunClass). bytes_eq found.name x.header.name) P.classes first in_first
+
+    quiet_first : BeginsQuietly P one first
+    quiet_first = alone_quietly first there.0 there.1 has_begun found.none memories
+
+    made : (more : Names) × NamesMore names more × SameMemories P Allocated Entered more [] one (begun_memory Q first memory)
+    made = second_has_begun same first has_begun found.none memories
+
+    fewer_left : unbegun one.begun (begun_memory Q first memory) < left
+    fewer_left =
+        let down = one_fewer one.begun memory (begun_memory Q first memory) first (begins_more Q first memory) has_begun found.none (begins_itself Q first memory) in
+        omega (arith, down, low)
+
+    before : GoesBy P Q Allocated Entered made.0 one r (standing r (Beginning first ∷ Beginning class ∷ rest) (begun_memory Q first memory) (steps + 1)) (Beginning class ∷ rest)
+        (begun_memory Q first memory)
+    before = again first (Beginning class ∷ rest) (begun_memory Q first memory) (steps + 1) made.0 fewer_left refl quiet_first made.2
+
+    still_fewer : unbegun one.begun before.after < left
+    still_fewer =
+        let down = fewer one.begun (begun_memory Q first memory) before.after before.begun in
+        omega (arith, down, fewer_left)
+
+    second : GoesBy P Q Allocated Entered before.more one r (standing r (Beginning class ∷ rest) before.after before.steps) rest before.after
+    second = again class rest before.after before.steps before.more still_fewer no_turn quiet before.memories
+
+  all_go_by : (left : ℕ) → AllGoBy left
+  all_go_by zero class rest memory steps names low no_turn quiet memories = absurd (omega (arith, low))
+  all_go_by (suc left) class rest memory steps names low no_turn quiet memories =
+      by (all_go_by left) (also_there same class quiet.found quiet.is) where
+        by : AllGoBy left → ((also : RunClass) × (slice_get Q.classes class ≡ Some also))
+            → GoesBy P Q Allocated Entered names one r (standing r (Beginning class ∷ rest) memory steps) rest memory
+        by again also = at (first_unbegun Q memory (come_first Q also.0.header)) refl where
+          at : (first : Option ℕ) → first_unbegun Q memory (come_first Q also.0.header) ≡ first
+              → GoesBy P Q Allocated Entered names one r (standing r (Beginning class ∷ rest) memory steps) rest memory
+          at None none = goes_at_once class rest memory steps names also.0 also.1 none no_turn quiet memories
+          at (Some first) is = goes_behind left again class rest memory steps names also.0 first low also.1 is no_turn quiet memories
+
+-- The beginning of a class that the first has begun goes by in the second, with those of the classes that come first.
+pub beginning_goes_by :
+    {P Q : Program} {Allocated Entered : ℕ → ℕ → Type 0} {names : Names} {one : Memory} {r : Run} (class : ℕ) (rest : List RunFrame)
+    → SamePrograms P Q
+    → BeginAlike P Q
+    → r.world.halt ≡ going
+    → r.world.frames ≡ Beginning class ∷ rest
+    → is_library_turn rest ≡ false
+    → BeginsQuietly P one class
+    → SameMemories P Allocated Entered names [] one r.world.memory
+    → GoesBy P Q Allocated Entered names one r r rest r.world.memory
+beginning_goes_by {P = P} {Q = Q} {Allocated = Allocated} {Entered = Entered} {names = names} {one = one} {r = r} class rest same alike goes stands no_turn quiet memories =
+    subst (λ (frames : List RunFrame). GoesBy P Q Allocated Entered names one r (standing r frames r.world.memory r.world.steps) rest r.world.memory) (sym stands)
+    (all_go_by Allocated Entered same alike one r goes (suc (unbegun one.begun r.world.memory)) class rest r.world.memory r.world.steps names
+    (let less : unbegun one.begun r.world.memory < suc (unbegun one.begun r.world.memory) = omega arith in less) no_turn quiet memories)
