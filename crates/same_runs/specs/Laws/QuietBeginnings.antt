@@ -7,14 +7,15 @@ use Rattle.std.proofs.lemmas.Slice.Eq.{bytes_eq-Decides}
 use Rattle.class_model.specs.Names.{clinit, init}
 use Rattle.class_model.specs.declared.class_file.MethodAt.{MethodAt}
 use Rattle.class_tree.specs.Headers.{Headers, Name}
+use Rattle.class_tree.specs.Hierarchy.{IsHierarchy}
 use Rattle.class_tree.specs.Subtype.{itself}
 use Rattle.machine_values.specs.declared.event.End.TheVariants as ends
 use Rattle.machine_values.specs.declared.event.Shown.{Shown}
 use Rattle.machine_values.specs.declared.frame.RunFrame.{RunFrame}
 use Rattle.machine_values.specs.declared.frame.RunFrame.TheVariants.{Beginning}
-use Rattle.member_link.specs.Machine.Beginnings.{begun_memory, come_first, first_unbegun, initialiser_of, starts_of}
+use Rattle.member_link.specs.Machine.Beginnings.{begun_memory, begun_on, come_first, first_unbegun, initialiser_of, starts_of}
 use Rattle.member_link.specs.Machine.Links.{AreLinksOf}
-use Rattle.member_link.specs.Machine.Programs.{Program, RunClass, code_at, folder_number, name_of_class, number_of_first, place_of_method}
+use Rattle.member_link.specs.Machine.Programs.{Program, RunClass, code_at, folder_number, headers_in, name_of_class, number_of_first, place_of_method}
 use Rattle.member_link.specs.Machine.Runs.{Run, shown, turn}
 use Rattle.member_link.specs.Machine.Stepping.{is_library_turn}
 use Rattle.member_link.specs.Machine.Worlds.{Memory, World, going, is_begun}
@@ -25,6 +26,7 @@ use Rattle.same_runs.specs.SamePrograms.{SameClass, SamePrograms}
 use Rattle.same_runs.specs.Simulations.{Quietly, at_once, turn_first}
 use Rattle.same_runs.specs.Laws.Begun.{marked, marked_itself, marked_still}
 use Rattle.same_runs.specs.Laws.BegunAlone.{second_has_begun, starts_begun}
+use Rattle.same_runs.specs.Laws.ComeFirst.{same_come_first}
 use Rattle.same_runs.specs.Laws.Methods.{place_is, same_code, same_no_place, same_place}
 use Rattle.same_runs.specs.Laws.Names.{more_and_more, names_themselves}
 use Rattle.same_runs.specs.Laws.Programs.{SameAt, at_none, at_both, at_number, same_name, same_number}
@@ -50,6 +52,10 @@ pub record BeginsQuietly (P : Program) (memory : Memory) (class : ℕ) : Type 0 
 -- a class is below itself where links are those of a hierarchy
 pub below_itself : {headers : Headers} (P : Program) → AreLinksOf headers P.links → (name : Name) → IsTrue (P.links.below name name)
 below_itself P links name = (links.below name name).1 (itself name)
+
+-- what begins alike where the first is a hierarchy with its links
+pub hierarchies_begin_alike : (P Q : Program) → SamePrograms P Q → IsHierarchy (headers_in P) → AreLinksOf (headers_in P) P.links → BeginAlike P Q
+hierarchies_begin_alike P Q same tree links = record { itself = below_itself P links; first = same_come_first same tree }
 
 -- a class that the first has begun alone begins quietly
 pub alone_quietly :
@@ -361,3 +367,39 @@ beginning_goes_by {P = P} {Q = Q} {Allocated = Allocated} {Entered = Entered} {n
     subst (λ (frames : List RunFrame). GoesBy P Q Allocated Entered names one r (standing r frames r.world.memory r.world.steps) rest r.world.memory) (sym stands)
     (all_go_by Allocated Entered same alike one r goes (suc (unbegun one.begun r.world.memory)) class rest r.world.memory r.world.steps names
     (let less : unbegun one.begun r.world.memory < suc (unbegun one.begun r.world.memory) = omega arith in less) no_turn quiet memories)
+
+-- Where the next turn of the second begins a class that the first has begun before, quiet turns lead back to the same frames, with that
+-- class begun.
+pub turn_goes_by :
+    {P Q : Program} {Allocated Entered : ℕ → ℕ → Type 0} {names : Names} {one : Memory} {r : Run} (class : ℕ) (found : RunClass)
+    → SamePrograms P Q
+    → BeginAlike P Q
+    → r.world.halt ≡ going
+    → is_library_turn r.world.frames ≡ false
+    → turn Q r ≡ record r { world = begun_on Q class (record r.world { steps = r.world.steps + 1 }) r.world.frames }
+    → slice_get P.classes class ≡ Some found
+    → IsTrue (is_begun one class)
+    → IsFalse (is_begun r.world.memory class)
+    → SameMemories P Allocated Entered names [] one r.world.memory
+    → (by : GoesBy P Q Allocated Entered names one r r r.world.frames r.world.memory) × IsTrue (is_begun by.after class)
+turn_goes_by {P = P} {Q = Q} {Allocated = Allocated} {Entered = Entered} {names = names} {one = one} {r = r} class found same alike goes no_turn begins is begun none memories =
+    (record {
+      after = rest.after;
+      steps = rest.steps;
+      quietly = turn_first
+          (ap shown begins ∙ shows_running r (Beginning class ∷ r.world.frames) (begun_memory Q class r.world.memory) (r.world.steps + 1) goes refl
+          ∙ sym (shows_running r r.world.frames r.world.memory r.world.steps goes no_turn))
+          (subst (λ (later : Run). Quietly Q later (standing r r.world.frames rest.after rest.steps)) (sym begins) rest.quietly);
+      more = rest.more;
+      grows = more_and_more made.1 rest.grows;
+      memories = rest.memories;
+      begun = λ at was. rest.begun at (begins_more Q class r.world.memory at was);
+    }, rest.begun class (begins_itself Q class r.world.memory)) where
+      made : (more : Names) × NamesMore names more × SameMemories P Allocated Entered more [] one (begun_memory Q class r.world.memory)
+      made = second_has_begun same class begun none memories
+
+      middle : Run
+      middle = standing r (Beginning class ∷ r.world.frames) (begun_memory Q class r.world.memory) (r.world.steps + 1)
+
+      rest : GoesBy P Q Allocated Entered made.0 one middle middle r.world.frames (begun_memory Q class r.world.memory)
+      rest = beginning_goes_by class r.world.frames same alike goes refl no_turn (alone_quietly class found is begun none memories) made.2
