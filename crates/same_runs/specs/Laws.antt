@@ -21,6 +21,8 @@ pub mod Unwinding
 pub mod Work
 pub mod Begun
 pub mod BegunAlone
+pub mod ComeFirst
+pub mod QuietBeginnings
 pub mod CallWork
 pub mod NoInitLinks
 pub mod Completed
