@@ -27,3 +27,4 @@ pub mod CallWork
 pub mod NoInitLinks
 pub mod Completed
 pub mod Performed
+pub mod GivenValues
