@@ -28,3 +28,4 @@ pub mod NoInitLinks
 pub mod Completed
 pub mod Performed
 pub mod GivenValues
+pub mod Acted
