@@ -226,8 +226,8 @@ module _ {P Q : Program} {c : Comparison} {names : Names} {first second : World}
   calls_both at method is {ones = ones} {others = others} are =
       let held = locked_same same compares at method is memories are in
       both_go held.more held.grows
-      (frames.called held.more at ones others (locked P first.memory at ones).held
-      (locked Q second.memory at others).held held.grows (values_more held.grows are) held.held)
+      (frames.called held.more at method ones others (locked P first.memory at ones).held
+      (locked Q second.memory at others).held held.grows is (values_more held.grows are) held.held)
       held.memories (record { known = references_more held.grows seen.known; events = seen.events }) goes goes_also
 
   -- Both worlds go on in the same way, or both are over; or the second has to begin a class first. A method that is called is one of the
