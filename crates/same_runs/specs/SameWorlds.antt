@@ -11,7 +11,7 @@ use Rattle.machine_values.specs.declared.value.Value.{Value}
 use Rattle.member_link.specs.Machine.Acting.{Waiting, waiting_in}
 use Rattle.member_link.specs.Machine.Beginnings.{frame_with}
 use Rattle.member_link.specs.Machine.Performing.{resumed}
-use Rattle.member_link.specs.Machine.Programs.{Program}
+use Rattle.member_link.specs.Machine.Programs.{Program, RunMethod, run_method}
 use Rattle.member_link.specs.Machine.Worlds.{World, going, is_begun}
 use Rattle.same_runs.specs.Renamings.{Names, NamesMore, SameHeld, SameReferences, SameValues}
 use Rattle.same_runs.specs.SameFrames.{Unwinds}
@@ -112,8 +112,9 @@ pub record Goes (P Q : Program) (c : Comparison) (names : Names) (before taken a
   pub asks : (more : Names)
       → NamesMore names more
       → c.frames more (Library None ∷ Method taken ∷ rest) (Library None ∷ Method taken_also ∷ rest_also)
-  pub called : (more : Names) (at : MethodAt) (ones others : List Value) (held held_also : Option ℕ)
+  pub called : (more : Names) (at : MethodAt) (method : RunMethod) (ones others : List Value) (held held_also : Option ℕ)
       → NamesMore names more
+      → run_method P at ≡ Some method
       → SameValues more ones others
       → SameHeld more held held_also
       → c.frames more (Method (frame_with P at (units_of_values ones) held) ∷ Method taken ∷ rest)

@@ -1,33 +1,32 @@
 -- What an operation comes to: a method that it calls is one of the program, and where it ends a run, that does not go on.
-use Rattle.std.proofs.Common.{◌≡◌, ◌≢◌, ◌==◌, ◌-◌, ◌&&◌, ◌||◌, not, nat_lt, ℕ, ℤ, pos, negsuc, Bool, true, false, List, [], ◌∷◌, slice_get, bytes_eq, is_some, Option, Some, None, if◌then◌else◌, refl, subst}
+use Rattle.std.proofs.Common.{◌≡◌, ◌≢◌, ◌-◌, nat_lt, ℕ, ℤ, pos, negsuc, Bool, true, false, List, [], ◌∷◌, slice_get, is_some, Option, Some, None, if◌then◌else◌, refl, subst}
 use Rattle.class_model.specs.Descriptors.{kind_of, parameters_of, type_of}
-use Rattle.class_model.specs.Members.{ABSTRACT, STATIC}
+use Rattle.class_model.specs.Members.{STATIC}
 use Rattle.class_model.specs.declared.class_file.MethodAt.{MethodAt}
 use Rattle.class_model.specs.declared.opcodes.TheConstants.{IALOAD, IASTORE}
 use Rattle.class_tree.specs.Headers.{Name}
 use Rattle.machine_values.specs.Heaps.{object_at}
-use Rattle.machine_values.specs.Values.{component_text, has_kind, have_kinds, narrowed}
+use Rattle.machine_values.specs.Values.{has_kind, have_kinds, narrowed}
 use Rattle.machine_values.specs.declared.object.Object.{Object}
 use Rattle.machine_values.specs.declared.object.Shape.{Shape}
 use Rattle.machine_values.specs.declared.object.Shape.TheVariants as shapes
 use Rattle.machine_values.specs.declared.value.Value.{Value}
 use Rattle.machine_values.specs.declared.value.Value.TheVariants as values
 use Rattle.member_link.specs.Machine.Arithmetic.{Meaning, divide_meanings, meaning_in, pure_meanings, result_by}
-use Rattle.member_link.specs.Machine.ArraySteps.{Counts, all_counts, negative_count, no_counts, array_length_work, arrays_of_counts, counts_of, element_of, fits_component, index_in, is_too_long, length_of, load_element_work, most_elements, new_array_work, new_arrays_work, put_element, store_element_work, stores_value, takes_array}
-use Rattle.member_link.specs.Machine.CallSteps.{as_asked, call_dynamic_work, call_found_special, call_interface_work, call_special_work, call_static_work, call_virtual_work, found_special, if_conforms, interface_on, is_object_init, is_polymorphic, on_receiver, run_call, run_chosen, special_choice, special_on, virtual_on, with_receiver}
+use Rattle.member_link.specs.Machine.ArraySteps.{Counts, all_counts, negative_count, no_counts, array_length_work, arrays_of_counts, counts_of, element_of, fits_component, index_in, is_too_long, length_of, load_element_work, most_elements, new_array_work, put_element, store_element_work, stores_value, takes_array}
+use Rattle.member_link.specs.Machine.CallSteps.{as_asked, call_found_special, call_interface_work, call_static_work, call_virtual_work, found_special, if_conforms, interface_on, is_object_init, on_receiver, run_call, run_chosen, special_choice, special_on, virtual_on, with_receiver}
 use Rattle.member_link.specs.Machine.Completions.{Asked, Completion, asks, begins, calls, ends, gives, raises, throws}
-use Rattle.member_link.specs.Machine.FieldSteps.{begun_first, get_field_work, get_from, get_static_work, got_field, got_static, if_fits, is_barred, put_field_in, put_field_tested, put_field_value, put_field_work, put_into, put_static_begun, put_static_value, put_static_work, static_number}
+use Rattle.member_link.specs.Machine.FieldSteps.{begun_first, get_field_work, get_from, get_static_work, got_field, got_static, is_barred, put_field_in, put_field_value, put_field_work, put_into, put_static_value, put_static_work, static_number}
 use Rattle.member_link.specs.Machine.Layouts.{slot_number}
 use Rattle.member_link.specs.Machine.ObjectSteps.{check_cast_work, enter_monitor_work, if_there, instance_of_work, leave_monitor_work, new_object_work, throw_work}
 use Rattle.member_link.specs.Machine.Ops.{Op, no_operation, meaningless, push_value, push_constant, load_local, store_local, increment_local, test_local, shuffle_stack, pure_arithmetic, division, float_arithmetic, jump_by_int, jump_by_ints, jump_by_references, jump_by_null, jump_to, table_switch, lookup_switch, return_nothing, return_value, throw_reference, get_static, put_static, get_field, put_field, call_static, call_virtual, call_interface, call_special, call_dynamic, new_object, new_array, new_arrays, load_element, store_element, array_length, check_cast, instance_of, enter_monitor, leave_monitor}
 use Rattle.member_link.specs.Machine.Programs.{Chosen, Program, RunMethod, abstract_method, chosen, code_at, field_of, folder_number, has_flag, method_of, name_of_class, not_public, place_of_method, run_method, several_defaults}
-use Rattle.member_link.specs.Machine.Shapes.{class_of_shape, is_external, is_instance}
+use Rattle.member_link.specs.Machine.Shapes.{class_of_shape, is_instance}
 use Rattle.member_link.specs.Machine.Throwables.{illegal_access}
-use Rattle.member_link.specs.Machine.Work.{arithmetic_work, division_work, divides_by_zero, float_work, of_result, push_constant_work, work}
+use Rattle.member_link.specs.Machine.Work.{arithmetic_work, division_work, divides_by_zero, float_work, of_result, work}
 use Rattle.member_link.specs.Machine.Worlds.{Halt, Memory, array_too_long, going, is_begun, stuck}
 use Rattle.member_link.specs.References.{Reference}
 use Rattle.member_link.specs.Rows.ArithmeticRows.{Operation, float_operations, operation_in}
-use Rattle.member_link.specs.declared.selection.CallForm.{CallForm}
 use Rattle.member_link.specs.declared.selection.CallForm.TheVariants.{Virtual, Interface}
 use Rattle.same_runs.specs.Laws.Methods.{place_is}
 
@@ -51,7 +50,8 @@ module _ {P : Program} where
 
   -- ---- objects and monitors
 
-  there : (memory : Memory) (reference : ℕ) (f : Object → Completion) → ((object : Object) → IsPossible P (f object)) → IsPossible P (if_there memory reference f)
+  there : (memory : Memory) (reference : ℕ) (f : Object → Completion) → ((object : Object) → IsPossible P (f object))
+      → IsPossible P (if_there memory reference f)
   there memory reference f each = by (object_at memory.heap reference) refl where
     by : (found : Option Object) → object_at memory.heap reference ≡ found → IsPossible P (if_there memory reference f)
     by None e = rw (e) is_stuck
@@ -112,7 +112,8 @@ module _ {P : Program} where
   leaves memory (values.Float bits ∷ rest) = is_stuck
   leaves memory (values.Double bits ∷ rest) = is_stuck
 
-  begun_before : (memory : Memory) (class : Name) (otherwise : Completion) → IsPossible P otherwise → IsPossible P (begun_first P memory class otherwise)
+  begun_before : (memory : Memory) (class : Name) (otherwise : Completion) → IsPossible P otherwise
+      → IsPossible P (begun_first P memory class otherwise)
   begun_before memory class otherwise is = by (folder_number P class) refl where
     by : (found : Option ℕ) → folder_number P class ≡ found → IsPossible P (begun_first P memory class otherwise)
     by None e = rw (e) is
@@ -134,24 +135,29 @@ module _ {P : Program} where
   gets_static memory None = is_stuck
   gets_static memory (Some field) = either _ (begun_before memory field.class _ (got memory field (folder_number P field.class))) is_stuck
 
-  put : (memory : Memory) (field : Reference) (value : Value) (class : Option ℕ) → IsPossible P (put_static_value P memory field value class)
+  put : (memory : Memory) (field : Reference) (value : Value) (class : Option ℕ)
+      → IsPossible P (put_static_value P memory field value class)
   put memory field value None = may_ask
   put memory field value (Some class) = by (static_number P class field) refl where
     by : (found : Option ℕ) → static_number P class field ≡ found → IsPossible P (put_static_value P memory field value (Some class))
     by None e = rw (e) is_stuck
     by (Some number) e = rw (e) may_give
 
-  puts_static : (memory : Memory) (found : Option Reference) (initialises : Option Name) (operands : List Value) → IsPossible P (put_static_work P memory found initialises operands)
+  puts_static : (memory : Memory) (found : Option Reference) (initialises : Option Name) (operands : List Value)
+      → IsPossible P (put_static_work P memory found initialises operands)
   puts_static memory None initialises operands = is_stuck
   puts_static memory (Some field) initialises [] = is_stuck
   puts_static memory (Some field) initialises (value ∷ more ∷ rest) = is_stuck
   puts_static memory (Some field) initialises (value ∷ []) =
-      either _ (either _ (begun_before memory field.class _ (either _ may_raise (put memory field (narrowed (type_of field.desc) value) (folder_number P field.class)))) is_stuck) is_stuck
+      either _
+      (either _ (begun_before memory field.class _ (either _ may_raise
+      (put memory field (narrowed (type_of field.desc) value) (folder_number P field.class)))) is_stuck) is_stuck
 
   got_of : (memory : Memory) (field : Reference) (object : Option Object) → IsPossible P (got_field P memory field object)
   got_of memory field None = is_stuck
   got_of memory field (Some object) = of_shape object.shape refl where
-    of_number : (class : ℕ) → object.shape ≡ shapes.Folder class → (number : Option ℕ) → slot_number P (name_of_class P class) field ≡ number → IsPossible P (got_field P memory field (Some object))
+    of_number : (class : ℕ) → object.shape ≡ shapes.Folder class → (number : Option ℕ)
+        → slot_number P (name_of_class P class) field ≡ number → IsPossible P (got_field P memory field (Some object))
     of_number class is None e = rw (is, e) is_stuck
     of_number class is (Some number) e = by (slice_get object.values number) refl where
       by : (found : Option Value) → slice_get object.values number ≡ found → IsPossible P (got_field P memory field (Some object))
@@ -163,26 +169,31 @@ module _ {P : Program} where
     of_shape (shapes.External class also) is = rw (is) is_stuck
     of_shape (shapes.Array desc len) is = rw (is) is_stuck
 
-  got_from : (memory : Memory) (field : Reference) (reference : ℕ) (class : Option ℕ) → IsPossible P (get_from P memory field reference class)
+  got_from : (memory : Memory) (field : Reference) (reference : ℕ) (class : Option ℕ)
+      → IsPossible P (get_from P memory field reference class)
   got_from memory field reference None = may_ask
   got_from memory field reference (Some class) = got_of memory field (object_at memory.heap reference)
 
-  gets_field : (memory : Memory) (named : Name) (found : Option Reference) (operands : List Value) → IsPossible P (get_field_work P memory named found operands)
+  gets_field : (memory : Memory) (named : Name) (found : Option Reference) (operands : List Value)
+      → IsPossible P (get_field_work P memory named found operands)
   gets_field memory named None operands = is_stuck
   gets_field memory named (Some field) [] = is_stuck
   gets_field memory named (Some field) (values.Null ∷ []) = either _ is_stuck may_raise
   gets_field memory named (Some field) (values.Null ∷ more ∷ rest) = is_stuck
-  gets_field memory named (Some field) (values.Ref reference ∷ []) = either _ (got_from memory field reference (folder_number P field.class)) is_stuck
+  gets_field memory named (Some field) (values.Ref reference ∷ []) =
+      either _ (got_from memory field reference (folder_number P field.class)) is_stuck
   gets_field memory named (Some field) (values.Ref reference ∷ more ∷ rest) = is_stuck
   gets_field memory named (Some field) (values.Int integer ∷ rest) = is_stuck
   gets_field memory named (Some field) (values.Long long ∷ rest) = is_stuck
   gets_field memory named (Some field) (values.Float bits ∷ rest) = is_stuck
   gets_field memory named (Some field) (values.Double bits ∷ rest) = is_stuck
 
-  put_of : (memory : Memory) (field : Reference) (reference : ℕ) (value : Value) (object : Option Object) → IsPossible P (put_field_value P memory field reference value object)
+  put_of : (memory : Memory) (field : Reference) (reference : ℕ) (value : Value) (object : Option Object)
+      → IsPossible P (put_field_value P memory field reference value object)
   put_of memory field reference value None = is_stuck
   put_of memory field reference value (Some object) = of_shape object.shape refl where
-    of_number : (class : ℕ) → object.shape ≡ shapes.Folder class → (number : Option ℕ) → slot_number P (name_of_class P class) field ≡ number
+    of_number : (class : ℕ) → object.shape ≡ shapes.Folder class → (number : Option ℕ)
+        → slot_number P (name_of_class P class) field ≡ number
         → IsPossible P (put_field_value P memory field reference value (Some object))
     of_number class is None e = rw (is, e) is_stuck
     of_number class is (Some number) e = rw (is, e) may_give
@@ -192,13 +203,16 @@ module _ {P : Program} where
     of_shape (shapes.External class also) is = rw (is) is_stuck
     of_shape (shapes.Array desc len) is = rw (is) is_stuck
 
-  puts_into : (memory : Memory) (field : Reference) (reference : ℕ) (value : Value) (class : Option ℕ) → IsPossible P (put_into P memory field reference value class)
+  puts_into : (memory : Memory) (field : Reference) (reference : ℕ) (value : Value) (class : Option ℕ)
+      → IsPossible P (put_into P memory field reference value class)
   puts_into memory field reference value None = may_ask
   puts_into memory field reference value (Some class) = put_of memory field reference value (object_at memory.heap reference)
 
-  puts_in : (memory : Memory) (named : Name) (field : Reference) (receiver value : Value) → IsPossible P (put_field_in P memory named field receiver value)
+  puts_in : (memory : Memory) (named : Name) (field : Reference) (receiver value : Value)
+      → IsPossible P (put_field_in P memory named field receiver value)
   puts_in memory named field values.Null value = may_raise
-  puts_in memory named field (values.Ref reference) value = either _ (puts_into memory field reference (narrowed (type_of field.desc) value) (folder_number P field.class)) is_stuck
+  puts_in memory named field (values.Ref reference) value =
+      either _ (puts_into memory field reference (narrowed (type_of field.desc) value) (folder_number P field.class)) is_stuck
   puts_in memory named field (values.Int number) value = is_stuck
   puts_in memory named field (values.Long number) value = is_stuck
   puts_in memory named field (values.Float bits) value = is_stuck
@@ -229,11 +243,13 @@ module _ {P : Program} where
   runs_chosen several_defaults given = may_raise
   runs_chosen not_public given = may_raise
 
-  calls_static : (memory : Memory) (named : Reference) (found : Option Reference) (given : List Value) → IsPossible P (call_static_work P memory named found given)
+  calls_static : (memory : Memory) (named : Reference) (found : Option Reference) (given : List Value)
+      → IsPossible P (call_static_work P memory named found given)
   calls_static memory named None given = is_stuck
   calls_static memory named (Some found) given = either _ (begun_before memory found.class _ (runs (as_asked P named found) given)) is_stuck
 
-  received : (shape : Shape) (named found : Reference) (choice : Chosen) (given : List Value) → IsPossible P (on_receiver P shape named found choice given)
+  received : (shape : Shape) (named found : Reference) (choice : Chosen) (given : List Value)
+      → IsPossible P (on_receiver P shape named found choice given)
   received shape named found choice given = either _ may_ask (runs_chosen choice given)
 
   receives : (memory : Memory) (desc : List ℕ) (f : Shape → Completion) → ((shape : Shape) → IsPossible P (f shape)) → (given : List Value)
@@ -245,37 +261,45 @@ module _ {P : Program} where
   receives memory desc f each (values.Float bits ∷ given) = either _ is_stuck is_stuck
   receives memory desc f each (values.Double bits ∷ given) = either _ is_stuck is_stuck
   receives memory desc f each (values.Ref reference ∷ given) = by (object_at memory.heap reference) refl where
-    by : (found : Option Object) → object_at memory.heap reference ≡ found → IsPossible P (with_receiver P memory desc f (values.Ref reference ∷ given))
+    by : (found : Option Object) → object_at memory.heap reference ≡ found
+        → IsPossible P (with_receiver P memory desc f (values.Ref reference ∷ given))
     by None e = rw (e) (either (have_kinds (parameters_of desc) given) is_stuck is_stuck)
     by (Some object) e = rw (e) (either (have_kinds (parameters_of desc) given) (each object.shape) is_stuck)
 
-  conforming : (named : Reference) (f : Shape → Completion) → ((shape : Shape) → IsPossible P (f shape)) → (shape : Shape) → IsPossible P (if_conforms P named f shape)
+  conforming : (named : Reference) (f : Shape → Completion) → ((shape : Shape) → IsPossible P (f shape)) → (shape : Shape)
+      → IsPossible P (if_conforms P named f shape)
   conforming named f each shape = either _ (each shape) is_stuck
 
-  calls_virtual : (memory : Memory) (named : Reference) (found : Option Reference) (given : List Value) → IsPossible P (call_virtual_work P memory named found given)
+  calls_virtual : (memory : Memory) (named : Reference) (found : Option Reference) (given : List Value)
+      → IsPossible P (call_virtual_work P memory named found given)
   calls_virtual memory named None given = is_stuck
   calls_virtual memory named (Some found) given =
       either (has_flag (method_of P found) STATIC) is_stuck
       (receives memory named.desc _
-      (conforming named (virtual_on P named found given) (λ shape. received shape named found (P.links.select (class_of_shape P shape) found Virtual) given)) given)
+      (conforming named (virtual_on P named found given)
+      (λ shape. received shape named found (P.links.select (class_of_shape P shape) found Virtual) given)) given)
 
-  calls_interface : (memory : Memory) (named : Reference) (found : Option Reference) (given : List Value) → IsPossible P (call_interface_work P memory named found given)
+  calls_interface : (memory : Memory) (named : Reference) (found : Option Reference) (given : List Value)
+      → IsPossible P (call_interface_work P memory named found given)
   calls_interface memory named None given = is_stuck
   calls_interface memory named (Some found) given =
       either (has_flag (method_of P found) STATIC) is_stuck
       (receives memory named.desc (interface_on P named found given)
-      (λ shape. either (is_instance P shape named.class) (received shape named found (P.links.select (class_of_shape P shape) found Interface) given) may_raise) given)
+      (λ shape. either (is_instance P shape named.class)
+      (received shape named found (P.links.select (class_of_shape P shape) found Interface) given) may_raise) given)
 
   specially : (memory : Memory) (named : Reference) (from : Name) (found : Reference) (given : List Value) (shape : Shape)
       → IsPossible P (special_on P memory named from found given shape)
-  specially memory named from found given shape = either (is_object_init found) may_give (received shape named found (special_choice P from found) given)
+  specially memory named from found given shape =
+      either (is_object_init found) may_give (received shape named found (special_choice P from found) given)
 
   calls_special : (memory : Memory) (named : Reference) (from : Name) (found : Option Reference) (given : List Value)
       → IsPossible P (call_found_special P memory named from found given)
   calls_special memory named from None given = is_stuck
   calls_special memory named from (Some found) given =
       either (has_flag (method_of P found) STATIC) is_stuck
-      (receives memory named.desc _ (conforming named (special_on P memory named from found given) (specially memory named from found given)) given)
+      (receives memory named.desc _
+      (conforming named (special_on P memory named from found given) (specially memory named from found given)) given)
 
   -- ---- arrays
 
@@ -322,7 +346,8 @@ module _ {P : Program} where
   element : (memory : Memory) (number : ℕ) (index : ℤ) (object : Option Object) → IsPossible P (element_of memory number index object)
   element memory number index None = is_stuck
   element memory number index (Some object) = of_shape object.shape refl where
-    of_index : (desc : Name) (len : ℕ) → object.shape ≡ shapes.Array desc len → takes_array number desc ≡ true → (found : Option ℕ) → index_in index len ≡ found
+    of_index : (desc : Name) (len : ℕ) → object.shape ≡ shapes.Array desc len → takes_array number desc ≡ true → (found : Option ℕ)
+        → index_in index len ≡ found
         → IsPossible P (element_of memory number index (Some object))
     of_index desc len e takes None is = rw (e, takes, is) may_raise
     of_index desc len e takes (Some at) is = by (slice_get object.values at) refl where
@@ -330,7 +355,8 @@ module _ {P : Program} where
       by None there_is = rw (e, takes, is, there_is) is_stuck
       by (Some value) there_is = rw (e, takes, is, there_is) may_give
 
-    of_array : (desc : Name) (len : ℕ) → object.shape ≡ shapes.Array desc len → (b : Bool) → takes_array number desc ≡ b → IsPossible P (element_of memory number index (Some object))
+    of_array : (desc : Name) (len : ℕ) → object.shape ≡ shapes.Array desc len → (b : Bool) → takes_array number desc ≡ b
+        → IsPossible P (element_of memory number index (Some object))
     of_array desc len e true takes = of_index desc len e takes (index_in index len) refl
     of_array desc len e false takes = rw (e, takes) is_stuck
 
@@ -366,7 +392,8 @@ module _ {P : Program} where
       → IsPossible P (put_element P memory number reference index value object)
   puts_element memory number reference index value None = is_stuck
   puts_element memory number reference index value (Some object) = of_shape object.shape refl where
-    of_index : (desc : Name) (len : ℕ) → object.shape ≡ shapes.Array desc len → takes_array number desc ≡ true → (found : Option ℕ) → index_in index len ≡ found
+    of_index : (desc : Name) (len : ℕ) → object.shape ≡ shapes.Array desc len → takes_array number desc ≡ true → (found : Option ℕ)
+        → index_in index len ≡ found
         → IsPossible P (put_element P memory number reference index value (Some object))
     of_index desc len e takes None is = rw (e, takes, is) may_raise
     of_index desc len e takes (Some at) is = rw (e, takes, is) (either (fits_component P memory desc value) may_give may_raise)
@@ -381,7 +408,8 @@ module _ {P : Program} where
     of_shape (shapes.External class also) e = rw (e) is_stuck
     of_shape (shapes.Array desc len) e = of_array desc len e (takes_array number desc) refl
 
-  stores_into : (memory : Memory) (number : ℕ) (index : ℤ) (array value : Value) → IsPossible P (store_element_work P memory number (array ∷ values.Int index ∷ value ∷ []))
+  stores_into : (memory : Memory) (number : ℕ) (index : ℤ) (array value : Value)
+      → IsPossible P (store_element_work P memory number (array ∷ values.Int index ∷ value ∷ []))
   stores_into memory number index values.Null value = either (stores_value number value) may_raise is_stuck
   stores_into memory number index (values.Ref reference) value =
       either (stores_value number value) (puts_element memory number reference index value (object_at memory.heap reference)) is_stuck
@@ -471,7 +499,8 @@ pub work_is_possible : (P : Program) (memory : Memory) (op : Op) (operands : Lis
 work_is_possible P memory op operands = works {P = P} memory op operands
 
 -- a method that is called is one of the program
-pub called_there : {P : Program} {completion : Completion} → IsPossible P completion → (at : MethodAt) (given : List Value) → completion ≡ calls at given
+pub called_there : {P : Program} {completion : Completion} → IsPossible P completion → (at : MethodAt) (given : List Value)
+    → completion ≡ calls at given
     → (method : RunMethod) × (run_method P at ≡ Some method)
 called_there {P = P} (may_call {at = to} {given = values_given} {method = method} is) at given same =
     let here : to ≡ at = cc same in

@@ -1,26 +1,25 @@
 -- What an operation comes to in both runs changes both worlds alike: calls, throwing, and what the library sees of it.
-use Rattle.std.proofs.Common.{◌≡◌, ◌≢◌, ◌+◌, ℕ, Bool, true, false, List, [], ◌∷◌, ◌++◌, Option, Some, None, IsTrue, IsFalse, if◌then◌else◌, refl, sym, ap, subst, ◌∙◌, inl, inr, ◌⊎◌}
+use Rattle.std.proofs.Common.{◌≡◌, ◌+◌, ℕ, List, [], ◌∷◌, ◌++◌, Some, None, IsTrue, IsFalse, refl, sym, ap, subst, inl, inr, ◌⊎◌}
 use Rattle.class_model.specs.declared.class_file.MethodAt.{MethodAt}
-use Rattle.class_model.specs.declared.header.Member.{Member}
 use Rattle.class_tree.specs.Headers.{Name}
 use Rattle.machine_values.specs.Frames.{MethodState}
-use Rattle.machine_values.specs.Heaps.{Heap, Made, constant_made, entered, external}
+use Rattle.machine_values.specs.Heaps.{constant_made, entered, external}
 use Rattle.machine_values.specs.declared.event.Event.{Event}
 use Rattle.machine_values.specs.declared.event.EventKind.{EventKind}
 use Rattle.machine_values.specs.declared.event.EventKind.TheVariants as kinds
 use Rattle.machine_values.specs.declared.frame.RunFrame.{RunFrame}
-use Rattle.machine_values.specs.declared.frame.RunFrame.TheVariants.{Library, Beginning, Method}
+use Rattle.machine_values.specs.declared.frame.RunFrame.TheVariants.{Library, Method}
 use Rattle.machine_values.specs.declared.object.Constant.TheVariants.{Class}
 use Rattle.machine_values.specs.declared.object.Shape.TheVariants.{External}
 use Rattle.machine_values.specs.declared.value.Value.{Value}
-use Rattle.member_link.specs.Machine.Completions.{Asked, Completion, begins, calls, ends}
+use Rattle.member_link.specs.Machine.Completions.{Completion, begins, calls, ends}
 use Rattle.member_link.specs.Machine.ObjectSteps.{with_entered}
 use Rattle.member_link.specs.Machine.Ops.{Op}
-use Rattle.member_link.specs.Machine.Performing.{Landing, Locked, Locking, no_lock, receiver_lock, class_lock, called, landed, locked, locked_by, locking_of, perform, raised, thrown, thrown_in}
+use Rattle.member_link.specs.Machine.Performing.{Landing, Locked, Locking, no_lock, receiver_lock, class_lock, landed, locked, locked_by, locking_of, perform, raised, thrown_in}
 use Rattle.member_link.specs.Machine.Programs.{Program, RunMethod, name_of_class, run_method}
 use Rattle.member_link.specs.Machine.Showing.{Numbered, showing}
 use Rattle.member_link.specs.Machine.Work.{work}
-use Rattle.member_link.specs.Machine.Worlds.{Halt, Memory, World, going, stopped, faulted, init_threw, array_too_long, stuck, is_begun, with_heap}
+use Rattle.member_link.specs.Machine.Worlds.{Memory, World, going, stopped, faulted, init_threw, array_too_long, stuck, is_begun, with_heap}
 use Rattle.same_runs.specs.Renamings.{Names, NamesMore, SameHeld, none_held, one_held, SameValues, no_values, and_value, same_int, same_long, same_float, same_double, same_null, same_reference}
 use Rattle.same_runs.specs.SameCompletions.{SameCompletions, both_give, both_raise, both_throw, both_begin, both_call, both_ask, both_end, begins_alone}
 use Rattle.same_runs.specs.SameFrames.{SameLanding, both_catch, both_leave, both_nowhere, both_reach_library, Unwinds}
@@ -32,7 +31,7 @@ use Rattle.same_runs.specs.Laws.Completed.{called_there, ends_over, work_is_poss
 use Rattle.same_runs.specs.Laws.Constants.{both_have}
 use Rattle.same_runs.specs.Laws.Heaps.{both_allocate, both_enter, entered_constants, new_unnamed}
 use Rattle.same_runs.specs.Laws.Methods.{same_run_method}
-use Rattle.same_runs.specs.Laws.Names.{more_and_more, named_here, named_too, named_too_more, names_themselves, references_more, values_more}
+use Rattle.same_runs.specs.Laws.Names.{named_here, named_too, named_too_more, names_themselves, references_more, values_more}
 use Rattle.same_runs.specs.Laws.Numbering.{SameNumbered, asked_numbered, monitors_same, reference_numbered}
 use Rattle.same_runs.specs.Laws.Programs.{same_name}
 use Rattle.same_runs.specs.Laws.Statics.{keeps_all, keeps_made, memories_counted, memories_still}
@@ -42,11 +41,13 @@ use Rattle.same_runs.specs.Laws.Work.{work_same}
 -- ---- what was seen
 
 -- what was seen is the same under more names
-pub seen_more : {c : Comparison} {names more : Names} {first second : World} → NamesMore names more → SameSeen c names first second → SameSeen c more first second
+pub seen_more : {c : Comparison} {names more : Names} {first second : World} → NamesMore names more → SameSeen c names first second
+    → SameSeen c more first second
 seen_more grows seen = record { known = references_more grows seen.known; events = seen.events }
 
 -- one event more on both sides
-pub one_event_more : {c : Comparison} {ones others : List Event} {one other : Event} → SameEvents c ones others → SameEvent c one other → SameEvents c (ones ++ one ∷ []) (others ++ other ∷ [])
+pub one_event_more : {c : Comparison} {ones others : List Event} {one other : Event} → SameEvents c ones others → SameEvent c one other
+    → SameEvents c (ones ++ one ∷ []) (others ++ other ∷ [])
 one_event_more no_events last = and_event last no_events
 one_event_more (and_event here rest) last = and_event here (one_event_more rest last)
 
@@ -85,10 +86,11 @@ module _ {P Q : Program} {c : Comparison} (same : SamePrograms P Q) (compares : 
       both_landed more grows lands memories (record { known = references_more grows seen.known; events = seen.events }) goes goes_also
   landed_same {more = more} {first = first} {second = second} reference named grows is seen goes goes_also
       (both_reach_library {memory = memory} {also = memory_also} {ones = ones} {others = others} memories frames) =
-          let number = reference_numbered same memories.heaps (references_more grows seen.known) reference named is in
-          both_go more grows frames memories
-          (shown_same (record first { memory = memory; frames = Library None ∷ ones }) (record second { memory = memory_also; frames = Library None ∷ others })
-          memories seen.events (record { seen = ap kinds.Threw number.seen; known = number.known })) goes goes_also
+      let number = reference_numbered same memories.heaps (references_more grows seen.known) reference named is in
+      both_go more grows frames memories
+      (shown_same (record first { memory = memory; frames = Library None ∷ ones })
+      (record second { memory = memory_also; frames = Library None ∷ others })
+      memories seen.events (record { seen = ap kinds.Threw number.seen; known = number.known })) goes goes_also
   landed_same {more = more} reference named grows is seen goes goes_also (both_leave memories) =
       both_over more (record { known = references_more grows seen.known; events = seen.events }) (λ impossible. cc impossible) refl
   landed_same {more = more} reference named grows is seen goes goes_also both_nowhere =
@@ -156,7 +158,8 @@ module _ {P Q : Program} {c : Comparison} (same : SamePrograms P Q) (compares : 
         held = one_held made.is;
       }
 
-  same_locking : (at : MethodAt) (method : RunMethod) → run_method P at ≡ Some method → locking_of (run_method Q at) ≡ locking_of (run_method P at)
+  same_locking : (at : MethodAt) (method : RunMethod) → run_method P at ≡ Some method
+      → locking_of (run_method Q at) ≡ locking_of (run_method P at)
   same_locking at method is =
       let found = same_run_method same at method is in
       rw (is, found.1, found.2.member) refl
@@ -168,8 +171,10 @@ module _ {P Q : Program} {c : Comparison} (same : SamePrograms P Q) (compares : 
       → SameValues names ones others
       → SameLocked names (locked P one at ones) (locked Q other at others)
   locked_same {names = names} {one = one} {other = other} {ones = ones} {others = others} at method is memories are =
-      subst (λ (class : Name). SameLocked names (locked P one at ones) (locked_by other class (locking_of (run_method Q at)) others)) (sym (same_name same at.class))
-      (subst (λ (locking : Locking). SameLocked names (locked P one at ones) (locked_by other (name_of_class P at.class) locking others)) (sym (same_locking at method is))
+      subst (λ (class : Name). SameLocked names (locked P one at ones) (locked_by other class (locking_of (run_method Q at)) others))
+      (sym (same_name same at.class))
+      (subst (λ (locking : Locking). SameLocked names (locked P one at ones) (locked_by other (name_of_class P at.class) locking others))
+      (sym (same_locking at method is))
       (locked_by_same (name_of_class P at.class) (locking_of (run_method P at)) memories are))
 
   -- a throwable of the machine is made in both, and thrown
@@ -187,7 +192,8 @@ module _ {P Q : Program} {c : Comparison} (same : SamePrograms P Q) (compares : 
       let grows = named_too_more names made.reference also.reference (new_unnamed memories.heaps) in
       thrown_same made.reference also.reference (with_heap first.memory made.heap) (with_heap second.memory also.heap)
       grows (named_here names made.reference also.reference) seen goes goes_also
-      (memories_still grows (keeps_all first.memory.heap made.heap refl) (both_allocate memories.heaps (External class []) [] [] no_values) memories)
+      (memories_still grows (keeps_all first.memory.heap made.heap refl)
+      (both_allocate memories.heaps (External class []) [] [] no_values) memories)
       (unwinds (named_too names made.reference also.reference) grows)
 
 -- ---- completions
@@ -199,7 +205,8 @@ pub record MustBegin (one other : Memory) (completion : Completion) : Type 0 whe
   pub begun : IsTrue (is_begun one class)
   pub begun_not : IsFalse (is_begun other class)
 
-module _ {P Q : Program} {c : Comparison} {names : Names} {first second : World} {before taken also taken_also : MethodState} {rest rest_also : List RunFrame}
+module _ {P Q : Program} {c : Comparison} {names : Names} {first second : World}
+    {before taken also taken_also : MethodState} {rest rest_also : List RunFrame}
     (same : SamePrograms P Q) (compares : Compares c)
     (memories : SameMemories P c.allocated c.entered names [] first.memory second.memory) (seen : SameSeen c names first second)
     (goes : first.halt ≡ going) (goes_also : second.halt ≡ going)
@@ -210,18 +217,21 @@ module _ {P Q : Program} {c : Comparison} {names : Names} {first second : World}
   begins_both : (class : ℕ) → IsFalse (is_begun first.memory class) → After (begins class) (begins class)
   begins_both class none =
       let begun = begin_both same class none memories in
-      both_go begun.0 begun.1 (frames.begins begun.0 class begun.1) begun.2 (record { known = references_more begun.1 seen.known; events = seen.events }) goes goes_also
+      both_go begun.0 begun.1 (frames.begins begun.0 class begun.1) begun.2
+      (record { known = references_more begun.1 seen.known; events = seen.events }) goes goes_also
 
-  calls_both : (at : MethodAt) (method : RunMethod) → run_method P at ≡ Some method → {ones others : List Value} → SameValues names ones others
+  calls_both : (at : MethodAt) (method : RunMethod) → run_method P at ≡ Some method → {ones others : List Value}
+      → SameValues names ones others
       → After (calls at ones) (calls at others)
   calls_both at method is {ones = ones} {others = others} are =
       let held = locked_same same compares at method is memories are in
       both_go held.more held.grows
-      (frames.called held.more at ones others (locked P first.memory at ones).held (locked Q second.memory at others).held held.grows (values_more held.grows are) held.held)
+      (frames.called held.more at method ones others (locked P first.memory at ones).held
+      (locked Q second.memory at others).held held.grows is (values_more held.grows are) held.held)
       held.memories (record { known = references_more held.grows seen.known; events = seen.events }) goes goes_also
 
-  -- Both worlds go on in the same way, or both are over; or the second has to begin a class first. A method that is called is one of the first
-  -- program, and an operation that ends as one that goes on leaves the frames as they are.
+  -- Both worlds go on in the same way, or both are over; or the second has to begin a class first. A method that is called is one of the
+  -- first program. A completion that ends a run as one that goes on, which no operation comes to, leaves the frames as they are.
   pub performs_same :
       {one other : Completion}
       → ((at : MethodAt) (values : List Value) → one ≡ calls at values → (method : RunMethod) × (run_method P at ≡ Some method))
@@ -230,7 +240,8 @@ module _ {P Q : Program} {c : Comparison} {names : Names} {first second : World}
       → MustBegin first.memory second.memory other
       ⊎ SameAfter P c names (perform P first before taken rest one) (perform Q second also taken_also rest_also other)
   performs_same known stay (both_give {ones = ones} {others = others} more grows now are) =
-      inr (both_go more grows (frames.given more ones others grows are) now (record { known = references_more grows seen.known; events = seen.events }) goes goes_also)
+      inr (both_go more grows (frames.given more ones others grows are) now
+      (record { known = references_more grows seen.known; events = seen.events }) goes goes_also)
   performs_same known stay (both_raise {class = class}) = inr (raised_same same compares class memories seen goes goes_also frames.unwinds)
   performs_same known stay (both_throw {reference = reference} {named = named} is) =
       inr (thrown_same same compares reference named first.memory second.memory (names_themselves names) is seen goes goes_also memories
@@ -241,15 +252,23 @@ module _ {P Q : Program} {c : Comparison} {names : Names} {first second : World}
       inr (calls_both at method.0 method.1 are)
   performs_same known stay (both_ask {asked = asked} {also = asked_also} is) =
       inr (both_go names (names_themselves names) (frames.asks names (names_themselves names)) memories
-      (shown_same same compares (record first { frames = Library None ∷ Method taken ∷ rest }) (record second { frames = Library None ∷ Method taken_also ∷ rest_also })
+      (shown_same same compares (record first { frames = Library None ∷ Method taken ∷ rest })
+      (record second { frames = Library None ∷ Method taken_also ∷ rest_also })
       memories seen.events (asked_numbered same memories.heaps seen.known is)) goes goes_also)
-  performs_same known stay (both_end {halt = going}) = inr (both_go names (names_themselves names) (stay refl) memories (record { known = seen.known; events = seen.events }) refl refl)
-  performs_same known stay (both_end {halt = stopped}) = inr (both_over names (record { known = seen.known; events = seen.events }) (λ impossible. cc impossible) refl)
-  performs_same known stay (both_end {halt = faulted}) = inr (both_over names (record { known = seen.known; events = seen.events }) (λ impossible. cc impossible) refl)
-  performs_same known stay (both_end {halt = init_threw}) = inr (both_over names (record { known = seen.known; events = seen.events }) (λ impossible. cc impossible) refl)
-  performs_same known stay (both_end {halt = array_too_long}) = inr (both_over names (record { known = seen.known; events = seen.events }) (λ impossible. cc impossible) refl)
-  performs_same known stay (both_end {halt = stuck}) = inr (both_over names (record { known = seen.known; events = seen.events }) (λ impossible. cc impossible) refl)
-  performs_same known stay (begins_alone {class = class} begun none) = inl (record { class = class; is = refl; begun = begun; begun_not = none })
+  performs_same known stay (both_end {halt = going}) =
+      inr (both_go names (names_themselves names) (stay refl) memories (record { known = seen.known; events = seen.events }) refl refl)
+  performs_same known stay (both_end {halt = stopped}) =
+      inr (both_over names (record { known = seen.known; events = seen.events }) (λ impossible. cc impossible) refl)
+  performs_same known stay (both_end {halt = faulted}) =
+      inr (both_over names (record { known = seen.known; events = seen.events }) (λ impossible. cc impossible) refl)
+  performs_same known stay (both_end {halt = init_threw}) =
+      inr (both_over names (record { known = seen.known; events = seen.events }) (λ impossible. cc impossible) refl)
+  performs_same known stay (both_end {halt = array_too_long}) =
+      inr (both_over names (record { known = seen.known; events = seen.events }) (λ impossible. cc impossible) refl)
+  performs_same known stay (both_end {halt = stuck}) =
+      inr (both_over names (record { known = seen.known; events = seen.events }) (λ impossible. cc impossible) refl)
+  performs_same known stay (begins_alone {class = class} begun none) =
+      inl (record { class = class; is = refl; begun = begun; begun_not = none })
 
   -- The same operation with the same operands changes both worlds alike; or the second has to begin a class first that the first has begun.
   pub operation_performed :
