@@ -147,14 +147,17 @@ pub record AtLibrary (P Q : Program) (c : Comparison) (names : Names) (made made
   pub stays : (more : Names)
       → NamesMore names more
       → c.frames more (Library made ∷ rest) (Library made_also ∷ rest_also)
-  pub called : (more : Names) (at : MethodAt) (ones others : List Value) (held held_also : Option ℕ)
+  pub called : (more : Names) (at : MethodAt) (method : RunMethod) (ones others : List Value)
+      (held held_also : Option ℕ)
+      → run_method P at ≡ Some method
       → NamesMore names more
       → SameValues more ones others
       → SameHeld more held held_also
       → c.frames more (Method (frame_with P at (units_of_values ones) held) ∷ Library made ∷ rest)
       (Method (frame_with Q at (units_of_values others) held_also) ∷ Library made_also ∷ rest_also)
-  pub constructs : (more : Names) (at : MethodAt) (ones others : List Value) (held held_also : Option ℕ)
-      (reference named : ℕ)
+  pub constructs : (more : Names) (at : MethodAt) (method : RunMethod) (ones others : List Value)
+      (held held_also : Option ℕ) (reference named : ℕ)
+      → run_method P at ≡ Some method
       → NamesMore names more
       → more reference ≡ Some named
       → SameValues more ones others

@@ -41,17 +41,30 @@ use Rattle.same_runs.specs.Laws.Programs.{SameNamed, named_none, named_both, sam
 use Rattle.same_runs.specs.Laws.Shapes.{same_instance}
 use Rattle.same_runs.specs.Laws.Statics.{keeps_all, memories_still}
 
+no_fault : (before after : World) → after.halt ≡ going → unless_fault before after ≡ after
+no_fault before after goes = by (ap is_fault goes) where
+  by : is_fault after.halt ≡ false → unless_fault before after ≡ after
+  by e = rw (e) refl
+
+both_kept : {P : Program} {c : Comparison} {names : Names} (first second after also : World) → after.halt ≡ going → also.halt ≡ going → SameAfter P c names after also
+    → SameAfter P c names (unless_fault first after) (unless_fault second also)
+both_kept {P = P} {c = c} {names = names} first second after also goes goes_also same =
+    subst (λ (w : World). SameAfter P c names w (unless_fault second also)) (sym (no_fault first after goes))
+    (subst (SameAfter P c names after) (sym (no_fault second also goes_also)) same)
+
 -- an action that is a fault in both leaves both worlds
 pub unless_fault_same :
-    {P : Program} {c : Comparison} {names : Names} {first second after also : World}
+    {P : Program} {c : Comparison} {names : Names} (first second after also : World)
     → SameSeen c names first second
     → SameAfter P c names after also
     → SameAfter P c names (unless_fault first after) (unless_fault second also)
-unless_fault_same seen (both_go more grows frames memories later goes goes_also) = rw (goes, goes_also) (both_go more grows frames memories later goes goes_also)
-unless_fault_same seen (both_landed more grows lands memories later goes goes_also) = rw (goes, goes_also) (both_landed more grows lands memories later goes goes_also)
-unless_fault_same seen (second_begins more class rest grows is begun frames memories later goes goes_also) =
-    rw (goes, goes_also) (second_begins more class rest grows is begun frames memories later goes goes_also)
-unless_fault_same {P = P} {c = c} {names = names} {first = first} {second = second} {after = after} {also = also} seen (both_over more later over same) = by (is_fault after.halt) refl where
+unless_fault_same first second after also seen (both_go more grows frames memories later goes goes_also) =
+    both_kept first second after also goes goes_also (both_go more grows frames memories later goes goes_also)
+unless_fault_same first second after also seen (both_landed more grows lands memories later goes goes_also) =
+    both_kept first second after also goes goes_also (both_landed more grows lands memories later goes goes_also)
+unless_fault_same first second after also seen (second_begins more class rest grows is begun frames memories later goes goes_also) =
+    both_kept first second after also goes goes_also (second_begins more class rest grows is begun frames memories later goes goes_also)
+unless_fault_same {P = P} {c = c} {names = names} first second after also seen (both_over more later over same) = by (is_fault after.halt) refl where
   by : (b : Bool) → is_fault after.halt ≡ b → SameAfter P c names (unless_fault first after) (unless_fault second also)
   by true e = rw (e, ap is_fault same ∙ e) (both_over names (record { known = seen.known; events = seen.events }) (λ impossible. cc impossible) refl)
   by false e = rw (e, ap is_fault same ∙ e) (both_over more later over same)
