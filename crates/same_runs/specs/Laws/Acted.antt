@@ -1,8 +1,11 @@
 -- An action of the library changes both worlds alike.
 use Rattle.std.proofs.Common.{◌≡◌, ◌≢◌, ◌+◌, ◌&&◌, ◌||◌, nat_le, ℕ, ℤ, pos, negsuc, Bool, true, false, not, List, [], ◌∷◌, length, slice_get, is_some, Option, Some, None, option_map, if◌then◌else◌, IsTrue, IsFalse, refl, sym, ap, subst, ◌∙◌, inl, inr, ◌⊎◌}
 use Rattle.std.specs.List.{list_any}
+use Rattle.std.proofs.lemmas.Bool.{false≢true}
 use Rattle.class_model.specs.Descriptors.{parameters_of, type_of}
+use Rattle.class_model.specs.declared.class_file.MethodAt.{MethodAt}
 use Rattle.class_model.specs.declared.descriptor.FieldType.{FieldType}
+use Rattle.class_model.specs.declared.descriptor.FieldType.TheVariants as types
 use Rattle.class_model.specs.declared.header.Header.{Header}
 use Rattle.class_tree.specs.Headers.{Name}
 use Rattle.class_tree.specs.Names.{throwable}
@@ -20,23 +23,28 @@ use Rattle.machine_values.specs.declared.object.Shape.{Shape}
 use Rattle.machine_values.specs.declared.object.Shape.TheVariants as shapes
 use Rattle.machine_values.specs.declared.value.Value.{Value}
 use Rattle.machine_values.specs.declared.value.Value.TheVariants as values
-use Rattle.member_link.specs.Machine.Acting.{Pending, Waiting, act, act_array_get, act_array_length, act_array_set, act_new_array, act_new_external, act_return, act_throw, answer_with, answer_without, fault, given_value, got_of_value, is_array_descriptor, is_concrete, is_fault, is_throwable, known_object, length_of_shape, set_at, set_of_shape, unless_fault, waiting_in}
+use Rattle.member_link.specs.Machine.Acting.{Pending, Waiting, act, act_call, act_construct, all_conform, answered, beginning_if, beginning_of_number, begins_with_angle, call_at, call_by_sort, call_of_instance, call_of_method, call_of_static, call_on, construct_at, constructed, given_values, is_handled, act_array_get, act_array_length, act_array_set, act_new_array, act_new_external, act_return, act_throw, answer_with, answer_without, fault, given_value, got_of_value, is_array_descriptor, is_concrete, is_fault, is_throwable, known_object, length_of_shape, set_at, set_of_shape, unless_fault, waiting_in}
 use Rattle.member_link.specs.Machine.ArraySteps.{blank_array, index_in, most_elements}
-use Rattle.member_link.specs.Machine.Programs.{Program, folder_number, header_named, is_interface_named}
+use Rattle.member_link.specs.Machine.Performing.{called, locked, resumed}
+use Rattle.member_link.specs.Machine.Programs.{Program, RunMethod, code_at, folder_number, header_named, is_interface_named, place_of_method, run_method}
 use Rattle.member_link.specs.Machine.Shapes.{is_instance, value_conforms}
 use Rattle.member_link.specs.Machine.Showing.{kind_with, numbered, shows_got, shows_length, shows_made}
-use Rattle.member_link.specs.Machine.Worlds.{Halt, Memory, World, going, stopped, faulted, init_threw, array_too_long, stuck, with_heap}
-use Rattle.same_runs.specs.Renamings.{Names, NamesMore, SameObject, SameReferences, SameUnit, no_value, has_value, SameValue, same_reference, SameValues, no_values, and_value}
+use Rattle.member_link.specs.Machine.Throwables.{null_pointer}
+use Rattle.member_link.specs.Machine.Worlds.{Halt, Memory, World, going, stopped, faulted, init_threw, array_too_long, stuck, is_begun, with_heap}
+use Rattle.same_runs.specs.Renamings.{Names, NamesMore, SameObject, SameReferences, SameUnit, no_value, has_value, SameValue, same_int, same_long, same_float, same_double, same_null, same_reference, SameValues, no_values, and_value}
 use Rattle.same_runs.specs.SameMemories.{SameMemories}
+use Rattle.same_runs.specs.SameFrames.{Unwinds}
 use Rattle.same_runs.specs.SamePrograms.{SamePrograms}
 use Rattle.same_runs.specs.SameWorlds.{AtLibrary, Comparison, Compares, SameAfter, both_go, both_landed, both_over, second_begins, SameSeen, SameWaiting, none_waits, both_wait}
 use Rattle.same_runs.specs.Laws.ArrayWork.{SameMade, blank_both, made_both}
+use Rattle.same_runs.specs.Laws.Begun.{begin_both}
+use Rattle.same_runs.specs.Laws.BegunAlone.{second_has_begun}
 use Rattle.same_runs.specs.Laws.FieldWork.{narrowed_same, value_at}
-use Rattle.same_runs.specs.Laws.GivenValues.{SameKnown, not_known, is_known, SameObjects, no_object, one_object, conforms_both, known_at, objects_known, value_given}
+use Rattle.same_runs.specs.Laws.GivenValues.{SameKnown, not_known, is_known, SameObjects, no_object, one_object, all_conform_both, conforms_both, known_at, objects_known, value_given}
 use Rattle.same_runs.specs.Laws.Heaps.{both_write, value_constants}
-use Rattle.same_runs.specs.Laws.Names.{names_themselves, references_more}
+use Rattle.same_runs.specs.Laws.Names.{more_and_more, names_themselves, references_more, values_more}
 use Rattle.same_runs.specs.Laws.Numbering.{SameNumbered, reference_numbered, value_numbered}
-use Rattle.same_runs.specs.Laws.Performed.{raised_same, seen_more, shown_same, thrown_same}
+use Rattle.same_runs.specs.Laws.Performed.{locked_same, raised_same, seen_more, shown_same, thrown_same}
 use Rattle.same_runs.specs.Laws.Programs.{SameNamed, named_none, named_both, same_header, same_interface, same_number}
 use Rattle.same_runs.specs.Laws.Shapes.{same_instance}
 use Rattle.same_runs.specs.Laws.Statics.{keeps_all, memories_still}
@@ -194,3 +202,148 @@ module _ {P Q : Program} {c : Comparison} {names : Names} {first second : World}
     by : (b : Bool) → test P ≡ b → After (act_new_external P first class also) (act_new_external Q second class also)
     by false e = rw (e, tests_same ∙ e) faults
     by true e = rw (e, tests_same ∙ e) (shows_both _ _ (made_both memories.heaps (shapes.External class also) [] [] no_values))
+
+  -- ---- answers
+
+  answers : (waiting also : Waiting) {ones others : List Value}
+      → ((more : Names) (given given_also : List Value)
+      → NamesMore names more
+      → SameValues more given given_also
+      → c.frames more (Method (resumed waiting.frame given) ∷ waiting.rest) (Method (resumed also.frame given_also) ∷ also.rest))
+      → SameValues names ones others
+      → After (answered first waiting ones) (answered second also others)
+  answers waiting also {ones = ones} {others = others} resumes are =
+      both_go names (names_themselves names) (resumes names ones others (names_themselves names) are) memories (record { known = seen.known; events = seen.events }) goes goes_also
+
+  answers_with : (waiting also : Waiting) {value value_also : Option Value} (type : Option FieldType)
+      → ((more : Names) (given given_also : List Value)
+      → NamesMore names more
+      → SameValues more given given_also
+      → c.frames more (Method (resumed waiting.frame given) ∷ waiting.rest) (Method (resumed also.frame given_also) ∷ also.rest))
+      → SameUnit names value value_also
+      → After (answer_with P first waiting type value) (answer_with Q second also type value_also)
+  answers_with waiting also None resumes no_value = faults
+  answers_with waiting also None resumes (has_value alike) = faults
+  answers_with waiting also (Some type) resumes no_value = faults
+  answers_with waiting also (Some type) resumes (has_value {one = value} {other = value_also} alike) = by (value_conforms P first.memory.heap type value) refl where
+    by : (b : Bool) → value_conforms P first.memory.heap type value ≡ b → After (answer_with P first waiting (Some type) (Some value)) (answer_with Q second also (Some type) (Some value_also))
+    by false e = rw (e, conforms_both same memories type alike ∙ e) faults
+    by true e = rw (e, conforms_both same memories type alike ∙ e) (answers waiting also resumes (and_value (narrowed_same type alike) no_values))
+
+  answers_without : (waiting also : Waiting) (type : Option FieldType)
+      → ((more : Names) (given given_also : List Value)
+      → NamesMore names more
+      → SameValues more given given_also
+      → c.frames more (Method (resumed waiting.frame given) ∷ waiting.rest) (Method (resumed also.frame given_also) ∷ also.rest))
+      → After (answer_without first waiting type) (answer_without second also type)
+  answers_without waiting also None resumes = answers waiting also resumes no_values
+  answers_without waiting also (Some type) resumes = faults
+
+  pub returns : {waiting also : Option Waiting} (value : Option Given) → SameWaiting P Q c names waiting also → After (act_return P first waiting value) (act_return Q second also value)
+  returns value none_waits = faults
+  returns None (both_wait {one = waiting} {other = also} pending resumes unwinds) =
+      subst (λ (p : Pending). After (answer_without first waiting waiting.pending.answer) (answer_without second also p.answer)) (sym pending) (answers_without waiting also waiting.pending.answer resumes)
+  returns (Some value) (both_wait {one = waiting} {other = also} pending resumes unwinds) =
+      subst (λ (p : Pending). After (answer_with P first waiting waiting.pending.answer (given_value first.known value)) (answer_with Q second also p.answer (given_value second.known value))) (sym pending)
+      (answers_with waiting also waiting.pending.answer resumes (value_given value seen.known))
+
+  throwable_same : (reference named : ℕ) → names reference ≡ Some named → is_throwable Q second named ≡ is_throwable P first reference
+  throwable_same reference named there =
+      let old = memories.heaps.objects reference named there in
+      rw (old.2, old.3) (ap (λ (shape : Shape). is_instance Q shape throwable) old.4.shape ∙ same_instance same old.0.shape throwable)
+
+  pub throws : {waiting also : Option Waiting} {reference named : Option ℕ} → SameWaiting P Q c names waiting also → SameKnown names reference named
+      → After (act_throw P first waiting reference) (act_throw Q second also named)
+  throws none_waits not_known = faults
+  throws none_waits (is_known there) = faults
+  throws (both_wait pending resumes unwinds) not_known = faults
+  throws (both_wait {one = waiting} {other = also} pending resumes unwinds) (is_known {reference = reference} {named = named} there) = by (waiting.pending.may_throw && is_throwable P first reference) refl where
+    tests_same : (also.pending.may_throw && is_throwable Q second named) ≡ (waiting.pending.may_throw && is_throwable P first reference)
+    tests_same = ap (λ (p : Pending). p.may_throw && is_throwable Q second named) pending ∙ ap (λ (b : Bool). waiting.pending.may_throw && b) (throwable_same reference named there)
+
+    by : (b : Bool) → (waiting.pending.may_throw && is_throwable P first reference) ≡ b → After (act_throw P first (Some waiting) (Some reference)) (act_throw Q second (Some also) (Some named))
+    by false e = rw (e, tests_same ∙ e) faults
+    by true e = rw (e, tests_same ∙ e)
+        (thrown_same same compares reference named first.memory second.memory (names_themselves names) there seen goes goes_also memories (unwinds names (names_themselves names)))
+
+  -- ---- calls
+
+  -- a class that an action begins: in both, or in the second alone, or in none
+  begins_number :
+      (one other : World) (more : Names) (found : Option ℕ)
+      → NamesMore names more
+      → c.frames more one.frames other.frames
+      → SameMemories P c.allocated c.entered more [] one.memory other.memory
+      → SameSeen c more one other
+      → one.halt ≡ going
+      → other.halt ≡ going
+      → After (beginning_of_number P one found) (beginning_of_number Q other found)
+  begins_number one other more None grows frames now later on on_also = both_go more grows frames now later on on_also
+  begins_number one other more (Some number) grows frames now later on on_also = by (is_begun one.memory number) (is_begun other.memory number) refl refl where
+    by : (b d : Bool) → is_begun one.memory number ≡ b → is_begun other.memory number ≡ d → After (beginning_of_number P one (Some number)) (beginning_of_number Q other (Some number))
+    by true true e e_also = rw (e, e_also) (both_go more grows frames now later on on_also)
+    by false true e e_also = absurd (false≢true (sym e ∙ now.statics.begun number e_also))
+    by false false e e_also = rw (e, e_also)
+        (let begun = begin_both same number e now in
+        both_go begun.0 (more_and_more grows begun.1) (at.begins begun.0 number one.frames other.frames (compares.frames more begun.0 one.frames other.frames begun.1 frames)) begun.2
+        (record { known = references_more begun.1 later.known; events = later.events }) on on_also)
+    by true false e e_also = rw (e, e_also)
+        (let begun = second_has_begun same number e e_also now in
+        second_begins begun.0 number other.frames (more_and_more grows begun.1) refl e (compares.frames more begun.0 one.frames other.frames begun.1 frames) begun.2
+        (record { known = references_more begun.1 later.known; events = later.events }) on on_also)
+
+  begins_if :
+      (class : Name) (one other : World) (more : Names)
+      → NamesMore names more
+      → c.frames more one.frames other.frames
+      → SameMemories P c.allocated c.entered more [] one.memory other.memory
+      → SameSeen c more one other
+      → one.halt ≡ going
+      → other.halt ≡ going
+      → After (beginning_if P class one) (beginning_if Q class other)
+  begins_if class one other more grows frames now later on on_also =
+      subst (λ (found : Option ℕ). After (beginning_if P class one) (beginning_of_number Q other found)) (sym (same_number same class))
+      (begins_number one other more (folder_number P class) grows frames now later on on_also)
+
+  -- a method of both is called by the library, and its class begins first if it is static
+  calls_begun : (class : Name) (to : MethodAt) (method : RunMethod) → run_method P to ≡ Some method → {ones others : List Value} → SameValues names ones others
+      → After (beginning_if P class (called P first to ones first.frames)) (beginning_if Q class (called Q second to others second.frames))
+  calls_begun class to method there {ones = ones} {others = others} are =
+      let held = locked_same same compares to method there memories are in
+      begins_if class (called P first to ones first.frames) (called Q second to others second.frames) held.more held.grows
+      (rw (is, is_also) (at.called held.more to method ones others (locked P first.memory to ones).held (locked Q second.memory to others).held there held.grows (values_more held.grows are) held.held))
+      held.memories (record { known = references_more held.grows seen.known; events = seen.events }) goes goes_also
+
+  calls_only : (to : MethodAt) (method : RunMethod) → run_method P to ≡ Some method → {ones others : List Value} → SameValues names ones others
+      → After (called P first to ones first.frames) (called Q second to others second.frames)
+  calls_only to method there {ones = ones} {others = others} are =
+      let held = locked_same same compares to method there memories are in
+      both_go held.more held.grows
+      (rw (is, is_also) (at.called held.more to method ones others (locked P first.memory to ones).held (locked Q second.memory to others).held there held.grows (values_more held.grows are) held.held))
+      held.memories (record { known = references_more held.grows seen.known; events = seen.events }) goes goes_also
+
+  unwinds_frames : (more : Names) → NamesMore names more → Unwinds P Q c.frames c.lands more first.frames second.frames
+  unwinds_frames more grows = rw (is, is_also) (at.unwinds more grows)
+
+  calls_on : (to : MethodAt) (method : RunMethod) → run_method P to ≡ Some method → {receiver also : Value} {ones others : List Value} → SameValue names receiver also → SameValues names ones others
+      → After (call_on P first to ones receiver) (call_on Q second to others also)
+  calls_on to method there same_null are = raised_same same compares null_pointer memories seen goes goes_also unwinds_frames
+  calls_on to method there same_int are = calls_only to method there (and_value same_int are)
+  calls_on to method there same_long are = calls_only to method there (and_value same_long are)
+  calls_on to method there same_float are = calls_only to method there (and_value same_float are)
+  calls_on to method there same_double are = calls_only to method there (and_value same_double are)
+  calls_on to method there (same_reference known) are = calls_only to method there (and_value (same_reference known) are)
+
+  calls_sort : (class : Name) (desc : List ℕ) (to : MethodAt) (method : RunMethod) → run_method P to ≡ Some method → {ones others : List Value} → SameValues names ones others → (static : Bool)
+      → After (call_by_sort P first class desc to ones static) (call_by_sort Q second class desc to others static)
+  calls_sort class desc to method there {ones = ones} {others = others} are true = by (all_conform P first (parameters_of desc) ones) refl where
+    by : (b : Bool) → all_conform P first (parameters_of desc) ones ≡ b → After (call_of_static P first class desc to ones) (call_of_static Q second class desc to others)
+    by false e = rw (e, all_conform_both same memories first second refl refl (parameters_of desc) are ∙ e) faults
+    by true e = rw (e, all_conform_both same memories first second refl refl (parameters_of desc) are ∙ e) (calls_begun class to method there are)
+  calls_sort class desc to method there no_values false = faults
+  calls_sort class desc to method there (and_value {one = receiver} {other = also} {ones = ones} {others = others} here are) false =
+      by (all_conform P first (types.Named class ∷ parameters_of desc) (receiver ∷ ones)) refl where
+        by : (b : Bool) → all_conform P first (types.Named class ∷ parameters_of desc) (receiver ∷ ones) ≡ b
+            → After (call_of_instance P first class desc to (receiver ∷ ones)) (call_of_instance Q second class desc to (also ∷ others))
+        by false e = rw (e, all_conform_both same memories first second refl refl (types.Named class ∷ parameters_of desc) (and_value here are) ∙ e) faults
+        by true e = rw (e, all_conform_both same memories first second refl refl (types.Named class ∷ parameters_of desc) (and_value here are) ∙ e) (calls_on to method there here are)
