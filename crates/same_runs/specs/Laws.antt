@@ -28,4 +28,5 @@ pub mod NoInitLinks
 pub mod Completed
 pub mod Performed
 pub mod GivenValues
+pub mod Handled
 pub mod Acted

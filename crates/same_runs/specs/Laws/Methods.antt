@@ -9,7 +9,7 @@ use Rattle.member_link.specs.References.{Reference}
 use Rattle.same_runs.specs.SamePrograms.{IsAdded, SameClass, SameMethods, SamePrograms}
 use Rattle.same_runs.specs.Laws.Programs.{SameAt, at_none, at_both, at_number, no_init, same_number}
 
-abbrev is_method : Reference → RunMethod → Bool
+abbrev pub is_method : Reference → RunMethod → Bool
 is_method r method = member_of r method.member
 
 -- ---- numbers of methods
@@ -36,7 +36,7 @@ none_of_added : (P : Program) (class : RunClass) (r : Reference) (added : List R
 none_of_added P class r [] all other = refl
 none_of_added P class r (method ∷ added) all other = rw (no_init r method.member other all.0.is_init, none_of_added P class r added all.1 other) refl
 
-no_number : (r : Reference) (ones olds added : List RunMethod) → SameMethods ones olds
+pub no_number : (r : Reference) (ones olds added : List RunMethod) → SameMethods ones olds
     → number_of_first (is_method r) added ≡ None
     → number_of_first (is_method r) ones ≡ None
     → number_of_first (is_method r) (olds ++ added) ≡ None
