@@ -1,5 +1,5 @@
 -- Beginnings of the second run alone: where the first has begun the class before and nothing runs, they go by without being seen.
-use Rattle.std.proofs.Common.{◌≡◌, ◌≢◌, ◌==◌, ◌||◌, ◌+◌, ◌<◌, ◌≤◌, ℕ, zero, suc, Bool, true, false, List, [], ◌∷◌, codes, slice_get, bytes_eq, is_some, Option, Some, None, option_map, option_and_then, if◌then◌else◌, IsTrue, IsFalse, refl, sym, ap, subst, ◌∙◌, inl, inr, ◌⊎◌, arith}
+use Rattle.std.proofs.Common.{◌≡◌, ◌≢◌, ◌==◌, ◌||◌, ◌+◌, ◌<◌, ◌≤◌, ℕ, zero, suc, Bool, true, false, List, [], ◌∷◌, codes, length, nat_le, reverse, slice_get, take, bytes_eq, is_some, Option, Some, None, option_map, option_and_then, if◌then◌else◌, IsTrue, IsFalse, refl, sym, ap, subst, ◌∙◌, inl, inr, ◌⊎◌, arith}
 use Rattle.std.specs.List.{list_any}
 use Rattle.std.proofs.lemmas.Bool.{eq-eqb, eqb-true, false≢true, or_cases}
 use Rattle.std.proofs.lemmas.Option.{none-some, same_Some}
@@ -12,12 +12,16 @@ use Rattle.class_tree.specs.Subtype.{itself}
 use Rattle.machine_values.specs.declared.event.End.TheVariants as ends
 use Rattle.machine_values.specs.declared.event.Shown.{Shown}
 use Rattle.machine_values.specs.declared.frame.RunFrame.{RunFrame}
-use Rattle.machine_values.specs.declared.frame.RunFrame.TheVariants.{Beginning}
+use Rattle.machine_values.specs.declared.frame.RunFrame.TheVariants.{Beginning, Method}
+use Rattle.machine_values.specs.Frames.{MethodState}
+use Rattle.member_link.specs.Machine.Completions.{begins}
+use Rattle.machine_values.specs.declared.value.Value.{Value}
 use Rattle.member_link.specs.Machine.Beginnings.{begun_memory, begun_on, come_first, first_unbegun, initialiser_of, starts_of}
 use Rattle.member_link.specs.Machine.Links.{AreLinksOf}
-use Rattle.member_link.specs.Machine.Programs.{Program, RunClass, code_at, folder_number, headers_in, name_of_class, number_of_first, place_of_method}
-use Rattle.member_link.specs.Machine.Runs.{Run, shown, turn}
-use Rattle.member_link.specs.Machine.Stepping.{is_library_turn}
+use Rattle.member_link.specs.Machine.Programs.{Program, RunClass, code_at, folder_number, headers_in, name_of_class, place_of_method, Point, point_at}
+use Rattle.member_link.specs.Machine.Runs.{Run, shown, turn, turn_by}
+use Rattle.member_link.specs.Machine.Stepping.{is_library_turn, op_step, point_step, work_step}
+use Rattle.member_link.specs.Machine.Work.{arity, work}
 use Rattle.member_link.specs.Machine.Worlds.{Memory, World, going, is_begun}
 use Rattle.member_link.specs.References.{Reference}
 use Rattle.same_runs.specs.Renamings.{Names, NamesMore}
@@ -26,6 +30,7 @@ use Rattle.same_runs.specs.SamePrograms.{SameClass, SamePrograms}
 use Rattle.same_runs.specs.Simulations.{Quietly, at_once, turn_first}
 use Rattle.same_runs.specs.Laws.Begun.{marked, marked_itself, marked_still}
 use Rattle.same_runs.specs.Laws.BegunAlone.{second_has_begun, starts_begun}
+use Rattle.same_runs.specs.Laws.BegunClasses.{begun_is_there, folder_class}
 use Rattle.same_runs.specs.Laws.ComeFirst.{same_come_first}
 use Rattle.same_runs.specs.Laws.Methods.{place_is, same_code, same_no_place, same_place}
 use Rattle.same_runs.specs.Laws.Names.{more_and_more, names_themselves}
@@ -75,18 +80,6 @@ clinit_no_init : clinit ≢ init
 clinit_no_init same = false≢true (sym differ ∙ (bytes_eq-Decides clinit init).1 same) where
   differ : bytes_eq clinit init ≡ false
   differ = refl
-
-number_there : {A : Type 0} (passes : A → Bool) (xs : List A) (number : ℕ) → number_of_first passes xs ≡ Some number → (x : A) × (slice_get xs number ≡ Some x)
-number_there passes [] number is = absurd (none-some number is)
-number_there {A = A} passes (x ∷ xs) number is = by (passes x) (number_of_first passes xs) refl is (number_there passes xs) where
-  by : (b : Bool) (found : Option ℕ) → number_of_first passes xs ≡ found → (if b then Some zero else option_map suc found) ≡ Some number
-      → ((later : ℕ) → number_of_first passes xs ≡ Some later → (y : A) × (slice_get xs later ≡ Some y))
-      → (y : A) × (slice_get (x ∷ xs) number ≡ Some y)
-  by true found e at rest = (x, ap (slice_get (x ∷ xs)) (sym (same_Some zero number at)))
-  by false None e at rest = absurd (none-some number at)
-  by false (Some later) e at rest =
-      let one = rest later e in
-      (one.0, ap (slice_get (x ∷ xs)) (sym (same_Some (suc later) number at)) ∙ one.1)
 
 module _ {P Q : Program} (same : SamePrograms P Q) where
   -- a class without an initialiser in the first has none in the second
@@ -315,7 +308,7 @@ module _ {P Q : Program} (Allocated Entered : ℕ → ℕ → Type 0) (same : Sa
         in_first
 
     there : (x : RunClass) × (slice_get P.classes first ≡ Some x)
-    there = number_there (λ (x : RunClass). bytes_eq found.name x.header.name) P.classes first in_first
+    there = folder_class P found.name first in_first
 
     quiet_first : BeginsQuietly P one first
     quiet_first = alone_quietly first there.0 there.1 has_begun found.none memories
@@ -382,14 +375,14 @@ pub turn_goes_by :
     → IsFalse (is_begun r.world.memory class)
     → SameMemories P Allocated Entered names [] one r.world.memory
     → (by : GoesBy P Q Allocated Entered names one r r r.world.frames r.world.memory) × IsTrue (is_begun by.after class)
-turn_goes_by {P = P} {Q = Q} {Allocated = Allocated} {Entered = Entered} {names = names} {one = one} {r = r} class found same alike goes no_turn begins is begun none memories =
+turn_goes_by {P = P} {Q = Q} {Allocated = Allocated} {Entered = Entered} {names = names} {one = one} {r = r} class found same alike goes no_turn turned is begun none memories =
     (record {
       after = rest.after;
       steps = rest.steps;
       quietly = turn_first
-          (ap shown begins ∙ shows_running r (Beginning class ∷ r.world.frames) (begun_memory Q class r.world.memory) (r.world.steps + 1) goes refl
+          (ap shown turned ∙ shows_running r (Beginning class ∷ r.world.frames) (begun_memory Q class r.world.memory) (r.world.steps + 1) goes refl
           ∙ sym (shows_running r r.world.frames r.world.memory r.world.steps goes no_turn))
-          (subst (λ (later : Run). Quietly Q later (standing r r.world.frames rest.after rest.steps)) (sym begins) rest.quietly);
+          (subst (λ (later : Run). Quietly Q later (standing r r.world.frames rest.after rest.steps)) (sym turned) rest.quietly);
       more = rest.more;
       grows = more_and_more made.1 rest.grows;
       memories = rest.memories;
@@ -403,3 +396,62 @@ turn_goes_by {P = P} {Q = Q} {Allocated = Allocated} {Entered = Entered} {names 
 
       rest : GoesBy P Q Allocated Entered made.0 one middle middle r.world.frames (begun_memory Q class r.world.memory)
       rest = beginning_goes_by class r.world.frames same alike goes refl no_turn (alone_quietly class found is begun none memories) made.2
+
+-- a class of the second is one of the first
+first_there : {P Q : Program} → SamePrograms P Q → (class : ℕ) (also : RunClass) → slice_get Q.classes class ≡ Some also
+    → (found : RunClass) × (slice_get P.classes class ≡ Some found)
+first_there {P = P} {Q = Q} same class also is = by (slice_get P.classes class) (slice_get Q.classes class) refl refl (at_number same class) where
+  by : (one other : Option RunClass) → slice_get P.classes class ≡ one → slice_get Q.classes class ≡ other → SameAt P one other
+      → (found : RunClass) × (slice_get P.classes class ≡ Some found)
+  by None None here here_also at_none = absurd (none-some also (sym here_also ∙ is))
+  by None (Some other) here here_also impossible = elim impossible [ ]
+  by (Some one) None here here_also impossible = elim impossible [ ]
+  by (Some one) (Some other) here here_also (at_both alike) = (one, here)
+
+-- An operation of the second that begins a class first that the first has begun before: quiet turns lead back to it, with that class begun.
+pub operation_goes_by :
+    {P Q : Program} {Allocated Entered : ℕ → ℕ → Type 0} {names : Names} {one : Memory} {r : Run} (f : MethodState) (rest : List RunFrame)
+    (point : Point) (class : ℕ)
+    → SamePrograms P Q
+    → BeginAlike P Q
+    → r.world.halt ≡ going
+    → r.world.frames ≡ Method f ∷ rest
+    → point_at Q f.at f.place ≡ Some point
+    → ((w : World) → op_step Q w f rest point.op ≡ work_step Q w f rest point.op)
+    → nat_le (arity point.op) (length f.stack) ≡ true
+    → work Q r.world.memory point.op (reverse (take (arity point.op) f.stack)) ≡ begins class
+    → IsTrue (is_begun one class)
+    → IsFalse (is_begun r.world.memory class)
+    → SameMemories P Allocated Entered names [] one r.world.memory
+    → (by : GoesBy P Q Allocated Entered names one r r r.world.frames r.world.memory) × IsTrue (is_begun by.after class)
+operation_goes_by {P = P} {Q = Q} {r = r} f rest point class same alike goes stands is worked enough begins_it begun none memories =
+    let also = begun_is_there Q r.world.memory point.op (reverse (take (arity point.op) f.stack)) class begins_it in
+    let found = first_there same class also.0 also.1 in
+    turn_goes_by class found.0 same alike goes no_turn turned found.1 begun none memories where
+      operands : List Value
+      operands = reverse (take (arity point.op) f.stack)
+
+      no_turn : is_library_turn r.world.frames ≡ false
+      no_turn = rw (stands) refl
+
+      before : Run
+      before = standing r (Method f ∷ rest) r.world.memory r.world.steps
+
+      counted : World
+      counted = (standing r (Method f ∷ rest) r.world.memory (r.world.steps + 1)).world
+
+      begun_then : work_step Q counted f rest point.op ≡ begun_on Q class counted (Method f ∷ rest)
+      begun_then = rw (enough, begins_it) refl
+
+      turned_at : turn Q before ≡ record before { world = begun_on Q class counted (Method f ∷ rest) }
+      turned_at =
+          ap (turn_by Q before) goes
+          ∙ ap (λ (found : Option Point). record before { world = point_step Q counted f rest found }) is
+          ∙ ap (λ (after : World). record before { world = after }) (worked counted ∙ begun_then)
+
+      turned : turn Q r ≡ record r { world = begun_on Q class (record r.world { steps = r.world.steps + 1 }) r.world.frames }
+      turned = subst Turns (sym stands) turned_at where
+        Turns : List RunFrame → Type 0
+        Turns frames =
+            turn Q (standing r frames r.world.memory r.world.steps)
+            ≡ record r { world = begun_on Q class (record r.world { frames = frames; steps = r.world.steps + 1 }) frames }
