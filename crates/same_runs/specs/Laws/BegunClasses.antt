@@ -21,7 +21,8 @@ use Rattle.member_link.specs.References.{Reference}
 
 -- ---- a class by its number
 
-pub number_there : {A : Type 0} (passes : A → Bool) (xs : List A) (number : ℕ) → number_of_first passes xs ≡ Some number → (x : A) × (slice_get xs number ≡ Some x)
+pub number_there : {A : Type 0} (passes : A → Bool) (xs : List A) (number : ℕ) → number_of_first passes xs ≡ Some number
+    → (x : A) × (slice_get xs number ≡ Some x)
 number_there passes [] number is = absurd (none-some number is)
 number_there {A = A} passes (x ∷ xs) number is = by (passes x) (number_of_first passes xs) refl is (number_there passes xs) where
   by : (b : Bool) (found : Option ℕ) → number_of_first passes xs ≡ found → (if b then Some zero else option_map suc found) ≡ Some number
@@ -34,7 +35,8 @@ number_there {A = A} passes (x ∷ xs) number is = by (passes x) (number_of_firs
       (one.0, ap (slice_get (x ∷ xs)) (sym (same_Some (suc later) number at)) ∙ one.1)
 
 -- the class of a name is one of the folder
-pub folder_class : (P : Program) (name : Name) (number : ℕ) → folder_number P name ≡ Some number → (found : RunClass) × (slice_get P.classes number ≡ Some found)
+pub folder_class : (P : Program) (name : Name) (number : ℕ) → folder_number P name ≡ Some number
+    → (found : RunClass) × (slice_get P.classes number ≡ Some found)
 folder_class P name number is = number_there (λ (class : RunClass). bytes_eq name class.header.name) P.classes number is
 
 -- ---- what a completion begins
@@ -46,7 +48,8 @@ BeginsThere P completion = Unit {0}
 record IsThere (P : Program) (completion : Completion) : Type 0 where
   pub is : BeginsThere P completion
 
-begun_first_there : (P : Program) (m : Memory) (c : Name) (otherwise : Completion) → IsThere P otherwise → IsThere P (begun_first P m c otherwise)
+begun_first_there : (P : Program) (m : Memory) (c : Name) (otherwise : Completion) → IsThere P otherwise
+    → IsThere P (begun_first P m c otherwise)
 begun_first_there P m c otherwise there = record { is = grind (arith, there, folder_class) }
 
 if_there_too : (P : Program) (b : Bool) (c d : Completion) → IsThere P c → IsThere P d → IsThere P (if b then c else d)
@@ -65,7 +68,8 @@ get_static_there P m (Some f) = record { is = grind (arith, folder_class) }
 put_static_begun_there : (P : Program) (m : Memory) (f : Reference) (i : Option Name) (v : Value) → IsThere P (put_static_begun P m f i v)
 put_static_begun_there P m f i v = record { is = grind (arith) }
 
-put_static_there : (P : Program) (m : Memory) (f : Option Reference) (i : Option Name) (vs : List Value) → IsThere P (put_static_work P m f i vs)
+put_static_there : (P : Program) (m : Memory) (f : Option Reference) (i : Option Name) (vs : List Value)
+    → IsThere P (put_static_work P m f i vs)
 put_static_there P m None i vs = record { is = tt }
 put_static_there P m (Some f) i [] = record { is = tt }
 put_static_there P m (Some f) i (v ∷ []) =
@@ -78,7 +82,8 @@ put_static_there P m (Some f) i (v ∷ w ∷ vs) = record { is = tt }
 get_field_there : (P : Program) (m : Memory) (n : Name) (f : Option Reference) (vs : List Value) → IsThere P (get_field_work P m n f vs)
 get_field_there P m n f vs = record { is = grind (arith) }
 
-put_field_value_there : (P : Program) (m : Memory) (f : Reference) (r : ℕ) (v : Value) (o : Option Object) → IsThere P (put_field_value P m f r v o)
+put_field_value_there : (P : Program) (m : Memory) (f : Reference) (r : ℕ) (v : Value) (o : Option Object)
+    → IsThere P (put_field_value P m f r v o)
 put_field_value_there P m f r v o = record { is = grind (arith) }
 
 put_into_there : (P : Program) (m : Memory) (f : Reference) (r : ℕ) (v : Value) (c : Option ℕ) → IsThere P (put_into P m f r v c)
@@ -88,10 +93,12 @@ put_into_there P m f r v (Some c) = put_field_value_there P m f r v _
 put_field_in_there : (P : Program) (m : Memory) (n : Name) (f : Reference) (o v : Value) → IsThere P (put_field_in P m n f o v)
 put_field_in_there P m n f o v = record { is = grind (arith, put_into_there) }
 
-put_field_tested_there : (P : Program) (m : Memory) (n : Name) (f : Reference) (i : Option Name) (o v : Value) → IsThere P (put_field_tested P m n f i o v)
+put_field_tested_there : (P : Program) (m : Memory) (n : Name) (f : Reference) (i : Option Name) (o v : Value)
+    → IsThere P (put_field_tested P m n f i o v)
 put_field_tested_there P m n f i o v = grind (arith, put_field_in_there)
 
-put_field_there : (P : Program) (m : Memory) (n : Name) (f : Option Reference) (i : Option Name) (vs : List Value) → IsThere P (put_field_work P m n f i vs)
+put_field_there : (P : Program) (m : Memory) (n : Name) (f : Option Reference) (i : Option Name) (vs : List Value)
+    → IsThere P (put_field_work P m n f i vs)
 put_field_there P m n None i vs = record { is = tt }
 put_field_there P m n (Some f) i [] = record { is = tt }
 put_field_there P m n (Some f) i (o ∷ []) = record { is = tt }
@@ -149,48 +156,58 @@ run_chosen_there P c vs = record { is = grind (arith, run_call_there) }
 on_receiver_there : (P : Program) (s : Shape) (n f : Reference) (c : Chosen) (vs : List Value) → IsThere P (on_receiver P s n f c vs)
 on_receiver_there P s n f c vs = grind (arith, run_chosen_there)
 
-with_receiver_there : (P : Program) (m : Memory) (d : List ℕ) (of_shape : Shape → Completion) (vs : List Value) → ((s : Shape) → IsThere P (of_shape s)) → IsThere P (with_receiver P m d of_shape vs)
+with_receiver_there : (P : Program) (m : Memory) (d : List ℕ) (of_shape : Shape → Completion) (vs : List Value) → ((s : Shape)
+    → IsThere P (of_shape s)) → IsThere P (with_receiver P m d of_shape vs)
 with_receiver_there P m d of_shape vs g = record { is = grind (arith, g) }
 
 virtual_on_there : (P : Program) (n f : Reference) (vs : List Value) (s : Shape) → IsThere P (virtual_on P n f vs s)
 virtual_on_there P n f vs s = grind (arith, on_receiver_there)
 
-if_conforms_there : (P : Program) (n : Reference) (of_shape : Shape → Completion) → ((s : Shape) → IsThere P (of_shape s)) → (s : Shape) → IsThere P (if_conforms P n of_shape s)
+if_conforms_there : (P : Program) (n : Reference) (of_shape : Shape → Completion) → ((s : Shape) → IsThere P (of_shape s))
+    → (s : Shape) → IsThere P (if_conforms P n of_shape s)
 if_conforms_there P n of_shape g s = grind (arith, g)
 
-call_static_there : (P : Program) (m : Memory) (n : Reference) (f : Option Reference) (vs : List Value) → IsThere P (call_static_work P m n f vs)
+call_static_there : (P : Program) (m : Memory) (n : Reference) (f : Option Reference) (vs : List Value)
+    → IsThere P (call_static_work P m n f vs)
 call_static_there P m n None vs = record { is = tt }
 call_static_there P m n (Some f) vs =
     let g = begun_first_there P m f.class (run_call P (as_asked P n f) vs) (run_call_there P (as_asked P n f) vs) in
     if_there_too P _ _ (ends stuck) g (record { is = tt })
 
-call_virtual_there : (P : Program) (m : Memory) (n : Reference) (f : Option Reference) (vs : List Value) → IsThere P (call_virtual_work P m n f vs)
+call_virtual_there : (P : Program) (m : Memory) (n : Reference) (f : Option Reference) (vs : List Value)
+    → IsThere P (call_virtual_work P m n f vs)
 call_virtual_there P m n None vs = record { is = tt }
 call_virtual_there P m n (Some f) vs =
-    let g = with_receiver_there P m n.desc (if_conforms P n (virtual_on P n f vs)) vs (if_conforms_there P n (virtual_on P n f vs) (virtual_on_there P n f vs)) in
+    let g = with_receiver_there P m n.desc (if_conforms P n (virtual_on P n f vs)) vs (if_conforms_there P n (virtual_on P n f vs)
+    (virtual_on_there P n f vs)) in
     grind (arith, g)
 
 interface_on_there : (P : Program) (n f : Reference) (vs : List Value) (s : Shape) → IsThere P (interface_on P n f vs s)
 interface_on_there P n f vs s = grind (arith, on_receiver_there)
 
-call_interface_there : (P : Program) (m : Memory) (n : Reference) (f : Option Reference) (vs : List Value) → IsThere P (call_interface_work P m n f vs)
+call_interface_there : (P : Program) (m : Memory) (n : Reference) (f : Option Reference) (vs : List Value)
+    → IsThere P (call_interface_work P m n f vs)
 call_interface_there P m n None vs = record { is = tt }
 call_interface_there P m n (Some f) vs =
     let g = with_receiver_there P m n.desc (interface_on P n f vs) vs (interface_on_there P n f vs) in
     grind (arith, g)
 
-special_on_there : (P : Program) (m : Memory) (n : Reference) (from : Name) (f : Reference) (vs : List Value) (s : Shape) → IsThere P (special_on P m n from f vs s)
+special_on_there : (P : Program) (m : Memory) (n : Reference) (from : Name) (f : Reference) (vs : List Value) (s : Shape)
+    → IsThere P (special_on P m n from f vs s)
 special_on_there P m n from f vs s =
     if_there_too P (is_object_init f) (gives m []) (on_receiver P s n f (special_choice P from f) vs) (record { is = tt })
     (on_receiver_there P s n f _ vs)
 
-found_special_there : (P : Program) (m : Memory) (n : Reference) (from : Name) (f : Option Reference) (vs : List Value) → IsThere P (call_found_special P m n from f vs)
+found_special_there : (P : Program) (m : Memory) (n : Reference) (from : Name) (f : Option Reference) (vs : List Value)
+    → IsThere P (call_found_special P m n from f vs)
 found_special_there P m n from None vs = record { is = tt }
 found_special_there P m n from (Some f) vs =
-    let g = with_receiver_there P m n.desc (if_conforms P n (special_on P m n from f vs)) vs (if_conforms_there P n (special_on P m n from f vs) (special_on_there P m n from f vs)) in
+    let g = with_receiver_there P m n.desc (if_conforms P n (special_on P m n from f vs)) vs (if_conforms_there P n
+    (special_on P m n from f vs) (special_on_there P m n from f vs)) in
     grind (arith, g)
 
-call_special_there : (P : Program) (m : Memory) (n : Reference) (from : Name) (vs : List Value) → IsThere P (call_special_work P m n from vs)
+call_special_there : (P : Program) (m : Memory) (n : Reference) (from : Name) (vs : List Value)
+    → IsThere P (call_special_work P m n from vs)
 call_special_there P m n from vs = found_special_there P m n from _ vs
 
 call_dynamic_there : (P : Program) (c : Name) (b : ℕ) (n d : List ℕ) (vs : List Value) → IsThere P (call_dynamic_work c b n d vs)
@@ -227,6 +244,7 @@ work_there P m ops.leave_monitor vs = leave_there P m vs
 work_there P m op vs = record { is = tt }
 
 -- The class that an operation begins first is one of the folder.
-pub begun_is_there : (P : Program) (memory : Memory) (op : Op) (operands : List Value) (class : ℕ) → work P memory op operands ≡ begins class
+pub begun_is_there : (P : Program) (memory : Memory) (op : Op) (operands : List Value) (class : ℕ)
+    → work P memory op operands ≡ begins class
     → (found : RunClass) × (slice_get P.classes class ≡ Some found)
 begun_is_there P memory op operands class is = subst (BeginsThere P) is (work_there P memory op operands).is
