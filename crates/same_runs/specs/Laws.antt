@@ -26,3 +26,7 @@ pub mod ComeFirst
 pub mod QuietBeginnings
 pub mod CallWork
 pub mod NoInitLinks
+pub mod Completed
+pub mod Performed
+pub mod GivenValues
+pub mod Acted

@@ -1,6 +1,6 @@
 -- Worlds of two runs that are the same but for the numbers of references. What goes together beyond that a theorem says itself: how counts
 -- compare, which frames go together, and those in which an object has landed in a handler.
-use Rattle.std.specs.Prelude.{◌≡◌, ◌≢◌, ◌+◌, ℕ, List, [], ◌∷◌, Option, None, IsTrue}
+use Rattle.std.specs.Prelude.{◌≡◌, ◌≢◌, ◌+◌, ℕ, List, [], ◌∷◌, Option, Some, None, IsTrue}
 use Rattle.class_model.specs.declared.class_file.MethodAt.{MethodAt}
 use Rattle.machine_values.specs.Frames.{MethodState}
 use Rattle.machine_values.specs.Values.{units_of_values}
@@ -8,9 +8,10 @@ use Rattle.machine_values.specs.declared.event.Event.{Event}
 use Rattle.machine_values.specs.declared.frame.RunFrame.{RunFrame}
 use Rattle.machine_values.specs.declared.frame.RunFrame.TheVariants.{Library, Beginning, Method}
 use Rattle.machine_values.specs.declared.value.Value.{Value}
+use Rattle.member_link.specs.Machine.Acting.{Waiting, waiting_in}
 use Rattle.member_link.specs.Machine.Beginnings.{frame_with}
 use Rattle.member_link.specs.Machine.Performing.{resumed}
-use Rattle.member_link.specs.Machine.Programs.{Program}
+use Rattle.member_link.specs.Machine.Programs.{Program, RunMethod, run_method}
 use Rattle.member_link.specs.Machine.Worlds.{World, going, is_begun}
 use Rattle.same_runs.specs.Renamings.{Names, NamesMore, SameHeld, SameReferences, SameValues}
 use Rattle.same_runs.specs.SameFrames.{Unwinds}
@@ -111,8 +112,9 @@ pub record Goes (P Q : Program) (c : Comparison) (names : Names) (before taken a
   pub asks : (more : Names)
       → NamesMore names more
       → c.frames more (Library None ∷ Method taken ∷ rest) (Library None ∷ Method taken_also ∷ rest_also)
-  pub called : (more : Names) (at : MethodAt) (ones others : List Value) (held held_also : Option ℕ)
+  pub called : (more : Names) (at : MethodAt) (method : RunMethod) (ones others : List Value) (held held_also : Option ℕ)
       → NamesMore names more
+      → run_method P at ≡ Some method
       → SameValues more ones others
       → SameHeld more held held_also
       → c.frames more (Method (frame_with P at (units_of_values ones) held) ∷ Method taken ∷ rest)
@@ -120,3 +122,52 @@ pub record Goes (P Q : Program) (c : Comparison) (names : Names) (before taken a
   pub unwinds : (more : Names)
       → NamesMore names more
       → Unwinds P Q c.frames c.lands more (Method taken ∷ rest) (Method taken_also ∷ rest_also)
+
+-- ---- what a theorem says of frames with the library's on top
+
+-- Frames of methods that wait for the library, below its own: they wait for the same, or none does.
+pub data SameWaiting (P Q : Program) (c : Comparison) (names : Names)
+    : Option Waiting → Option Waiting → Type 0 where
+  none_waits : SameWaiting P Q c names None None
+  both_wait : {one other : Waiting}
+      → other.pending ≡ one.pending
+      → ((more : Names) (ones others : List Value)
+      → NamesMore names more
+      → SameValues more ones others
+      → c.frames more (Method (resumed one.frame ones) ∷ one.rest) (Method (resumed other.frame others) ∷ other.rest))
+      → ((more : Names)
+      → NamesMore names more
+      → Unwinds P Q c.frames c.lands more (Method one.frame ∷ one.rest) (Method other.frame ∷ other.rest))
+      → SameWaiting P Q c names (Some one) (Some other)
+
+-- What goes together behind each way in which an action of the library may end.
+pub record AtLibrary (P Q : Program) (c : Comparison) (names : Names) (made made_also : Option ℕ)
+    (rest rest_also : List RunFrame)
+    : Type 0 where
+  pub stays : (more : Names)
+      → NamesMore names more
+      → c.frames more (Library made ∷ rest) (Library made_also ∷ rest_also)
+  pub called : (more : Names) (at : MethodAt) (method : RunMethod) (ones others : List Value)
+      (held held_also : Option ℕ)
+      → run_method P at ≡ Some method
+      → NamesMore names more
+      → SameValues more ones others
+      → SameHeld more held held_also
+      → c.frames more (Method (frame_with P at (units_of_values ones) held) ∷ Library made ∷ rest)
+      (Method (frame_with Q at (units_of_values others) held_also) ∷ Library made_also ∷ rest_also)
+  pub constructs : (more : Names) (at : MethodAt) (method : RunMethod) (ones others : List Value)
+      (held held_also : Option ℕ) (reference named : ℕ)
+      → run_method P at ≡ Some method
+      → NamesMore names more
+      → more reference ≡ Some named
+      → SameValues more ones others
+      → SameHeld more held held_also
+      → c.frames more (Method (frame_with P at (units_of_values ones) held) ∷ Library (Some reference) ∷ rest)
+      (Method (frame_with Q at (units_of_values others) held_also) ∷ Library (Some named) ∷ rest_also)
+  pub begins : (more : Names) (class : ℕ) (ones others : List RunFrame)
+      → c.frames more ones others
+      → c.frames more (Beginning class ∷ ones) (Beginning class ∷ others)
+  pub unwinds : (more : Names)
+      → NamesMore names more
+      → Unwinds P Q c.frames c.lands more (Library made ∷ rest) (Library made_also ∷ rest_also)
+  pub waits : SameWaiting P Q c names (waiting_in P (Library made ∷ rest)) (waiting_in Q (Library made_also ∷ rest_also))

@@ -49,7 +49,7 @@ pub record SameElements (names : Names) (one other : Heap) (made also : MadeElem
   pub are : SameValues more made.values also.values
   pub constants : made.heap.constants ≡ one.constants
 
-made_both : {names : Names} {one other : Heap} → SameHeaps names one other → (shape : Shape) (ones others : List Value) → SameValues names ones others
+pub made_both : {names : Names} {one other : Heap} → SameHeaps names one other → (shape : Shape) (ones others : List Value) → SameValues names ones others
     → SameMade names one other (allocated one shape ones) (allocated other shape others)
 made_both {names = names} {one = one} {other = other} same shape ones others are =
     let grows = named_too_more names (length one.objects) (length other.objects) (new_unnamed same) in
@@ -61,7 +61,7 @@ made_both {names = names} {one = one} {other = other} same shape ones others are
       constants = refl;
     }
 
-blank_both : {names : Names} {one other : Heap} → SameHeaps names one other → (desc : Name) (count : ℕ) → SameMade names one other (blank_array one desc count) (blank_array other desc count)
+pub blank_both : {names : Names} {one other : Heap} → SameHeaps names one other → (desc : Name) (count : ℕ) → SameMade names one other (blank_array one desc count) (blank_array other desc count)
 blank_both {names = names} same desc count = made_both same (shapes.Array desc count) _ _ (blanks names (component_text desc) count)
 
 -- what makes one in both, under any names
