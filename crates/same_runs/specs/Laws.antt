@@ -21,6 +21,7 @@ pub mod Unwinding
 pub mod Work
 pub mod Begun
 pub mod BegunAlone
+pub mod BegunClasses
 pub mod ComeFirst
 pub mod QuietBeginnings
 pub mod CallWork

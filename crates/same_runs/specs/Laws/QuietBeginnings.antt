@@ -1,5 +1,5 @@
 -- Beginnings of the second run alone: where the first has begun the class before and nothing runs, they go by without being seen.
-use Rattle.std.proofs.Common.{◌≡◌, ◌≢◌, ◌==◌, ◌||◌, ◌+◌, ◌<◌, ◌≤◌, ℕ, zero, suc, Bool, true, false, List, [], ◌∷◌, codes, slice_get, bytes_eq, is_some, Option, Some, None, option_map, option_and_then, if◌then◌else◌, IsTrue, IsFalse, refl, sym, ap, subst, ◌∙◌, inl, inr, ◌⊎◌, arith}
+use Rattle.std.proofs.Common.{◌≡◌, ◌≢◌, ◌==◌, ◌||◌, ◌+◌, ◌<◌, ◌≤◌, ℕ, zero, suc, Bool, true, false, List, [], ◌∷◌, codes, length, nat_le, reverse, slice_get, take, bytes_eq, is_some, Option, Some, None, option_map, option_and_then, if◌then◌else◌, IsTrue, IsFalse, refl, sym, ap, subst, ◌∙◌, inl, inr, ◌⊎◌, arith}
 use Rattle.std.specs.List.{list_any}
 use Rattle.std.proofs.lemmas.Bool.{eq-eqb, eqb-true, false≢true, or_cases}
 use Rattle.std.proofs.lemmas.Option.{none-some, same_Some}
@@ -12,23 +12,29 @@ use Rattle.class_tree.specs.Subtype.{itself}
 use Rattle.machine_values.specs.declared.event.End.TheVariants as ends
 use Rattle.machine_values.specs.declared.event.Shown.{Shown}
 use Rattle.machine_values.specs.declared.frame.RunFrame.{RunFrame}
-use Rattle.machine_values.specs.declared.frame.RunFrame.TheVariants.{Beginning}
+use Rattle.machine_values.specs.declared.frame.RunFrame.TheVariants.{Beginning, Method}
+use Rattle.machine_values.specs.Frames.{MethodState}
+use Rattle.member_link.specs.Machine.Completions.{begins}
+use Rattle.machine_values.specs.declared.value.Value.{Value}
 use Rattle.member_link.specs.Machine.Beginnings.{begun_memory, begun_on, come_first, first_unbegun, initialiser_of, starts_of}
 use Rattle.member_link.specs.Machine.Links.{AreLinksOf}
-use Rattle.member_link.specs.Machine.Programs.{Program, RunClass, code_at, folder_number, headers_in, name_of_class, number_of_first, place_of_method}
-use Rattle.member_link.specs.Machine.Runs.{Run, shown, turn}
-use Rattle.member_link.specs.Machine.Stepping.{is_library_turn}
+use Rattle.member_link.specs.Machine.Programs.{Program, RunClass, code_at, folder_number, headers_in, name_of_class, place_of_method, Point, point_at}
+use Rattle.member_link.specs.Machine.Runs.{Run, shown, turn, turn_by}
+use Rattle.member_link.specs.Machine.Stepping.{is_library_turn, op_step, point_step, work_step}
+use Rattle.member_link.specs.Machine.Work.{arity, work}
 use Rattle.member_link.specs.Machine.Worlds.{Memory, World, going, is_begun}
 use Rattle.member_link.specs.References.{Reference}
 use Rattle.same_runs.specs.Renamings.{Names, NamesMore}
 use Rattle.same_runs.specs.SameMemories.{HasFirstBegun, IsBegunAlone, IsInert, SameMemories}
 use Rattle.same_runs.specs.SamePrograms.{SameClass, SamePrograms}
+use Rattle.same_runs.specs.SameWorlds.{Compares, Comparison, SameSeen}
 use Rattle.same_runs.specs.Simulations.{Quietly, at_once, turn_first}
 use Rattle.same_runs.specs.Laws.Begun.{marked, marked_itself, marked_still}
 use Rattle.same_runs.specs.Laws.BegunAlone.{second_has_begun, starts_begun}
+use Rattle.same_runs.specs.Laws.BegunClasses.{begun_is_there, folder_class}
 use Rattle.same_runs.specs.Laws.ComeFirst.{same_come_first}
 use Rattle.same_runs.specs.Laws.Methods.{place_is, same_code, same_no_place, same_place}
-use Rattle.same_runs.specs.Laws.Names.{more_and_more, names_themselves}
+use Rattle.same_runs.specs.Laws.Names.{more_and_more, names_themselves, references_more}
 use Rattle.same_runs.specs.Laws.Programs.{SameAt, at_none, at_both, at_number, same_name, same_number}
 
 -- ---- what is taken of both programs
@@ -54,7 +60,8 @@ pub below_itself : {headers : Headers} (P : Program) → AreLinksOf headers P.li
 below_itself P links name = (links.below name name).1 (itself name)
 
 -- what begins alike where the first is a hierarchy with its links
-pub hierarchies_begin_alike : (P Q : Program) → SamePrograms P Q → IsHierarchy (headers_in P) → AreLinksOf (headers_in P) P.links → BeginAlike P Q
+pub hierarchies_begin_alike : (P Q : Program) → SamePrograms P Q → IsHierarchy (headers_in P) → AreLinksOf (headers_in P) P.links
+    → BeginAlike P Q
 hierarchies_begin_alike P Q same tree links = record { itself = below_itself P links; first = same_come_first same tree }
 
 -- a class that the first has begun alone begins quietly
@@ -75,18 +82,6 @@ clinit_no_init : clinit ≢ init
 clinit_no_init same = false≢true (sym differ ∙ (bytes_eq-Decides clinit init).1 same) where
   differ : bytes_eq clinit init ≡ false
   differ = refl
-
-number_there : {A : Type 0} (passes : A → Bool) (xs : List A) (number : ℕ) → number_of_first passes xs ≡ Some number → (x : A) × (slice_get xs number ≡ Some x)
-number_there passes [] number is = absurd (none-some number is)
-number_there {A = A} passes (x ∷ xs) number is = by (passes x) (number_of_first passes xs) refl is (number_there passes xs) where
-  by : (b : Bool) (found : Option ℕ) → number_of_first passes xs ≡ found → (if b then Some zero else option_map suc found) ≡ Some number
-      → ((later : ℕ) → number_of_first passes xs ≡ Some later → (y : A) × (slice_get xs later ≡ Some y))
-      → (y : A) × (slice_get (x ∷ xs) number ≡ Some y)
-  by true found e at rest = (x, ap (slice_get (x ∷ xs)) (sym (same_Some zero number at)))
-  by false None e at rest = absurd (none-some number at)
-  by false (Some later) e at rest =
-      let one = rest later e in
-      (one.0, ap (slice_get (x ∷ xs)) (sym (same_Some (suc later) number at)) ∙ one.1)
 
 module _ {P Q : Program} (same : SamePrograms P Q) where
   -- a class without an initialiser in the first has none in the second
@@ -119,39 +114,44 @@ abbrev unbegun : List ℕ → Memory → ℕ
 unbegun [] memory = 0
 unbegun (class ∷ classes) memory = (if is_begun memory class then 0 else 1) + unbegun classes memory
 
-fewer : (classes : List ℕ) (before after : Memory) → ((at : ℕ) → IsTrue (is_begun before at) → IsTrue (is_begun after at)) → unbegun classes after ≤ unbegun classes before
+fewer : (classes : List ℕ) (before after : Memory) → ((at : ℕ) → IsTrue (is_begun before at) → IsTrue (is_begun after at))
+    → unbegun classes after ≤ unbegun classes before
 fewer [] before after more = let none : 0 ≤ 0 = omega arith in none
-fewer (class ∷ classes) before after more = by (is_begun before class) (is_begun after class) refl refl (fewer classes before after more) where
-  by : (b a : Bool) → is_begun before class ≡ b → is_begun after class ≡ a → unbegun classes after ≤ unbegun classes before
-      → ((if a then 0 else 1) + unbegun classes after) ≤ ((if b then 0 else 1) + unbegun classes before)
-  by true true is is_also rest = omega (arith, rest)
-  by true false is is_also rest = absurd (false≢true (sym is_also ∙ more class is))
-  by false true is is_also rest = omega (arith, rest)
-  by false false is is_also rest = omega (arith, rest)
+fewer (class ∷ classes) before after more = by (is_begun before class) (is_begun after class) refl refl
+    (fewer classes before after more) where
+      by : (b a : Bool) → is_begun before class ≡ b → is_begun after class ≡ a → unbegun classes after ≤ unbegun classes before
+          → ((if a then 0 else 1) + unbegun classes after) ≤ ((if b then 0 else 1) + unbegun classes before)
+      by true true is is_also rest = omega (arith, rest)
+      by true false is is_also rest = absurd (false≢true (sym is_also ∙ more class is))
+      by false true is is_also rest = omega (arith, rest)
+      by false false is is_also rest = omega (arith, rest)
 
 one_fewer : (classes : List ℕ) (before after : Memory) (class : ℕ) → ((at : ℕ) → IsTrue (is_begun before at) → IsTrue (is_begun after at))
     → list_any (λ (other : ℕ). other == class) classes ≡ true → IsFalse (is_begun before class) → IsTrue (is_begun after class)
     → unbegun classes after < unbegun classes before
 one_fewer [] before after class more is none begun = absurd (false≢true is)
-one_fewer (first ∷ classes) before after class more is none begun = here (first == class) refl (λ there. one_fewer classes before after class more there none begun) where
-  here : (b : Bool) → (first == class) ≡ b → (list_any (λ (other : ℕ). other == class) classes ≡ true → unbegun classes after < unbegun classes before)
-      → unbegun (first ∷ classes) after < unbegun (first ∷ classes) before
-  here true e rest =
-      let same_one = eqb-true first class e in
-      let others = fewer classes before after more in
-      let before_one : is_begun before first ≡ false = ap (is_begun before) same_one ∙ none in
-      let after_one : is_begun after first ≡ true = ap (is_begun after) same_one ∙ begun in
-      rw (before_one, after_one) (omega (arith, others))
-  here false e rest = there (is_begun before first) (is_begun after first) refl refl (rest (sym (rw (e) refl) ∙ is)) where
-    there : (b a : Bool) → is_begun before first ≡ b → is_begun after first ≡ a → unbegun classes after < unbegun classes before
-        → unbegun (first ∷ classes) after < unbegun (first ∷ classes) before
-    there true true here here_also later = rw (here, here_also) (omega (arith, later))
-    there true false here here_also later = absurd (false≢true (sym here_also ∙ more first here))
-    there false true here here_also later = rw (here, here_also) (omega (arith, later))
-    there false false here here_also later = rw (here, here_also) (omega (arith, later))
+one_fewer (first ∷ classes) before after class more is none begun = here (first == class) refl
+    (λ there. one_fewer classes before after class more there none begun) where
+      here : (b : Bool) → (first == class) ≡ b → (list_any (λ (other : ℕ). other == class) classes ≡ true
+          → unbegun classes after < unbegun classes before)
+          → unbegun (first ∷ classes) after < unbegun (first ∷ classes) before
+      here true e rest =
+          let same_one = eqb-true first class e in
+          let others = fewer classes before after more in
+          let before_one : is_begun before first ≡ false = ap (is_begun before) same_one ∙ none in
+          let after_one : is_begun after first ≡ true = ap (is_begun after) same_one ∙ begun in
+          rw (before_one, after_one) (omega (arith, others))
+      here false e rest = there (is_begun before first) (is_begun after first) refl refl (rest (sym (rw (e) refl) ∙ is)) where
+        there : (b a : Bool) → is_begun before first ≡ b → is_begun after first ≡ a → unbegun classes after < unbegun classes before
+            → unbegun (first ∷ classes) after < unbegun (first ∷ classes) before
+        there true true here here_also later = rw (here, here_also) (omega (arith, later))
+        there true false here here_also later = absurd (false≢true (sym here_also ∙ more first here))
+        there false true here here_also later = rw (here, here_also) (omega (arith, later))
+        there false false here here_also later = rw (here, here_also) (omega (arith, later))
 
 -- a class that begins is begun, and so are those before it
-begins_more : (R : Program) (class : ℕ) (memory : Memory) (at : ℕ) → IsTrue (is_begun memory at) → IsTrue (is_begun (begun_memory R class memory) at)
+begins_more : (R : Program) (class : ℕ) (memory : Memory) (at : ℕ) → IsTrue (is_begun memory at)
+    → IsTrue (is_begun (begun_memory R class memory) at)
 begins_more R class memory at is = starts_begun R class at (marked memory class) (starts_of R class) ∙ marked_still memory class at is
 
 begins_itself : (R : Program) (class : ℕ) (memory : Memory) → IsTrue (is_begun (begun_memory R class memory) class)
@@ -165,13 +165,22 @@ pub record IsUnbegun (R : Program) (memory : Memory) (names : List Name) (class 
   pub is_number : folder_number R name ≡ Some class
   pub none : IsFalse (is_begun memory class)
 
-unbegun_is : (R : Program) (memory : Memory) (names : List Name) (class : ℕ) → first_unbegun R memory names ≡ Some class → IsUnbegun R memory names class
+unbegun_is : (R : Program) (memory : Memory) (names : List Name) (class : ℕ) → first_unbegun R memory names ≡ Some class
+    → IsUnbegun R memory names class
 unbegun_is R memory [] class is = absurd (none-some class is)
 unbegun_is R memory (name ∷ names) class is = by (folder_number R name) refl (unbegun_is R memory names class) where
   behind : IsUnbegun R memory names class → IsUnbegun R memory (name ∷ names) class
-  behind later = record { number = suc later.number; name = later.name; is_name = later.is_name; is_number = later.is_number; none = later.none }
+  behind later = record {
+    number = suc later.number;
+    name = later.name;
+    is_name = later.is_name;
+    is_number = later.is_number;
+    none =
+        later.none;
+  }
 
-  by : (found : Option ℕ) → folder_number R name ≡ found → (first_unbegun R memory names ≡ Some class → IsUnbegun R memory names class) → IsUnbegun R memory (name ∷ names) class
+  by : (found : Option ℕ) → folder_number R name ≡ found → (first_unbegun R memory names ≡ Some class → IsUnbegun R memory names class)
+      → IsUnbegun R memory (name ∷ names) class
   by None here rest = behind (rest (sym (rw (here) refl) ∙ is))
   by (Some first) here rest = at_first (is_begun memory first) refl where
     at_first : (b : Bool) → is_begun memory first ≡ b → IsUnbegun R memory (name ∷ names) class
@@ -207,7 +216,8 @@ turn_begins :
     → r.world.halt ≡ going
     → slice_get R.classes class ≡ Some found
     → first_unbegun R memory (come_first R found.header) ≡ Some first
-    → turn R (standing r (Beginning class ∷ rest) memory steps) ≡ standing r (Beginning first ∷ Beginning class ∷ rest) (begun_memory R first memory) (steps + 1)
+    → turn R (standing r (Beginning class ∷ rest) memory steps)
+    ≡ standing r (Beginning first ∷ Beginning class ∷ rest) (begun_memory R first memory) (steps + 1)
 turn_begins R r class rest memory steps first found goes is unbegun_one = rw (goes, is, unbegun_one) refl
 
 turn_ends :
@@ -233,15 +243,19 @@ pub record GoesBy (P Q : Program) (Allocated Entered : ℕ → ℕ → Type 0) (
   pub memories : SameMemories P Allocated Entered more [] one after
   pub begun : (at : ℕ) → IsTrue (is_begun before at) → IsTrue (is_begun after at)
 
-also_there : {P Q : Program} → SamePrograms P Q → (class : ℕ) (found : RunClass) → slice_get P.classes class ≡ Some found → (also : RunClass) × (slice_get Q.classes class ≡ Some also)
-also_there {P = P} {Q = Q} same class found is = by (slice_get P.classes class) (slice_get Q.classes class) refl refl (at_number same class) where
-  by : (one other : Option RunClass) → slice_get P.classes class ≡ one → slice_get Q.classes class ≡ other → SameAt P one other → (also : RunClass) × (slice_get Q.classes class ≡ Some also)
-  by None None here here_also at_none = absurd (none-some found (sym here ∙ is))
-  by None (Some other) here here_also impossible = elim impossible [ ]
-  by (Some one) None here here_also impossible = elim impossible [ ]
-  by (Some one) (Some other) here here_also (at_both alike) = (other, here_also)
+also_there : {P Q : Program} → SamePrograms P Q → (class : ℕ) (found : RunClass) → slice_get P.classes class ≡ Some found
+    → (also : RunClass) × (slice_get Q.classes class ≡ Some also)
+also_there {P = P} {Q = Q} same class found is = by (slice_get P.classes class) (slice_get Q.classes class) refl refl
+    (at_number same class) where
+      by : (one other : Option RunClass) → slice_get P.classes class ≡ one → slice_get Q.classes class ≡ other → SameAt P one other
+          → (also : RunClass) × (slice_get Q.classes class ≡ Some also)
+      by None None here here_also at_none = absurd (none-some found (sym here ∙ is))
+      by None (Some other) here here_also impossible = elim impossible [ ]
+      by (Some one) None here here_also impossible = elim impossible [ ]
+      by (Some one) (Some other) here here_also (at_both alike) = (other, here_also)
 
-module _ {P Q : Program} (Allocated Entered : ℕ → ℕ → Type 0) (same : SamePrograms P Q) (alike : BeginAlike P Q) (one : Memory) (r : Run) (goes : r.world.halt ≡ going) where
+module _ {P Q : Program} (Allocated Entered : ℕ → ℕ
+    → Type 0) (same : SamePrograms P Q) (alike : BeginAlike P Q) (one : Memory) (r : Run) (goes : r.world.halt ≡ going) where
   abbrev AllGoBy : ℕ → Type 0
   AllGoBy left =
       (class : ℕ) (rest : List RunFrame) (memory : Memory) (steps : ℕ) (names : Names)
@@ -264,7 +278,8 @@ module _ {P Q : Program} (Allocated Entered : ℕ → ℕ → Type 0) (same : Sa
     after = memory;
     steps = steps + 1;
     quietly = turn_first
-        (ap shown ends ∙ shows_running r rest memory (steps + 1) goes no_turn ∙ sym (shows_running r (Beginning class ∷ rest) memory steps goes refl))
+        (ap shown ends ∙ shows_running r rest memory (steps + 1) goes no_turn
+        ∙ sym (shows_running r (Beginning class ∷ rest) memory steps goes refl))
         (subst (λ (later : Run). Quietly Q later (standing r rest memory (steps + 1))) (sym ends) at_once);
     more = names;
     grows = names_themselves names;
@@ -294,13 +309,15 @@ module _ {P Q : Program} (Allocated Entered : ℕ → ℕ → Type 0) (same : Sa
     quietly = turn_first
         (ap shown begins ∙ shows_running r (Beginning first ∷ Beginning class ∷ rest) (begun_memory Q first memory) (steps + 1) goes refl
         ∙ sym (shows_running r (Beginning class ∷ rest) memory steps goes refl))
-        (subst (λ (later : Run). Quietly Q later (standing r rest second.after second.steps)) (sym begins) (quietly_then before.quietly second.quietly));
+        (subst (λ (later : Run). Quietly Q later (standing r rest second.after second.steps)) (sym begins)
+        (quietly_then before.quietly second.quietly));
     more = second.more;
     grows = more_and_more made.1 (more_and_more before.grows second.grows);
     memories = second.memories;
     begun = λ at was. second.begun at (before.begun at (begins_more Q first memory at was));
   } where
-    begins : turn Q (standing r (Beginning class ∷ rest) memory steps) ≡ standing r (Beginning first ∷ Beginning class ∷ rest) (begun_memory Q first memory) (steps + 1)
+    begins : turn Q (standing r (Beginning class ∷ rest) memory steps)
+        ≡ standing r (Beginning first ∷ Beginning class ∷ rest) (begun_memory Q first memory) (steps + 1)
     begins = turn_begins Q r class rest memory steps first also goes is unbegun_one
 
     found : IsUnbegun Q memory (come_first Q also.header) first
@@ -315,7 +332,7 @@ module _ {P Q : Program} (Allocated Entered : ℕ → ℕ → Type 0) (same : Sa
         in_first
 
     there : (x : RunClass) × (slice_get P.classes first ≡ Some x)
-    there = number_there (λ (x : RunClass). bytes_eq found.name x.header.name) P.classes first in_first
+    there = folder_class P found.name first in_first
 
     quiet_first : BeginsQuietly P one first
     quiet_first = alone_quietly first there.0 there.1 has_begun found.none memories
@@ -325,10 +342,12 @@ module _ {P Q : Program} (Allocated Entered : ℕ → ℕ → Type 0) (same : Sa
 
     fewer_left : unbegun one.begun (begun_memory Q first memory) < left
     fewer_left =
-        let down = one_fewer one.begun memory (begun_memory Q first memory) first (begins_more Q first memory) has_begun found.none (begins_itself Q first memory) in
+        let down = one_fewer one.begun memory (begun_memory Q first memory) first (begins_more Q first memory) has_begun found.none
+        (begins_itself Q first memory) in
         omega (arith, down, low)
 
-    before : GoesBy P Q Allocated Entered made.0 one r (standing r (Beginning first ∷ Beginning class ∷ rest) (begun_memory Q first memory) (steps + 1)) (Beginning class ∷ rest)
+    before : GoesBy P Q Allocated Entered made.0 one r (standing r (Beginning first ∷ Beginning class ∷ rest)
+        (begun_memory Q first memory) (steps + 1)) (Beginning class ∷ rest)
         (begun_memory Q first memory)
     before = again first (Beginning class ∷ rest) (begun_memory Q first memory) (steps + 1) made.0 fewer_left refl quiet_first made.2
 
@@ -337,7 +356,8 @@ module _ {P Q : Program} (Allocated Entered : ℕ → ℕ → Type 0) (same : Sa
         let down = fewer one.begun (begun_memory Q first memory) before.after before.begun in
         omega (arith, down, fewer_left)
 
-    second : GoesBy P Q Allocated Entered before.more one r (standing r (Beginning class ∷ rest) before.after before.steps) rest before.after
+    second : GoesBy P Q Allocated Entered before.more one r (standing r
+        (Beginning class ∷ rest) before.after before.steps) rest before.after
     second = again class rest before.after before.steps before.more still_fewer no_turn quiet before.memories
 
   all_go_by : (left : ℕ) → AllGoBy left
@@ -363,9 +383,12 @@ pub beginning_goes_by :
     → BeginsQuietly P one class
     → SameMemories P Allocated Entered names [] one r.world.memory
     → GoesBy P Q Allocated Entered names one r r rest r.world.memory
-beginning_goes_by {P = P} {Q = Q} {Allocated = Allocated} {Entered = Entered} {names = names} {one = one} {r = r} class rest same alike goes stands no_turn quiet memories =
-    subst (λ (frames : List RunFrame). GoesBy P Q Allocated Entered names one r (standing r frames r.world.memory r.world.steps) rest r.world.memory) (sym stands)
-    (all_go_by Allocated Entered same alike one r goes (suc (unbegun one.begun r.world.memory)) class rest r.world.memory r.world.steps names
+beginning_goes_by {P = P} {Q = Q} {Allocated = Allocated} {Entered = Entered} {names = names} {one = one} {r = r} class rest same alike
+    goes stands no_turn quiet memories =
+    subst (λ (frames : List RunFrame). GoesBy P Q Allocated Entered names one r
+    (standing r frames r.world.memory r.world.steps) rest r.world.memory) (sym stands)
+    (all_go_by Allocated Entered same alike one r goes (suc
+    (unbegun one.begun r.world.memory)) class rest r.world.memory r.world.steps names
     (let less : unbegun one.begun r.world.memory < suc (unbegun one.begun r.world.memory) = omega arith in less) no_turn quiet memories)
 
 -- Where the next turn of the second begins a class that the first has begun before, quiet turns lead back to the same frames, with that
@@ -382,19 +405,23 @@ pub turn_goes_by :
     → IsFalse (is_begun r.world.memory class)
     → SameMemories P Allocated Entered names [] one r.world.memory
     → (by : GoesBy P Q Allocated Entered names one r r r.world.frames r.world.memory) × IsTrue (is_begun by.after class)
-turn_goes_by {P = P} {Q = Q} {Allocated = Allocated} {Entered = Entered} {names = names} {one = one} {r = r} class found same alike goes no_turn begins is begun none memories =
-    (record {
-      after = rest.after;
-      steps = rest.steps;
-      quietly = turn_first
-          (ap shown begins ∙ shows_running r (Beginning class ∷ r.world.frames) (begun_memory Q class r.world.memory) (r.world.steps + 1) goes refl
-          ∙ sym (shows_running r r.world.frames r.world.memory r.world.steps goes no_turn))
-          (subst (λ (later : Run). Quietly Q later (standing r r.world.frames rest.after rest.steps)) (sym begins) rest.quietly);
-      more = rest.more;
-      grows = more_and_more made.1 rest.grows;
-      memories = rest.memories;
-      begun = λ at was. rest.begun at (begins_more Q class r.world.memory at was);
-    }, rest.begun class (begins_itself Q class r.world.memory)) where
+turn_goes_by {P = P} {Q = Q} {Allocated = Allocated} {Entered = Entered} {names = names} {one = one} {r = r} class found same alike goes
+    no_turn turned is begun none memories = (
+      record {
+        after = rest.after;
+        steps = rest.steps;
+        quietly = turn_first
+            (ap shown turned ∙ shows_running r (Beginning class ∷ r.world.frames) (begun_memory Q class r.world.memory)
+            (r.world.steps + 1) goes refl
+            ∙ sym (shows_running r r.world.frames r.world.memory r.world.steps goes no_turn))
+            (subst (λ (later : Run). Quietly Q later (standing r r.world.frames rest.after rest.steps)) (sym turned) rest.quietly);
+        more = rest.more;
+        grows = more_and_more made.1 rest.grows;
+        memories = rest.memories;
+        begun = λ at was. rest.begun at (begins_more Q class r.world.memory at was);
+      },
+      rest.begun class (begins_itself Q class r.world.memory),
+    ) where
       made : (more : Names) × NamesMore names more × SameMemories P Allocated Entered more [] one (begun_memory Q class r.world.memory)
       made = second_has_begun same class begun none memories
 
@@ -403,3 +430,94 @@ turn_goes_by {P = P} {Q = Q} {Allocated = Allocated} {Entered = Entered} {names 
 
       rest : GoesBy P Q Allocated Entered made.0 one middle middle r.world.frames (begun_memory Q class r.world.memory)
       rest = beginning_goes_by class r.world.frames same alike goes refl no_turn (alone_quietly class found is begun none memories) made.2
+
+-- a class of the second is one of the first
+first_there : {P Q : Program} → SamePrograms P Q → (class : ℕ) (also : RunClass) → slice_get Q.classes class ≡ Some also
+    → (found : RunClass) × (slice_get P.classes class ≡ Some found)
+first_there {P = P} {Q = Q} same class also is = by (slice_get P.classes class) (slice_get Q.classes class) refl refl
+    (at_number same class) where
+      by : (one other : Option RunClass) → slice_get P.classes class ≡ one → slice_get Q.classes class ≡ other → SameAt P one other
+          → (found : RunClass) × (slice_get P.classes class ≡ Some found)
+      by None None here here_also at_none = absurd (none-some also (sym here_also ∙ is))
+      by None (Some other) here here_also impossible = elim impossible [ ]
+      by (Some one) None here here_also impossible = elim impossible [ ]
+      by (Some one) (Some other) here here_also (at_both alike) = (one, here)
+
+-- An operation of the second that begins a class first that the first has begun before: quiet turns lead back to it, with that class begun.
+pub operation_goes_by :
+    {P Q : Program} {Allocated Entered : ℕ → ℕ → Type 0} {names : Names} {one : Memory} {r : Run} (f : MethodState) (rest : List RunFrame)
+    (point : Point) (class : ℕ)
+    → SamePrograms P Q
+    → BeginAlike P Q
+    → r.world.halt ≡ going
+    → r.world.frames ≡ Method f ∷ rest
+    → point_at Q f.at f.place ≡ Some point
+    → ((w : World) → op_step Q w f rest point.op ≡ work_step Q w f rest point.op)
+    → nat_le (arity point.op) (length f.stack) ≡ true
+    → work Q r.world.memory point.op (reverse (take (arity point.op) f.stack)) ≡ begins class
+    → IsTrue (is_begun one class)
+    → IsFalse (is_begun r.world.memory class)
+    → SameMemories P Allocated Entered names [] one r.world.memory
+    → (by : GoesBy P Q Allocated Entered names one r r r.world.frames r.world.memory) × IsTrue (is_begun by.after class)
+operation_goes_by {P = P} {Q = Q} {r = r} f rest point class same alike goes stands is worked enough begins_it begun none memories =
+    let also = begun_is_there Q r.world.memory point.op (reverse (take (arity point.op) f.stack)) class begins_it in
+    let found = first_there same class also.0 also.1 in
+    turn_goes_by class found.0 same alike goes no_turn turned found.1 begun none memories where
+      operands : List Value
+      operands = reverse (take (arity point.op) f.stack)
+
+      no_turn : is_library_turn r.world.frames ≡ false
+      no_turn = rw (stands) refl
+
+      before : Run
+      before = standing r (Method f ∷ rest) r.world.memory r.world.steps
+
+      counted : World
+      counted = (standing r (Method f ∷ rest) r.world.memory (r.world.steps + 1)).world
+
+      begun_then : work_step Q counted f rest point.op ≡ begun_on Q class counted (Method f ∷ rest)
+      begun_then = rw (enough, begins_it) refl
+
+      turned_at : turn Q before ≡ record before { world = begun_on Q class counted (Method f ∷ rest) }
+      turned_at =
+          ap (turn_by Q before) goes
+          ∙ ap (λ (found : Option Point). record before { world = point_step Q counted f rest found }) is
+          ∙ ap (λ (after : World). record before { world = after }) (worked counted ∙ begun_then)
+
+      turned : turn Q r ≡ record r { world = begun_on Q class (record r.world { steps = r.world.steps + 1 }) r.world.frames }
+      turned = subst Turns (sym stands) turned_at where
+        Turns : List RunFrame → Type 0
+        Turns frames =
+            turn Q (standing r frames r.world.memory r.world.steps)
+            ≡ record r { world = begun_on Q class (record r.world { frames = frames; steps = r.world.steps + 1 }) frames }
+
+-- ---- worlds
+
+-- The second has caught up with the first: the beginning is gone, and worlds are the same.
+pub record CaughtUp (P Q : Program) (c : Comparison) (names : Names) (one : World) (r : Run) (rest : List RunFrame) : Type 0 where
+  pub by : GoesBy P Q c.allocated c.entered names one.memory r r rest r.world.memory
+  pub frames : c.frames by.more one.frames rest
+  pub seen : SameSeen c by.more one (standing r rest by.after by.steps).world
+
+-- Where the second is still to go on with a beginning, quiet turns lead to the same worlds.
+pub second_catches_up :
+    {P Q : Program} {c : Comparison} {names : Names} {one : World} {r : Run} (class : ℕ) (rest : List RunFrame)
+    → SamePrograms P Q
+    → BeginAlike P Q
+    → Compares c
+    → r.world.halt ≡ going
+    → r.world.frames ≡ Beginning class ∷ rest
+    → is_library_turn rest ≡ false
+    → BeginsQuietly P one.memory class
+    → c.frames names one.frames rest
+    → SameMemories P c.allocated c.entered names [] one.memory r.world.memory
+    → SameSeen c names one r.world
+    → CaughtUp P Q c names one r rest
+second_catches_up {P = P} {Q = Q} {c = c} {names = names} {one = one} {r = r} class rest same alike compares goes stands no_turn quiet
+    frames memories seen = record {
+      by = by;
+      frames = compares.frames names by.more one.frames rest by.grows frames;
+      seen = record { known = references_more by.grows seen.known; events = seen.events };
+    } where
+      by : GoesBy P Q c.allocated c.entered names one.memory r r rest r.world.memory
+      by = beginning_goes_by class rest same alike goes stands no_turn quiet memories
