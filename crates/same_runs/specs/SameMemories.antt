@@ -117,6 +117,13 @@ pub record IsBegunAlone (P : Program) (now : List ℕ) (memory : Memory) (class 
   pub as_begun : IsAsBegun P memory class
   pub first : ((number : ℕ) → slice_get now number ≡ Some class → ⊥) → HasFirstBegun P memory class
 
+-- a class of the folder whose beginning runs nothing, and before which no class is still to begin
+pub record BeginsQuietly (P : Program) (memory : Memory) (class : ℕ) : Type 0 where
+  pub found : RunClass
+  pub is : slice_get P.classes class ≡ Some found
+  pub inert : IsInert P class
+  pub first : HasFirstBegun P memory class
+
 -- Classes that the second has begun the first has begun too, and then their static fields are the same. A class that is not begun has no
 -- static field that was written.
 pub record SameStatics (P : Program) (names : Names) (now : List ℕ) (one other : Memory)

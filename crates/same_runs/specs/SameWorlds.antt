@@ -1,6 +1,6 @@
 -- Worlds of two runs that are the same but for the numbers of references. What goes together beyond that a theorem says itself: how counts
 -- compare, which frames go together, and those in which an object has landed in a handler.
-use Rattle.std.specs.Prelude.{◌≡◌, ◌≢◌, ◌+◌, ℕ, List, [], ◌∷◌, Option, Some, None, IsTrue}
+use Rattle.std.specs.Prelude.{◌≡◌, ◌≢◌, ◌+◌, ℕ, List, [], ◌∷◌, Option, Some, None, false}
 use Rattle.class_model.specs.declared.class_file.MethodAt.{MethodAt}
 use Rattle.machine_values.specs.Frames.{MethodState}
 use Rattle.machine_values.specs.Values.{units_of_values}
@@ -12,10 +12,11 @@ use Rattle.member_link.specs.Machine.Acting.{Waiting, waiting_in}
 use Rattle.member_link.specs.Machine.Beginnings.{frame_with}
 use Rattle.member_link.specs.Machine.Performing.{resumed}
 use Rattle.member_link.specs.Machine.Programs.{Program, RunMethod, run_method}
-use Rattle.member_link.specs.Machine.Worlds.{World, going, is_begun}
+use Rattle.member_link.specs.Machine.Stepping.{is_library_turn}
+use Rattle.member_link.specs.Machine.Worlds.{World, going}
 use Rattle.same_runs.specs.Renamings.{Names, NamesMore, SameHeld, SameReferences, SameValues}
 use Rattle.same_runs.specs.SameFrames.{Unwinds}
-use Rattle.same_runs.specs.SameMemories.{SameMemories}
+use Rattle.same_runs.specs.SameMemories.{BeginsQuietly, SameMemories}
 
 -- how a theorem compares runs
 pub record Comparison : Type 1 where
@@ -83,7 +84,8 @@ pub data SameAfter (P : Program) (c : Comparison) (names : Names) (one other : W
   second_begins : (more : Names) (class : ℕ) (rest : List RunFrame)
       → NamesMore names more
       → other.frames ≡ Beginning class ∷ rest
-      → IsTrue (is_begun one.memory class)
+      → is_library_turn rest ≡ false
+      → BeginsQuietly P one.memory class
       → c.frames more one.frames rest
       → SameMemories P c.allocated c.entered more [] one.memory other.memory
       → SameSeen c more one other

@@ -3,6 +3,8 @@ use Rattle.std.proofs.Common.{◌≡◌, ◌≢◌, ◌+◌, ◌&&◌, ◌||◌,
 use Rattle.std.specs.List.{list_any}
 use Rattle.std.proofs.lemmas.Bool.{false≢true}
 use Rattle.class_model.specs.Descriptors.{parameters_of, type_of}
+use Rattle.class_model.specs.Members.{has, STATIC}
+use Rattle.class_model.specs.Names.{init}
 use Rattle.class_model.specs.declared.class_file.MethodAt.{MethodAt}
 use Rattle.class_model.specs.declared.descriptor.FieldType.{FieldType}
 use Rattle.class_model.specs.declared.descriptor.FieldType.TheVariants as types
@@ -23,28 +25,36 @@ use Rattle.machine_values.specs.declared.object.Shape.{Shape}
 use Rattle.machine_values.specs.declared.object.Shape.TheVariants as shapes
 use Rattle.machine_values.specs.declared.value.Value.{Value}
 use Rattle.machine_values.specs.declared.value.Value.TheVariants as values
-use Rattle.member_link.specs.Machine.Acting.{Pending, Waiting, act, act_call, act_construct, all_conform, answered, beginning_if, beginning_of_number, begins_with_angle, call_at, call_by_sort, call_of_instance, call_of_method, call_of_static, call_on, construct_at, constructed, given_values, is_handled, act_array_get, act_array_length, act_array_set, act_new_array, act_new_external, act_return, act_throw, answer_with, answer_without, fault, given_value, got_of_value, is_array_descriptor, is_concrete, is_fault, is_throwable, known_object, length_of_shape, set_at, set_of_shape, unless_fault, waiting_in}
+use Rattle.member_link.specs.Machine.Acting.{Pending, Waiting, act, acted, act_call, act_construct, all_conform, answered, beginning_if, beginning_of_number, begins_with_angle, call_at, call_by_sort, call_of_instance, call_of_method, call_of_static, call_on, construct_at, constructed, given_values, is_handled, act_array_get, act_array_length, act_array_set, act_new_array, act_new_external, act_return, act_throw, answer_with, answer_without, fault, given_value, got_of_value, is_array_descriptor, is_concrete, is_fault, is_throwable, known_object, length_of_shape, set_at, set_of_shape, unless_fault, waiting_in}
 use Rattle.member_link.specs.Machine.ArraySteps.{blank_array, index_in, most_elements}
+use Rattle.member_link.specs.Machine.ObjectSteps.{blank_object}
 use Rattle.member_link.specs.Machine.Performing.{called, locked, resumed}
 use Rattle.member_link.specs.Machine.Programs.{Program, RunMethod, code_at, folder_number, header_named, is_interface_named, place_of_method, run_method}
 use Rattle.member_link.specs.Machine.Shapes.{is_instance, value_conforms}
 use Rattle.member_link.specs.Machine.Showing.{kind_with, numbered, shows_got, shows_length, shows_made}
+use Rattle.member_link.specs.Machine.Stepping.{is_library_turn}
 use Rattle.member_link.specs.Machine.Throwables.{null_pointer}
 use Rattle.member_link.specs.Machine.Worlds.{Halt, Memory, World, going, stopped, faulted, init_threw, array_too_long, stuck, is_begun, with_heap}
+use Rattle.member_link.specs.References.{Reference}
 use Rattle.same_runs.specs.Renamings.{Names, NamesMore, SameObject, SameReferences, SameUnit, no_value, has_value, SameValue, same_int, same_long, same_float, same_double, same_null, same_reference, SameValues, no_values, and_value}
 use Rattle.same_runs.specs.SameMemories.{SameMemories}
 use Rattle.same_runs.specs.SameFrames.{Unwinds}
 use Rattle.same_runs.specs.SamePrograms.{SamePrograms}
 use Rattle.same_runs.specs.SameWorlds.{AtLibrary, Comparison, Compares, SameAfter, both_go, both_landed, both_over, second_begins, SameSeen, SameWaiting, none_waits, both_wait}
-use Rattle.same_runs.specs.Laws.ArrayWork.{SameMade, blank_both, made_both}
+use Rattle.same_runs.specs.Laws.ArrayWork.{blank_both}
+use Rattle.same_runs.specs.Laws.Made.{SameMade, made_both}
 use Rattle.same_runs.specs.Laws.Begun.{begin_both}
 use Rattle.same_runs.specs.Laws.BegunAlone.{second_has_begun}
-use Rattle.same_runs.specs.Laws.FieldWork.{narrowed_same, value_at}
-use Rattle.same_runs.specs.Laws.GivenValues.{SameKnown, not_known, is_known, SameObjects, no_object, one_object, all_conform_both, conforms_both, known_at, objects_known, value_given}
+use Rattle.same_runs.specs.Laws.BegunClasses.{folder_class}
+use Rattle.same_runs.specs.Laws.FieldWork.{blank_object_both, narrowed_same, value_at}
+use Rattle.same_runs.specs.Laws.GivenValues.{SameKnown, not_known, is_known, SameGiven, not_given, are_given, SameObjects, no_object, one_object, all_conform_both, conforms_both, known_at, objects_known, value_given, values_given}
+use Rattle.same_runs.specs.Laws.Handled.{added_unhandled, same_handled}
 use Rattle.same_runs.specs.Laws.Heaps.{both_write, value_constants}
+use Rattle.same_runs.specs.Laws.Methods.{place_is, same_code, same_no_place, same_place, same_run_method}
 use Rattle.same_runs.specs.Laws.Names.{more_and_more, names_themselves, references_more, values_more}
 use Rattle.same_runs.specs.Laws.Numbering.{SameNumbered, reference_numbered, value_numbered}
 use Rattle.same_runs.specs.Laws.Performed.{locked_same, raised_same, seen_more, shown_same, thrown_same}
+use Rattle.same_runs.specs.Laws.QuietBeginnings.{alone_quietly}
 use Rattle.same_runs.specs.Laws.Programs.{SameNamed, named_none, named_both, same_header, same_interface, same_number}
 use Rattle.same_runs.specs.Laws.Shapes.{same_instance}
 use Rattle.same_runs.specs.Laws.Statics.{keeps_all, memories_still}
@@ -70,8 +80,8 @@ unless_fault_same first second after also seen (both_go more grows frames memori
     both_kept first second after also goes goes_also (both_go more grows frames memories later goes goes_also)
 unless_fault_same first second after also seen (both_landed more grows lands memories later goes goes_also) =
     both_kept first second after also goes goes_also (both_landed more grows lands memories later goes goes_also)
-unless_fault_same first second after also seen (second_begins more class rest grows is begun frames memories later goes goes_also) =
-    both_kept first second after also goes goes_also (second_begins more class rest grows is begun frames memories later goes goes_also)
+unless_fault_same first second after also seen (second_begins more class rest grows is no_turn quiet frames memories later goes goes_also) =
+    both_kept first second after also goes goes_also (second_begins more class rest grows is no_turn quiet frames memories later goes goes_also)
 unless_fault_same {P = P} {c = c} {names = names} first second after also seen (both_over more later over same) = by (is_fault after.halt) refl where
   by : (b : Bool) → is_fault after.halt ≡ b → SameAfter P c names (unless_fault first after) (unless_fault second also)
   by true e = rw (e, ap is_fault same ∙ e) (both_over names (record { known = seen.known; events = seen.events }) (λ impossible. cc impossible) refl)
@@ -270,7 +280,9 @@ module _ {P Q : Program} {c : Comparison} {names : Names} {first second : World}
 
   -- a class that an action begins: in both, or in the second alone, or in none
   begins_number :
-      (one other : World) (more : Names) (found : Option ℕ)
+      (class : Name) (one other : World) (more : Names) (found : Option ℕ)
+      → folder_number P class ≡ found
+      → is_library_turn other.frames ≡ false
       → NamesMore names more
       → c.frames more one.frames other.frames
       → SameMemories P c.allocated c.entered more [] one.memory other.memory
@@ -278,8 +290,8 @@ module _ {P Q : Program} {c : Comparison} {names : Names} {first second : World}
       → one.halt ≡ going
       → other.halt ≡ going
       → After (beginning_of_number P one found) (beginning_of_number Q other found)
-  begins_number one other more None grows frames now later on on_also = both_go more grows frames now later on on_also
-  begins_number one other more (Some number) grows frames now later on on_also = by (is_begun one.memory number) (is_begun other.memory number) refl refl where
+  begins_number class one other more None where_ no_turn grows frames now later on on_also = both_go more grows frames now later on on_also
+  begins_number class one other more (Some number) where_ no_turn grows frames now later on on_also = by (is_begun one.memory number) (is_begun other.memory number) refl refl where
     by : (b d : Bool) → is_begun one.memory number ≡ b → is_begun other.memory number ≡ d → After (beginning_of_number P one (Some number)) (beginning_of_number Q other (Some number))
     by true true e e_also = rw (e, e_also) (both_go more grows frames now later on on_also)
     by false true e e_also = absurd (false≢true (sym e ∙ now.statics.begun number e_also))
@@ -289,11 +301,14 @@ module _ {P Q : Program} {c : Comparison} {names : Names} {first second : World}
         (record { known = references_more begun.1 later.known; events = later.events }) on on_also)
     by true false e e_also = rw (e, e_also)
         (let begun = second_has_begun same number e e_also now in
-        second_begins begun.0 number other.frames (more_and_more grows begun.1) refl e (compares.frames more begun.0 one.frames other.frames begun.1 frames) begun.2
+        let class_there = folder_class P class number where_ in
+        second_begins begun.0 number other.frames (more_and_more grows begun.1) refl no_turn (alone_quietly number class_there.0 class_there.1 e e_also now)
+        (compares.frames more begun.0 one.frames other.frames begun.1 frames) begun.2
         (record { known = references_more begun.1 later.known; events = later.events }) on on_also)
 
   begins_if :
       (class : Name) (one other : World) (more : Names)
+      → is_library_turn other.frames ≡ false
       → NamesMore names more
       → c.frames more one.frames other.frames
       → SameMemories P c.allocated c.entered more [] one.memory other.memory
@@ -301,16 +316,16 @@ module _ {P Q : Program} {c : Comparison} {names : Names} {first second : World}
       → one.halt ≡ going
       → other.halt ≡ going
       → After (beginning_if P class one) (beginning_if Q class other)
-  begins_if class one other more grows frames now later on on_also =
+  begins_if class one other more no_turn grows frames now later on on_also =
       subst (λ (found : Option ℕ). After (beginning_if P class one) (beginning_of_number Q other found)) (sym (same_number same class))
-      (begins_number one other more (folder_number P class) grows frames now later on on_also)
+      (begins_number class one other more (folder_number P class) refl no_turn grows frames now later on on_also)
 
   -- a method of both is called by the library, and its class begins first if it is static
   calls_begun : (class : Name) (to : MethodAt) (method : RunMethod) → run_method P to ≡ Some method → {ones others : List Value} → SameValues names ones others
       → After (beginning_if P class (called P first to ones first.frames)) (beginning_if Q class (called Q second to others second.frames))
   calls_begun class to method there {ones = ones} {others = others} are =
       let held = locked_same same compares to method there memories are in
-      begins_if class (called P first to ones first.frames) (called Q second to others second.frames) held.more held.grows
+      begins_if class (called P first to ones first.frames) (called Q second to others second.frames) held.more refl held.grows
       (rw (is, is_also) (at.called held.more to method ones others (locked P first.memory to ones).held (locked Q second.memory to others).held there held.grows (values_more held.grows are) held.held))
       held.memories (record { known = references_more held.grows seen.known; events = seen.events }) goes goes_also
 
@@ -347,3 +362,146 @@ module _ {P Q : Program} {c : Comparison} {names : Names} {first second : World}
             → After (call_of_instance P first class desc to (receiver ∷ ones)) (call_of_instance Q second class desc to (also ∷ others))
         by false e = rw (e, all_conform_both same memories first second refl refl (types.Named class ∷ parameters_of desc) (and_value here are) ∙ e) faults
         by true e = rw (e, all_conform_both same memories first second refl refl (types.Named class ∷ parameters_of desc) (and_value here are) ∙ e) (calls_on to method there here are)
+
+  -- a call of a method that stands in both
+  calls_at : (class : Name) (desc : List ℕ) (to : MethodAt) (method : RunMethod) → run_method P to ≡ Some method → {ones others : List Value} → SameValues names ones others
+      → After (call_of_method P first class desc to ones (run_method P to)) (call_of_method Q second class desc to others (run_method Q to))
+  calls_at class desc to method there {ones = ones} {others = others} are =
+      let found = same_run_method same to method there in
+      by found.0 found.1 found.2.member (is_some (code_at P to)) refl where
+        by : (other : RunMethod) → run_method Q to ≡ Some other → other.member ≡ method.member → (b : Bool) → is_some (code_at P to) ≡ b
+            → After (call_of_method P first class desc to ones (run_method P to)) (call_of_method Q second class desc to others (run_method Q to))
+        by other there_also member false e = rw (there, there_also, e, same_code same to method there ∙ e) faults
+        by other there_also member true e = rw (there, there_also, e, same_code same to method there ∙ e, member) (calls_sort class desc to method there are (has method.member.flags STATIC))
+
+  calls_placed : (class : Name) (desc : List ℕ) (to : MethodAt) (method : RunMethod) → run_method P to ≡ Some method → {given given_also : Option (List Value)} → SameGiven names given given_also
+      → After (call_at P first class desc (Some to) given) (call_at Q second class desc (Some to) given_also)
+  calls_placed class desc to method there not_given = faults
+  calls_placed class desc to method there (are_given are) = calls_at class desc to method there are
+
+  pub calls : (class : Name) (name desc : List ℕ) (given_all : List Given) → After (act_call P first class name desc given_all) (act_call Q second class name desc given_all)
+  calls class name desc given_all = by (begins_with_angle name) refl where
+    r : Reference
+    r = record { class = class; name = name; desc = desc }
+
+    placed : begins_with_angle name ≡ false → (found : Option MethodAt) → place_of_method P r ≡ found
+        → After (call_at P first class desc (place_of_method P r) (given_values first.known given_all)) (call_at Q second class desc (place_of_method Q r) (given_values second.known given_all))
+    placed e None where_ = rw (where_, same_no_place same r (λ same_name. false≢true (sym e ∙ ap begins_with_angle same_name)) where_) faults
+    placed e (Some to) where_ =
+        let method = place_is P r to where_ in
+        rw (where_, same_place same r to where_) (calls_placed class desc to method.0 method.1 (values_given given_all seen.known))
+
+    by : (b : Bool) → begins_with_angle name ≡ b → After (act_call P first class name desc given_all) (act_call Q second class name desc given_all)
+    by true e = rw (e) faults
+    by false e = rw (e) (placed e (place_of_method P r) refl)
+
+  -- ---- constructions
+
+  constructs_at : (class : Name) (number : ℕ) (to : MethodAt) (method : RunMethod) → run_method P to ≡ Some method → {ones others : List Value} → SameValues names ones others
+      → After (constructed P first class to ones (blank_object P first.memory.heap number)) (constructed Q second class to others (blank_object Q second.memory.heap number))
+  constructs_at class number to method there {ones = ones} {others = others} are =
+      let new = blank_object_both same memories.heaps number in
+      let still = memories_still new.grows (keeps_all first.memory.heap (blank_object P first.memory.heap number).heap new.constants) new.heaps memories in
+      let values_then = and_value (same_reference new.is) (values_more new.grows are) in
+      let held = locked_same same compares to method there still values_then in
+      rw (is, is_also)
+      (begins_if class _ _ held.more refl (more_and_more new.grows held.grows)
+      (at.constructs held.more to method _ _ _ _ (blank_object P first.memory.heap number).reference (blank_object Q second.memory.heap number).reference there (more_and_more new.grows held.grows)
+      (held.grows.keeps _ _ new.is) (values_more held.grows values_then) held.held)
+      held.memories (record { known = references_more (more_and_more new.grows held.grows) seen.known; events = seen.events }) goes goes_also)
+
+  pub constructs : (class : Name) (desc : List ℕ) (given_all : List Given) → After (act_construct P first class desc given_all) (act_construct Q second class desc given_all)
+  constructs class desc given_all = by (folder_number P class) refl where
+    r : Reference
+    r = record { class = class; name = init; desc = desc }
+
+    tests : Program → World → MethodAt → List Value → Bool
+    tests R w to ones = is_some (code_at R to) && (is_concrete (header_named R class) && (is_handled R class desc && all_conform R w (parameters_of desc) ones))
+
+    unhandled : (R : Program) (w : World) (to : MethodAt) (ones : List Value) → is_handled R class desc ≡ false → tests R w to ones ≡ false
+    unhandled R w to ones e = rw (e) (go (is_some (code_at R to)) (is_concrete (header_named R class))) where
+      go : (a b : Bool) → (a && (b && false)) ≡ false
+      go true true = refl
+      go true false = refl
+      go false b = refl
+
+    of_given : (number : ℕ) (to : MethodAt) (method : RunMethod) → run_method P to ≡ Some method → {given given_also : Option (List Value)} → SameGiven names given given_also
+        → After (construct_at P first class desc (Some number) (Some to) given) (construct_at Q second class desc (Some number) (Some to) given_also)
+    of_given number to method there not_given = faults
+    of_given number to method there (are_given {ones = ones} {others = others} are) = tested (tests P first to ones) refl where
+      tests_same : tests Q second to others ≡ tests P first to ones
+      tests_same = rw (same_code same to method there, concrete_same class, same_handled same class desc, all_conform_both same memories first second refl refl (parameters_of desc) are) refl
+
+      tested : (b : Bool) → tests P first to ones ≡ b → After (construct_at P first class desc (Some number) (Some to) (Some ones)) (construct_at Q second class desc (Some number) (Some to) (Some others))
+      tested false e = rw (e, tests_same ∙ e) faults
+      tested true e = rw (e, tests_same ∙ e) (constructs_at class number to method there are)
+
+    only_added : (number : ℕ) (to : MethodAt) → is_handled Q class desc ≡ false → {given given_also : Option (List Value)} → SameGiven names given given_also
+        → After (construct_at P first class desc (Some number) None given) (construct_at Q second class desc (Some number) (Some to) given_also)
+    only_added number to e not_given = faults
+    only_added number to e (are_given {others = others} are) = rw (unhandled Q second to others e) faults
+
+    placed : (number : ℕ) (found also : Option MethodAt) → place_of_method P r ≡ found → place_of_method Q r ≡ also
+        → After (construct_at P first class desc (Some number) (place_of_method P r) (given_values first.known given_all)) (construct_at Q second class desc (Some number) (place_of_method Q r) (given_values second.known given_all))
+    placed number None None where_ where_also = rw (where_, where_also) faults
+    placed number None (Some to) where_ where_also = rw (where_, where_also) (only_added number to (same_handled same class desc ∙ added_unhandled same r to where_ where_also) (values_given given_all seen.known))
+    placed number (Some to) also where_ where_also =
+        let method = place_is P r to where_ in
+        rw (where_, same_place same r to where_) (of_given number to method.0 method.1 (values_given given_all seen.known))
+
+    by : (found : Option ℕ) → folder_number P class ≡ found → After (act_construct P first class desc given_all) (act_construct Q second class desc given_all)
+    by None where_ = rw (where_, same_number same class ∙ where_) faults
+    by (Some number) where_ =
+        subst (λ (n : Option ℕ). After (construct_at P first class desc n (place_of_method P r) (given_values first.known given_all)) (act_construct Q second class desc given_all)) (sym where_)
+        (subst (λ (n : Option ℕ). After (construct_at P first class desc (Some number) (place_of_method P r) (given_values first.known given_all)) (construct_at Q second class desc n (place_of_method Q r) (given_values second.known given_all)))
+        (sym (same_number same class ∙ where_))
+        (placed number (place_of_method P r) (place_of_method Q r) refl refl))
+
+-- ---- an action
+
+-- An action of the library, where its frame is on top in both, changes both worlds alike.
+pub act_same :
+    {P Q : Program} {c : Comparison} {names : Names} {first second : World} {made made_also : Option ℕ} {rest rest_also : List RunFrame}
+    → SamePrograms P Q
+    → Compares c
+    → SameMemories P c.allocated c.entered names [] first.memory second.memory
+    → SameSeen c names first second
+    → first.halt ≡ going
+    → second.halt ≡ going
+    → first.frames ≡ Library made ∷ rest
+    → second.frames ≡ Library made_also ∷ rest_also
+    → AtLibrary P Q c names made made_also rest rest_also
+    → (action : Action)
+    → SameAfter P c names (act P action first) (act Q action second)
+act_same {P = P} {Q = Q} {c = c} {names = names} {first = first} {second = second} {made = made} {made_also = made_also} {rest = rest} {rest_also = rest_also} same compares memories seen goes goes_also is is_also at action =
+    unless_fault_same first second _ _ seen (by action) where
+      counted : World
+      counted = record first { steps = first.steps + 1 }
+
+      counted_also : World
+      counted_also = record second { steps = second.steps + 1 }
+
+      seen_counted : SameSeen c names counted counted_also
+      seen_counted = record { known = seen.known; events = seen.events }
+
+      waits : SameWaiting P Q c names (waiting_in P first.frames) (waiting_in Q second.frames)
+      waits = rw (is, is_also) at.waits
+
+      known : (number : ℕ) → SameKnown names (slice_get first.known number) (slice_get second.known number)
+      known number = known_at number seen.known
+
+      objects : (number : ℕ) → SameObjects names (known_object counted (slice_get first.known number)) (known_object counted_also (slice_get second.known number))
+      objects number = objects_known counted counted_also memories (known number)
+
+      by : (action : Action) → SameAfter P c names (acted P action counted) (acted Q action counted_also)
+      by (actions.Call class name desc given_all) = calls {first = counted} {second = counted_also} same compares memories seen_counted goes goes_also is is_also at class name desc given_all
+      by (actions.Construct class desc given_all) = constructs {first = counted} {second = counted_also} same compares memories seen_counted goes goes_also is is_also at class desc given_all
+      by (actions.Return value) = returns {first = counted} {second = counted_also} same compares memories seen_counted goes goes_also is is_also at value waits
+      by (actions.Throw number) = throws {first = counted} {second = counted_also} same compares memories seen_counted goes goes_also is is_also at waits (known number)
+      by (actions.ArrayGet number index) = gets {first = counted} {second = counted_also} same compares memories seen_counted goes goes_also is is_also at index (objects number)
+      by (actions.ArraySet number index value) =
+          sets {first = counted} {second = counted_also} same compares memories seen_counted goes goes_also is is_also at index (known number) (objects number) (value_given value seen.known)
+      by (actions.ArrayLength number) = measures {first = counted} {second = counted_also} same compares memories seen_counted goes goes_also is is_also at (objects number)
+      by (actions.NewArray desc count) = makes_array {first = counted} {second = counted_also} same compares memories seen_counted goes goes_also is is_also at desc count
+      by (actions.NewExternal class also) = makes_external {first = counted} {second = counted_also} same compares memories seen_counted goes goes_also is is_also at class also
+      by actions.Stop = stops {first = counted} {second = counted_also} same compares memories seen_counted goes goes_also is is_also at

@@ -21,6 +21,7 @@ use Rattle.same_runs.specs.SameMemories.{IsComparison, SameHeaps, SameMemories}
 use Rattle.same_runs.specs.SamePrograms.{SamePrograms}
 use Rattle.same_runs.specs.Laws.FieldWork.{allocates, blank_itself, narrowed_same, value_at}
 use Rattle.same_runs.specs.Laws.Heaps.{both_allocate, both_write, new_unnamed, value_constants}
+use Rattle.same_runs.specs.Laws.Made.{SameMade, made_both}
 use Rattle.same_runs.specs.Laws.Names.{more_and_more, named_here, named_too, named_too_more, names_themselves, value_more, values_more}
 use Rattle.same_runs.specs.Laws.OperandWork.{gives_value}
 use Rattle.same_runs.specs.Laws.Shapes.{same_instance}
@@ -34,32 +35,12 @@ blanks names desc (suc count) = and_value (blank_itself names desc) (blanks name
 
 -- ---- arrays that are made in both
 
--- a new object of both, under names that are perhaps more, where no constant was made
-pub record SameMade (names : Names) (one other : Heap) (made also : Made) : Type 0 where
-  pub more : Names
-  pub grows : NamesMore names more
-  pub heaps : SameHeaps more made.heap also.heap
-  pub is : more made.reference ≡ Some also.reference
-  pub constants : made.heap.constants ≡ one.constants
-
 pub record SameElements (names : Names) (one other : Heap) (made also : MadeElements) : Type 0 where
   pub more : Names
   pub grows : NamesMore names more
   pub heaps : SameHeaps more made.heap also.heap
   pub are : SameValues more made.values also.values
   pub constants : made.heap.constants ≡ one.constants
-
-pub made_both : {names : Names} {one other : Heap} → SameHeaps names one other → (shape : Shape) (ones others : List Value) → SameValues names ones others
-    → SameMade names one other (allocated one shape ones) (allocated other shape others)
-made_both {names = names} {one = one} {other = other} same shape ones others are =
-    let grows = named_too_more names (length one.objects) (length other.objects) (new_unnamed same) in
-    record {
-      more = named_too names (length one.objects) (length other.objects);
-      grows = grows;
-      heaps = both_allocate same shape ones others (values_more grows are);
-      is = named_here names (length one.objects) (length other.objects);
-      constants = refl;
-    }
 
 pub blank_both : {names : Names} {one other : Heap} → SameHeaps names one other → (desc : Name) (count : ℕ) → SameMade names one other (blank_array one desc count) (blank_array other desc count)
 blank_both {names = names} same desc count = made_both same (shapes.Array desc count) _ _ (blanks names (component_text desc) count)

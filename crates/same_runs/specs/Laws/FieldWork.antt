@@ -32,6 +32,7 @@ use Rattle.same_runs.specs.SameCompletions.{same_get, same_put, SameCompletions,
 use Rattle.same_runs.specs.SameMemories.{IsComparison, SameHeaps, SameMemories, SameStatics}
 use Rattle.same_runs.specs.SamePrograms.{IsNoReference, SameBar, SamePrograms}
 use Rattle.same_runs.specs.Laws.Heaps.{both_allocate, both_write, new_unnamed, value_constants}
+use Rattle.same_runs.specs.Laws.Made.{SameMade, made_both}
 use Rattle.same_runs.specs.Laws.Layouts.{same_blanks, same_slot}
 use Rattle.same_runs.specs.Laws.Names.{named_here, named_too, named_too_more, names_themselves}
 use Rattle.same_runs.specs.Laws.OperandWork.{gives_value, itself, kind_same}
@@ -86,6 +87,14 @@ blank_itself names desc = itself names (blank_value desc) (blank_kind (kind_of (
 blanks_themselves : (names : Names) (fields : List Member) → SameValues names (blank_values fields) (blank_values fields)
 blanks_themselves names [] = no_values
 blanks_themselves names (field ∷ fields) = and_value (blank_itself names field.desc) (blanks_themselves names fields)
+
+-- a blank object of a class of the folder is made in both
+pub blank_object_both : {P Q : Program} {names : Names} {one other : Heap} → SamePrograms P Q → SameHeaps names one other → (number : ℕ)
+    → SameMade names one other (blank_object P one number) (blank_object Q other number)
+blank_object_both {P = P} {Q = Q} {names = names} {one = one} {other = other} same heaps number =
+    subst (λ (blank : List Value). SameMade names one other (blank_object P one number) (allocated other (shapes.Folder number) blank))
+    (sym (ap (λ (name : Name). blank_values (instance_fields (headers_in Q) name)) (same_name same number) ∙ same_blanks same (name_of_class P number)))
+    (made_both heaps (shapes.Folder number) _ _ (blanks_themselves names (instance_fields (headers_in P) (name_of_class P number))))
 
 module _ {P Q : Program} {Allocated Entered : ℕ → ℕ → Type 0} {names : Names} {one other : Memory}
     (same : SamePrograms P Q) (memories : SameMemories P Allocated Entered names [] one other) where

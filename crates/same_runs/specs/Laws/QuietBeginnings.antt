@@ -25,7 +25,7 @@ use Rattle.member_link.specs.Machine.Work.{arity, work}
 use Rattle.member_link.specs.Machine.Worlds.{Memory, World, going, is_begun}
 use Rattle.member_link.specs.References.{Reference}
 use Rattle.same_runs.specs.Renamings.{Names, NamesMore}
-use Rattle.same_runs.specs.SameMemories.{HasFirstBegun, IsBegunAlone, IsInert, SameMemories}
+use Rattle.same_runs.specs.SameMemories.{BeginsQuietly, HasFirstBegun, IsBegunAlone, IsInert, SameMemories}
 use Rattle.same_runs.specs.SamePrograms.{SameClass, SamePrograms}
 use Rattle.same_runs.specs.SameWorlds.{Compares, Comparison, SameSeen}
 use Rattle.same_runs.specs.Simulations.{Quietly, at_once, turn_first}
@@ -47,13 +47,6 @@ pub record BeginAlike (P Q : Program) : Type 0 where
       → slice_get P.classes class ≡ Some one
       → slice_get Q.classes class ≡ Some also
       → come_first Q also.header ≡ come_first P one.header
-
--- a class of the folder whose beginning runs nothing, and before which no class is still to begin
-pub record BeginsQuietly (P : Program) (memory : Memory) (class : ℕ) : Type 0 where
-  pub found : RunClass
-  pub is : slice_get P.classes class ≡ Some found
-  pub inert : IsInert P class
-  pub first : HasFirstBegun P memory class
 
 -- a class is below itself where links are those of a hierarchy
 pub below_itself : {headers : Headers} (P : Program) → AreLinksOf headers P.links → (name : Name) → IsTrue (P.links.below name name)
