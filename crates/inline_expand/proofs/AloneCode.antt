@@ -190,7 +190,7 @@ module _ (classes : Classes) (links : Links) (s : Scope) (at : MethodAt) (frames
       found-point all number found refl ∙ ap (λ (n : ℕ). or_behind n found) (length-numbered (flat_point classes s flat) zero points) ∙ first in
       let places = number_of_first (λ (placed : Placed). placed.at == t) instrs in
       let own : number_at (code_points s) t ≡ number =
-      found-point (code_points s) t places (first-placed (placed_point s) (λ p. refl) t instrs) ∙ ap (λ (n : ℕ). or_behind n places) (length-map (placed_point s) instrs) ∙ sym (found-instr instrs t places refl) in
+      found-point (code_points s) t places (first-placed (placed_point s) (λ p. refl) t instrs) ∙ ap (λ (n : ℕ). or_behind n places) (length-map instrs (placed_point s)) ∙ sym (found-instr instrs t places refl) in
       flats ∙ sym own
 
   pub alone-code : flat_code classes links s flat ≡ method_code links s

@@ -84,6 +84,9 @@ module _ (s : Scope) where
 
 -- ---- points
 
+abbrev handlers-in : Scope → ℕ → List Handler → List FlatHandler
+handlers-in s at handlers = flat_map (λ (handler : Handler). if covers handler at then handler_of s handler else []) handlers
+
 module _ (s : Scope) (n : ℕ) (within : (place : ℕ) → IsPlaceOf (body_of s).points place → number_at s place < n) (states : StatesAtPoints (body_of s)) (frames : List Frame) where
   -- a place into whose frame something goes
   goes-within : (goes : Option Frame) (place : ℕ) → GoesInto (body_of s) frames goes place → number_at s place < n
@@ -100,16 +103,13 @@ module _ (s : Scope) (n : ℕ) (within : (place : ℕ) → IsPlaceOf (body_of s)
     of-type false any (Some class) is = rw (any, is) (less, tt)
 
   around-within : (at : ℕ) (handlers : List Handler) → AllByRecursion (λ (catch : BodyCatch). number_at s catch.to < n) (catches_at s at handlers)
-      → AllByRecursion BeginsWithin (flat_map (λ (handler : Handler). if covers handler at then handler_of s handler else []) handlers)
+      → AllByRecursion BeginsWithin (handlers-in s at handlers)
   around-within at [] all = tt
   around-within at (handler ∷ handlers) all = of-range (covers handler at) all where
-    abbrev rest : List FlatHandler
-    rest = flat_map (λ (handler : Handler). if covers handler at then handler_of s handler else []) handlers
-
     of-range : (around : Bool)
         → AllByRecursion (λ (catch : BodyCatch). number_at s catch.to < n) (if around then catch_of s handler ∷ catches_at s at handlers else catches_at s at handlers)
-        → AllByRecursion BeginsWithin ((if around then handler_of s handler else []) ++ rest)
-    of-range true all = all-append BeginsWithin (handler_of s handler) rest (begins-within handler all.0) (around-within at handlers all.1)
+        → AllByRecursion BeginsWithin ((if around then handler_of s handler else []) ++ handlers-in s at handlers)
+    of-range true all = all-append BeginsWithin (handler_of s handler) (handlers-in s at handlers) (begins-within handler all.0) (around-within at handlers all.1)
     of-range false all = around-within at handlers all
 
   point-fits : (class : ℕ) (placed : Placed) (frame : Frame) → GoesToStated (body_of s) frames (point_of s placed) → HasLocal s.part.max_locals placed.instr → IsPoint n s.part.max_locals (alone_point s class placed frame)

@@ -65,7 +65,7 @@ frames-one-each each one classes typed types at s frames scope are =
     let method = each classes typed types at in
     let named = subst (λ (found : Option Scope). TypesMethod found (typed_frames_at typed at)) scope method in
     let typing = subst (λ (found : Option (List Frame)). TypesMethod (Some s) found) are named in
-    one (body_of s) frames typing ∙ length-map (point_of s) (instructions s)
+    one (body_of s) frames typing ∙ length-map (instructions s) (point_of s)
 
 -- the class of a method's scope
 in-part : (headers : Headers) (class : ClassFile) (method : Method) (s : Scope) (part : Option CodePart)
@@ -96,13 +96,13 @@ module _ (each : EachTyped) (one : OneEach) (classes : Classes) (typed : FolderF
       let one-each = frames-one-each each one classes typed types at s is.frames scope is.are_frames in
       ap (flat_code classes links s) flat_is ∙ alone-code classes links s at is.frames (pool-of-scope classes at s scope) one-each
 
-  same-method : (at : MethodAt) (class : ClassFile) (method : Method) → slice_get classes.folder at.class ≡ Some class → slice_get class.methods at.method ≡ Some method
-      → with_body (run_method_of links (headers_of classes) class method) (flat_body classes links flats at) ≡ run_method_of links (headers_of classes) class method
-  same-method at class method class_is method_is = of-flat (flats at) refl where
-    abbrev own : RunMethod
-    own = run_method_of links (headers_of classes) class method
+  abbrev own-method : ClassFile → Method → RunMethod
+  own-method class method = run_method_of links (headers_of classes) class method
 
-    of-flat : (flat : Option FlatCode) → flats at ≡ flat → with_body own (flat_body classes links flats at) ≡ own
+  same-method : (at : MethodAt) (class : ClassFile) (method : Method) → slice_get classes.folder at.class ≡ Some class → slice_get class.methods at.method ≡ Some method
+      → with_body (own-method class method) (flat_body classes links flats at) ≡ own-method class method
+  same-method at class method class_is method_is = of-flat (flats at) refl where
+    of-flat : (flat : Option FlatCode) → flats at ≡ flat → with_body (own-method class method) (flat_body classes links flats at) ≡ own-method class method
     of-flat None none = rw none refl
     of-flat (Some flat) some =
         let is = are at flat some in
@@ -110,8 +110,8 @@ module _ (each : EachTyped) (one : OneEach) (classes : Classes) (typed : FolderF
         let own_scope : scope_of (headers_of classes) class method ≡ Some is.scope = sym there ∙ is.is_scope in
         let body : flat_body classes links flats at ≡ Some (flat_code classes links is.scope flat) = rw (some, is.is_scope) refl in
         let code = own-code at flat is is.scope is.is_scope in
-        let runs : with_body own (flat_body classes links flats at) ≡ with_body own (Some (method_code links is.scope)) = ap (with_body own) (body ∙ ap Some code) in
-        let kept : with_body own (Some (method_code links is.scope)) ≡ own = rw own_scope refl in
+        let runs : with_body (own-method class method) (flat_body classes links flats at) ≡ with_body (own-method class method) (Some (method_code links is.scope)) = ap (with_body (own-method class method)) (body ∙ ap Some code) in
+        let kept : with_body (own-method class method) (Some (method_code links is.scope)) ≡ own-method class method = rw own_scope refl in
         runs ∙ kept
 
   abbrev flats-here : Replacement
@@ -124,8 +124,8 @@ module _ (each : EachTyped) (one : OneEach) (classes : Classes) (typed : FolderF
       let fields = same-items (field_cleared flats-here number) run.header.fields (λ behind member is. ap (λ flags. record member { flags = flags }) (nothing-cleared member.flags)) in
       let methods = same-items (method_replaced flats-here number) run.methods (λ behind method is.
       let from = mapped-at (run_method_of links (headers_of classes) class) class.methods behind method is in
-      subst (λ (run : RunMethod). method_replaced flats-here number behind run ≡ run) (sym from.1.1)
-      (same-method (record { class = number; method = behind }) class from.0 class_is from.1.0)) in
+      subst (λ (run : RunMethod). method_replaced flats-here number behind run ≡ run) (sym from.2)
+      (same-method (record { class = number; method = behind }) class from.0 class_is from.1)) in
       λ i. record run {
         header = record run.header {
           fields = fields i;
@@ -139,4 +139,4 @@ module _ (each : EachTyped) (one : OneEach) (classes : Classes) (typed : FolderF
       let P = program_of classes links in
       ap (λ (all : List RunClass). record P { classes = all }) (same-items (replaced_class flats-here) P.classes (λ number run is.
       let from = mapped-at (run_class_of links (headers_of classes)) classes.folder number run is in
-      subst (λ (run : RunClass). replaced_class flats-here number run ≡ run) (sym from.1.1) (same-class number from.0 from.1.0)))
+      subst (λ (run : RunClass). replaced_class flats-here number run ≡ run) (sym from.2) (same-class number from.0 from.1)))

@@ -62,17 +62,17 @@ has-local pool major max_locals (Store kind local) fits = fits
 has-local pool major max_locals (Iinc local by) fits = fits
 has-local pool major max_locals instr fits = tt
 
+abbrev HaveUnits : ℕ → List Placed → Type 0
+HaveUnits max_locals instrs = AllByRecursion (λ (placed : Placed). HasLocal max_locals placed.instr) instrs
+
 pub has-units : (s : Scope) → HaveOperands s.class.pool s.class.major s.part.max_locals (decoded s.part.code) → HasUnits s
 has-units s have = of-result (decoded s.part.code) refl have where
-  abbrev Each : List Placed → Type 0
-  Each instrs = AllByRecursion (λ (placed : Placed). HasLocal s.part.max_locals placed.instr) instrs
-
   of-result : (result : Result (List Placed) Fault) → decoded s.part.code ≡ result → HaveOperands s.class.pool s.class.major s.part.max_locals result → HasUnits s
   of-result (Ok instrs) is have =
-      let each : Each instrs = AllByRecursion-weaker (λ (placed : Placed). OperandFits s.class.pool s.class.major s.part.max_locals placed.instr) (λ (placed : Placed). HasLocal s.part.max_locals placed.instr)
+      let each : HaveUnits s.part.max_locals instrs = AllByRecursion-weaker (λ (placed : Placed). OperandFits s.class.pool s.class.major s.part.max_locals placed.instr) (λ (placed : Placed). HasLocal s.part.max_locals placed.instr)
       (λ placed fits. has-local s.class.pool s.class.major s.part.max_locals placed.instr fits) instrs have in
-      subst Each (sym (decoded-are s instrs is)) each
-  of-result (Err fault) is have = subst Each (sym (none-decoded s fault is)) tt
+      subst (HaveUnits s.part.max_locals) (sym (decoded-are s instrs is)) each
+  of-result (Err fault) is have = subst (HaveUnits s.part.max_locals) (sym (none-decoded s fault is)) tt
 
 -- of a method of a class file that was read
 pub read-instrs : (pool : Constants) (method : Method) (part : CodePart) → IsReadMethod pool method → code_of method.attrs ≡ Some part → AllHold (decoding_checks part.code)

@@ -44,12 +44,12 @@ impl Around {
         if self.from <= at && at < self.until {
             return Ok(self);
         }
-        around(alloc, host, at)
+        handlers_from(alloc, host, at)
     }
 }
 
 // The handlers around an offset, and around all behind it up to where a range starts or ends.
-fn around(alloc: Global, host: &Host<'_>, at: u32) -> Result<Around, NoMemory>
+fn handlers_from(alloc: Global, host: &Host<'_>, at: u32) -> Result<Around, NoMemory>
     ensures around { IfOk result (AreAround host.now) }
     ensures at { IfOk result (λ around. around.handlers ≡ handlers_at host.now at) }
 {
