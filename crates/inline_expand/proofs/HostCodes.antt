@@ -102,10 +102,10 @@ first-same at (placed ∷ instrs) = rw (first-same at instrs) refl
 
 module _ (s : Scope) (instrs : List Placed) (index : List ℕ) (is : IsHost s instrs index) (at : ℕ) where
   found-same : number_for index at ≡ number_of_first (λ (placed : Placed). placed.at == at) instrs
-  found-same = is.index at ∙ first-same at instrs
+  found-same = is.finds at ∙ first-same at instrs
 
   at-found : (found : Option ℕ) → number_for index at ≡ found → number_at s at ≡ or_behind (length instrs) found
-  at-found found e = ap (λ (all : List Placed). number_in all at) is.instrs ∙ found-instr instrs at found (sym found-same ∙ e)
+  at-found found e = ap (λ (all : List Placed). number_in all at) is.are ∙ found-instr instrs at found (sym found-same ∙ e)
 
   pub number-there : (number : ℕ) → Some number ≡ number_for index at → number ≡ number_at s at
   number-there number e = sym (at-found (Some number) (sym e))
@@ -115,5 +115,5 @@ module _ (s : Scope) (instrs : List Placed) (index : List ℕ) (is : IsHost s in
 
   pub number-few : (number : ℕ) → Some number ≡ number_for index at → number < 65536
   number-few number e =
-      let below = first-inside (map (λ (placed : Placed). placed.at) instrs) at number (sym (is.index at) ∙ sym e) in
+      let below = first-inside (map (λ (placed : Placed). placed.at) instrs) at number (sym (is.finds at) ∙ sym e) in
       omega (arith, below, length-map instrs (λ (placed : Placed). placed.at), is.few)

@@ -12,8 +12,8 @@ use Rattle.member_link.specs.Scope.{Scope, instructions}
 
 -- its instructions, fewer than a code has bytes, and their numbers by their offsets
 pub record IsHost (s : Scope) (instrs : List Placed) (index : List ℕ) : Type 0 where
-  pub instrs : instructions s ≡ instrs
-  pub index : IsIndexOf (map (λ (placed : Placed). placed.at) instrs) index
+  pub are : instructions s ≡ instrs
+  pub finds : IsIndexOf (map (λ (placed : Placed). placed.at) instrs) index
   pub few : length instrs < 65536
 
 -- each of its instructions names local units that the method has
