@@ -2,6 +2,7 @@
 ghost use Rattle.std.specs.Prelude.{◌≡◌, ◌<◌, length, map, slice_get, slice_set, Some, IfOk, OnOk};
 ghost use Rattle.std.specs.Option.{option_copied};
 ghost use Rattle.inline_expand.specs.Alone.{number_at, numbered_frame, numbered_type};
+ghost use Rattle.inline_expand.specs.Inner.Hosts.{uninit_of};
 
 use crate::host::Host;
 use class_model::{Frame, LocalTypeList, NoMemory, VType, VTypeList};
@@ -47,11 +48,20 @@ fn number_unit(host: &Host<'_>, list: &mut LocalTypeList, unit: usize) -> Result
         → slice_get list.old unit ≡ Some type
         → list.new ≡ slice_set list.old unit (numbered_type (number_at host.now) type)) }
 {
-    if let Some(VType::Uninit(at)) = list.get(unit) {
-        let number = host.number(*at);
-        list.set(unit, VType::Uninit(number))?;
+    match uninit_of(list.get(unit)) {
+        Some(at) => list.set(unit, VType::Uninit(host.number(at))),
+        None => Ok(()),
     }
-    Ok(())
+}
+
+// The offset of the `new` of an uninitialised object.
+fn uninit_of(type_: Option<&VType>) -> Option<u32>
+    ensures { result ≡ uninit_of (option_copied type_.entry) }
+{
+    match type_ {
+        Some(VType::Uninit(at)) => Some(*at),
+        _ => None,
+    }
 }
 
 // Entries of the stack whose uninitialised objects are named by numbers.

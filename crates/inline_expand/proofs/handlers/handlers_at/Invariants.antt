@@ -7,4 +7,4 @@ use Rattle.member_link.specs.Machine.Codes.{covers}
 
 abbrev pub invariant-loop-handler : goal.invariant-loop-handler
 invariant-loop-handler l =
-    l.list ≡ flat_map (λ (handler : Handler). if covers handler l.at then handler_of l.host handler else []) (take l.handler-index l.handlers)
+    l.list ≡ flat_map (λ (handler : Handler). if covers handler l.at then handler_of l.host handler else []) (take l.handler-index l.handler-items)
