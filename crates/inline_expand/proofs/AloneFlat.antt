@@ -105,12 +105,13 @@ module _ (s : Scope) (n : ℕ) (within : (place : ℕ) → IsPlaceOf (body_of s)
   around-within : (at : ℕ) (handlers : List Handler) → AllByRecursion (λ (catch : BodyCatch). number_at s catch.to < n) (catches_at s at handlers)
       → AllByRecursion BeginsWithin (handlers-in s at handlers)
   around-within at [] all = tt
-  around-within at (handler ∷ handlers) all = of-range (covers handler at) all where
+  around-within at (handler ∷ handlers) all = of-range (covers handler at) all (around-within at handlers) where
     of-range : (around : Bool)
         → AllByRecursion (λ (catch : BodyCatch). number_at s catch.to < n) (if around then catch_of s handler ∷ catches_at s at handlers else catches_at s at handlers)
-        → AllByRecursion BeginsWithin ((if around then handler_of s handler else []) ++ handlers-in s at handlers)
-    of-range true all = all-append BeginsWithin (handler_of s handler) (handlers-in s at handlers) (begins-within handler all.0) (around-within at handlers all.1)
-    of-range false all = around-within at handlers all
+        → (AllByRecursion (λ (catch : BodyCatch). number_at s catch.to < n) (catches_at s at handlers) → AllByRecursion BeginsWithin (handlers-in s at handlers))
+      → AllByRecursion BeginsWithin ((if around then handler_of s handler else []) ++ handlers-in s at handlers)
+    of-range true all others = all-append BeginsWithin (handler_of s handler) (handlers-in s at handlers) (begins-within handler all.0) (others all.1)
+    of-range false all others = others all
 
   point-fits : (class : ℕ) (placed : Placed) (frame : Frame) → GoesToStated (body_of s) frames (point_of s placed) → HasLocal s.part.max_locals placed.instr → IsPoint n s.part.max_locals (alone_point s class placed frame)
   point-fits class placed frame goes local =
