@@ -1,22 +1,20 @@
 -- The flat code of a method by itself is the method's own code.
-use Rattle.std.proofs.Common.{◌≡◌, ◌==◌, ◌&&◌, ℕ, zero, suc, leb, ltb, ◌+◌, ◌≤◌, ◌<◌, Bool, true, false, List, [], ◌∷◌, ◌++◌, length, map, Option, Some, None, option_map, refl, sym, ap, subst, ◌∙◌, arith, if◌then◌else◌}
+use Rattle.std.proofs.Common.{◌≡◌, ◌==◌, ℕ, zero, suc, ◌+◌, ◌≤◌, ◌<◌, Bool, true, false, List, [], ◌∷◌, ◌++◌, length, map, Option, Some, None, option_map, refl, sym, ap, subst, ◌∙◌, arith, if◌then◌else◌}
 use Rattle.std.specs.List.{AllByRecursion, flat_map}
 use Rattle.std.proofs.lemmas.Bool.{eq-eqb}
 use Rattle.std.proofs.lemmas.List.{length-map, map-append}
 use Rattle.class_model.specs.Instructions.{targets}
 use Rattle.class_model.specs.Pool.{Constants}
-use Rattle.class_model.specs.PoolChecks.{class_at}
 use Rattle.class_model.specs.declared.class_file.Handler.{Handler}
 use Rattle.class_model.specs.declared.class_file.MethodAt.{MethodAt}
 use Rattle.class_model.specs.declared.frame.Frame.{Frame}
 use Rattle.class_model.specs.declared.instr.Instr.{Instr}
 use Rattle.class_model.specs.declared.instr.Instr.TheVariants.{Nop}
 use Rattle.class_model.specs.declared.instr.Placed.{Placed}
-use Rattle.class_tree.specs.Headers.{Name, Classes}
+use Rattle.class_tree.specs.Headers.{Classes}
 use Rattle.flow_code.specs.FlatCode.{FlatCode}
 use Rattle.flow_code.specs.FlatRoom.{stack_room}
 use Rattle.flow_code.specs.declared.handlers.FlatHandler.{FlatHandler}
-use Rattle.flow_code.specs.declared.point.FlatInstr.TheVariants.{Of}
 use Rattle.flow_code.specs.declared.point.Point.{Point as FlatPoint}
 use Rattle.inline_expand.specs.Alone.{alone_points, flat_alone, handler_of, handlers_at, number_in}
 use Rattle.inline_expand.specs.Alone as alone
@@ -28,7 +26,7 @@ use Rattle.member_link.specs.Machine.Replaced.{map_numbered}
 use Rattle.member_link.specs.RowScope.{RowScope}
 use Rattle.member_link.specs.Scope.{Scope, class_of_new, instructions, row_scope}
 use Rattle.member_link.specs.Targets.{with_targets}
-use Rattle.same_runs.specs.Flats.{class_of_flat_new, flat_catch, flat_code, flat_point, flat_points, instr_scope, pool_of}
+use Rattle.same_runs.specs.Flats.{class_of_flat_new, flat_catch, flat_code, flat_point, flat_points, pool_of}
 
 -- ---- numbers
 
@@ -65,9 +63,9 @@ first-numbered f stands first (point ∷ points) (suc to) within =
     let moved : suc first + to ≡ first + suc to = omega arith in
     let rest = subst (λ (n : ℕ). or_behind (length points) (number_of_first (λ (point : CodePoint). point.place == n) (map_numbered f (suc first) points)) ≡ to) moved (first-numbered f stands (suc first) points to (omega arith)) in
     rw (stands first point, differ first (first + suc to) (omega arith)) (one-more (number_of_first (λ (point : CodePoint). point.place == first + suc to) (map_numbered f (suc first) points)) rest) where
-  one-more : (found : Option ℕ) → or_behind (length points) found ≡ to → or_behind (suc (length points)) (option_map suc found) ≡ suc to
-  one-more None is = ap suc is
-  one-more (Some number) is = ap suc is
+      one-more : (found : Option ℕ) → or_behind (length points) found ≡ to → or_behind (suc (length points)) (option_map suc found) ≡ suc to
+      one-more None is = ap suc is
+      one-more (Some number) is = ap suc is
 
 length-numbered : (f : ℕ → FlatPoint → CodePoint) (first : ℕ) (points : List FlatPoint) → length (map_numbered f first points) ≡ length points
 length-numbered f first [] = refl

@@ -1,5 +1,5 @@
 -- The flat code of a typed method by itself is well formed.
-use Rattle.std.proofs.Common.{◌≡◌, ◌==◌, ◌<◌, ◌⊎◌, inl, inr, ℕ, zero, suc, Bool, true, false, List, [], ◌∷◌, ◌++◌, length, map, Option, Some, None, option_map, refl, sym, ap, subst, ◌∙◌, arith, if◌then◌else◌}
+use Rattle.std.proofs.Common.{◌≡◌, ◌==◌, ◌<◌, inl, inr, ℕ, zero, suc, Bool, true, false, List, [], ◌∷◌, ◌++◌, length, map, Option, Some, None, option_map, refl, sym, ap, subst, arith, if◌then◌else◌}
 use Rattle.std.proofs.lemmas.Bool.{eq-eqb}
 use Rattle.std.specs.List.{AllByRecursion, flat_map}
 use Rattle.class_model.specs.Instructions.{targets}
@@ -13,13 +13,12 @@ use Rattle.class_model.specs.declared.instr.Instr.TheVariants.{If, If2, IfSame, 
 use Rattle.class_model.specs.declared.instr.Pair.{Pair}
 use Rattle.class_model.specs.declared.instr.Placed.{Placed}
 use Rattle.class_tree.specs.Headers.{Name}
-use Rattle.flow_code.specs.FlatCode.{FlatCode, HasLocal, IsFlat, IsPoint, NamesPoint}
+use Rattle.flow_code.specs.FlatCode.{HasLocal, IsFlat, IsPoint, NamesPoint}
 use Rattle.flow_code.specs.declared.handlers.FlatHandler.{FlatHandler}
-use Rattle.flow_code.specs.declared.point.Point.{Point}
 use Rattle.inline_expand.proofs.AloneCode.{found-instr, length-alone, or_behind}
 use Rattle.inline_expand.specs.Alone.{alone_point, alone_points, flat_alone, handler_of, number_at}
 use Rattle.inline_expand.specs.Inner.Hosts.{HasUnits}
-use Rattle.member_link.specs.Bodies.{BodyCatch, BodyPoint, catch_frame, frame_behind}
+use Rattle.member_link.specs.Bodies.{BodyCatch, catch_frame, frame_behind}
 use Rattle.member_link.specs.BodyTyping.{GoesInto, GoesToStated, IsPlaceOf, StatesAtPoints}
 use Rattle.member_link.specs.Machine.Codes.{covers}
 use Rattle.member_link.specs.Machine.Programs.{number_of_first}
@@ -109,7 +108,7 @@ module _ (s : Scope) (n : ℕ) (within : (place : ℕ) → IsPlaceOf (body_of s)
     of-range : (around : Bool)
         → AllByRecursion (λ (catch : BodyCatch). number_at s catch.to < n) (if around then catch_of s handler ∷ catches_at s at handlers else catches_at s at handlers)
         → (AllByRecursion (λ (catch : BodyCatch). number_at s catch.to < n) (catches_at s at handlers) → AllByRecursion BeginsWithin (handlers-in s at handlers))
-      → AllByRecursion BeginsWithin ((if around then handler_of s handler else []) ++ handlers-in s at handlers)
+        → AllByRecursion BeginsWithin ((if around then handler_of s handler else []) ++ handlers-in s at handlers)
     of-range true all others = all-append BeginsWithin (handler_of s handler) (handlers-in s at handlers) (begins-within handler all.0) (others all.1)
     of-range false all others = others all
 

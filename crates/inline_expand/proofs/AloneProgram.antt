@@ -1,5 +1,5 @@
 -- A program whose methods run such flat codes is the program of the folder.
-use Rattle.std.proofs.Common.{◌≡◌, ◌++◌, ◌+◌, ◌-◌, ℕ, zero, suc, List, [], ◌∷◌, length, map, Option, Some, None, option_map, refl, sym, ap, subst, ◌∙◌, arith, slice_get}
+use Rattle.std.proofs.Common.{◌≡◌, ◌+◌, ℕ, zero, suc, List, [], ◌∷◌, length, map, Option, Some, None, option_map, refl, sym, ap, subst, ◌∙◌, arith, slice_get}
 use Rattle.std.specs.Prelude.{bit_and, option_and_then}
 use Rattle.std.proofs.lemmas.List.{append-nil, length-map}
 use Rattle.std.proofs.lemmas.Option.{same_Some}
@@ -11,7 +11,6 @@ use Rattle.class_model.specs.declared.class_file.CodePart.{CodePart}
 use Rattle.class_model.specs.declared.class_file.Method.{Method}
 use Rattle.class_model.specs.declared.class_file.MethodAt.{MethodAt}
 use Rattle.class_model.specs.declared.frame.Frame.{Frame}
-use Rattle.class_model.specs.declared.header.Member.{Member}
 use Rattle.class_tree.specs.Headers.{Classes, Headers, headers_of}
 use Rattle.flow_code.specs.FlatCode.{FlatCode}
 use Rattle.inline_expand.proofs.AloneCode.{alone-code}
@@ -20,7 +19,7 @@ use Rattle.inline_expand.specs.AloneAnswers.{AreAlone, IsFlatAlone}
 use Rattle.member_link.specs.Bodies.{Body}
 use Rattle.member_link.specs.Machine.Classes.{program_of, run_class_of, run_method_of}
 use Rattle.member_link.specs.Machine.Codes.{method_code}
-use Rattle.member_link.specs.Machine.Programs.{Code, Links, Program, RunClass, RunMethod}
+use Rattle.member_link.specs.Machine.Programs.{Links, RunClass, RunMethod}
 use Rattle.member_link.specs.Machine.Replaced.{Replacement, field_cleared, map_numbered, method_replaced, replaced_class, with_body, without_flags}
 use Rattle.member_link.specs.Scope.{Scope, instructions, scope_at, scope_of}
 use Rattle.same_runs.specs.Flats.{Flats, flat_body, flat_code, flat_program, flats_for_codes, pool_of}

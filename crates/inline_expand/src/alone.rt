@@ -46,12 +46,7 @@ pub fn flat_alone(
 }
 
 // The flat code of a method by itself, by the frames that type it.
-fn flat_of(
-    alloc: Global,
-    host: &Host<'_>,
-    at: MethodAt,
-    frames: &[Frame],
-) -> Result<Flat, NoMemory>
+fn flat_of(alloc: Global, host: &Host<'_>, at: MethodAt, frames: &[Frame]) -> Result<Flat, NoMemory>
     requires typed { Typed host.now frames.now }
     requires units { HasUnits host.now }
     ensures { IfOk result (λ flat. flat ≡ flat_alone host.now at frames.now) }
@@ -80,7 +75,14 @@ fn points_of(
     for number in 0..instrs.len() {
         let placed = &instrs[number];
         around = around.moved(alloc, host, placed.at)?;
-        points.push(point(alloc, host, class, placed, &frames[number], &around.handlers)?)?;
+        points.push(point(
+            alloc,
+            host,
+            class,
+            placed,
+            &frames[number],
+            &around.handlers,
+        )?)?;
     }
     Ok(PointList::from_vec(points))
 }
@@ -95,8 +97,8 @@ fn point(
     handlers: &FlatHandlerList,
 ) -> Result<Point, NoMemory>
     ensures { IfOk result (λ point. point ≡ record (alone_point host.now class placed.now frame.now) {
-        handlers = handlers.now;
-      }) }
+      handlers = handlers.now;
+    }) }
 {
     Ok(Point {
         instr: FlatInstr::Of {

@@ -65,11 +65,7 @@ fn uninit_of(type_: Option<&VType>) -> Option<u32>
 }
 
 // Entries of the stack whose uninitialised objects are named by numbers.
-fn numbered_stack(
-    alloc: Global,
-    host: &Host<'_>,
-    stack: &VTypeList,
-) -> Result<VTypeList, NoMemory>
+fn numbered_stack(alloc: Global, host: &Host<'_>, stack: &VTypeList) -> Result<VTypeList, NoMemory>
     ensures { IfOk result (λ list. list ≡ map (numbered_type (number_at host.now)) stack.now) }
 {
     let mut list = Vec::with_capacity(alloc, stack.len())?;

@@ -11,11 +11,7 @@ use std::alloc::Global;
 ///
 /// # Errors
 /// `NoMemory`, where memory runs out.
-pub(crate) fn renumbered(
-    alloc: Global,
-    host: &Host<'_>,
-    instr: &Instr,
-) -> Result<Instr, NoMemory>
+pub(crate) fn renumbered(alloc: Global, host: &Host<'_>, instr: &Instr) -> Result<Instr, NoMemory>
     ensures { IfOk result (λ copy. copy ≡ with_targets (number_at host.now) instr.now) }
 {
     Ok(match instr {
@@ -53,11 +49,7 @@ fn numbers_of(alloc: Global, host: &Host<'_>, targets: &[u32]) -> Result<Vec<u32
 }
 
 // Keys with the numbers of the instructions at their targets.
-fn numbered_pairs(
-    alloc: Global,
-    host: &Host<'_>,
-    pairs: &[Pair],
-) -> Result<Vec<Pair>, NoMemory>
+fn numbered_pairs(alloc: Global, host: &Host<'_>, pairs: &[Pair]) -> Result<Vec<Pair>, NoMemory>
     ensures { IfOk result (λ list. list.items ≡ map (pair_to (number_at host.now)) pairs.now) }
 {
     let mut list = Vec::with_capacity(alloc, pairs.len())?;

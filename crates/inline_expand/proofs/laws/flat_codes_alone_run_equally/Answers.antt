@@ -1,13 +1,8 @@
-use Rattle.std.proofs.Common.{◌≡◌, sym}
-use Rattle.class_tree.specs.Headers.{Classes}
+use Rattle.std.proofs.Common.{sym}
 use Rattle.inline_expand.proofs.AloneProgram.{program-same}
 use Rattle.inline_expand.proofs.laws.flat_codes_alone_run_equally.Goals as goal
-use Rattle.inline_expand.specs.AloneAnswers.{AreAlone}
 use Rattle.member_link.specs.Machine.Classes.{program_of}
-use Rattle.member_link.specs.Machine.Programs.{Links}
-use Rattle.same_runs.specs.Flats.{Flats, flat_program}
-use Rattle.type_rules.specs.TypedFrames.{FolderFrames}
-use Rattle.type_rules.specs.Verified.{TypesFolder}
+use Rattle.same_runs.specs.Flats.{flat_program}
 
 pub returns-clause-program : goal.returns-clause-program
 returns-clause-program c = λ classes typed links flats types are.

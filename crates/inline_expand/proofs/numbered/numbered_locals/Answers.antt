@@ -1,4 +1,4 @@
-use Rattle.std.proofs.Common.{◌≡◌, ℕ, sym, subst, ◌∙◌, arith}
+use Rattle.std.proofs.Common.{◌≡◌, ℕ, subst, ◌∙◌, arith}
 use Rattle.inline_expand.proofs.NumberedLocals.{all-numbered, one-changed, some-changed}
 use Rattle.inline_expand.proofs.numbered.numbered_locals.Goals as goal
 use Rattle.inline_expand.specs.Alone.{number_at, numbered_type}

@@ -1,4 +1,4 @@
-use Rattle.std.proofs.Common.{ap, sym, ◌∙◌, arith}
+use Rattle.std.proofs.Common.{ap, ◌∙◌, arith}
 use Rattle.class_model.specs.OffsetIndexes.{number_in}
 use Rattle.inline_expand.proofs.HostCodes.{number-few, number-none, number-there}
 use Rattle.inline_expand.proofs.host.Host.number.Goals as goal
