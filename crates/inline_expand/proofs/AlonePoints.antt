@@ -34,11 +34,6 @@ module _ (s : Scope) (class : ℕ) where
       subst (λ (n : ℕ). alone_points s class (take n instrs) (take n frames) ≡ alone_points s class (take at instrs) (take at frames) ++ alone_point s class placed frame ∷ []) next
       (more-points instrs frames at placed frame is frame_is)
 
-  -- a point with the handlers around its instruction
-  pub point-is : (placed : Placed) (frame : Frame) (handlers : List FlatHandler) (point : Point) → point ≡ record (alone_point s class placed frame) { handlers = handlers } → handlers ≡ handlers_at s placed.at
-      → point ≡ alone_point s class placed frame
-  point-is placed frame handlers point is around = is ∙ ap (λ (all : List FlatHandler). record (alone_point s class placed frame) { handlers = all }) around
-
 -- ---- handlers
 
 -- up to the next bound the handlers are the same

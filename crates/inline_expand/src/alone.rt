@@ -1,7 +1,6 @@
 //! The flat code of a method by itself.
 ghost use Rattle.std.specs.Prelude.{◌≡◌, IfOk, length};
-ghost use Rattle.class_tree.specs.Trees.{IsTree};
-ghost use Rattle.inline_expand.specs.Alone.{alone_point, alone_points, flat_alone};
+ghost use Rattle.inline_expand.specs.Alone.{alone_point, alone_points, flat_alone, handlers_at};
 ghost use Rattle.inline_expand.specs.AloneAnswers.{AnswersAlone};
 ghost use Rattle.inline_expand.specs.Inner.Hosts.{HasUnits};
 ghost use Rattle.member_link.specs.Scope.{instructions};
@@ -21,8 +20,9 @@ use type_rules::{
     a_typed_folder_types_each_method, a_typed_method_types_each_instruction,
 };
 
-/// The flat code of a method by itself: its instructions in order, with points for targets, each with its frame and the handlers
-/// around it; no callee stands in place of a call, and no `new` is a site. The frames type the folder.
+/// The flat code of a method by itself: its instructions in order, with points for targets, each
+/// with its frame and the handlers around it; no callee stands in place of a call, and no `new` is a
+/// site. The frames type the folder.
 ///
 /// # Errors
 /// `Kept(Host)` exactly where the method has no code; `NoMemory`, where memory runs out.
@@ -87,7 +87,7 @@ fn points_of(
     Ok(PointList::from_vec(points))
 }
 
-// An instruction as a point, with its frame and the handlers around it.
+// An instruction as a point, with its frame and these handlers, which are those around it.
 fn point(
     alloc: Global,
     host: &Host<'_>,
@@ -96,9 +96,8 @@ fn point(
     frame: &Frame,
     handlers: &FlatHandlerList,
 ) -> Result<Point, NoMemory>
-    ensures { IfOk result (λ point. point ≡ record (alone_point host.now class placed.now frame.now) {
-      handlers = handlers.now;
-    }) }
+    requires { handlers.now ≡ handlers_at host.now placed.now.at }
+    ensures { IfOk result (λ point. point ≡ alone_point host.now class placed.now frame.now) }
 {
     Ok(Point {
         instr: FlatInstr::Of {

@@ -31,8 +31,8 @@ impl Around {
         }
     }
 
-    /// Those around the instruction at an offset, and around all behind it up to where a range starts or ends: these, where the
-    /// instruction is among theirs.
+    /// Those around the instruction at an offset, and around all behind it up to where a range starts
+    /// or ends: these, where the instruction is among theirs.
     ///
     /// # Errors
     /// `NoMemory`, where memory runs out.

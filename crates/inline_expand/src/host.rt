@@ -110,7 +110,8 @@ impl<'a> Host<'a> {
         self.instrs.as_slice()
     }
 
-    /// The number of the instruction at an offset, in bytes; where none starts there, how many there are.
+    /// The number of the instruction at an offset, in bytes; where none starts there, how many there
+    /// are.
     pub(crate) fn number(&self, at: u32) -> u32
         ensures { result ≡ number_at self.now at }
     {

@@ -8,8 +8,8 @@ use crate::host::Host;
 use class_model::{Frame, LocalTypeList, NoMemory, VType, VTypeList};
 use std::alloc::Global;
 
-/// A frame of a method, in which an uninitialised object is named by the number of its `new`. It shares the types of the locals
-/// where there is none in them.
+/// A frame of a method, in which an uninitialised object is named by the number of its `new`. It shares
+/// the types of the locals where there is none in them.
 ///
 /// # Errors
 /// `NoMemory`, where memory runs out.

@@ -2,7 +2,7 @@ use Rattle.std.proofs.Common.{◌≡◌, ◌<◌, ◌++◌, ◌∷◌, [], List,
 use Rattle.std.proofs.lemmas.Option.{slice_get_read}
 use Rattle.class_model.specs.declared.instr.Placed.{Placed}
 use Rattle.flow_code.specs.declared.point.Point.{Point}
-use Rattle.inline_expand.proofs.AlonePoints.{point-is, points-more}
+use Rattle.inline_expand.proofs.AlonePoints.{points-more}
 use Rattle.inline_expand.proofs.alone.points_of.Goals as goal
 use Rattle.inline_expand.specs.Alone.{alone_points}
 
@@ -19,8 +19,7 @@ loop-number-preserved c =
     let as-many : length frames ≡ length instrs = c.requires ∙ ap (λ (all : List Placed). length all) (sym c.instrs-instrs.ensures) in
     let placed_is = slice_get_read instrs (length instrs) number placed refl within c.index-instrs-number.is in
     let frame_is = slice_get_read frames (length instrs) number frame (sym as-many) within c.index-frames-number.is in
-    let point = point-is s class placed frame c.in_ok-around.around.handlers c.in_ok-point.field-0 c.in_ok-point.ensures c.in_ok-around.ensures.at in
     let made = alone_points s class (take number instrs) (take number frames) in
     let before = ap (λ (all : List Point). all ++ c.in_ok-point.field-0 ∷ []) c.loop-number.invariant.0 in
-    let last = ap (λ (one : Point). made ++ one ∷ []) point in
+    let last = ap (λ (one : Point). made ++ one ∷ []) c.in_ok-point.ensures in
     (c.in_ok-push.ensures.items ∙ (before ∙ (last ∙ sym (points-more s class instrs frames number placed frame placed_is frame_is))), c.in_ok-around.ensures.around)
