@@ -34,7 +34,12 @@ const POINTS: [&str; 12] = [
 ];
 
 // What is answered for a method. None where the folder does not verify.
-fn answer(alloc: Global, tree: &Tree, class: usize, method: usize) -> Option<Result<Flat, KeptFault>> {
+fn answer(
+    alloc: Global,
+    tree: &Tree,
+    class: usize,
+    method: usize,
+) -> Option<Result<Flat, KeptFault>> {
     let Ok(()) = check_links(alloc, tree) else {
         return None;
     };
@@ -47,7 +52,10 @@ fn answer(alloc: Global, tree: &Tree, class: usize, method: usize) -> Option<Res
 // Appends the class and the instruction of a point.
 fn push_instr(text: &mut String, instr: &FlatInstr) -> Option<()> {
     match instr {
-        FlatInstr::Of { class, instr: Instr::New(_) } => write!(text, "{class} new").ok(),
+        FlatInstr::Of {
+            class,
+            instr: Instr::New(_),
+        } => write!(text, "{class} new").ok(),
         FlatInstr::Of { class, instr } => write!(text, "{class} {instr:?}").ok(),
         FlatInstr::NullTest(_) => None,
     }
@@ -72,15 +80,15 @@ fn text_of(alloc: Global, flat: &Flat, at: usize) -> Option<String> {
     Some(text)
 }
 
-// The number of the first point that is another one than wanted.
-fn first_other(alloc: Global, flat: &Flat, wanted: &[&str]) -> Option<usize> {
+// Whether the points of flat code have these texts.
+fn has_points(alloc: Global, flat: &Flat, wanted: &[&str]) -> bool {
     for (at, want) in wanted.iter().enumerate() {
-        let text = text_of(alloc, flat, at)?;
-        if text.as_str() != *want {
-            return Some(at);
+        match text_of(alloc, flat, at) {
+            Some(text) if text.as_str() == *want => {}
+            _ => return false,
         }
     }
-    None
+    flat.len() == wanted.len()
 }
 
 #[test]
@@ -92,17 +100,25 @@ fn a_method_is_flat_by_itself(rt: HostRuntime) -> Result<(), Fail> {
     let Some(Ok(flat)) = answer(alloc, &tree, 1, 0) else {
         return Err(Fail::from(NoMemory));
     };
-    assert!(rt; flat.host() == MethodAt { class: 1, method: 0 });
+    assert!(rt;
+        flat.host()
+            == MethodAt {
+                class: 1,
+                method: 0
+            }
+    );
     assert!(rt; flat.locals() == 9);
     assert!(rt; flat.sites().is_empty());
-    assert!(rt; flat.len() == POINTS.len());
-    assert!(rt; first_other(alloc, &flat, &POINTS) == None);
+    assert!(rt; has_points(alloc, &flat, &POINTS));
     Ok(())
 }
 
 // Whether a method is kept as one without code.
 fn is_kept(alloc: Global, tree: &Tree, class: usize, method: usize) -> bool {
-    matches!(answer(alloc, tree, class, method), Some(Err(KeptFault::Kept(Reason::Host))))
+    matches!(
+        answer(alloc, tree, class, method),
+        Some(Err(KeptFault::Kept(Reason::Host)))
+    )
 }
 
 #[test]
