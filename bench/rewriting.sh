@@ -2,6 +2,7 @@
 # What rewriting does beside reading and verifying, each at a size and at twice that size, so many times over, beyond what the same words
 # take with no times; the sizes take turns, and the least time of each counts. Constants are added to a pool and looked up, and to a
 # pool of 65,000 entries: in constant time each. A code of 8,000 items is laid out, in at most 3 times the time of decoding its bytes.
+# The flat code of a method of 8,003 instructions by itself is made, in proportion to these and with some hundreds of bytes a point.
 # States of 256 virtual objects with 4,096 field units are joined and compared, in proportion to their places and fields; joins of
 # equal states are kept, and share what they have: memory does not grow with the fields. Prints what is wanted and what came, and
 # fails where a want is not met.
@@ -18,6 +19,7 @@ grow 65000 20
 edits 65000 1000000
 layouts 8000 500
 decodes 8000 500
+flats 8000 20
 joins 256 5000
 below 256 20000
 WORDS
@@ -46,7 +48,7 @@ doubles() {
     wanted "$(ratio "$whole" "$half") times the first (at most $4 is wanted)" "$half > 0 && $whole <= $4 * $half"
 }
 
-for word in 'edits 65000 1000000' 'layouts 8000 500' 'joins 256 5000' 'below 256 20000'; do
+for word in 'edits 65000 1000000' 'layouts 8000 500' 'flats 8000 20' 'joins 256 5000' 'below 256 20000'; do
     read -r what count times <<<"$word"
     doubles "$what" "$count" "$times" 2.6
 done
@@ -65,6 +67,10 @@ wanted "8,000 items laid out in $(ratio "$laid" "$decoded") times the time of de
 
 # peak WORDS..: the most memory of a run of $bench, in kB
 peak() { /usr/bin/time -f %M "$bench" "$@" 2>&1 >/dev/null; }
+
+flat=$(($(peak flats 8000 40) - $(peak flats 8000 0)))
+echo "40 flat codes of a method of 8,003 instructions that are kept: $flat kB"
+wanted "at most 400 bytes a point" "$flat * 1024 <= 400 * 40 * 8003"
 
 few=$(($(peak kept 64 200000) - $(peak kept 64 0)))
 many=$(($(peak kept 256 200000) - $(peak kept 256 0)))

@@ -1,4 +1,10 @@
+mod AloneCode
+mod AloneFlat
+mod AlonePoints
+mod AloneProgram
 mod FlatPlaces
+mod HostCodes
+mod NumberedLocals
 mod RenumberedArithmetic
 mod RenumberedArrays
 mod RenumberedEntry

@@ -1,5 +1,5 @@
 -- The flat code of a method by itself: its own instructions, with no callee in place of a call and no site.
-use Rattle.std.specs.Prelude.{◌==◌, ℕ, zero, suc, List, [], ◌∷◌, ◌≡◌, map, length, Option, Some, None, option_map, if◌then◌else◌}
+use Rattle.std.specs.Prelude.{◌==◌, ℕ, List, [], ◌∷◌, map, length, Option, Some, None, if◌then◌else◌}
 use Rattle.std.specs.List.{flat_map}
 use Rattle.class_model.specs.PoolChecks.{class_at}
 use Rattle.member_link.specs.Targets.{with_targets}

@@ -26,6 +26,8 @@ pub fn flat_codes_alone_run_equally()
         → AreAlone classes typed flats
         → EqualRuns (program_of classes links) (flat_program classes links flats) }
 {
+    type_rules::a_typed_folder_types_each_method();
+    type_rules::a_typed_method_types_each_instruction();
     same_runs::programs_that_are_equal_run_equally();
 }
 
