@@ -2,6 +2,7 @@
 # What rewriting does beside reading and verifying, each at a size and at twice that size, so many times over, beyond what the same words
 # take with no times; the sizes take turns, and the least time of each counts. Constants are added to a pool and looked up, and to a
 # pool of 65,000 entries: in constant time each. A code of 8,000 items is laid out, in at most 3 times the time of decoding its bytes.
+# The flat code of a method of 8,003 instructions by itself is made, in proportion to these and with some hundreds of bytes a point.
 # States of 256 virtual objects with 4,096 field units are joined and compared, in proportion to their places and fields; joins of
 # equal states are kept, and share what they have: memory does not grow with the fields. Plans are made of straight code of 2,000 to 8,000
 # points with 256 sites, and of six loops in one another of as many points, in proportion to the points. Prints what is wanted and what
@@ -19,6 +20,7 @@ grow 65000 20
 edits 65000 1000000
 layouts 8000 500
 decodes 8000 500
+flats 8000 20
 joins 256 5000
 below 256 20000
 straight 4000 10
@@ -51,7 +53,7 @@ doubles() {
     wanted "$(ratio "$whole" "$half") times the first (at most $4 is wanted)" "$half > 0 && $whole <= $4 * $half"
 }
 
-for word in 'edits 65000 1000000' 'layouts 8000 500' 'joins 256 5000' 'below 256 20000' \
+for word in 'edits 65000 1000000' 'layouts 8000 500' 'flats 8000 20' 'joins 256 5000' 'below 256 20000' \
     'straight 4000 10' 'straight 8000 10' 'nested 4000 10' 'nested 8000 10'; do
     read -r what count times <<<"$word"
     doubles "$what" "$count" "$times" 2.6
@@ -71,6 +73,10 @@ wanted "8,000 items laid out in $(ratio "$laid" "$decoded") times the time of de
 
 # peak WORDS..: the most memory of a run of $bench, in kB
 peak() { /usr/bin/time -f %M "$bench" "$@" 2>&1 >/dev/null; }
+
+flat=$(($(peak flats 8000 40) - $(peak flats 8000 0)))
+echo "40 flat codes of a method of 8,003 instructions that are kept: $flat kB"
+wanted "at most 400 bytes a point" "$flat * 1024 <= 400 * 40 * 8003"
 
 few=$(($(peak kept 64 200000) - $(peak kept 64 0)))
 many=$(($(peak kept 256 200000) - $(peak kept 256 0)))

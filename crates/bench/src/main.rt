@@ -10,6 +10,7 @@
 //! - `grow` or `edits`: so many constants are added to a pool and looked up, or a constant of a pool of so many is looked up and another one
 //!   appended and taken back (`bench/rewriting.sh`, as what follows); it counts the additions;
 //! - `layouts` or `decodes`: a code of so many items is laid out, or its bytes are decoded; it counts bytes, or instructions;
+//! - `flats`: the flat code of a method of so many instructions and three is made and kept (`bench/rewriting.sh`); it counts the points;
 //! - `joins`, `below` or `kept`: two states of so many virtual objects and sixteen times as many fields are joined, or compared, or equal
 //!   ones are joined and the joins kept; it counts joins that keep the last site, answers by yes, or joins;
 //! - `straight` or `nested`: plans are made of straight code of so many points and 256 sites, or of six loops in one another; it counts the
@@ -18,6 +19,7 @@
 
 mod codes;
 mod edits;
+mod flats;
 mod layouts;
 mod link_input;
 mod links;
@@ -29,6 +31,7 @@ mod trees;
 
 use codes::{read_jumps, read_tables};
 use edits::{edit_pool, grow_pools};
+use flats::make_flats;
 use layouts::{decode_laid, lay_out};
 use links::link;
 use plans::{plan_nested, plan_straight};
@@ -87,6 +90,7 @@ fn count_rewriting(alloc: Global, what: &str, count: u32, times: u32) -> Option<
         "edits" => edit_pool(alloc, count.try_into().ok()?, times),
         "layouts" => lay_out(alloc, count, times),
         "decodes" => decode_laid(alloc, count, times),
+        "flats" => make_flats(alloc, count, times),
         "joins" => join_states(alloc, count.try_into().ok()?, times),
         "below" => ask_below(alloc, count.try_into().ok()?, times),
         "straight" => plan_straight(alloc, count, times),

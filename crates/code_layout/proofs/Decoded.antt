@@ -9,7 +9,8 @@ use Rattle.class_model.specs.declared.instr.Instr.TheVariants.{Nop, If, If2, IfS
 use Rattle.class_model.specs.declared.instr.Pair.{Pair}
 use Rattle.class_model.specs.declared.instr.Placed.{Placed}
 use Rattle.code_bytes.specs.Forms.{instr_bytes}
-use Rattle.code_layout.specs.Emitting.{IsEmitted, NamesItem, pair_to, with_targets}
+use Rattle.member_link.specs.Targets.{pair_to, with_targets}
+use Rattle.code_layout.specs.Emitting.{IsEmitted, NamesItem}
 use Rattle.code_layout.specs.Inner.Writing.{AreSpelled}
 use Rattle.code_layout.specs.Layout.{end_from, placed_bytes, placed_from, placed_items, short_len, short_starts, start_in, starts_from}
 use Rattle.code_layout.specs.declared.emitted.EmitItem.{EmitItem}

@@ -5,20 +5,21 @@ use Rattle.std.proofs.lemmas.Bool.{eq-eqb}
 use Rattle.std.proofs.lemmas.List.{map-append}
 use Rattle.std.proofs.lemmas.Grind.{flat_map-append}
 use Rattle.class_model.specs.Instructions.{targets}
+use Rattle.class_model.specs.Laws.Lists.{AllByRecursion-weaker}
 use Rattle.class_model.specs.Pool.{Constants}
 use Rattle.class_model.specs.declared.class_file.Handler.{Handler}
 use Rattle.class_model.specs.declared.instr.Instr.{Instr}
-use Rattle.class_model.specs.declared.instr.Instr.TheVariants.{If, If2, IfSame, IfNull, Goto, Table, Lookup}
-use Rattle.class_model.specs.declared.instr.Pair.{Pair}
 use Rattle.class_model.specs.declared.instr.Placed.{Placed}
 use Rattle.class_tree.specs.Headers.{Name}
 use Rattle.member_link.specs.Bodies.{item_instr}
+use Rattle.member_link.specs.Laws.Renumbered.{IsSamePoint, op_renumbered}
 use Rattle.member_link.specs.Machine.Codes.{CodePoint, catch_in, catches_at, code_points, instr_op, item_op, method_code, number_at}
 use Rattle.member_link.specs.Machine.Programs.{Catch, Code, Links, Point, number_of_first}
 use Rattle.member_link.specs.Machine.Replaced.{map_numbered}
 use Rattle.member_link.specs.RowScope.{RowScope}
 use Rattle.member_link.specs.Scope.{Scope, instructions, row_scope}
-use Rattle.code_layout.specs.Emitting.{IsEmitted, NamesItem, pair_to, with_targets}
+use Rattle.member_link.specs.Targets.{with_targets}
+use Rattle.code_layout.specs.Emitting.{IsEmitted, NamesItem}
 use Rattle.code_layout.specs.EmittedCode.{HasCodeOf, catch_of, item_point, item_points, items_code, items_scope}
 use Rattle.code_layout.specs.Layout.{IsLaid, end_from, placed_from, placed_items, range_of, ranges_from, short_len, short_starts, start_in, starts_from}
 use Rattle.code_layout.specs.declared.emitted.Catch.{Catch as EmittedCatch}
@@ -68,32 +69,15 @@ number-item s first (item ∷ items) (suc to) within =
 
 -- ---- operations
 
-abbrev numbered : (ℕ → ℕ) → Pair → Pair
-numbered number pair = record { key = pair.key; to = number pair.to }
-
 abbrev renumbered : (ℕ → ℕ) → Catch → Catch
 renumbered number catch = record catch { to = number catch.to }
 
 module _ (links : Links) (from to : ℕ → ℕ) (place : ℕ → ℕ) (n : ℕ) (same : (t : ℕ) → t < n → from (place t) ≡ to t) where
-  targets-same : (numbers : List ℕ) → AllByRecursion (NamesItem n) numbers → map from (map place numbers) ≡ map to numbers
-  targets-same [] names = refl
-  targets-same (t ∷ numbers) names = rw (same t names.0, targets-same numbers names.1) refl
-
-  pairs-same : (pairs : List Pair) → AllByRecursion (NamesItem n) (map (λ (p : Pair). p.to) pairs) → map (numbered from) (map (pair_to place) pairs) ≡ map (numbered to) pairs
-  pairs-same [] names = refl
-  pairs-same (p ∷ pairs) names = rw (same p.to names.0, pairs-same pairs names.1) refl
-
   -- an operation does not read where a new stands
   op-same : (s : RowScope) (news : ℕ → Option Name) (instr : Instr) → AllByRecursion (NamesItem n) (targets instr)
       → instr_op links from s (with_targets place instr) ≡ instr_op links to (record s { new_class = news }) instr
-  op-same s news (If opcode t) names = rw (same t names.0) refl
-  op-same s news (If2 opcode t) names = rw (same t names.0) refl
-  op-same s news (IfSame opcode t) names = rw (same t names.0) refl
-  op-same s news (IfNull opcode t) names = rw (same t names.0) refl
-  op-same s news (Goto t) names = rw (same t names.0) refl
-  op-same s news (Table low other ts) names = rw (same other names.0, targets-same ts names.1) refl
-  op-same s news (Lookup other pairs) names = rw (same other names.0, pairs-same pairs names.1) refl
-  op-same s news instr names = refl
+  op-same s news instr names =
+      op_renumbered links from to place s news instr (AllByRecursion-weaker (NamesItem n) (IsSamePoint links from to place) same (targets instr) names)
 
   -- ---- handlers
 

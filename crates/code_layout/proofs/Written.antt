@@ -1,7 +1,7 @@
 -- What is written of items so far.
 use Rattle.std.proofs.Common.{◌≡◌, ℕ, zero, suc, ◌+◌, ◌≤◌, List, [], ◌∷◌, ◌++◌, length, refl, sym, ap, subst, ◌∙◌, append_assoc, arith, length-append}
 use Rattle.code_bytes.specs.Forms.{instr_bytes}
-use Rattle.code_layout.specs.Emitting.{with_targets}
+use Rattle.member_link.specs.Targets.{with_targets}
 use Rattle.code_layout.specs.Inner.Writing.{AreSpelled, IsAppended}
 use Rattle.code_layout.specs.Layout.{end_from, placed_bytes, placed_from, placed_items, short_len, short_starts, start_in, starts_from}
 use Rattle.code_layout.specs.declared.emitted.EmitItem.{EmitItem}

@@ -1,28 +1,13 @@
 -- Code that was emitted: instructions whose targets are numbers of items. It is this project's profile.
-use Rattle.std.specs.Prelude.{◌≡◌, ℕ, ◌+◌, ◌<◌, true, List, length, map, slice_get, Some}
+use Rattle.std.specs.Prelude.{◌≡◌, ℕ, ◌+◌, ◌<◌, true, List, length, slice_get, Some}
 use Rattle.std.specs.List.{AllByRecursion}
 use Rattle.class_model.specs.Instructions.{targets}
+use Rattle.member_link.specs.Targets.{with_targets}
 use Rattle.class_model.specs.declared.instr.Imm.TheVariants as imms
 use Rattle.class_model.specs.declared.instr.Instr.{Instr}
-use Rattle.class_model.specs.declared.instr.Instr.TheVariants.{Const, If, If2, IfSame, IfNull, Goto, Table, Lookup, Throw}
-use Rattle.class_model.specs.declared.instr.Pair.{Pair}
+use Rattle.class_model.specs.declared.instr.Instr.TheVariants.{Const, IfNull, Throw}
 use Rattle.code_bytes.specs.Encoding.{FitsForm}
 use Rattle.code_layout.specs.declared.emitted.EmitItem.{EmitItem}
-
--- the key, and the target that a map makes of its target
-abbrev pub pair_to : (ℕ → ℕ) → Pair → Pair
-pair_to place pair = record { key = pair.key; to = place pair.to }
-
--- the instruction whose targets are those that a map makes of its targets
-abbrev pub with_targets : (ℕ → ℕ) → Instr → Instr
-with_targets place (If opcode to) = If opcode (place to)
-with_targets place (If2 opcode to) = If2 opcode (place to)
-with_targets place (IfSame opcode to) = IfSame opcode (place to)
-with_targets place (IfNull opcode to) = IfNull opcode (place to)
-with_targets place (Goto to) = Goto (place to)
-with_targets place (Table low other to) = Table low (place other) (map place to)
-with_targets place (Lookup other pairs) = Lookup (place other) (map (pair_to place) pairs)
-with_targets place instr = instr
 
 -- its opcode, count, code and numbers are of its form: it would have a spelling if it stood where it jumps to
 abbrev pub HasForm : Instr → Type 0

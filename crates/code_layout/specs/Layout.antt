@@ -10,7 +10,7 @@ use Rattle.code_bytes.specs.Forms.{instr_bytes}
 use Rattle.flow_code.specs.declared.reason.KeptFault.{KeptFault}
 use Rattle.flow_code.specs.declared.reason.KeptFault.TheVariants.{Kept, NoMemory}
 use Rattle.flow_code.specs.declared.reason.Reason.TheVariants as reasons
-use Rattle.code_layout.specs.Emitting.{with_targets}
+use Rattle.member_link.specs.Targets.{with_targets}
 use Rattle.code_layout.specs.declared.emitted.Catch.{Catch}
 use Rattle.code_layout.specs.declared.emitted.EmitItem.{EmitItem}
 use Rattle.code_layout.specs.declared.laid.Laid.{Laid}

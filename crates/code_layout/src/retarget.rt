@@ -1,6 +1,6 @@
 //! Instructions whose targets are offsets.
 ghost use Rattle.std.specs.Prelude.{◌≡◌, map, IfOk, MatchOption};
-ghost use Rattle.code_layout.specs.Emitting.{pair_to, with_targets};
+ghost use Rattle.member_link.specs.Targets.{pair_to, with_targets};
 ghost use Rattle.code_layout.specs.Layout.{start_in};
 
 use crate::places::start_of;

@@ -1,1 +1,2 @@
 pub mod FlatCode
+pub mod FlatRoom

@@ -21,9 +21,11 @@ pub mod Linked
 pub mod LinkedPlaces
 pub mod Assignability
 pub mod Signatures
+pub mod Targets
 pub mod RowScope
 pub mod Rows
 pub mod BodyTyping
 pub mod Scope
 pub mod Machine
+pub mod Laws
 pub mod Inner

@@ -1,5 +1,5 @@
 use Rattle.std.proofs.Common.{◌≡◌, map, take}
-use Rattle.code_layout.specs.Emitting.{pair_to}
+use Rattle.member_link.specs.Targets.{pair_to}
 use Rattle.code_layout.specs.Layout.{start_in}
 use Rattle.code_layout.proofs.retarget.pairs_at.Given as goal
 

@@ -1,0 +1,12 @@
+//! Flat code of methods, with callees in place of their calls: today of each method by itself.
+#![tactic(auto)]
+
+mod alone;
+mod handlers;
+mod host;
+mod laws;
+mod numbered;
+mod renumbered;
+
+pub use alone::flat_alone;
+pub use laws::{a_flat_code_alone_is_typed, flat_codes_alone_run_equally};

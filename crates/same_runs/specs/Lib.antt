@@ -1,0 +1,11 @@
+pub mod Flats
+pub mod FlatBodies
+pub mod EqualRuns
+pub mod Simulations
+pub mod Renamings
+pub mod SameMemories
+pub mod SamePrograms
+pub mod SameCompletions
+pub mod SameFrames
+pub mod SameWorlds
+pub mod Laws
