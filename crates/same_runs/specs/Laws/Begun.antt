@@ -151,7 +151,7 @@ module _ {P Q : Program} {Allocated Entered : ℕ → ℕ → Type 0} (same : Sa
       names,
       names_themselves names,
       rw (is, same_field_desc same class start.field)
-      (put_both same memories class start.field begun (narrowed_same (type_of (field_desc P class start.field)) (itself names value plain_value))),
+          (put_both same memories class start.field begun (narrowed_same (type_of (field_desc P class start.field)) (itself names value plain_value))),
     )
     by (start_string text) is plain_value =
         let made = both_have memories.heaps (Str text) in
@@ -159,7 +159,7 @@ module _ {P Q : Program} {Allocated Entered : ℕ → ℕ → Type 0} (same : Sa
           made.more,
           made.grows,
           rw (is, same_field_desc same class start.field)
-          (put_both same still class start.field begun (narrowed_same (type_of (field_desc P class start.field)) (same_reference made.is))),
+              (put_both same still class start.field begun (narrowed_same (type_of (field_desc P class start.field)) (same_reference made.is))),
         )
 
   starts_both :

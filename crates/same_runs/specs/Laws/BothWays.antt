@@ -59,7 +59,7 @@ module _ (P Q : Program) (Same : Shown → Shown → Type 0) (Relates : ℕ → 
         | inr moves ↦
             let more = rest kept.measure_then (turn Q kept.waits) moves in
             let same : turns Q (quiet.0 + suc more.0) other ≡ turns Q more.0 (turn Q kept.waits) =
-                turns_add Q quiet.0 (suc more.0) other ∙ ap (turns Q (suc more.0)) quiet.1 in
+            turns_add Q quiet.0 (suc more.0) other ∙ ap (turns Q (suc more.0)) quiet.1 in
             (quiet.0 + suc more.0, subst (λ (r : Run). Same (shown (turns P count (turn P one))) (shown r)) (sym same) more.1)
       ]
 

@@ -186,7 +186,7 @@ second_keeps {names = names} {one = one} {other = other} same constant reference
   named = λ also at named has given. elim (same_or_not reference at) [
     | inl e ↦
         let same_one : constant ≡ also =
-            same_Some constant also (sym (same.own.is_of constant reference is) ∙ ap (constant_in one.constants) e ∙ same.own.is_of also at has) in
+        same_Some constant also (sym (same.own.is_of constant reference is) ∙ ap (constant_in one.constants) e ∙ same.own.is_of also at has) in
         let new : b ≡ named = same_Some b named (sym (named_here names reference b) ∙ ap more e ∙ given) in
         subst (λ (c : Constant). kept_in (one_more other.constants constant b) c ≡ Some named) same_one (kept_last other.constants constant b none ∙ ap Some new)
     | inr differ ↦
@@ -312,8 +312,7 @@ both_have {names = names} {one = one} {other = other} same constant = by (kept_i
       finish (record { heap = one; reference = reference }) (record { heap = other; reference = named }) (made_kept one constant reference is) (made_kept other constant named is_also)
       (names, names_themselves names, same, ap names (sym same_one) ∙ was.2)
   by (Some reference) None is none =
-      finish (record { heap = one; reference = reference }) (record { heap = keeping other constant; reference = length other.objects }) (made_kept one constant reference is) (made_new other constant none)
-      (
+      finish (record { heap = one; reference = reference }) (record { heap = keeping other constant; reference = length other.objects }) (made_kept one constant reference is) (made_new other constant none) (
         named_too names reference (length other.objects),
         named_too_more names reference (length other.objects) (unnamed (names reference) refl),
         second_keeps same constant reference is none (unnamed (names reference) refl),
@@ -326,8 +325,7 @@ both_have {names = names} {one = one} {other = other} same constant = by (kept_i
       let was = same.kept constant named is_also in
       absurd (none-some was.0 (sym none ∙ was.1))
   by None None none none_also =
-      finish (record { heap = keeping one constant; reference = length one.objects }) (record { heap = keeping other constant; reference = length other.objects }) (made_new one constant none) (made_new other constant none_also)
-      (
+      finish (record { heap = keeping one constant; reference = length one.objects }) (record { heap = keeping other constant; reference = length other.objects }) (made_new one constant none) (made_new other constant none_also) (
         named_too names (length one.objects) (length other.objects),
         named_too_more names (length one.objects) (length other.objects) (new_unnamed same),
         both_keep same constant none none_also,

@@ -52,7 +52,6 @@ own_allocated heap shape values own =
 
 -- ---- both allocate, or one does
 
-
 pub both_allocate :
     {names : Names} {one other : Heap}
     → SameHeaps names one other

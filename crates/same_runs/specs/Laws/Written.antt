@@ -23,7 +23,6 @@ written_elsewhere (first ∷ statics) class field value at index differ = by (is
   by true e rest =
       let parts = and_parts (first.class == class) (first.field == field) e in
       let other_one : is_static_of at index first ≡ false =
-          ap (λ (n : ℕ). (n == at) && (first.field == index)) (eqb-true first.class class parts.0)
-          ∙ ap (λ (n : ℕ). (class == at) && (n == index)) (eqb-true first.field field parts.1) ∙ differ in
+      ap (λ (n : ℕ). (n == at) && (first.field == index)) (eqb-true first.class class parts.0)
+      ∙ ap (λ (n : ℕ). (class == at) && (n == index)) (eqb-true first.field field parts.1) ∙ differ in
       rw (other_one) refl
-
