@@ -1,11 +1,10 @@
 -- Programs that show quite the same, and the same.
-use Rattle.std.proofs.Common.{◌≡◌, ◌≤◌, ℕ, List, [], ◌∷◌, refl, sym, subst, arith}
-use Rattle.machine_values.specs.declared.action.Action.{Action}
+use Rattle.std.proofs.Common.{◌≡◌, List, [], ◌∷◌, refl, sym, subst, arith}
 use Rattle.machine_values.specs.declared.event.Event.{Event}
 use Rattle.machine_values.specs.declared.event.Shown.{Shown}
 use Rattle.member_link.specs.Machine.Programs.{Program}
 use Rattle.member_link.specs.Machine.Runs.{shown_after}
-use Rattle.member_link.specs.Machine.SameRuns.{IsSameEvent, AreSameEvents, IsSameShown, SameRuns}
+use Rattle.member_link.specs.Machine.SameRuns.{AreSameEvents, IsSameShown, SameRuns}
 use Rattle.same_runs.specs.EqualRuns.{EqualRuns}
 
 events_themselves : (events : List Event) → AreSameEvents events events

@@ -1,5 +1,5 @@
 -- Flat code as a body that frames may type. Each typed point counts as a stated frame.
-use Rattle.std.specs.Prelude.{◌+◌, ℕ, zero, suc, Bool, false, List, [], ◌∷◌, ◌++◌, map, length, Option, Some, None, option_map}
+use Rattle.std.specs.Prelude.{◌+◌, ℕ, zero, suc, false, List, [], ◌∷◌, ◌++◌, map, length, Option, Some, None, option_map}
 use Rattle.class_model.specs.Methods.{entry_of, home_of}
 use Rattle.class_model.specs.declared.frame.Frame.{Frame}
 use Rattle.class_tree.specs.Headers.{Name, Classes}

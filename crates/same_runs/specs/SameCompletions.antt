@@ -1,5 +1,5 @@
 -- What the same operation comes to in two runs, with the same operands and memories.
-use Rattle.std.specs.Prelude.{◌≡◌, ℕ, List, [], ◌∷◌, Option, Some, None, IsTrue, IsFalse}
+use Rattle.std.specs.Prelude.{◌≡◌, ℕ, List, [], Option, Some, IsTrue, IsFalse}
 use Rattle.class_model.specs.declared.class_file.MethodAt.{MethodAt}
 use Rattle.class_tree.specs.Headers.{Name}
 use Rattle.machine_values.specs.declared.value.Value.{Value}

@@ -1,6 +1,6 @@
 -- Frames of two runs as an object that is thrown goes through them. Which frames go together a theorem says itself, by two relations: of frames
 -- that stand in both, and of those in which an object has landed in a handler.
-use Rattle.std.specs.Prelude.{◌≡◌, ℕ, Bool, false, List, [], ◌∷◌, Option, Some, None}
+use Rattle.std.specs.Prelude.{◌≡◌, ℕ, false, List, [], ◌∷◌, Option, Some, None}
 use Rattle.class_tree.specs.Headers.{Name}
 use Rattle.machine_values.specs.Frames.{MethodState}
 use Rattle.machine_values.specs.declared.frame.RunFrame.{RunFrame}

@@ -1,5 +1,5 @@
 -- An action of the library changes both worlds alike.
-use Rattle.std.proofs.Common.{◌≡◌, ◌≢◌, ◌+◌, ◌&&◌, ◌||◌, nat_le, ℕ, ℤ, pos, negsuc, Bool, true, false, not, List, [], ◌∷◌, length, slice_get, is_some, Option, Some, None, option_map, if◌then◌else◌, IsTrue, IsFalse, refl, sym, ap, subst, ◌∙◌, inl, inr, ◌⊎◌}
+use Rattle.std.proofs.Common.{◌≡◌, ◌+◌, ◌&&◌, nat_le, ℕ, ℤ, pos, negsuc, Bool, true, false, not, List, [], ◌∷◌, slice_get, is_some, Option, Some, None, if◌then◌else◌, refl, sym, ap, subst, ◌∙◌, inl, inr}
 use Rattle.std.specs.List.{list_any}
 use Rattle.std.proofs.lemmas.Bool.{false≢true}
 use Rattle.class_model.specs.Descriptors.{parameters_of, type_of}
@@ -11,32 +11,30 @@ use Rattle.class_model.specs.declared.descriptor.FieldType.TheVariants as types
 use Rattle.class_model.specs.declared.header.Header.{Header}
 use Rattle.class_tree.specs.Headers.{Name}
 use Rattle.class_tree.specs.Names.{throwable}
-use Rattle.machine_values.specs.Heaps.{Heap, Made, allocated, object_at, with_value}
+use Rattle.machine_values.specs.Heaps.{Made, with_value}
 use Rattle.machine_values.specs.Values.{component_text, narrowed}
 use Rattle.machine_values.specs.declared.action.Action.{Action}
 use Rattle.machine_values.specs.declared.action.Action.TheVariants as actions
 use Rattle.machine_values.specs.declared.action.Given.{Given}
-use Rattle.machine_values.specs.declared.event.EventKind.{EventKind}
 use Rattle.machine_values.specs.declared.event.EventKind.TheVariants as kinds
 use Rattle.machine_values.specs.declared.frame.RunFrame.{RunFrame}
-use Rattle.machine_values.specs.declared.frame.RunFrame.TheVariants.{Library, Beginning, Method}
+use Rattle.machine_values.specs.declared.frame.RunFrame.TheVariants.{Library, Method}
 use Rattle.machine_values.specs.declared.object.Object.{Object}
 use Rattle.machine_values.specs.declared.object.Shape.{Shape}
 use Rattle.machine_values.specs.declared.object.Shape.TheVariants as shapes
 use Rattle.machine_values.specs.declared.value.Value.{Value}
-use Rattle.machine_values.specs.declared.value.Value.TheVariants as values
-use Rattle.member_link.specs.Machine.Acting.{Pending, Waiting, act, acted, act_call, act_construct, all_conform, answered, beginning_if, beginning_of_number, begins_with_angle, call_at, call_by_sort, call_of_instance, call_of_method, call_of_static, call_on, construct_at, constructed, given_values, is_handled, act_array_get, act_array_length, act_array_set, act_new_array, act_new_external, act_return, act_throw, answer_with, answer_without, fault, given_value, got_of_value, is_array_descriptor, is_concrete, is_fault, is_throwable, known_object, length_of_shape, set_at, set_of_shape, unless_fault, waiting_in}
+use Rattle.member_link.specs.Machine.Acting.{Pending, Waiting, act, acted, act_call, act_construct, all_conform, answered, beginning_if, beginning_of_number, begins_with_angle, call_at, call_by_sort, call_of_instance, call_of_method, call_of_static, call_on, construct_at, constructed, given_values, is_handled, act_array_get, act_array_length, act_array_set, act_new_array, act_new_external, act_return, act_throw, answer_with, answer_without, fault, given_value, is_array_descriptor, is_concrete, is_fault, is_throwable, known_object, set_at, set_of_shape, unless_fault, waiting_in}
 use Rattle.member_link.specs.Machine.ArraySteps.{blank_array, index_in, most_elements}
 use Rattle.member_link.specs.Machine.ObjectSteps.{blank_object}
 use Rattle.member_link.specs.Machine.Performing.{called, locked, resumed}
 use Rattle.member_link.specs.Machine.Programs.{Program, RunMethod, code_at, folder_number, header_named, is_interface_named, place_of_method, run_method}
 use Rattle.member_link.specs.Machine.Shapes.{is_instance, value_conforms}
-use Rattle.member_link.specs.Machine.Showing.{kind_with, numbered, shows_got, shows_length, shows_made}
+use Rattle.member_link.specs.Machine.Showing.{shows_got, shows_made}
 use Rattle.member_link.specs.Machine.Stepping.{is_library_turn}
 use Rattle.member_link.specs.Machine.Throwables.{null_pointer}
-use Rattle.member_link.specs.Machine.Worlds.{Halt, Memory, World, going, stopped, faulted, init_threw, array_too_long, stuck, is_begun, with_heap}
+use Rattle.member_link.specs.Machine.Worlds.{World, going, stopped, is_begun, with_heap}
 use Rattle.member_link.specs.References.{Reference}
-use Rattle.same_runs.specs.Renamings.{Names, NamesMore, SameObject, SameReferences, SameUnit, no_value, has_value, SameValue, same_int, same_long, same_float, same_double, same_null, same_reference, SameValues, no_values, and_value}
+use Rattle.same_runs.specs.Renamings.{Names, NamesMore, SameObject, SameUnit, no_value, has_value, SameValue, same_int, same_long, same_float, same_double, same_null, same_reference, SameValues, no_values, and_value}
 use Rattle.same_runs.specs.SameMemories.{SameMemories}
 use Rattle.same_runs.specs.SameFrames.{Unwinds}
 use Rattle.same_runs.specs.SamePrograms.{SamePrograms}
@@ -52,8 +50,8 @@ use Rattle.same_runs.specs.Laws.Handled.{added_unhandled, same_handled}
 use Rattle.same_runs.specs.Laws.Heaps.{both_write, value_constants}
 use Rattle.same_runs.specs.Laws.Methods.{place_is, same_code, same_no_place, same_place, same_run_method}
 use Rattle.same_runs.specs.Laws.Names.{more_and_more, names_themselves, references_more, values_more}
-use Rattle.same_runs.specs.Laws.Numbering.{SameNumbered, reference_numbered, value_numbered}
-use Rattle.same_runs.specs.Laws.Performed.{locked_same, raised_same, seen_more, shown_same, thrown_same}
+use Rattle.same_runs.specs.Laws.Numbering.{reference_numbered, value_numbered}
+use Rattle.same_runs.specs.Laws.Performed.{locked_same, raised_same, shown_same, thrown_same}
 use Rattle.same_runs.specs.Laws.QuietBeginnings.{alone_quietly}
 use Rattle.same_runs.specs.Laws.Programs.{SameNamed, named_none, named_both, same_header, same_interface, same_number}
 use Rattle.same_runs.specs.Laws.Shapes.{same_instance}

@@ -1,17 +1,15 @@
 -- Arithmetic comes to the same in both runs: it takes no references, and gives none.
-use Rattle.std.proofs.Common.{◌≡◌, ◌==◌, ◌&&◌, ℕ, ℤ, pos, negsuc, Bool, true, false, List, [], ◌∷◌, Option, Some, None, if◌then◌else◌, refl, sym, ap, ◌∙◌, arith}
+use Rattle.std.proofs.Common.{◌≡◌, ◌&&◌, ℕ, pos, negsuc, Bool, true, false, List, [], ◌∷◌, Option, Some, None, refl, ◌∙◌}
 use Rattle.class_model.specs.declared.descriptor.Kind.{Kind}
 use Rattle.machine_values.specs.Values.{has_kind}
 use Rattle.machine_values.specs.declared.value.Value.{Value}
-use Rattle.machine_values.specs.declared.value.Value.TheVariants as values
 use Rattle.member_link.specs.Machine.Arithmetic.{Meaning, of_ints, of_longs, of_long_and_int, of_int, of_long, int_to_long, long_to_int, longs_to_int, result_by}
-use Rattle.member_link.specs.Machine.Completions.{Completion, asks, asks_float, ends, gives, raises}
+use Rattle.member_link.specs.Machine.Completions.{Completion}
 use Rattle.member_link.specs.Machine.Programs.{Program}
-use Rattle.member_link.specs.Machine.Throwables.{arithmetic}
 use Rattle.member_link.specs.Machine.Work.{arithmetic_work, division_work, divides_by_zero, float_work, of_result}
-use Rattle.member_link.specs.Machine.Worlds.{Memory, stuck}
+use Rattle.member_link.specs.Machine.Worlds.{Memory}
 use Rattle.member_link.specs.Rows.ArithmeticRows.{Operation}
-use Rattle.same_runs.specs.Renamings.{Names, SameValue, same_int, same_long, same_float, same_double, same_null, same_reference, SameValues, no_values, and_value}
+use Rattle.same_runs.specs.Renamings.{Names, same_int, same_long, same_float, same_double, same_null, same_reference, SameValues, no_values, and_value}
 use Rattle.same_runs.specs.SameCompletions.{same_compute, SameCompletions, both_ask, both_end, both_raise}
 use Rattle.same_runs.specs.SameMemories.{SameMemories}
 use Rattle.same_runs.specs.SamePrograms.{IsNoReference, SamePrograms}

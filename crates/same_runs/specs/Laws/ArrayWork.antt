@@ -1,31 +1,30 @@
 -- Arrays come to the same in both runs.
-use Rattle.std.proofs.Common.{◌≡◌, ◌==◌, ◌+◌, ◌-◌, nat_lt, ℕ, zero, suc, ℤ, pos, negsuc, Bool, true, false, List, [], ◌∷◌, length, replicate, slice_get, Option, Some, None, if◌then◌else◌, refl, sym, ap, subst, ◌∙◌, inl, inr, ◌⊎◌}
+use Rattle.std.proofs.Common.{◌≡◌, ◌+◌, nat_lt, ℕ, zero, suc, ℤ, pos, negsuc, Bool, true, false, List, [], ◌∷◌, length, replicate, Option, Some, None, if◌then◌else◌, refl, sym, ap, subst, ◌∙◌, inl, inr}
 use Rattle.class_model.specs.Descriptors.{type_of}
 use Rattle.class_tree.specs.Headers.{Name}
-use Rattle.machine_values.specs.Heaps.{Heap, Made, allocated, object_at, with_value}
+use Rattle.machine_values.specs.Heaps.{Heap, Made, object_at, with_value}
 use Rattle.machine_values.specs.Values.{blank_value, component_text, narrowed}
 use Rattle.machine_values.specs.declared.object.Object.{Object}
 use Rattle.machine_values.specs.declared.object.Shape.{Shape}
 use Rattle.machine_values.specs.declared.object.Shape.TheVariants as shapes
 use Rattle.machine_values.specs.declared.value.Value.{Value}
 use Rattle.machine_values.specs.declared.value.Value.TheVariants as values
-use Rattle.member_link.specs.Machine.ArraySteps.{MadeElements, Counts, all_counts, negative_count, no_counts, array_length_work, array_with, arrays_made, arrays_of_counts, blank_array, counts_of, element_of, fits_component, index_in, is_too_long, length_of, load_element_work, made_times, most_elements, nested, new_array_work, new_arrays_work, put_element, store_element_work, stores_value, takes_array}
-use Rattle.member_link.specs.Machine.Completions.{Completion, ends, gives, raises}
+use Rattle.member_link.specs.Machine.ArraySteps.{MadeElements, Counts, all_counts, negative_count, no_counts, array_length_work, arrays_made, arrays_of_counts, blank_array, counts_of, element_of, fits_component, index_in, is_too_long, length_of, load_element_work, made_times, most_elements, nested, new_array_work, new_arrays_work, put_element, store_element_work, stores_value, takes_array}
+use Rattle.member_link.specs.Machine.Completions.{Completion, ends, gives}
 use Rattle.member_link.specs.Machine.Programs.{Program}
 use Rattle.member_link.specs.Machine.Shapes.{component_named, is_instance}
-use Rattle.member_link.specs.Machine.Throwables.{array_store, index_outside, negative_size, null_pointer}
-use Rattle.member_link.specs.Machine.Worlds.{Memory, with_heap, array_too_long, stuck}
+use Rattle.member_link.specs.Machine.Worlds.{Memory, array_too_long}
 use Rattle.same_runs.specs.Renamings.{Names, NamesMore, SameObject, SameValue, same_int, same_long, same_float, same_double, same_null, same_reference, SameValues, no_values, and_value}
 use Rattle.same_runs.specs.SameCompletions.{SameCompletions, both_end, both_give, both_raise}
 use Rattle.same_runs.specs.SameMemories.{IsComparison, SameHeaps, SameMemories}
 use Rattle.same_runs.specs.SamePrograms.{SamePrograms}
 use Rattle.same_runs.specs.Laws.FieldWork.{allocates, blank_itself, narrowed_same, value_at}
-use Rattle.same_runs.specs.Laws.Heaps.{both_allocate, both_write, new_unnamed, value_constants}
+use Rattle.same_runs.specs.Laws.Heaps.{both_write, value_constants}
 use Rattle.same_runs.specs.Laws.Made.{SameMade, made_both}
-use Rattle.same_runs.specs.Laws.Names.{more_and_more, named_here, named_too, named_too_more, names_themselves, value_more, values_more}
+use Rattle.same_runs.specs.Laws.Names.{more_and_more, named_too, names_themselves}
 use Rattle.same_runs.specs.Laws.OperandWork.{gives_value}
 use Rattle.same_runs.specs.Laws.Shapes.{same_instance}
-use Rattle.same_runs.specs.Laws.Statics.{KeepsConstants, keeps_all, memories_counted, memories_still}
+use Rattle.same_runs.specs.Laws.Statics.{keeps_all, memories_counted, memories_still}
 
 -- ---- elements that are zero or null
 

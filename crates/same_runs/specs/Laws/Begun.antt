@@ -1,28 +1,21 @@
 -- Classes that begin: in both runs, in the first alone, or in the second, which the first has begun before.
-use Rattle.std.proofs.Common.{◌≡◌, ◌==◌, ◌||◌, ◌&&◌, ℕ, zero, suc, Bool, true, false, List, [], ◌∷◌, ◌++◌, slice_get, Option, Some, None, IsSome, IsTrue, IsFalse, refl, sym, ap, subst, ◌∙◌, inl, inr, ◌⊎◌, arith}
+use Rattle.std.proofs.Common.{◌≡◌, ◌==◌, ◌||◌, ℕ, Bool, true, false, List, [], ◌∷◌, ◌++◌, slice_get, Option, Some, None, IsTrue, IsFalse, refl, sym, subst, ◌∙◌, inl, inr, ◌⊎◌}
 use Rattle.std.specs.List.{AllByRecursion, list_any}
-use Rattle.std.proofs.lemmas.Bool.{and_parts, eq-eqb, eqb-true, false≢true, or_cases, or_left, or_right}
-use Rattle.std.proofs.lemmas.Option.{none-some, same_Some}
+use Rattle.std.proofs.lemmas.Bool.{eq-eqb, eqb-true, false≢true, or_cases, or_left, or_right}
 use Rattle.class_model.specs.Descriptors.{type_of}
-use Rattle.machine_values.specs.Heaps.{Heap, Kept, Made, constant_made, kept_in}
-use Rattle.machine_values.specs.Values.{blank_value, narrowed}
-use Rattle.machine_values.specs.declared.object.Constant.{Constant}
 use Rattle.machine_values.specs.declared.object.Constant.TheVariants.{Str}
-use Rattle.machine_values.specs.declared.value.Value.{Value}
-use Rattle.machine_values.specs.declared.value.Value.TheVariants as values
 use Rattle.member_link.specs.Machine.Beginnings.{begun_memory, starts_of, with_start, with_starts}
 use Rattle.member_link.specs.Machine.Programs.{Program, RunClass, StartValue, StaticStart, start_string, start_value}
-use Rattle.member_link.specs.Machine.Worlds.{Memory, StaticValue, field_desc, is_begun, static_value, with_heap, with_static, written_static}
+use Rattle.member_link.specs.Machine.Worlds.{Memory, field_desc, is_begun, static_value}
 use Rattle.same_runs.specs.Renamings.{Names, NamesMore, SameValue, same_reference}
-use Rattle.same_runs.specs.SameMemories.{HasFirstBegun, IsAsBegun, IsBegunAlone, IsInert, IsKeptStart, SameHeaps, SameMemories, SameStatics, start_in, started}
-use Rattle.same_runs.specs.SamePrograms.{IsNoReference, IsPlainStart, SameClass, SamePrograms}
-use Rattle.same_runs.specs.Laws.Constants.{SameConstant, both_have, first_has}
+use Rattle.same_runs.specs.SameMemories.{HasFirstBegun, SameMemories}
+use Rattle.same_runs.specs.SamePrograms.{IsPlainStart, SamePrograms}
+use Rattle.same_runs.specs.Laws.Constants.{both_have}
 use Rattle.same_runs.specs.Laws.FieldWork.{blank_itself, narrowed_same, put_both}
 use Rattle.same_runs.specs.Laws.Names.{more_and_more, names_themselves}
 use Rattle.same_runs.specs.Laws.OperandWork.{itself}
 use Rattle.same_runs.specs.Laws.Programs.{SameAt, at_none, at_both, at_number, same_field_desc}
-use Rattle.same_runs.specs.Laws.Starts.{all_kept, keeps_itself, keeps_through, or_before, starts_leave, starts_set, with_starts_keeps}
-use Rattle.same_runs.specs.Laws.Statics.{KeepsConstants, as_begun_still, keeps_made, memories_still}
+use Rattle.same_runs.specs.Laws.Statics.{keeps_made, memories_still}
 
 -- ---- a class is marked
 

@@ -1,10 +1,9 @@
 -- A class that begins in one of two runs alone: in the first, where nothing runs; or in the second, where the first has begun it before.
-use Rattle.std.proofs.Common.{◌≡◌, ◌==◌, ℕ, zero, suc, Bool, true, false, List, [], ◌∷◌, slice_get, Option, Some, None, option_map, if◌then◌else◌, IsSome, IsTrue, IsFalse, refl, sym, ap, subst, ◌∙◌, inl, inr, ◌⊎◌}
+use Rattle.std.proofs.Common.{◌≡◌, ◌==◌, ℕ, suc, Bool, true, false, List, [], ◌∷◌, Option, Some, None, option_map, if◌then◌else◌, IsSome, IsTrue, IsFalse, refl, sym, ap, subst, ◌∙◌, inl, inr, ◌⊎◌}
 use Rattle.std.specs.List.{AllByRecursion}
-use Rattle.std.proofs.lemmas.Bool.{eq-eqb, eqb-true, false≢true, ne_eqb}
-use Rattle.std.proofs.lemmas.Option.{none-some, same_Some}
+use Rattle.std.proofs.lemmas.Bool.{false≢true, ne_eqb}
 use Rattle.class_model.specs.Descriptors.{type_of}
-use Rattle.machine_values.specs.Heaps.{Heap, Kept, Made, constant_made, kept_in}
+use Rattle.machine_values.specs.Heaps.{Heap, Made, constant_made, kept_in}
 use Rattle.machine_values.specs.Values.{blank_value, narrowed}
 use Rattle.machine_values.specs.declared.object.Constant.TheVariants.{Str}
 use Rattle.machine_values.specs.declared.value.Value.{Value}
@@ -13,9 +12,9 @@ use Rattle.member_link.specs.Machine.Beginnings.{begun_memory, starts_of, with_s
 use Rattle.member_link.specs.Machine.Programs.{Program, StartValue, StaticStart, start_string, start_value}
 use Rattle.member_link.specs.Machine.Worlds.{Memory, field_desc, is_begun, static_value, written_static}
 use Rattle.same_runs.specs.Renamings.{Names, NamesMore, SameUnit, no_value, has_value, SameValue, same_reference}
-use Rattle.same_runs.specs.SameMemories.{IsAsBegun, IsBegunAlone, IsInert, IsKeptStart, SameHeaps, SameMemories, SameStatics, start_in, started}
+use Rattle.same_runs.specs.SameMemories.{IsAsBegun, IsBegunAlone, IsInert, IsKeptStart, SameHeaps, SameMemories, start_in, started}
 use Rattle.same_runs.specs.SamePrograms.{IsPlainStart, SamePrograms}
-use Rattle.same_runs.specs.Laws.Begun.{first_still, marked, marked_cases, marked_itself, marked_still, plain_starts, same_starts, start_begun, unmarked}
+use Rattle.same_runs.specs.Laws.Begun.{first_still, marked, marked_cases, marked_still, plain_starts, same_starts, start_begun, unmarked}
 use Rattle.same_runs.specs.Laws.Constants.{SameConstant, both_have, first_has, made_kept}
 use Rattle.same_runs.specs.Laws.FieldWork.{blank_itself, narrowed_same}
 use Rattle.same_runs.specs.Laws.Names.{more_and_more, names_themselves, value_more}

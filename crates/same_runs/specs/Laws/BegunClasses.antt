@@ -7,9 +7,9 @@ use Rattle.class_tree.specs.Headers.{Name}
 use Rattle.machine_values.specs.declared.object.Object.{Object}
 use Rattle.machine_values.specs.declared.object.Shape.{Shape}
 use Rattle.machine_values.specs.declared.value.Value.{Value}
-use Rattle.member_link.specs.Machine.ArraySteps.{array_length_work, arrays_of_counts, counts_of, load_element_work, new_array_work, new_arrays_work, put_element, store_element_work}
+use Rattle.member_link.specs.Machine.ArraySteps.{array_length_work, load_element_work, new_array_work, new_arrays_work, put_element, store_element_work}
 use Rattle.member_link.specs.Machine.CallSteps.{as_asked, call_dynamic_work, call_found_special, call_interface_work, call_special_work, call_static_work, call_virtual_work, if_conforms, interface_on, is_object_init, on_receiver, run_call, run_chosen, special_choice, special_on, virtual_on, with_receiver}
-use Rattle.member_link.specs.Machine.Completions.{Completion, asks, begins, calls, ends, gives, raises, throws}
+use Rattle.member_link.specs.Machine.Completions.{Completion, begins, ends, gives}
 use Rattle.member_link.specs.Machine.FieldSteps.{begun_first, get_field_work, get_static_work, if_fits, put_field_in, put_field_tested, put_field_value, put_field_work, put_into, put_static_begun, put_static_work}
 use Rattle.member_link.specs.Machine.ObjectSteps.{check_cast_work, enter_monitor_work, instance_of_work, leave_monitor_work, new_object_work, throw_work}
 use Rattle.member_link.specs.Machine.Ops.{Op}

@@ -15,7 +15,7 @@ use Rattle.machine_values.specs.Values.{have_kinds}
 use Rattle.machine_values.specs.declared.object.Shape.{Shape}
 use Rattle.machine_values.specs.declared.value.Value.{Value}
 use Rattle.member_link.specs.Machine.CallSteps.{as_asked, call_dynamic_work, call_found_special, call_interface_work, call_special_work, call_static_work, call_virtual_work, if_conforms, interface_on, is_object_init, is_polymorphic, on_receiver, run_call, run_chosen, special_choice, special_on, virtual_on, with_receiver}
-use Rattle.member_link.specs.Machine.Completions.{Completion, calls}
+use Rattle.member_link.specs.Machine.Completions.{Completion}
 use Rattle.member_link.specs.Machine.Programs.{Chosen, Links, Program, RunClass, RunMethod, abstract_method, chosen, code_at, first_member, folder_number, has_flag, header_named, member_of, method_of, not_public, number_of_first, place_of_method, several_defaults}
 use Rattle.member_link.specs.Machine.Shapes.{class_of_shape, is_external, is_instance, shape_conforms}
 use Rattle.member_link.specs.Machine.Worlds.{Memory}

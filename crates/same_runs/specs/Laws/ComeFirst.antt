@@ -1,12 +1,10 @@
 -- The classes that come before a class are the same in programs that are the same, if these are of a hierarchy: instance initialisers that
 -- classes have besides stand in no interface.
-use Rattle.std.proofs.Common.{◌≡◌, ◌++◌, ℕ, zero, suc, Bool, true, false, List, [], ◌∷◌, map, length, bytes_eq, slice_get, Option, Some, None, if◌then◌else◌, IsTrue, refl, sym, ap, subst, ◌∙◌}
+use Rattle.std.proofs.Common.{◌≡◌, ◌++◌, ℕ, zero, suc, Bool, true, false, List, [], ◌∷◌, map, length, bytes_eq, slice_get, Option, Some, None, if◌then◌else◌, IsTrue, refl, ap, subst, ◌∙◌}
 use Rattle.std.specs.Option.{IfSome}
-use Rattle.std.specs.List.{AllByRecursion, filter, flat_map, list_any}
-use Rattle.std.proofs.lemmas.Bool.{false≢true}
+use Rattle.std.specs.List.{AllByRecursion, filter, list_any}
 use Rattle.std.proofs.lemmas.List.{map-append}
 use Rattle.std.proofs.lemmas.Option.{none-some}
-use Rattle.class_model.specs.Members.{has}
 use Rattle.class_model.specs.declared.header.Header.{Header}
 use Rattle.class_model.specs.declared.header.Member.{Member}
 use Rattle.class_tree.specs.Headers.{Name, all_headers, named}
@@ -16,7 +14,7 @@ use Rattle.class_tree.specs.declared.place.Place.TheVariants.{Folder}
 use Rattle.member_link.specs.Machine.Beginnings.{come_first, has_defaults, interfaces_up, is_default}
 use Rattle.member_link.specs.Machine.Programs.{Program, RunClass, RunMethod, header_named, headers_in}
 use Rattle.same_runs.specs.SamePrograms.{SameClass, SameClasses, SameMethods, SamePrograms}
-use Rattle.same_runs.specs.Laws.Programs.{SameAt, SameNamed, at_none, at_both, at_number, named_none, named_both, same_header}
+use Rattle.same_runs.specs.Laws.Programs.{SameAt, SameNamed, at_both, at_number, named_none, named_both, same_header}
 
 -- ---- lists
 

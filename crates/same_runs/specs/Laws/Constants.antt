@@ -1,16 +1,16 @@
 -- Constants of heaps: which reference each has, and how two heaps stay the same where both or one of them keep one more.
-use Rattle.std.proofs.Common.{◌≡◌, ◌==◌, ◌&&◌, ◌+◌, ℕ, Bool, true, false, List, [], ◌∷◌, ◌++◌, length, slice_get, bytes_eq, Option, Some, None, if◌then◌else◌, refl, sym, ap, subst, ◌∙◌, inl, inr, ◌⊎◌, arith}
-use Rattle.std.proofs.lemmas.Bool.{eq-eqb, eqb-true, and_parts, both_ways, false≢true}
+use Rattle.std.proofs.Common.{◌≡◌, ◌==◌, ◌&&◌, ℕ, Bool, true, false, List, [], ◌∷◌, ◌++◌, length, slice_get, bytes_eq, Option, Some, None, if◌then◌else◌, refl, sym, ap, subst, ◌∙◌, inl, inr, ◌⊎◌}
+use Rattle.std.proofs.lemmas.Bool.{eq-eqb, eqb-true, and_parts}
 use Rattle.std.proofs.lemmas.Option.{none-some, same_Some}
 use Rattle.std.proofs.lemmas.Slice.Eq.{bytes_eq-Decides}
-use Rattle.machine_values.specs.Heaps.{Heap, Kept, Made, object_at, allocated, external, constant_made, constant_in, kept_in, same_constant, class_of_constant}
+use Rattle.machine_values.specs.Heaps.{Heap, Kept, Made, object_at, external, constant_made, constant_in, kept_in, same_constant, class_of_constant}
 use Rattle.machine_values.specs.declared.object.Constant.{Constant}
 use Rattle.machine_values.specs.declared.object.Constant.TheVariants.{Str, Class, MethodType, Handle}
 use Rattle.machine_values.specs.declared.object.Object.{Object}
 use Rattle.machine_values.specs.declared.object.Shape.TheVariants.{External}
 use Rattle.same_runs.specs.Renamings.{Names, NamesMore, SameObject, no_values}
 use Rattle.same_runs.specs.SameMemories.{HasOwnConstants, SameHeaps, fresh_constant}
-use Rattle.same_runs.specs.Laws.Heaps.{both_allocate, first_allocates, new_no_name, new_unnamed, own_allocated, same_or_not, second_allocates}
+use Rattle.same_runs.specs.Laws.Heaps.{both_allocate, first_allocates, new_no_name, new_unnamed, same_or_not}
 use Rattle.same_runs.specs.Laws.Names.{named_too, named_here, named_other, named_too_more, names_themselves, object_more}
 use Rattle.same_runs.specs.Laws.Objects.{get_old, get_new, none_at_end}
 

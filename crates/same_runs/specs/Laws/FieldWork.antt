@@ -1,6 +1,6 @@
 -- Fields and new objects come to the same in both runs.
-use Rattle.std.proofs.Common.{◌≡◌, ◌==◌, ◌&&◌, ◌+◌, ℕ, zero, suc, ℤ, Bool, true, false, not, List, [], ◌∷◌, ◌++◌, length, slice_get, Option, Some, None, if◌then◌else◌, IsTrue, IsFalse, refl, sym, ap, subst, ◌∙◌, inl, inr, ◌⊎◌, arith}
-use Rattle.std.proofs.lemmas.Bool.{and_parts, eq-eqb, eqb-true, false≢true}
+use Rattle.std.proofs.Common.{◌≡◌, ◌==◌, ◌&&◌, ◌+◌, ℕ, zero, suc, Bool, true, false, not, List, [], ◌∷◌, length, slice_get, Option, Some, None, IsTrue, IsFalse, refl, sym, ap, subst, ◌∙◌, inl, inr, ◌⊎◌}
+use Rattle.std.proofs.lemmas.Bool.{and_parts, eqb-true, false≢true}
 use Rattle.std.proofs.lemmas.Option.{none-some, same_Some}
 use Rattle.class_model.specs.Descriptors.{kind_of, type_of}
 use Rattle.class_model.specs.Members.{STATIC}
@@ -11,26 +11,25 @@ use Rattle.class_model.specs.declared.descriptor.Kind.TheVariants as kinds
 use Rattle.class_model.specs.declared.header.Member.{Member}
 use Rattle.class_tree.specs.Headers.{Name}
 use Rattle.class_tree.specs.Layouts.{instance_fields}
-use Rattle.machine_values.specs.Heaps.{Heap, allocated, object_at, with_value}
+use Rattle.machine_values.specs.Heaps.{Heap, allocated, with_value}
 use Rattle.machine_values.specs.Values.{blank_of_kind, blank_value, blank_values, has_kind, narrowed}
 use Rattle.machine_values.specs.declared.object.Object.{Object}
 use Rattle.machine_values.specs.declared.object.Shape.{Shape}
 use Rattle.machine_values.specs.declared.object.Shape.TheVariants as shapes
 use Rattle.machine_values.specs.declared.value.Value.{Value}
 use Rattle.machine_values.specs.declared.value.Value.TheVariants as values
-use Rattle.member_link.specs.Machine.Completions.{Completion, asks, asks_get, asks_put, begins, ends, gives, raises}
+use Rattle.member_link.specs.Machine.Completions.{Completion, gives}
 use Rattle.member_link.specs.Machine.FieldSteps.{begun_first, get_field_work, get_from, get_static_work, got_field, got_static, if_fits, is_barred, put_field_in, put_field_tested, put_field_value, put_field_work, put_into, put_static_begun, put_static_value, put_static_work, static_number}
 use Rattle.member_link.specs.Machine.Layouts.{slot_number}
-use Rattle.member_link.specs.Machine.ObjectSteps.{blank_object, new_object_work, object_of}
+use Rattle.member_link.specs.Machine.ObjectSteps.{blank_object, new_object_work}
 use Rattle.member_link.specs.Machine.Programs.{Program, field_of, folder_number, has_flag, headers_in, name_of_class}
 use Rattle.member_link.specs.Machine.Shapes.{reference_conforms, shape_conforms}
-use Rattle.member_link.specs.Machine.Throwables.{illegal_access, null_pointer}
-use Rattle.member_link.specs.Machine.Worlds.{Memory, StaticValue, is_begun, is_static_of, put_static_in, static_value, with_heap, with_static, written_static, stuck}
+use Rattle.member_link.specs.Machine.Worlds.{Memory, is_begun, static_value, with_static, written_static}
 use Rattle.member_link.specs.References.{Reference}
-use Rattle.same_runs.specs.Renamings.{Names, NamesMore, SameObject, SameValue, same_int, same_long, same_float, same_double, same_null, same_reference, SameValues, no_values, and_value, no_value, has_value}
+use Rattle.same_runs.specs.Renamings.{Names, SameObject, SameValue, same_int, same_long, same_float, same_double, same_null, same_reference, SameValues, no_values, and_value, no_value, has_value}
 use Rattle.same_runs.specs.SameCompletions.{same_get, same_put, SameCompletions, begins_alone, both_ask, both_begin, both_end, both_give, both_raise}
-use Rattle.same_runs.specs.SameMemories.{IsComparison, SameHeaps, SameMemories, SameStatics}
-use Rattle.same_runs.specs.SamePrograms.{IsNoReference, SameBar, SamePrograms}
+use Rattle.same_runs.specs.SameMemories.{IsComparison, SameHeaps, SameMemories}
+use Rattle.same_runs.specs.SamePrograms.{IsNoReference, SamePrograms}
 use Rattle.same_runs.specs.Laws.Heaps.{both_allocate, both_write, new_unnamed, value_constants}
 use Rattle.same_runs.specs.Laws.Made.{SameMade, made_both}
 use Rattle.same_runs.specs.Laws.Layouts.{same_blanks, same_slot}

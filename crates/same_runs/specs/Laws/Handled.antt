@@ -1,7 +1,7 @@
 -- The library may call no instance initialiser that was added.
-use Rattle.std.proofs.Common.{◌≡◌, ◌==◌, ◌&&◌, ◌||◌, ℕ, zero, suc, Bool, true, false, List, [], ◌∷◌, ◌++◌, slice_get, bytes_eq, Option, Some, None, option_map, if◌then◌else◌, refl, sym, ap, subst, ◌∙◌, inl, inr, ◌⊎◌}
+use Rattle.std.proofs.Common.{◌≡◌, ℕ, zero, suc, Bool, true, false, List, [], ◌∷◌, slice_get, bytes_eq, Option, Some, None, option_map, if◌then◌else◌, refl, sym, ap, ◌∙◌}
 use Rattle.std.specs.List.{AllByRecursion, list_any}
-use Rattle.std.proofs.lemmas.Bool.{and_parts, false≢true}
+use Rattle.std.proofs.lemmas.Bool.{and_parts}
 use Rattle.std.proofs.lemmas.Option.{none-some, same_Some}
 use Rattle.std.proofs.lemmas.Slice.Eq.{bytes_eq-Decides}
 use Rattle.class_model.specs.Names.{init}
@@ -12,7 +12,7 @@ use Rattle.machine_values.specs.declared.object.Constant.TheVariants.{Handle}
 use Rattle.member_link.specs.Machine.Acting.{NEW_INVOKE_SPECIAL, is_handled}
 use Rattle.member_link.specs.Machine.Programs.{Program, RunClass, RunMethod, folder_number, member_of, number_of_first, place_of_method}
 use Rattle.member_link.specs.References.{Reference}
-use Rattle.same_runs.specs.SamePrograms.{IsAdded, SameClass, SameClasses, SamePrograms}
+use Rattle.same_runs.specs.SamePrograms.{IsAdded, SameClasses, SamePrograms}
 use Rattle.same_runs.specs.Laws.Methods.{is_method, no_number}
 use Rattle.same_runs.specs.Laws.Programs.{SameAt, at_none, at_both, at_number, same_number}
 

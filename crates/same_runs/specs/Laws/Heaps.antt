@@ -1,15 +1,15 @@
 -- Heaps of two runs stay the same where both or one of them change.
 use Rattle.std.proofs.Common.{◌≡◌, ◌+◌, ◌-◌, ℕ, zero, suc, List, [], ◌∷◌, ◌++◌, length, slice_get, slice_set, Option, Some, None, refl, sym, ap, subst, ◌∙◌, inl, inr, ◌⊎◌, arith}
 use Rattle.std.proofs.lemmas.Option.{none-some, same_Some}
-use Rattle.machine_values.specs.Heaps.{Heap, Made, object_at, allocated, with_object, with_value, with_monitor, monitor_count, entered, left, kept_in, constant_in}
+use Rattle.machine_values.specs.Heaps.{Heap, object_at, allocated, with_object, with_value, with_monitor, monitor_count, entered, left, kept_in, constant_in}
 use Rattle.machine_values.specs.declared.object.Constant.{Constant}
 use Rattle.machine_values.specs.declared.object.Object.{Object}
 use Rattle.machine_values.specs.declared.object.Shape.{Shape}
 use Rattle.machine_values.specs.declared.value.Value.{Value}
-use Rattle.same_runs.specs.Renamings.{IsRenaming, Names, NamesMore, SameObject, SameValue, SameValues, no_values, and_value}
+use Rattle.same_runs.specs.Renamings.{Names, NamesMore, SameObject, SameValue, SameValues, no_values, and_value}
 use Rattle.same_runs.specs.SameMemories.{HasOwnConstants, SameHeaps, fresh_constant}
-use Rattle.same_runs.specs.Laws.Names.{named_too, named_here, named_other, named_too_more, object_more, values_more}
-use Rattle.same_runs.specs.Laws.Objects.{get_old, get_new, get_before, none_at_end, set_here, set_other}
+use Rattle.same_runs.specs.Laws.Names.{named_too, named_here, named_other, named_too_more, object_more}
+use Rattle.same_runs.specs.Laws.Objects.{get_old, get_new, none_at_end, set_here, set_other}
 
 pub same_or_not : (m n : ℕ) → (m ≡ n) ⊎ (m ≡ n → ⊥)
 same_or_not m n = grind (arith)

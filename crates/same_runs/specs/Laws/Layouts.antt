@@ -1,21 +1,18 @@
 -- Programs that are the same have the same fields in objects, and their methods at the same places.
-use Rattle.std.proofs.Common.{◌≡◌, ℕ, zero, suc, Bool, true, false, not, List, [], ◌∷◌, ◌++◌, map, reverse, length, slice_get, bytes_eq, is_some, Option, Some, None, option_map, option_and_then, if◌then◌else◌, refl, sym, ap, subst, ◌∙◌, ◌≢◌, arith, append-nil}
-use Rattle.std.specs.List.{AllByRecursion, filter, flat_map}
+use Rattle.std.proofs.Common.{◌≡◌, ℕ, zero, suc, Bool, true, false, not, List, [], ◌∷◌, ◌++◌, map, reverse, length, Option, Some, None, if◌then◌else◌, refl, sym, ap, subst, ◌∙◌, append-nil}
+use Rattle.std.specs.List.{filter, flat_map}
 use Rattle.std.proofs.lemmas.List.{length-append, length-map, map-append}
-use Rattle.std.proofs.lemmas.Option.{none-some, same_Some}
 use Rattle.class_model.specs.Members.{has, STATIC}
-use Rattle.class_model.specs.Names.{init}
-use Rattle.class_model.specs.declared.class_file.MethodAt.{MethodAt}
 use Rattle.class_model.specs.declared.header.Header.{Header}
 use Rattle.class_model.specs.declared.header.Member.{Member}
-use Rattle.class_tree.specs.Headers.{Name, Headers, all_headers, named, class_named}
+use Rattle.class_tree.specs.Headers.{Name, all_headers, named}
 use Rattle.class_tree.specs.Layouts.{classes_up, instance_fields, own_fields, superclasses}
 use Rattle.machine_values.specs.Values.{blank_value, blank_values}
 use Rattle.member_link.specs.Machine.Layouts.{own_slots, slot_number, slots_of}
-use Rattle.member_link.specs.Machine.Programs.{Program, RunClass, RunMethod, headers_in, header_named, folder_number, member_of, number_of_first, place_of_method, run_method, code_run, code_at, same_reference}
+use Rattle.member_link.specs.Machine.Programs.{Program, RunClass, headers_in, header_named, number_of_first, same_reference}
 use Rattle.member_link.specs.References.{Reference}
-use Rattle.same_runs.specs.SamePrograms.{IsAdded, SameClass, SameClasses, SameFields, SameMethods, SamePrograms}
-use Rattle.same_runs.specs.Laws.Programs.{SameAt, at_none, at_both, SameHeader, SameNamed, named_none, named_both, at_number, headers_named, no_init, same_header, same_number}
+use Rattle.same_runs.specs.SamePrograms.{SameClasses, SameFields, SamePrograms}
+use Rattle.same_runs.specs.Laws.Programs.{SameNamed, named_none, named_both, headers_named, same_header}
 
 -- ---- lists
 

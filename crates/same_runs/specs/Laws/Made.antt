@@ -1,5 +1,5 @@
 -- An object that is made in both runs.
-use Rattle.std.proofs.Common.{◌≡◌, ℕ, List, length, Some, refl}
+use Rattle.std.proofs.Common.{◌≡◌, List, length, Some, refl}
 use Rattle.machine_values.specs.Heaps.{Heap, Made, allocated}
 use Rattle.machine_values.specs.declared.object.Shape.{Shape}
 use Rattle.machine_values.specs.declared.value.Value.{Value}

@@ -1,12 +1,12 @@
 -- Programs that are the same have their methods at the same places, with code in both or in none.
-use Rattle.std.proofs.Common.{◌≡◌, ◌<◌, ◌+◌, ℕ, zero, suc, Bool, true, false, List, [], ◌∷◌, ◌++◌, length, slice_get, is_some, Option, Some, None, option_map, option_and_then, if◌then◌else◌, refl, sym, ap, subst, ◌∙◌, ◌≢◌, arith}
+use Rattle.std.proofs.Common.{◌≡◌, ℕ, zero, suc, Bool, true, false, List, [], ◌∷◌, ◌++◌, slice_get, is_some, Option, Some, None, option_map, if◌then◌else◌, refl, sym, ap, subst, ◌∙◌, ◌≢◌}
 use Rattle.std.specs.List.{AllByRecursion}
 use Rattle.std.proofs.lemmas.Option.{none-some, same_Some}
 use Rattle.class_model.specs.Names.{init}
 use Rattle.class_model.specs.declared.class_file.MethodAt.{MethodAt}
 use Rattle.member_link.specs.Machine.Programs.{Program, RunClass, RunMethod, folder_number, member_of, number_of_first, place_of_method, run_method, code_run, code_at}
 use Rattle.member_link.specs.References.{Reference}
-use Rattle.same_runs.specs.SamePrograms.{IsAdded, SameClass, SameMethods, SamePrograms}
+use Rattle.same_runs.specs.SamePrograms.{IsAdded, SameMethods, SamePrograms}
 use Rattle.same_runs.specs.Laws.Programs.{SameAt, at_none, at_both, at_number, no_init, same_number}
 
 abbrev pub is_method : Reference → RunMethod → Bool

@@ -1,23 +1,16 @@
 -- What the library sees is the same in both runs: numbers of references, and what each shows where it appears first.
-use Rattle.std.proofs.Common.{◌≡◌, ◌==◌, ℕ, zero, suc, Bool, true, false, List, [], ◌∷◌, ◌++◌, map, length, Option, Some, None, option_map, if◌then◌else◌, refl, sym, ap, subst, ◌∙◌, inl, inr, ◌⊎◌, arith}
+use Rattle.std.proofs.Common.{◌≡◌, ◌==◌, ℕ, suc, Bool, true, false, List, [], ◌∷◌, ◌++◌, map, length, Option, Some, None, refl, sym, ap, ◌∙◌}
 use Rattle.std.proofs.lemmas.Bool.{eq-eqb, eqb-true, ne_eqb}
 use Rattle.std.proofs.lemmas.Option.{none-some, same_Some}
-use Rattle.machine_values.specs.Heaps.{Heap, constant_in, kept_in, monitor_count, object_at}
-use Rattle.machine_values.specs.declared.event.Event.{Event}
+use Rattle.machine_values.specs.Heaps.{Heap, constant_in, monitor_count}
 use Rattle.machine_values.specs.declared.event.EventKind.{EventKind}
-use Rattle.machine_values.specs.declared.event.EventKind.TheVariants as events
-use Rattle.machine_values.specs.declared.event.First.{First}
 use Rattle.machine_values.specs.declared.event.Seen.{Seen}
 use Rattle.machine_values.specs.declared.event.SeenRef.{SeenRef}
 use Rattle.machine_values.specs.declared.object.Constant.{Constant}
-use Rattle.machine_values.specs.declared.object.Object.{Object}
-use Rattle.machine_values.specs.declared.object.Shape.{Shape}
 use Rattle.machine_values.specs.declared.value.Value.{Value}
-use Rattle.machine_values.specs.declared.value.Value.TheVariants as values
-use Rattle.member_link.specs.Machine.Completions.{Asked, asks_call, asks_dynamic, asks_float, asks_get, asks_put}
+use Rattle.member_link.specs.Machine.Completions.{Asked}
 use Rattle.member_link.specs.Machine.Programs.{Program}
-use Rattle.member_link.specs.Machine.Shapes.{class_of_shape}
-use Rattle.member_link.specs.Machine.Showing.{Numbered, also_of, asked_kind, first_of, kind_with, known_number, numbered, numbered_all, numbered_option, numbered_reference, put_kind}
+use Rattle.member_link.specs.Machine.Showing.{Numbered, asked_kind, first_of, known_number, numbered, numbered_all, numbered_option, numbered_reference}
 use Rattle.same_runs.specs.Renamings.{IsRenaming, Names, SameReferences, no_references, and_reference, SameUnit, no_value, has_value, SameValue, same_int, same_long, same_float, same_double, same_null, same_reference, SameValues, no_values, and_value}
 use Rattle.same_runs.specs.SameCompletions.{SameAsked, same_call, same_dynamic, same_get, same_put, same_compute}
 use Rattle.same_runs.specs.SameMemories.{SameHeaps}

@@ -1,6 +1,6 @@
 -- Lists of objects that grow at their end, and in which one object changes.
-use Rattle.std.proofs.Common.{◌≡◌, ◌<◌, ◌≤◌, ℕ, zero, suc, List, [], ◌∷◌, ◌++◌, length, slice_get, slice_set, Option, Some, None, refl, sym, ap, subst, ◌∙◌, arith}
-use Rattle.std.proofs.lemmas.Option.{none-some, same_Some, slice_get_past, slice_get_within}
+use Rattle.std.proofs.Common.{◌≡◌, ℕ, zero, suc, List, [], ◌∷◌, ◌++◌, length, slice_get, slice_set, Some, refl, ap, arith}
+use Rattle.std.proofs.lemmas.Option.{none-some, slice_get_within}
 
 pub get_old : {A : Type 0} (xs : List A) (y : A) (at : ℕ) (x : A) → slice_get xs at ≡ Some x → slice_get (xs ++ y ∷ []) at ≡ Some x
 get_old [] y at x is = absurd (none-some x is)

@@ -1,32 +1,29 @@
 -- Operations on operands come to the same in both runs: constants, arithmetic, casts, tests of classes, monitors and throwing.
-use Rattle.std.proofs.Common.{◌≡◌, ◌==◌, ◌&&◌, ◌+◌, ◌-◌, ℕ, ℤ, Bool, true, false, List, [], ◌∷◌, Option, Some, None, if◌then◌else◌, refl, sym, ap, subst, ◌∙◌, arith}
-use Rattle.std.proofs.lemmas.Option.{none-some}
+use Rattle.std.proofs.Common.{◌≡◌, ◌==◌, ◌+◌, ℕ, Bool, true, false, List, [], ◌∷◌, Some, if◌then◌else◌, refl, ap, ◌∙◌, arith}
 use Rattle.class_model.specs.declared.descriptor.Kind.{Kind}
 use Rattle.class_tree.specs.Headers.{Name}
 use Rattle.class_tree.specs.Names.{throwable}
-use Rattle.machine_values.specs.Heaps.{Heap, constant_made, entered, left, object_at}
+use Rattle.machine_values.specs.Heaps.{entered, left, object_at}
 use Rattle.machine_values.specs.Values.{has_kind}
 use Rattle.machine_values.specs.declared.object.Constant.{Constant}
 use Rattle.machine_values.specs.declared.object.Object.{Object}
 use Rattle.machine_values.specs.declared.object.Shape.{Shape}
 use Rattle.machine_values.specs.declared.value.Value.{Value}
 use Rattle.machine_values.specs.declared.value.Value.TheVariants as values
-use Rattle.member_link.specs.Machine.Arithmetic.{Meaning, of_ints, of_longs, of_long_and_int, of_int, of_long, int_to_long, long_to_int, longs_to_int, result_by}
-use Rattle.member_link.specs.Machine.Completions.{Completion, asks, asks_float, ends, gives, raises, throws}
+use Rattle.member_link.specs.Machine.Completions.{Completion, ends, gives, raises, throws}
 use Rattle.member_link.specs.Machine.ObjectSteps.{check_cast_work, enter_monitor_work, if_there, instance_of_work, leave_monitor_work, throw_work, with_entered}
 use Rattle.member_link.specs.Machine.Programs.{Program}
 use Rattle.member_link.specs.Machine.Shapes.{is_instance, shape_conforms}
-use Rattle.member_link.specs.Machine.Throwables.{arithmetic, class_cast, illegal_monitor, null_pointer}
-use Rattle.member_link.specs.Machine.Work.{arithmetic_work, division_work, divides_by_zero, float_work, of_result, push_constant_work}
+use Rattle.member_link.specs.Machine.Throwables.{class_cast, illegal_monitor}
+use Rattle.member_link.specs.Machine.Work.{push_constant_work}
 use Rattle.member_link.specs.Machine.Worlds.{Memory, with_heap, stuck}
-use Rattle.member_link.specs.Rows.ArithmeticRows.{Operation}
-use Rattle.same_runs.specs.Renamings.{Names, NamesMore, SameObject, SameValue, same_int, same_long, same_float, same_double, same_null, same_reference, SameValues, no_values, and_value}
-use Rattle.same_runs.specs.SameCompletions.{SameAsked, same_compute, SameCompletions, both_ask, both_end, both_give, both_raise, both_throw}
-use Rattle.same_runs.specs.SameMemories.{IsComparison, SameHeaps, SameMemories, SameStatics}
+use Rattle.same_runs.specs.Renamings.{Names, SameObject, SameValue, same_int, same_long, same_float, same_double, same_null, same_reference, SameValues, no_values, and_value}
+use Rattle.same_runs.specs.SameCompletions.{SameCompletions, both_end, both_give, both_raise, both_throw}
+use Rattle.same_runs.specs.SameMemories.{IsComparison, SameMemories}
 use Rattle.same_runs.specs.SamePrograms.{IsNoReference, SamePrograms}
-use Rattle.same_runs.specs.Laws.Names.{names_themselves, value_more}
-use Rattle.same_runs.specs.Laws.Heaps.{both_enter, both_leave, entered_constants, left_constants, same_monitor}
-use Rattle.same_runs.specs.Laws.Constants.{SameConstant, both_have}
+use Rattle.same_runs.specs.Laws.Names.{names_themselves}
+use Rattle.same_runs.specs.Laws.Heaps.{both_enter, both_leave, entered_constants, left_constants}
+use Rattle.same_runs.specs.Laws.Constants.{both_have}
 use Rattle.same_runs.specs.Laws.Shapes.{same_conforms, same_instance}
 use Rattle.same_runs.specs.Laws.Statics.{keeps_all, keeps_made, memories_counted, memories_still}
 

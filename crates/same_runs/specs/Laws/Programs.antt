@@ -1,21 +1,16 @@
 -- Programs that are the same answer the same of their classes, members and objects.
-use Rattle.std.proofs.Common.{◌≡◌, ◌==◌, ◌&&◌, ◌||◌, ℕ, zero, suc, Bool, true, false, not, List, [], ◌∷◌, ◌++◌, map, reverse, length, slice_get, bytes_eq, is_some, Option, Some, None, option_map, option_and_then, if◌then◌else◌, IsSome, IsTrue, refl, sym, ap, subst, ◌∙◌, inl, inr, ◌⊎◌, ◌≢◌, arith}
-use Rattle.std.specs.List.{AllByRecursion, filter, flat_map, list_any}
-use Rattle.std.proofs.lemmas.Bool.{and_parts, false≢true}
+use Rattle.std.proofs.Common.{◌≡◌, ℕ, zero, suc, Bool, true, false, List, [], ◌∷◌, ◌++◌, map, slice_get, bytes_eq, Option, Some, None, option_map, if◌then◌else◌, refl, sym, ap, subst, ◌∙◌, ◌≢◌}
+use Rattle.std.specs.List.{AllByRecursion}
+use Rattle.std.proofs.lemmas.Bool.{and_parts}
 use Rattle.std.proofs.lemmas.List.{map-append}
 use Rattle.std.proofs.lemmas.Option.{none-some, same_Some}
 use Rattle.std.proofs.lemmas.Slice.Eq.{bytes_eq-Decides}
-use Rattle.class_model.specs.Members.{has, STATIC}
+use Rattle.class_model.specs.Members.{STATIC}
 use Rattle.class_model.specs.Names.{init}
-use Rattle.class_model.specs.declared.class_file.MethodAt.{MethodAt}
 use Rattle.class_model.specs.declared.header.Header.{Header}
 use Rattle.class_model.specs.declared.header.Member.{Member}
-use Rattle.class_tree.specs.Headers.{Name, named, class_named}
-use Rattle.class_tree.specs.Layouts.{classes_up, instance_fields, own_fields, superclasses}
-use Rattle.class_tree.specs.Names.{is_interface}
-use Rattle.machine_values.specs.Values.{blank_value, blank_values}
-use Rattle.member_link.specs.Machine.Layouts.{own_slots, slots_of}
-use Rattle.member_link.specs.Machine.Programs.{Program, RunClass, RunMethod, headers_in, header_named, folder_number, name_of_class, is_interface_named, member_of, first_member, field_of, method_of, has_flag, number_of_first, place_of_method, run_method, code_run, code_at}
+use Rattle.class_tree.specs.Headers.{Name, named}
+use Rattle.member_link.specs.Machine.Programs.{Program, RunClass, RunMethod, header_named, folder_number, name_of_class, is_interface_named, member_of, first_member, field_of, method_of, has_flag, number_of_first}
 use Rattle.member_link.specs.Machine.FieldSteps.{static_number}
 use Rattle.member_link.specs.Machine.Worlds.{field_desc}
 use Rattle.member_link.specs.References.{Reference}

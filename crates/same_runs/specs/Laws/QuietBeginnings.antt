@@ -1,7 +1,7 @@
 -- Beginnings of the second run alone: where the first has begun the class before and nothing runs, they go by without being seen.
-use Rattle.std.proofs.Common.{◌≡◌, ◌≢◌, ◌==◌, ◌||◌, ◌+◌, ◌<◌, ◌≤◌, ℕ, zero, suc, Bool, true, false, List, [], ◌∷◌, codes, length, nat_le, reverse, slice_get, take, bytes_eq, is_some, Option, Some, None, option_map, option_and_then, if◌then◌else◌, IsTrue, IsFalse, refl, sym, ap, subst, ◌∙◌, inl, inr, ◌⊎◌, arith}
+use Rattle.std.proofs.Common.{◌≡◌, ◌≢◌, ◌==◌, ◌+◌, ◌<◌, ◌≤◌, ℕ, zero, suc, Bool, true, false, List, [], ◌∷◌, codes, length, nat_le, reverse, slice_get, take, bytes_eq, is_some, Option, Some, None, option_and_then, if◌then◌else◌, IsTrue, IsFalse, refl, sym, ap, subst, ◌∙◌, arith}
 use Rattle.std.specs.List.{list_any}
-use Rattle.std.proofs.lemmas.Bool.{eq-eqb, eqb-true, false≢true, or_cases}
+use Rattle.std.proofs.lemmas.Bool.{eqb-true, false≢true}
 use Rattle.std.proofs.lemmas.Option.{none-some, same_Some}
 use Rattle.std.proofs.lemmas.Slice.Eq.{bytes_eq-Decides}
 use Rattle.class_model.specs.Names.{clinit, init}
@@ -10,7 +10,6 @@ use Rattle.class_tree.specs.Headers.{Headers, Name}
 use Rattle.class_tree.specs.Hierarchy.{IsHierarchy}
 use Rattle.class_tree.specs.Subtype.{itself}
 use Rattle.machine_values.specs.declared.event.End.TheVariants as ends
-use Rattle.machine_values.specs.declared.event.Shown.{Shown}
 use Rattle.machine_values.specs.declared.frame.RunFrame.{RunFrame}
 use Rattle.machine_values.specs.declared.frame.RunFrame.TheVariants.{Beginning, Method}
 use Rattle.machine_values.specs.Frames.{MethodState}
@@ -25,8 +24,8 @@ use Rattle.member_link.specs.Machine.Work.{arity, work}
 use Rattle.member_link.specs.Machine.Worlds.{Memory, World, going, is_begun}
 use Rattle.member_link.specs.References.{Reference}
 use Rattle.same_runs.specs.Renamings.{Names, NamesMore}
-use Rattle.same_runs.specs.SameMemories.{BeginsQuietly, HasFirstBegun, IsBegunAlone, IsInert, SameMemories}
-use Rattle.same_runs.specs.SamePrograms.{SameClass, SamePrograms}
+use Rattle.same_runs.specs.SameMemories.{BeginsQuietly, SameMemories}
+use Rattle.same_runs.specs.SamePrograms.{SamePrograms}
 use Rattle.same_runs.specs.SameWorlds.{Compares, Comparison, SameSeen}
 use Rattle.same_runs.specs.Simulations.{Quietly, at_once, turn_first}
 use Rattle.same_runs.specs.Laws.Begun.{marked, marked_itself, marked_still}

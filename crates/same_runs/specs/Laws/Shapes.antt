@@ -1,12 +1,11 @@
 -- In programs that are the same objects are instances of the same classes, and conform to the same types.
-use Rattle.std.proofs.Common.{◌≡◌, ◌==◌, ◌&&◌, ◌||◌, ℕ, Bool, false, List, [], ◌∷◌, Option, Some, None, refl, sym, ap, subst, ◌∙◌}
+use Rattle.std.proofs.Common.{◌≡◌, ℕ, List, [], ◌∷◌, Option, Some, None, refl, ap, ◌∙◌}
 use Rattle.std.specs.List.{list_any}
-use Rattle.class_model.specs.Characters.{left_bracket}
 use Rattle.class_tree.specs.Headers.{Name}
 use Rattle.machine_values.specs.Values.{component_text}
 use Rattle.machine_values.specs.declared.object.Shape.{Shape}
 use Rattle.machine_values.specs.declared.object.Shape.TheVariants.{Folder, Array, External}
-use Rattle.member_link.specs.Machine.Programs.{Links, Program, is_interface_named}
+use Rattle.member_link.specs.Machine.Programs.{Links, Program}
 use Rattle.member_link.specs.Machine.Shapes.{both_conform, class_conforms, class_of_shape, component_named, components_conform, is_instance, shape_conforms}
 use Rattle.same_runs.specs.SamePrograms.{SamePrograms}
 use Rattle.same_runs.specs.Laws.Programs.{same_interface, same_name}

@@ -1,17 +1,16 @@
 -- What the static fields of a class hold where it begins.
-use Rattle.std.proofs.Common.{◌≡◌, ◌==◌, ◌&&◌, ℕ, Bool, true, false, List, [], ◌∷◌, Option, Some, None, option_map, if◌then◌else◌, IsSome, refl, sym, ap, subst, ◌∙◌}
+use Rattle.std.proofs.Common.{◌≡◌, ◌==◌, ◌&&◌, ℕ, Bool, true, false, List, [], ◌∷◌, Option, Some, None, option_map, IsSome, refl, sym, ap, subst, ◌∙◌}
 use Rattle.std.specs.List.{AllByRecursion}
 use Rattle.std.proofs.lemmas.Bool.{eq-eqb, eqb-true}
 use Rattle.class_model.specs.Descriptors.{type_of}
-use Rattle.machine_values.specs.Heaps.{Heap, Kept, Made, constant_made, kept_in}
+use Rattle.machine_values.specs.Heaps.{Heap, constant_made}
 use Rattle.machine_values.specs.Values.{narrowed}
-use Rattle.machine_values.specs.declared.object.Constant.{Constant}
 use Rattle.machine_values.specs.declared.object.Constant.TheVariants.{Str}
 use Rattle.machine_values.specs.declared.value.Value.{Value}
 use Rattle.machine_values.specs.declared.value.Value.TheVariants as values
 use Rattle.member_link.specs.Machine.Beginnings.{with_start, with_starts}
 use Rattle.member_link.specs.Machine.Programs.{Program, StartValue, StaticStart, start_string, start_value}
-use Rattle.member_link.specs.Machine.Worlds.{Memory, StaticValue, field_desc, put_static_in, with_heap, with_static, written_static}
+use Rattle.member_link.specs.Machine.Worlds.{Memory, field_desc, written_static}
 use Rattle.same_runs.specs.SameMemories.{IsKeptStart, start_in, started}
 use Rattle.same_runs.specs.Laws.Constants.{made_is_kept}
 use Rattle.same_runs.specs.Laws.Statics.{KeepsConstants, keeps_made, start_same}

@@ -1,19 +1,16 @@
 -- Static fields of two runs stay the same where heaps grow.
-use Rattle.std.proofs.Common.{◌≡◌, ◌==◌, ℕ, Bool, List, [], ◌∷◌, length, Option, Some, None, option_map, if◌then◌else◌, IsSome, refl, sym, ap, subst, ◌∙◌}
+use Rattle.std.proofs.Common.{◌≡◌, ℕ, List, [], ◌∷◌, Option, Some, None, option_map, IsSome, refl, sym, ap, subst, ◌∙◌}
 use Rattle.std.specs.List.{AllByRecursion}
 use Rattle.std.proofs.lemmas.Bool.{false≢true}
-use Rattle.class_model.specs.Descriptors.{type_of}
-use Rattle.machine_values.specs.Heaps.{Heap, Kept, kept_in, object_at, constant_made}
-use Rattle.machine_values.specs.Values.{narrowed}
+use Rattle.machine_values.specs.Heaps.{Heap, Kept, kept_in, constant_made}
 use Rattle.machine_values.specs.declared.object.Constant.{Constant}
 use Rattle.machine_values.specs.declared.object.Constant.TheVariants.{Str}
-use Rattle.machine_values.specs.declared.value.Value.{Value}
 use Rattle.machine_values.specs.declared.value.Value.TheVariants as values
 use Rattle.member_link.specs.Machine.Beginnings.{starts_of}
 use Rattle.member_link.specs.Machine.Programs.{Program, StartValue, StaticStart, start_string, start_value}
-use Rattle.member_link.specs.Machine.Worlds.{Memory, field_desc, with_heap}
+use Rattle.member_link.specs.Machine.Worlds.{Memory, with_heap}
 use Rattle.same_runs.specs.Renamings.{Names, NamesMore}
-use Rattle.same_runs.specs.SameMemories.{IsAsBegun, IsBegunAlone, IsKeptStart, SameHeaps, SameMemories, SameStatics, start_in, started}
+use Rattle.same_runs.specs.SameMemories.{IsAsBegun, IsKeptStart, SameHeaps, SameMemories, SameStatics, start_in, started}
 use Rattle.same_runs.specs.Laws.Constants.{kept_by_made}
 use Rattle.same_runs.specs.Laws.Names.{value_more}
 

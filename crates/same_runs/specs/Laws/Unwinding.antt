@@ -1,18 +1,17 @@
 -- An object that is thrown in both runs ends at the same place.
-use Rattle.std.proofs.Common.{◌≡◌, ℕ, Bool, true, false, List, [], ◌∷◌, Option, Some, None, if◌then◌else◌, refl, sym, ap, subst, ◌∙◌, inl, inr, ◌⊎◌}
-use Rattle.class_tree.specs.Headers.{Name}
+use Rattle.std.proofs.Common.{◌≡◌, ℕ, Bool, true, false, List, [], ◌∷◌, Option, Some, None, if◌then◌else◌, refl, ap, ◌∙◌, inl, inr, ◌⊎◌}
 use Rattle.machine_values.specs.Frames.{MethodState}
 use Rattle.machine_values.specs.Heaps.{Heap, left, object_at}
 use Rattle.machine_values.specs.declared.frame.RunFrame.{RunFrame}
-use Rattle.machine_values.specs.declared.frame.RunFrame.TheVariants.{Library, Beginning, Method}
+use Rattle.machine_values.specs.declared.frame.RunFrame.TheVariants.{Method}
 use Rattle.machine_values.specs.declared.object.Object.{Object}
 use Rattle.machine_values.specs.declared.object.Shape.{Shape}
-use Rattle.member_link.specs.Machine.Performing.{Landing, handler_at, handler_for, is_initialiser, leaves_initialiser, unlocked, unwind}
-use Rattle.member_link.specs.Machine.Programs.{Catch, Point, Program, RunMethod, point_at, run_method}
+use Rattle.member_link.specs.Machine.Performing.{handler_at, handler_for, is_initialiser, leaves_initialiser, unlocked, unwind}
+use Rattle.member_link.specs.Machine.Programs.{Catch, Point, Program, point_at}
 use Rattle.member_link.specs.Machine.Shapes.{is_instance}
-use Rattle.member_link.specs.Machine.Worlds.{Memory, with_heap}
-use Rattle.same_runs.specs.Renamings.{Names, NamesMore, SameHeld, none_held, one_held, SameObject}
-use Rattle.same_runs.specs.SameFrames.{EndSame, PassesOn, SameCatches, no_catches, and_catch, SameLanding, both_catch, both_leave, both_nowhere, both_reach_library, Unwinds, in_beginnings, in_both, in_first, in_library, in_none, catches_at, caught}
+use Rattle.member_link.specs.Machine.Worlds.{Memory}
+use Rattle.same_runs.specs.Renamings.{Names, SameHeld, none_held, one_held, SameObject}
+use Rattle.same_runs.specs.SameFrames.{SameCatches, no_catches, and_catch, SameLanding, both_catch, both_leave, both_nowhere, both_reach_library, Unwinds, in_beginnings, in_both, in_first, in_library, in_none, catches_at, caught}
 use Rattle.same_runs.specs.SameMemories.{SameMemories}
 use Rattle.same_runs.specs.SamePrograms.{SamePrograms}
 use Rattle.same_runs.specs.Laws.Heaps.{left_constants}

@@ -1,20 +1,19 @@
 -- The same operation, with the same operands and memories, comes to the same in both runs: or the second has to begin a class first that the
 -- first has begun.
-use Rattle.std.proofs.Common.{◌≡◌, ◌-◌, ℕ, List, [], ◌∷◌, Option, Some, sym, ap, subst}
-use Rattle.class_model.specs.Names.{init}
+use Rattle.std.proofs.Common.{◌≡◌, ◌-◌, ℕ, List, [], Option, sym, ap, subst}
 use Rattle.class_model.specs.declared.opcodes.TheConstants.{IALOAD, IASTORE}
 use Rattle.class_tree.specs.Headers.{Name}
 use Rattle.machine_values.specs.declared.value.Value.{Value}
 use Rattle.member_link.specs.Machine.Arithmetic.{divide_meanings, meaning_in, pure_meanings}
 use Rattle.member_link.specs.Machine.Completions.{Completion}
-use Rattle.member_link.specs.Machine.FieldSteps.{get_field_work, get_static_work, is_barred, put_field_work, put_static_work}
+use Rattle.member_link.specs.Machine.FieldSteps.{get_field_work, get_static_work, put_field_work, put_static_work}
 use Rattle.member_link.specs.Machine.Ops.{Op, no_operation, meaningless, push_value, push_constant, load_local, store_local, increment_local, test_local, shuffle_stack, pure_arithmetic, division, float_arithmetic, jump_by_int, jump_by_ints, jump_by_references, jump_by_null, jump_to, table_switch, lookup_switch, return_nothing, return_value, throw_reference, get_static, put_static, get_field, put_field, call_static, call_virtual, call_interface, call_special, call_dynamic, new_object, new_array, new_arrays, load_element, store_element, array_length, check_cast, instance_of, enter_monitor, leave_monitor}
 use Rattle.member_link.specs.Machine.Programs.{Links, Program}
 use Rattle.member_link.specs.Machine.Work.{work}
 use Rattle.member_link.specs.Machine.Worlds.{Memory}
 use Rattle.member_link.specs.References.{Reference}
 use Rattle.member_link.specs.Rows.ArithmeticRows.{float_operations, operation_in}
-use Rattle.same_runs.specs.Renamings.{Names, SameValues, no_values, and_value}
+use Rattle.same_runs.specs.Renamings.{Names, SameValues}
 use Rattle.same_runs.specs.SameCompletions.{SameCompletions, both_end}
 use Rattle.same_runs.specs.SameMemories.{IsComparison, SameMemories}
 use Rattle.same_runs.specs.SamePrograms.{IsInBoth, SameBar, SameOp, same_op, same_store, SamePrograms}
