@@ -20,7 +20,8 @@ pub data SameResult : Option Value → Option Value → Type 0 where
   no_result : SameResult None None
   one_result : {value : Value} → IsNoReference value → SameResult (Some value) (Some value)
 
-pub results_same : {names : Names} (meaning : Meaning) {ones others : List Value} → SameValues names ones others → SameResult (result_by meaning ones) (result_by meaning others)
+pub results_same : {names : Names} (meaning : Meaning) {ones others : List Value} → SameValues names ones others
+    → SameResult (result_by meaning ones) (result_by meaning others)
 results_same (of_ints f) no_values = no_result
 results_same (of_ints f) (and_value same_long rest) = no_result
 results_same (of_ints f) (and_value same_float rest) = no_result
@@ -146,20 +147,30 @@ module _ {P Q : Program} {Allocated Entered : ℕ → ℕ → Type 0} {names : N
   result_given no_result = both_end
   result_given (one_result {value = value} none) = gives_value same memories (itself names value none)
 
-  pub computes : (meaning : Option Meaning) {ones others : List Value} → SameValues names ones others → Both (arithmetic_work one meaning ones) (arithmetic_work other meaning others)
+  pub computes : (meaning : Option Meaning) {ones others : List Value} → SameValues names ones others
+      → Both (arithmetic_work one meaning ones) (arithmetic_work other meaning others)
   computes None are = both_end
   computes (Some meaning) are = result_given (results_same meaning are)
 
-  pub divides : (meaning : Option Meaning) {ones others : List Value} → SameValues names ones others → Both (division_work one meaning ones) (division_work other meaning others)
+  pub divides : (meaning : Option Meaning) {ones others : List Value} → SameValues names ones others
+      → Both (division_work one meaning ones) (division_work other meaning others)
   divides None are = both_end
-  divides (Some meaning) {ones = ones} {others = others} are = by (result_by meaning ones) (result_by meaning others) refl refl (results_same meaning are) (divides_by_zero ones) refl where
-    by : (result also : Option Value) → result_by meaning ones ≡ result → result_by meaning others ≡ also → SameResult result also → (b : Bool) → divides_by_zero ones ≡ b
-        → Both (division_work one (Some meaning) ones) (division_work other (Some meaning) others)
-    by None None is is_also no_result b e = rw (is, is_also) both_end
-    by None (Some value) is is_also impossible b e = elim impossible [ ]
-    by (Some value) None is is_also impossible b e = elim impossible [ ]
-    by (Some value) (Some also) is is_also (one_result none) true e = rw (is, is_also, e, zero_same are ∙ e) both_raise
-    by (Some value) (Some also) is is_also (one_result none) false e = rw (is, is_also, e, zero_same are ∙ e) (gives_value same memories (itself names value none))
+  divides (Some meaning) {ones = ones} {others = others} are = by (result_by meaning ones) (result_by meaning others) refl refl
+      (results_same meaning are) (divides_by_zero ones) refl where
+        by : (result also : Option Value) → result_by meaning ones ≡ result → result_by meaning others ≡ also → SameResult result also
+            → (b : Bool) → divides_by_zero ones ≡ b
+            → Both (division_work one (Some meaning) ones) (division_work other (Some meaning) others)
+        by None None is is_also no_result b e = rw (is, is_also) both_end
+        by None (Some value) is is_also impossible b e = elim impossible [ ]
+        by (Some value) None is is_also impossible b e = elim impossible [ ]
+        by (Some value) (Some also) is is_also (one_result none) true e = rw (is, is_also, e, zero_same are ∙ e) both_raise
+        by (Some value) (Some also) is is_also (one_result none) false e = rw (
+          is,
+          is_also,
+          e,
+          zero_same are
+              ∙ e,
+        ) (gives_value same memories (itself names value none))
 
   -- ---- floats and doubles
 
@@ -174,10 +185,12 @@ module _ {P Q : Program} {Allocated Entered : ℕ → ℕ → Type 0} {names : N
   have_same (kind ∷ kinds) no_values = refl
   have_same (kind ∷ kinds) (and_value is are) = rw (kind_same same memories kind is, have_same kinds are) refl
 
-  pub asks_same : (opcode : ℕ) (operation : Option Operation) {ones others : List Value} → SameValues names ones others → Both (float_work opcode operation ones) (float_work opcode operation others)
+  pub asks_same : (opcode : ℕ) (operation : Option Operation) {ones others : List Value} → SameValues names ones others
+      → Both (float_work opcode operation ones) (float_work opcode operation others)
   asks_same opcode None are = both_end
   asks_same opcode (Some operation) {ones = ones} {others = others} are = by (have_all operation.takes ones) refl where
-    by : (b : Bool) → have_all operation.takes ones ≡ b → Both (float_work opcode (Some operation) ones) (float_work opcode (Some operation) others)
+    by : (b : Bool) → have_all operation.takes ones ≡ b
+        → Both (float_work opcode (Some operation) ones) (float_work opcode (Some operation) others)
     by true e =
         let also : have_all operation.takes others ≡ true = have_same operation.takes are ∙ e in
         rw e (rw also (both_ask (same_compute are)))

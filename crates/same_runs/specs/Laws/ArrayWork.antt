@@ -28,7 +28,8 @@ use Rattle.same_runs.specs.Laws.Statics.{keeps_all, memories_counted, memories_s
 
 -- ---- elements that are zero or null
 
-blanks : (names : Names) (desc : List ℕ) (count : ℕ) → SameValues names (replicate count (blank_value desc)) (replicate count (blank_value desc))
+blanks : (names : Names) (desc : List ℕ) (count : ℕ)
+    → SameValues names (replicate count (blank_value desc)) (replicate count (blank_value desc))
 blanks names desc zero = no_values
 blanks names desc (suc count) = and_value (blank_itself names desc) (blanks names desc count)
 
@@ -41,7 +42,8 @@ pub record SameElements (names : Names) (one other : Heap) (made also : MadeElem
   pub are : SameValues more made.values also.values
   pub constants : made.heap.constants ≡ one.constants
 
-pub blank_both : {names : Names} {one other : Heap} → SameHeaps names one other → (desc : Name) (count : ℕ) → SameMade names one other (blank_array one desc count) (blank_array other desc count)
+pub blank_both : {names : Names} {one other : Heap} → SameHeaps names one other → (desc : Name) (count : ℕ)
+    → SameMade names one other (blank_array one desc count) (blank_array other desc count)
 blank_both {names = names} same desc count = made_both same (shapes.Array desc count) _ _ (blanks names (component_text desc) count)
 
 -- what makes one in both, under any names
@@ -87,7 +89,8 @@ counts_same (and_value same_double are) = refl
 counts_same (and_value same_null are) = refl
 counts_same (and_value (same_reference is) are) = refl
 
-stores_same : {names : Names} (number : ℕ) {value also : Value} → SameValue names value also → stores_value number also ≡ stores_value number value
+stores_same : {names : Names} (number : ℕ) {value also : Value} → SameValue names value also
+    → stores_value number also ≡ stores_value number value
 stores_same number same_int = refl
 stores_same number same_long = refl
 stores_same number same_float = refl
@@ -100,7 +103,8 @@ module _ {P Q : Program} {Allocated Entered : ℕ → ℕ → Type 0} {names : N
   abbrev Both : Completion → Completion → Type 0
   Both completion also = SameCompletions P Allocated Entered names one other completion also
 
-  pub makes_array : IsComparison Allocated → (desc : Name) {ones others : List Value} → SameValues names ones others → Both (new_array_work one desc ones) (new_array_work other desc others)
+  pub makes_array : IsComparison Allocated → (desc : Name) {ones others : List Value} → SameValues names ones others
+      → Both (new_array_work one desc ones) (new_array_work other desc others)
   makes_array compares desc no_values = both_end
   makes_array compares desc (and_value same_long are) = both_end
   makes_array compares desc (and_value same_float are) = both_end
@@ -111,33 +115,52 @@ module _ {P Q : Program} {Allocated Entered : ℕ → ℕ → Type 0} {names : N
   makes_array compares desc (and_value (same_int {number = negsuc n}) (and_value more are)) = both_end
   makes_array compares desc (and_value (same_int {number = pos count}) (and_value more are)) = both_end
   makes_array compares desc (and_value (same_int {number = pos count}) no_values) = by (nat_lt most_elements count) where
-    by : (b : Bool) → Both (if b then ends array_too_long else gives (record one { heap = (blank_array one.heap desc count).heap; allocations = one.allocations + 1 }) (values.Ref (length one.heap.objects) ∷ []))
-        (if b then ends array_too_long else gives (record other { heap = (blank_array other.heap desc count).heap; allocations = other.allocations + 1 }) (values.Ref (length other.heap.objects) ∷ []))
+    by : (b : Bool) → Both
+        (if b then ends array_too_long else gives
+        (record one { heap = (blank_array one.heap desc count).heap; allocations = one.allocations + 1 })
+        (values.Ref (length one.heap.objects) ∷ []))
+        (if b then ends array_too_long else gives
+        (record other { heap = (blank_array other.heap desc count).heap; allocations = other.allocations + 1 })
+        (values.Ref (length other.heap.objects) ∷ []))
     by true = both_end
-    by false = allocates same memories compares (shapes.Array desc count) _ _ 1 (blanks (named_too names (length one.heap.objects) (length other.heap.objects)) (component_text desc) count)
+    by false = allocates same memories compares (shapes.Array desc count) _ _ 1
+        (blanks (named_too names (length one.heap.objects) (length other.heap.objects)) (component_text desc) count)
 
   gives_made : IsComparison Allocated → (made also : Made) (more : ℕ) → SameMade names one.heap other.heap made also
       → Both (gives (record one { heap = made.heap; allocations = one.allocations + more }) (values.Ref made.reference ∷ []))
       (gives (record other { heap = also.heap; allocations = other.allocations + more }) (values.Ref also.reference ∷ []))
   gives_made compares made also more both =
       both_give both.more both.grows
-      (memories_counted (one.allocations + more) (other.allocations + more) one.entries other.entries (compares.both one.allocations other.allocations more memories.allocations) memories.entries
+      (memories_counted (one.allocations + more) (other.allocations + more) one.entries other.entries
+      (compares.both one.allocations other.allocations more memories.allocations) memories.entries
       (memories_still both.grows (keeps_all one.heap made.heap both.constants) both.heaps memories))
       (and_value (same_reference both.is) no_values)
 
-  makes_counted : IsComparison Allocated → (desc : Name) (counts : Counts) → Both (arrays_of_counts one desc counts) (arrays_of_counts other desc counts)
+  makes_counted : IsComparison Allocated → (desc : Name) (counts : Counts)
+      → Both (arrays_of_counts one desc counts) (arrays_of_counts other desc counts)
   makes_counted compares desc no_counts = both_end
   makes_counted compares desc negative_count = both_raise
   makes_counted compares desc (all_counts []) = both_end
   makes_counted compares desc (all_counts (count ∷ counts)) = by (is_too_long 1 (count ∷ counts)) where
-    by : (b : Bool) → Both (if b then ends array_too_long else gives (record one { heap = (nested desc count counts one.heap).heap; allocations = one.allocations + arrays_made (count ∷ counts) }) (values.Ref (nested desc count counts one.heap).reference ∷ []))
-        (if b then ends array_too_long else gives (record other { heap = (nested desc count counts other.heap).heap; allocations = other.allocations + arrays_made (count ∷ counts) }) (values.Ref (nested desc count counts other.heap).reference ∷ []))
+    by : (b : Bool) → Both
+        (if b then ends array_too_long else gives
+        (record one { heap = (nested desc count counts one.heap).heap; allocations = one.allocations + arrays_made (count ∷ counts) })
+        (values.Ref (nested desc count counts one.heap).reference ∷ []))
+        (if b then ends array_too_long else gives
+        (record other {
+          heap = (nested desc count counts other.heap).heap;
+          allocations = other.allocations + arrays_made
+              (count ∷ counts);
+        }) (values.Ref (nested desc count counts other.heap).reference ∷ []))
     by true = both_end
-    by false = gives_made compares _ _ (arrays_made (count ∷ counts)) (nested_both desc count counts names one.heap other.heap memories.heaps)
+    by false = gives_made compares _ _ (arrays_made (count ∷ counts))
+        (nested_both desc count counts names one.heap other.heap memories.heaps)
 
-  pub makes_arrays : IsComparison Allocated → (desc : Name) {ones others : List Value} → SameValues names ones others → Both (new_arrays_work one desc ones) (new_arrays_work other desc others)
+  pub makes_arrays : IsComparison Allocated → (desc : Name) {ones others : List Value} → SameValues names ones others
+      → Both (new_arrays_work one desc ones) (new_arrays_work other desc others)
   makes_arrays compares desc {ones = ones} are =
-      subst (λ (counts : Counts). Both (arrays_of_counts one desc (counts_of ones)) (arrays_of_counts other desc counts)) (sym (counts_same are)) (makes_counted compares desc (counts_of ones))
+      subst (λ (counts : Counts). Both (arrays_of_counts one desc (counts_of ones)) (arrays_of_counts other desc counts))
+      (sym (counts_same are)) (makes_counted compares desc (counts_of ones))
 
   -- ---- lengths and elements
 
@@ -148,7 +171,8 @@ module _ {P Q : Program} {Allocated Entered : ℕ → ℕ → Type 0} {names : N
     by (shapes.External class interfaces) e = rw (e, alike.shape ∙ e) both_end
     by (shapes.Array desc len) e = rw (e, alike.shape ∙ e) (gives_value same memories same_int)
 
-  pub lengths : {ones others : List Value} → SameValues names ones others → Both (array_length_work one ones) (array_length_work other others)
+  pub lengths : {ones others : List Value} → SameValues names ones others
+      → Both (array_length_work one ones) (array_length_work other others)
   lengths no_values = both_end
   lengths (and_value same_int are) = both_end
   lengths (and_value same_long are) = both_end
@@ -161,9 +185,11 @@ module _ {P Q : Program} {Allocated Entered : ℕ → ℕ → Type 0} {names : N
       let old = memories.heaps.objects reference named is in
       rw (old.2, old.3) (length_same old.0 old.1 old.4)
 
-  element_same : (number : ℕ) (index : ℤ) (object also : Object) → SameObject names object also → Both (element_of one number index (Some object)) (element_of other number index (Some also))
+  element_same : (number : ℕ) (index : ℤ) (object also : Object) → SameObject names object also
+      → Both (element_of one number index (Some object)) (element_of other number index (Some also))
   element_same number index object also alike = by object.shape refl where
-    at_index : (desc : Name) (len : ℕ) → object.shape ≡ shapes.Array desc len → takes_array number desc ≡ true → (found : Option ℕ) → index_in index len ≡ found
+    at_index : (desc : Name) (len : ℕ) → object.shape ≡ shapes.Array desc len → takes_array number desc ≡ true → (found : Option ℕ)
+        → index_in index len ≡ found
         → Both (element_of one number index (Some object)) (element_of other number index (Some also))
     at_index desc len e takes None found = rw (e, alike.shape ∙ e, takes, found) both_raise
     at_index desc len e takes (Some at) found = elim (value_at same memories object.values also.values at alike.values) [
@@ -176,12 +202,14 @@ module _ {P Q : Program} {Allocated Entered : ℕ → ℕ → Type 0} {names : N
     of_array desc len e false takes = rw (e, alike.shape ∙ e, takes) both_end
     of_array desc len e true takes = at_index desc len e takes (index_in index len) refl
 
-    by : (shape : Shape) → object.shape ≡ shape → Both (element_of one number index (Some object)) (element_of other number index (Some also))
+    by : (shape : Shape) → object.shape ≡ shape
+        → Both (element_of one number index (Some object)) (element_of other number index (Some also))
     by (shapes.Folder class) e = rw (e, alike.shape ∙ e) both_end
     by (shapes.External class interfaces) e = rw (e, alike.shape ∙ e) both_end
     by (shapes.Array desc len) e = of_array desc len e (takes_array number desc) refl
 
-  pub loads : (number : ℕ) {ones others : List Value} → SameValues names ones others → Both (load_element_work one number ones) (load_element_work other number others)
+  pub loads : (number : ℕ) {ones others : List Value} → SameValues names ones others
+      → Both (load_element_work one number ones) (load_element_work other number others)
   loads number no_values = both_end
   loads number (and_value same_int are) = both_end
   loads number (and_value same_long are) = both_end
@@ -206,49 +234,72 @@ module _ {P Q : Program} {Allocated Entered : ℕ → ℕ → Type 0} {names : N
   loads number (and_value (same_reference is) (and_value same_null are)) = both_end
   loads number (and_value (same_reference is) (and_value (same_reference also) are)) = both_end
 
-  component_same : (desc : Name) {value also : Value} → SameValue names value also → fits_component Q other desc also ≡ fits_component P one desc value
+  component_same : (desc : Name) {value also : Value} → SameValue names value also
+      → fits_component Q other desc also ≡ fits_component P one desc value
   component_same desc same_int = refl
   component_same desc same_long = refl
   component_same desc same_float = refl
   component_same desc same_double = refl
   component_same desc same_null = refl
   component_same desc (same_reference {reference = reference} {named = named} is) = by (component_named (component_text desc)) refl where
-    old : (object also : Object) × (object_at one.heap reference ≡ Some object) × (object_at other.heap named ≡ Some also) × SameObject names object also
+    old : (object also : Object) × (object_at one.heap reference ≡ Some object) × (object_at other.heap named ≡ Some also)
+        × SameObject names object also
     old = memories.heaps.objects reference named is
 
-    by : (found : Option Name) → component_named (component_text desc) ≡ found → fits_component Q other desc (values.Ref named) ≡ fits_component P one desc (values.Ref reference)
+    by : (found : Option Name) → component_named (component_text desc) ≡ found
+        → fits_component Q other desc (values.Ref named) ≡ fits_component P one desc (values.Ref reference)
     by None e = rw (e) refl
-    by (Some name) e = rw (e, old.2, old.3) (ap (λ (shape : Shape). is_instance Q shape name) old.4.shape ∙ same_instance same old.0.shape name)
+    by (Some name) e = rw (e, old.2, old.3) (ap (λ (shape : Shape). is_instance Q shape name) old.4.shape
+        ∙ same_instance same old.0.shape name)
 
-  put_same : (number : ℕ) (reference named : ℕ) (index : ℤ) {value also : Value} (object object_also : Object) → names reference ≡ Some named → SameValue names value also → SameObject names object object_also
+  put_same : (number : ℕ) (reference named : ℕ) (index : ℤ) {value also : Value} (object object_also : Object)
+      → names reference ≡ Some named → SameValue names value also → SameObject names object object_also
       → Both (put_element P one number reference index value (Some object)) (put_element Q other number named index also (Some object_also))
   put_same number reference named index {value = value} {also = also} object object_also is alike_value alike = by object.shape refl where
-    fitting : (desc : Name) (len at : ℕ) → object.shape ≡ shapes.Array desc len → takes_array number desc ≡ true → index_in index len ≡ Some at → (b : Bool) → fits_component P one desc value ≡ b
-        → Both (put_element P one number reference index value (Some object)) (put_element Q other number named index also (Some object_also))
-    fitting desc len at e takes found false fits = rw (e, alike.shape ∙ e, takes, found, fits, component_same desc alike_value ∙ fits) both_raise
+    fitting : (desc : Name) (len at : ℕ) → object.shape ≡ shapes.Array desc len → takes_array number desc ≡ true
+        → index_in index len ≡ Some at → (b : Bool) → fits_component P one desc value ≡ b
+        → Both (put_element P one number reference index value (Some object))
+        (put_element Q other number named index also (Some object_also))
+    fitting desc len at e takes found false fits = rw (
+      e,
+      alike.shape ∙ e,
+      takes,
+      found,
+      fits,
+      component_same desc alike_value
+          ∙ fits,
+    ) both_raise
     fitting desc len at e takes found true fits = rw (e, alike.shape ∙ e, takes, found, fits, component_same desc alike_value ∙ fits)
         (both_give names (names_themselves names)
         (memories_still (names_themselves names)
-        (keeps_all one.heap (with_value one.heap reference at (narrowed (type_of (component_text desc)) value)) (value_constants one.heap reference at (narrowed (type_of (component_text desc)) value)))
+        (keeps_all one.heap (with_value one.heap reference at (narrowed (type_of (component_text desc)) value))
+        (value_constants one.heap reference at (narrowed (type_of (component_text desc)) value)))
         (both_write memories.heaps reference named at is (narrowed_same (type_of (component_text desc)) alike_value)) memories) no_values)
 
-    at_index : (desc : Name) (len : ℕ) → object.shape ≡ shapes.Array desc len → takes_array number desc ≡ true → (found : Option ℕ) → index_in index len ≡ found
-        → Both (put_element P one number reference index value (Some object)) (put_element Q other number named index also (Some object_also))
+    at_index : (desc : Name) (len : ℕ) → object.shape ≡ shapes.Array desc len → takes_array number desc ≡ true → (found : Option ℕ)
+        → index_in index len ≡ found
+        → Both (put_element P one number reference index value (Some object))
+        (put_element Q other number named index also (Some object_also))
     at_index desc len e takes None found = rw (e, alike.shape ∙ e, takes, found) both_raise
     at_index desc len e takes (Some at) found = fitting desc len at e takes found (fits_component P one desc value) refl
 
     of_array : (desc : Name) (len : ℕ) → object.shape ≡ shapes.Array desc len → (b : Bool) → takes_array number desc ≡ b
-        → Both (put_element P one number reference index value (Some object)) (put_element Q other number named index also (Some object_also))
+        → Both (put_element P one number reference index value (Some object))
+        (put_element Q other number named index also (Some object_also))
     of_array desc len e false takes = rw (e, alike.shape ∙ e, takes) both_end
     of_array desc len e true takes = at_index desc len e takes (index_in index len) refl
 
-    by : (shape : Shape) → object.shape ≡ shape → Both (put_element P one number reference index value (Some object)) (put_element Q other number named index also (Some object_also))
+    by : (shape : Shape) → object.shape ≡ shape
+        → Both (put_element P one number reference index value (Some object))
+        (put_element Q other number named index also (Some object_also))
     by (shapes.Folder class) e = rw (e, alike.shape ∙ e) both_end
     by (shapes.External class interfaces) e = rw (e, alike.shape ∙ e) both_end
     by (shapes.Array desc len) e = of_array desc len e (takes_array number desc) refl
 
-  into_same : (number : ℕ) (index : ℤ) {array array_also value also : Value} → SameValue names array array_also → SameValue names value also → stores_value number value ≡ true
-      → Both (store_element_work P one number (array ∷ values.Int index ∷ value ∷ [])) (store_element_work Q other number (array_also ∷ values.Int index ∷ also ∷ []))
+  into_same : (number : ℕ) (index : ℤ) {array array_also value also : Value} → SameValue names array array_also
+      → SameValue names value also → stores_value number value ≡ true
+      → Both (store_element_work P one number (array ∷ values.Int index ∷ value ∷ []))
+      (store_element_work Q other number (array_also ∷ values.Int index ∷ also ∷ []))
   into_same number index same_int alike fits = rw (fits, stores_same number alike ∙ fits) both_end
   into_same number index same_long alike fits = rw (fits, stores_same number alike ∙ fits) both_end
   into_same number index same_float alike fits = rw (fits, stores_same number alike ∙ fits) both_end
@@ -258,7 +309,8 @@ module _ {P Q : Program} {Allocated Entered : ℕ → ℕ → Type 0} {names : N
       let old = memories.heaps.objects reference named is in
       rw (fits, stores_same number alike ∙ fits, old.2, old.3) (put_same number reference named index old.0 old.1 is alike old.4)
 
-  pub stores : (number : ℕ) {ones others : List Value} → SameValues names ones others → Both (store_element_work P one number ones) (store_element_work Q other number others)
+  pub stores : (number : ℕ) {ones others : List Value} → SameValues names ones others
+      → Both (store_element_work P one number ones) (store_element_work Q other number others)
   stores number no_values = both_end
   stores number (and_value array no_values) = both_end
   stores number (and_value array (and_value same_long are)) = both_end
@@ -268,8 +320,11 @@ module _ {P Q : Program} {Allocated Entered : ℕ → ℕ → Type 0} {names : N
   stores number (and_value array (and_value (same_reference is) are)) = both_end
   stores number (and_value array (and_value same_int no_values)) = both_end
   stores number (and_value array (and_value same_int (and_value value (and_value more are)))) = both_end
-  stores number (and_value {one = first} {other = first_also} array (and_value (same_int {number = index}) (and_value {one = value} {other = also} alike no_values))) = by (stores_value number value) refl where
-    by : (b : Bool) → stores_value number value ≡ b
-        → Both (store_element_work P one number (first ∷ values.Int index ∷ value ∷ [])) (store_element_work Q other number (first_also ∷ values.Int index ∷ also ∷ []))
-    by true fits = into_same number index array alike fits
-    by false fits = rw (fits, stores_same number alike ∙ fits) both_end
+  stores number (and_value {one = first} {other = first_also} array
+      (and_value (same_int {number = index}) (and_value {one = value} {other = also} alike no_values))) = by
+      (stores_value number value) refl where
+        by : (b : Bool) → stores_value number value ≡ b
+            → Both (store_element_work P one number (first ∷ values.Int index ∷ value ∷ []))
+            (store_element_work Q other number (first_also ∷ values.Int index ∷ also ∷ []))
+        by true fits = into_same number index array alike fits
+        by false fits = rw (fits, stores_same number alike ∙ fits) both_end

@@ -22,14 +22,17 @@ use Rattle.same_runs.specs.Laws.Statics.{keeps_made, memories_still}
 abbrev pub marked : Memory → ℕ → Memory
 marked memory class = record memory { begun = memory.begun ++ class ∷ [] }
 
-any_more : (begun : List ℕ) (class at : ℕ) → list_any (λ (other : ℕ). other == at) (begun ++ class ∷ []) ≡ (list_any (λ (other : ℕ). other == at) begun || (class == at))
+any_more : (begun : List ℕ) (class at : ℕ)
+    → list_any (λ (other : ℕ). other == at) (begun ++ class ∷ []) ≡ (list_any (λ (other : ℕ). other == at) begun || (class == at))
 any_more [] class at = by (class == at) where
   by : (b : Bool) → (b || false) ≡ (false || b)
   by true = refl
   by false = refl
 any_more (first ∷ begun) class at = by (first == at) (any_more begun class at) where
-  by : (b : Bool) → list_any (λ (other : ℕ). other == at) (begun ++ class ∷ []) ≡ (list_any (λ (other : ℕ). other == at) begun || (class == at))
-      → (b || list_any (λ (other : ℕ). other == at) (begun ++ class ∷ [])) ≡ ((b || list_any (λ (other : ℕ). other == at) begun) || (class == at))
+  by : (b : Bool) → list_any (λ (other : ℕ). other == at) (begun ++ class ∷ [])
+      ≡ (list_any (λ (other : ℕ). other == at) begun || (class == at))
+      → (b || list_any (λ (other : ℕ). other == at) (begun ++ class ∷ []))
+      ≡ ((b || list_any (λ (other : ℕ). other == at) begun) || (class == at))
   by true rest = refl
   by false rest = rest
 
@@ -37,19 +40,22 @@ pub begun_where_marked : (memory : Memory) (class at : ℕ) → is_begun (marked
 begun_where_marked memory class at = any_more memory.begun class at
 
 pub marked_itself : (memory : Memory) (class : ℕ) → IsTrue (is_begun (marked memory class) class)
-marked_itself memory class = begun_where_marked memory class class ∙ or_right (is_begun memory class) (class == class) (eq-eqb class class refl)
+marked_itself memory class = begun_where_marked memory class class
+    ∙ or_right (is_begun memory class) (class == class) (eq-eqb class class refl)
 
 pub marked_still : (memory : Memory) (class at : ℕ) → IsTrue (is_begun memory at) → IsTrue (is_begun (marked memory class) at)
 marked_still memory class at is = begun_where_marked memory class at ∙ or_left (is_begun memory at) (class == at) is
 
 -- begun before, or the class that is marked
-pub marked_cases : (memory : Memory) (class at : ℕ) → IsTrue (is_begun (marked memory class) at) → (IsTrue (is_begun memory at)) ⊎ (class ≡ at)
+pub marked_cases : (memory : Memory) (class at : ℕ) → IsTrue (is_begun (marked memory class) at)
+    → (IsTrue (is_begun memory at)) ⊎ (class ≡ at)
 marked_cases memory class at is = elim (or_cases (is_begun memory at) (class == at) (sym (begun_where_marked memory class at) ∙ is)) [
   | inl before ↦ inl before
   | inr same ↦ inr (eqb-true class at same)
 ]
 
-pub unmarked : (memory : Memory) (class at : ℕ) → IsFalse (is_begun (marked memory class) at) → IsFalse (is_begun memory at) × ((class ≡ at) → ⊥)
+pub unmarked : (memory : Memory) (class at : ℕ) → IsFalse (is_begun (marked memory class) at)
+    → IsFalse (is_begun memory at) × ((class ≡ at) → ⊥)
 unmarked memory class at none = (
   by (is_begun memory at) refl,
   λ same. false≢true (sym none ∙ subst (λ (n : ℕ). IsTrue (is_begun (marked memory class) n)) same (marked_itself memory class)),
@@ -59,10 +65,13 @@ unmarked memory class at none = (
   by true e = absurd (false≢true (sym none ∙ marked_still memory class at e))
 
 -- what is begun before a class stays begun
-pub first_still : (P : Program) (before after : Memory) (class : ℕ) → ((at : ℕ) → IsTrue (is_begun before at) → IsTrue (is_begun after at)) → HasFirstBegun P before class → HasFirstBegun P after class
-first_still P before after class more first = λ found name number at is is_name is_number. more at (first found name number at is is_name is_number)
+pub first_still : (P : Program) (before after : Memory) (class : ℕ)
+    → ((at : ℕ) → IsTrue (is_begun before at) → IsTrue (is_begun after at)) → HasFirstBegun P before class → HasFirstBegun P after class
+first_still P before after class more first = λ found name number at is is_name is_number. more at
+    (first found name number at is is_name is_number)
 
-pub start_begun : (R : Program) (class at : ℕ) (memory : Memory) (start : StaticStart) → is_begun (with_start R class memory start) at ≡ is_begun memory at
+pub start_begun : (R : Program) (class at : ℕ) (memory : Memory) (start : StaticStart)
+    → is_begun (with_start R class memory start) at ≡ is_begun memory at
 start_begun R class at memory start = by start.value refl where
   by : (value : StartValue) → start.value ≡ value → is_begun (with_start R class memory start) at ≡ is_begun memory at
   by (start_value value) is = rw (is) refl
@@ -71,7 +80,8 @@ start_begun R class at memory start = by start.value refl where
 module _ {P Q : Program} (same : SamePrograms P Q) where
   pub same_starts : (class : ℕ) → starts_of Q class ≡ starts_of P class
   same_starts class = by (slice_get P.classes class) (slice_get Q.classes class) refl refl (at_number same class) where
-    by : (one other : Option RunClass) → slice_get P.classes class ≡ one → slice_get Q.classes class ≡ other → SameAt P one other → starts_of Q class ≡ starts_of P class
+    by : (one other : Option RunClass) → slice_get P.classes class ≡ one → slice_get Q.classes class ≡ other → SameAt P one other
+        → starts_of Q class ≡ starts_of P class
     by None None is is_also at_none = rw (is, is_also) refl
     by None (Some other) is is_also impossible = elim impossible [ ]
     by (Some one) None is is_also impossible = elim impossible [ ]
@@ -79,7 +89,8 @@ module _ {P Q : Program} (same : SamePrograms P Q) where
 
   pub plain_starts : (class : ℕ) → AllByRecursion IsPlainStart (starts_of P class)
   plain_starts class = by (slice_get P.classes class) (slice_get Q.classes class) refl refl (at_number same class) where
-    by : (one other : Option RunClass) → slice_get P.classes class ≡ one → slice_get Q.classes class ≡ other → SameAt P one other → AllByRecursion IsPlainStart (starts_of P class)
+    by : (one other : Option RunClass) → slice_get P.classes class ≡ one → slice_get Q.classes class ≡ other → SameAt P one other
+        → AllByRecursion IsPlainStart (starts_of P class)
     by None None is is_also at_none = rw (is) tt
     by None (Some other) is is_also impossible = elim impossible [ ]
     by (Some one) None is is_also impossible = elim impossible [ ]
@@ -88,7 +99,8 @@ module _ {P Q : Program} (same : SamePrograms P Q) where
 module _ {P Q : Program} {Allocated Entered : ℕ → ℕ → Type 0} (same : SamePrograms P Q) where
   -- ---- in both
 
-  mark_both : {names : Names} {now : List ℕ} {one other : Memory} (class : ℕ) → IsFalse (is_begun one class) → SameMemories P Allocated Entered names now one other
+  mark_both : {names : Names} {now : List ℕ} {one other : Memory} (class : ℕ) → IsFalse (is_begun one class)
+      → SameMemories P Allocated Entered names now one other
       → SameMemories P Allocated Entered names now (marked one class) (marked other class)
   mark_both {names = names} {now = now} {one = one} {other = other} class none memories = record {
     heaps = memories.heaps;
@@ -120,11 +132,14 @@ module _ {P Q : Program} {Allocated Entered : ℕ → ℕ → Type 0} (same : Sa
       by false e = e
       by true e = absurd (false≢true (sym none ∙ memories.statics.begun class e))
 
-    blank_values : (field : ℕ) → SameValue names (static_value P (marked one class) class field) (static_value P (marked other class) class field)
+    blank_values : (field : ℕ)
+        → SameValue names (static_value P (marked one class) class field) (static_value P (marked other class) class field)
     blank_values field =
-        rw (memories.statics.unwritten class field none, memories.statics.unwritten_also class field none_other) (blank_itself names (field_desc P class field))
+        rw (memories.statics.unwritten class field none, memories.statics.unwritten_also class field none_other)
+        (blank_itself names (field_desc P class field))
 
-    begun_before : (at : ℕ) → IsTrue (is_begun (marked one class) at) → IsFalse (is_begun (marked other class) at) → IsTrue (is_begun one at)
+    begun_before : (at : ℕ) → IsTrue (is_begun (marked one class) at) → IsFalse (is_begun (marked other class) at)
+        → IsTrue (is_begun one at)
     begun_before at is none_also = elim (marked_cases one class at is) [
       | inl before ↦ before
       | inr same_one ↦ absurd ((unmarked other class at none_also).1 same_one)
@@ -136,15 +151,18 @@ module _ {P Q : Program} {Allocated Entered : ℕ → ℕ → Type 0} (same : Sa
       → IsPlainStart start
       → IsTrue (is_begun other class)
       → SameMemories P Allocated Entered names [] one other
-      → (more : Names) × NamesMore names more × SameMemories P Allocated Entered more [] (with_start P class one start) (with_start Q class other start)
+      → (more : Names) × NamesMore names more
+      × SameMemories P Allocated Entered more [] (with_start P class one start) (with_start Q class other start)
   start_both {names = names} {one = one} {other = other} class start plain begun memories = by start.value refl plain where
     by : (value : StartValue) → start.value ≡ value → IsPlainStart (record start { value = value })
-        → (more : Names) × NamesMore names more × SameMemories P Allocated Entered more [] (with_start P class one start) (with_start Q class other start)
+        → (more : Names) × NamesMore names more
+        × SameMemories P Allocated Entered more [] (with_start P class one start) (with_start Q class other start)
     by (start_value value) is plain_value = (
       names,
       names_themselves names,
       rw (is, same_field_desc same class start.field)
-          (put_both same memories class start.field begun (narrowed_same (type_of (field_desc P class start.field)) (itself names value plain_value))),
+          (put_both same memories class start.field begun
+          (narrowed_same (type_of (field_desc P class start.field)) (itself names value plain_value))),
     )
     by (start_string text) is plain_value =
         let made = both_have memories.heaps (Str text) in
@@ -152,7 +170,8 @@ module _ {P Q : Program} {Allocated Entered : ℕ → ℕ → Type 0} (same : Sa
           made.more,
           made.grows,
           rw (is, same_field_desc same class start.field)
-              (put_both same still class start.field begun (narrowed_same (type_of (field_desc P class start.field)) (same_reference made.is))),
+              (put_both same still class start.field begun
+              (narrowed_same (type_of (field_desc P class start.field)) (same_reference made.is))),
         )
 
   starts_both :
@@ -160,11 +179,13 @@ module _ {P Q : Program} {Allocated Entered : ℕ → ℕ → Type 0} (same : Sa
       → AllByRecursion IsPlainStart starts
       → IsTrue (is_begun other class)
       → SameMemories P Allocated Entered names [] one other
-      → (more : Names) × NamesMore names more × SameMemories P Allocated Entered more [] (with_starts P class one starts) (with_starts Q class other starts)
+      → (more : Names) × NamesMore names more
+      × SameMemories P Allocated Entered more [] (with_starts P class one starts) (with_starts Q class other starts)
   starts_both class [] names one other plain begun memories = (names, names_themselves names, memories)
   starts_both class (start ∷ starts) names one other plain begun memories =
       let first = start_both class start plain.0 begun memories in
-      let rest = starts_both class starts first.0 (with_start P class one start) (with_start Q class other start) plain.1 (start_begun Q class class other start ∙ begun) first.2 in
+      let rest = starts_both class starts first.0 (with_start P class one start) (with_start Q class other start) plain.1
+      (start_begun Q class class other start ∙ begun) first.2 in
       (rest.0, more_and_more first.1 rest.1, rest.2)
 
   -- a class that is begun in neither begins in both
@@ -172,8 +193,11 @@ module _ {P Q : Program} {Allocated Entered : ℕ → ℕ → Type 0} (same : Sa
       {names : Names} {one other : Memory} (class : ℕ)
       → IsFalse (is_begun one class)
       → SameMemories P Allocated Entered names [] one other
-      → (more : Names) × NamesMore names more × SameMemories P Allocated Entered more [] (begun_memory P class one) (begun_memory Q class other)
+      → (more : Names) × NamesMore names more
+      × SameMemories P Allocated Entered more [] (begun_memory P class one) (begun_memory Q class other)
   begin_both {names = names} {one = one} {other = other} class none memories =
-      subst (λ (starts : List StaticStart). (more : Names) × NamesMore names more × SameMemories P Allocated Entered more [] (begun_memory P class one) (with_starts Q class (marked other class) starts))
+      subst (λ (starts : List StaticStart). (more : Names) × NamesMore names more
+      × SameMemories P Allocated Entered more [] (begun_memory P class one) (with_starts Q class (marked other class) starts))
       (sym (same_starts same class))
-      (starts_both class (starts_of P class) names (marked one class) (marked other class) (plain_starts same class) (marked_itself other class) (mark_both class none memories))
+      (starts_both class (starts_of P class) names (marked one class) (marked other class) (plain_starts same class)
+      (marked_itself other class) (mark_both class none memories))

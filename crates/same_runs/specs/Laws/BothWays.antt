@@ -54,7 +54,8 @@ module _ (P Q : Program) (Same : Shown → Shown → Type 0) (Relates : ℕ → 
       elim kept.goes_on [
         | inl stays ↦
             let more = rest kept.measure_then kept.waits stays.1 in
-            let same : turns Q (quiet.0 + more.0) other ≡ turns Q more.0 kept.waits = turns_add Q quiet.0 more.0 other ∙ ap (turns Q more.0) quiet.1 in
+            let same : turns Q (quiet.0 + more.0) other ≡ turns Q more.0 kept.waits = turns_add Q quiet.0 more.0 other
+            ∙ ap (turns Q more.0) quiet.1 in
             (quiet.0 + more.0, subst (λ (r : Run). Same (shown (turns P count (turn P one))) (shown r)) (sym same) more.1)
         | inr moves ↦
             let more = rest kept.measure_then (turn Q kept.waits) moves in
@@ -116,7 +117,8 @@ module _ (P Q : Program) (Same : Shown → Shown → Type 0) (Relates : ℕ → 
   back_by most fewer zero also measure one other few low related = absurd (omega (arith, low))
   back_by most fewer (suc bound) also measure one other few low related =
       back_step also measure one other related (sim.keeps measure one other related)
-      (λ left then waits less falls. back_by most fewer bound left then (turn P one) waits (omega (arith, less, few)) (omega (arith, falls, low)))
+      (λ left then waits less falls. back_by most fewer bound left then (turn P one) waits (omega (arith, less, few))
+      (omega (arith, falls, low)))
       (λ left then after less. fewer left then (turn P one) after (omega (arith, less, few)))
 
   back_below : (most also measure : ℕ) (one other : Run) → also < most → Relates measure one other → Back also one other

@@ -21,7 +21,12 @@ itself (Str text) = (bytes_eq-Decides text text).1 refl
 itself (Class name) = (bytes_eq-Decides name name).1 refl
 itself (MethodType desc) = (bytes_eq-Decides desc desc).1 refl
 itself (Handle kind class name desc) =
-    rw (eq-eqb kind kind refl, (bytes_eq-Decides class class).1 refl, (bytes_eq-Decides name name).1 refl, (bytes_eq-Decides desc desc).1 refl) refl
+    rw (
+      eq-eqb kind kind refl,
+      (bytes_eq-Decides class class).1 refl,
+      (bytes_eq-Decides name name).1 refl,
+      (bytes_eq-Decides desc desc).1 refl,
+    ) refl
 
 pub is_same : (one other : Constant) → same_constant one other ≡ true → one ≡ other
 is_same (Str text) (Str other) same = ap Str ((bytes_eq-Decides text other).0 same)
@@ -43,68 +48,94 @@ is_same one other same = cc
 pub one_more : List Kept → Constant → ℕ → List Kept
 one_more kept constant reference = kept ++ record { constant = constant; reference = reference } ∷ []
 
-pub kept_before : (kept : List Kept) (constant last : Constant) (reference at : ℕ) → kept_in kept constant ≡ Some at → kept_in (one_more kept last reference) constant ≡ Some at
+pub kept_before : (kept : List Kept) (constant last : Constant) (reference at : ℕ) → kept_in kept constant ≡ Some at
+    → kept_in (one_more kept last reference) constant ≡ Some at
 unfolding one_more
 kept_before [] constant last reference at is = absurd (none-some at is)
-kept_before (first ∷ kept) constant last reference at is = by (same_constant first.constant constant) is (kept_before kept constant last reference at) where
-  by : (b : Bool) → (if b then Some first.reference else kept_in kept constant) ≡ Some at → (kept_in kept constant ≡ Some at → kept_in (kept ++ record { constant = last; reference = reference } ∷ []) constant ≡ Some at)
-      → (if b then Some first.reference else kept_in (kept ++ record { constant = last; reference = reference } ∷ []) constant) ≡ Some at
-  by true is rest = is
-  by false is rest = rest is
+kept_before (first ∷ kept) constant last reference at is = by (same_constant first.constant constant) is
+    (kept_before kept constant last reference at) where
+      by : (b : Bool) → (if b then Some first.reference else kept_in kept constant) ≡ Some at
+          → (kept_in kept constant ≡ Some at → kept_in (kept ++ record { constant = last; reference = reference } ∷ []) constant ≡ Some at)
+          → (if b then Some first.reference else kept_in (kept ++ record { constant = last; reference = reference } ∷ []) constant) ≡ Some at
+      by true is rest = is
+      by false is rest = rest is
 
 -- what is kept then was kept before, or is the last
 kept_then : (kept : List Kept) (constant last : Constant) (reference at : ℕ) → kept_in (one_more kept last reference) constant ≡ Some at
     → (kept_in kept constant ≡ Some at) ⊎ ((kept_in kept constant ≡ None) × (last ≡ constant) × (reference ≡ at))
 unfolding one_more
 kept_then [] constant last reference at is = by (same_constant last constant) refl is where
-  by : (b : Bool) → same_constant last constant ≡ b → (if b then Some reference else None) ≡ Some at → (kept_in [] constant ≡ Some at) ⊎ ((kept_in [] constant ≡ None) × (last ≡ constant) × (reference ≡ at))
+  by : (b : Bool) → same_constant last constant ≡ b → (if b then Some reference else None) ≡ Some at
+      → (kept_in [] constant ≡ Some at) ⊎ ((kept_in [] constant ≡ None) × (last ≡ constant) × (reference ≡ at))
   by true same is = inr (refl, is_same last constant same, same_Some reference at is)
   by false same is = absurd (none-some at is)
-kept_then (first ∷ kept) constant last reference at is = by (same_constant first.constant constant) is (kept_then kept constant last reference at) where
-  by : (b : Bool) → (if b then Some first.reference else kept_in (kept ++ record { constant = last; reference = reference } ∷ []) constant) ≡ Some at
-      → (kept_in (kept ++ record { constant = last; reference = reference } ∷ []) constant ≡ Some at → (kept_in kept constant ≡ Some at) ⊎ ((kept_in kept constant ≡ None) × (last ≡ constant) × (reference ≡ at)))
-      → ((if b then Some first.reference else kept_in kept constant) ≡ Some at) ⊎ (((if b then Some first.reference else kept_in kept constant) ≡ None) × (last ≡ constant) × (reference ≡ at))
-  by true is rest = inl is
-  by false is rest = rest is
+kept_then (first ∷ kept) constant last reference at is = by (same_constant first.constant constant) is
+    (kept_then kept constant last reference at) where
+      by : (b : Bool) → (if b then Some first.reference else kept_in
+          (kept ++ record { constant = last; reference = reference } ∷ []) constant) ≡ Some at
+          → (kept_in (kept ++ record { constant = last; reference = reference } ∷ []) constant ≡ Some at
+          → (kept_in kept constant ≡ Some at) ⊎ ((kept_in kept constant ≡ None) × (last ≡ constant) × (reference ≡ at)))
+          → ((if b then Some first.reference else kept_in kept constant) ≡ Some at)
+          ⊎ (((if b then Some first.reference else kept_in kept constant) ≡ None) × (last ≡ constant) × (reference ≡ at))
+      by true is rest = inl is
+      by false is rest = rest is
 
-kept_last : (kept : List Kept) (constant : Constant) (reference : ℕ) → kept_in kept constant ≡ None → kept_in (one_more kept constant reference) constant ≡ Some reference
+kept_last : (kept : List Kept) (constant : Constant) (reference : ℕ) → kept_in kept constant ≡ None
+    → kept_in (one_more kept constant reference) constant ≡ Some reference
 unfolding one_more
 kept_last [] constant reference none = rw (itself constant) refl
 kept_last (first ∷ kept) constant reference none = by (same_constant first.constant constant) none (kept_last kept constant reference) where
-  by : (b : Bool) → (if b then Some first.reference else kept_in kept constant) ≡ None → (kept_in kept constant ≡ None → kept_in (kept ++ record { constant = constant; reference = reference } ∷ []) constant ≡ Some reference)
-      → (if b then Some first.reference else kept_in (kept ++ record { constant = constant; reference = reference } ∷ []) constant) ≡ Some reference
+  by : (b : Bool) → (if b then Some first.reference else kept_in kept constant) ≡ None
+      → (kept_in kept constant ≡ None
+      → kept_in (kept ++ record { constant = constant; reference = reference } ∷ []) constant ≡ Some reference)
+      → (if b then Some first.reference else kept_in (kept ++ record { constant = constant; reference = reference } ∷ []) constant)
+      ≡ Some reference
   by true none rest = absurd (none-some first.reference (sym none))
   by false none rest = rest none
 
-constant_before : (kept : List Kept) (last constant : Constant) (reference at : ℕ) → constant_in kept at ≡ Some constant → constant_in (one_more kept last reference) at ≡ Some constant
+constant_before : (kept : List Kept) (last constant : Constant) (reference at : ℕ) → constant_in kept at ≡ Some constant
+    → constant_in (one_more kept last reference) at ≡ Some constant
 unfolding one_more
 constant_before [] last constant reference at is = absurd (none-some constant is)
-constant_before (first ∷ kept) last constant reference at is = by (first.reference == at) is (constant_before kept last constant reference at) where
-  by : (b : Bool) → (if b then Some first.constant else constant_in kept at) ≡ Some constant → (constant_in kept at ≡ Some constant → constant_in (kept ++ record { constant = last; reference = reference } ∷ []) at ≡ Some constant)
-      → (if b then Some first.constant else constant_in (kept ++ record { constant = last; reference = reference } ∷ []) at) ≡ Some constant
-  by true is rest = is
-  by false is rest = rest is
+constant_before (first ∷ kept) last constant reference at is = by (first.reference == at) is
+    (constant_before kept last constant reference at) where
+      by : (b : Bool) → (if b then Some first.constant else constant_in kept at) ≡ Some constant
+          → (constant_in kept at ≡ Some constant
+          → constant_in (kept ++ record { constant = last; reference = reference } ∷ []) at ≡ Some constant)
+          → (if b then Some first.constant else constant_in (kept ++ record { constant = last; reference = reference } ∷ []) at) ≡ Some constant
+      by true is rest = is
+      by false is rest = rest is
 
-constant_then : (kept : List Kept) (last constant : Constant) (reference at : ℕ) → constant_in (one_more kept last reference) at ≡ Some constant
+constant_then : (kept : List Kept) (last constant : Constant) (reference at : ℕ)
+    → constant_in (one_more kept last reference) at ≡ Some constant
     → (constant_in kept at ≡ Some constant) ⊎ ((constant_in kept at ≡ None) × (last ≡ constant) × (reference ≡ at))
 unfolding one_more
 constant_then [] last constant reference at is = by (reference == at) refl is where
-  by : (b : Bool) → (reference == at) ≡ b → (if b then Some last else None) ≡ Some constant → (constant_in [] at ≡ Some constant) ⊎ ((constant_in [] at ≡ None) × (last ≡ constant) × (reference ≡ at))
+  by : (b : Bool) → (reference == at) ≡ b → (if b then Some last else None) ≡ Some constant
+      → (constant_in [] at ≡ Some constant) ⊎ ((constant_in [] at ≡ None) × (last ≡ constant) × (reference ≡ at))
   by true same is = inr (refl, same_Some last constant is, eqb-true reference at same)
   by false same is = absurd (none-some constant is)
-constant_then (first ∷ kept) last constant reference at is = by (first.reference == at) is (constant_then kept last constant reference at) where
-  by : (b : Bool) → (if b then Some first.constant else constant_in (kept ++ record { constant = last; reference = reference } ∷ []) at) ≡ Some constant
-      → (constant_in (kept ++ record { constant = last; reference = reference } ∷ []) at ≡ Some constant → (constant_in kept at ≡ Some constant) ⊎ ((constant_in kept at ≡ None) × (last ≡ constant) × (reference ≡ at)))
-      → ((if b then Some first.constant else constant_in kept at) ≡ Some constant) ⊎ (((if b then Some first.constant else constant_in kept at) ≡ None) × (last ≡ constant) × (reference ≡ at))
-  by true is rest = inl is
-  by false is rest = rest is
+constant_then (first ∷ kept) last constant reference at is = by (first.reference == at) is
+    (constant_then kept last constant reference at) where
+      by : (b : Bool) → (if b then Some first.constant else constant_in (kept ++ record { constant = last; reference = reference } ∷ []) at)
+          ≡ Some constant
+          → (constant_in (kept ++ record { constant = last; reference = reference } ∷ []) at ≡ Some constant
+          → (constant_in kept at ≡ Some constant) ⊎ ((constant_in kept at ≡ None) × (last ≡ constant) × (reference ≡ at)))
+          → ((if b then Some first.constant else constant_in kept at) ≡ Some constant)
+          ⊎ (((if b then Some first.constant else constant_in kept at) ≡ None) × (last ≡ constant) × (reference ≡ at))
+      by true is rest = inl is
+      by false is rest = rest is
 
-constant_last : (kept : List Kept) (constant : Constant) (reference : ℕ) → constant_in kept reference ≡ None → constant_in (one_more kept constant reference) reference ≡ Some constant
+constant_last : (kept : List Kept) (constant : Constant) (reference : ℕ) → constant_in kept reference ≡ None
+    → constant_in (one_more kept constant reference) reference ≡ Some constant
 unfolding one_more
 constant_last [] constant reference none = rw (eq-eqb reference reference refl) refl
 constant_last (first ∷ kept) constant reference none = by (first.reference == reference) none (constant_last kept constant reference) where
-  by : (b : Bool) → (if b then Some first.constant else constant_in kept reference) ≡ None → (constant_in kept reference ≡ None → constant_in (kept ++ record { constant = constant; reference = reference } ∷ []) reference ≡ Some constant)
-      → (if b then Some first.constant else constant_in (kept ++ record { constant = constant; reference = reference } ∷ []) reference) ≡ Some constant
+  by : (b : Bool) → (if b then Some first.constant else constant_in kept reference) ≡ None
+      → (constant_in kept reference ≡ None
+      → constant_in (kept ++ record { constant = constant; reference = reference } ∷ []) reference ≡ Some constant)
+      → (if b then Some first.constant else constant_in (kept ++ record { constant = constant; reference = reference } ∷ []) reference)
+      ≡ Some constant
   by true none rest = absurd (none-some first.constant (sym none))
   by false none rest = rest none
 
@@ -116,14 +147,17 @@ unfolding one_more
 keeping heap constant =
     record (external heap (class_of_constant constant)).heap { constants = one_more heap.constants constant (length heap.objects) }
 
-pub made_kept : (heap : Heap) (constant : Constant) (reference : ℕ) → kept_in heap.constants constant ≡ Some reference → constant_made heap constant ≡ record { heap = heap; reference = reference }
+pub made_kept : (heap : Heap) (constant : Constant) (reference : ℕ) → kept_in heap.constants constant ≡ Some reference
+    → constant_made heap constant ≡ record { heap = heap; reference = reference }
 made_kept heap constant reference is = rw (is) refl
 
-pub made_new : (heap : Heap) (constant : Constant) → kept_in heap.constants constant ≡ None → constant_made heap constant ≡ record { heap = keeping heap constant; reference = length heap.objects }
+pub made_new : (heap : Heap) (constant : Constant) → kept_in heap.constants constant ≡ None
+    → constant_made heap constant ≡ record { heap = keeping heap constant; reference = length heap.objects }
 unfolding one_more keeping
 made_new heap constant none = rw (none) refl
 
-own_keeping : (heap : Heap) (constant : Constant) → kept_in heap.constants constant ≡ None → HasOwnConstants heap → HasOwnConstants (keeping heap constant)
+own_keeping : (heap : Heap) (constant : Constant) → kept_in heap.constants constant ≡ None → HasOwnConstants heap
+    → HasOwnConstants (keeping heap constant)
 unfolding keeping
 own_keeping heap constant none own = record {
   there = λ other reference is. elim (kept_then heap.constants other constant (length heap.objects) reference is) [
@@ -145,7 +179,8 @@ own_keeping heap constant none own = record {
 } where
   no_constant : constant_in heap.constants (length heap.objects) ≡ None
   no_constant = by (constant_in heap.constants (length heap.objects)) refl where
-    by : (found : Option Constant) → constant_in heap.constants (length heap.objects) ≡ found → constant_in heap.constants (length heap.objects) ≡ None
+    by : (found : Option Constant) → constant_in heap.constants (length heap.objects) ≡ found
+        → constant_in heap.constants (length heap.objects) ≡ None
     by None is = is
     by (Some other) is =
         let was = own.there other (length heap.objects) (own.has other (length heap.objects) is) in
@@ -186,9 +221,11 @@ second_keeps {names = names} {one = one} {other = other} same constant reference
   named = λ also at named has given. elim (same_or_not reference at) [
     | inl e ↦
         let same_one : constant ≡ also =
-        same_Some constant also (sym (same.own.is_of constant reference is) ∙ ap (constant_in one.constants) e ∙ same.own.is_of also at has) in
+        same_Some constant also (sym (same.own.is_of constant reference is) ∙ ap (constant_in one.constants) e
+        ∙ same.own.is_of also at has) in
         let new : b ≡ named = same_Some b named (sym (named_here names reference b) ∙ ap more e ∙ given) in
-        subst (λ (c : Constant). kept_in (one_more other.constants constant b) c ≡ Some named) same_one (kept_last other.constants constant b none ∙ ap Some new)
+        subst (λ (c : Constant). kept_in (one_more other.constants constant b) c
+        ≡ Some named) same_one (kept_last other.constants constant b none ∙ ap Some new)
     | inr differ ↦
         kept_before other.constants also constant b named
         (same.named also at named has (sym (named_other names reference b at differ) ∙ given))
@@ -220,7 +257,8 @@ second_keeps {names = names} {one = one} {other = other} same constant reference
           let new : at ≡ b = same_Some at b (sym has_also ∙ ap more (sym e_also) ∙ named_here names reference b) in
           absurd (new_no_name same first (sym (named_other names reference b first differ) ∙ has ∙ ap Some new))
       | inr differ_also ↦
-          same.renaming.once first second at (sym (named_other names reference b first differ) ∙ has) (sym (named_other names reference b second differ_also) ∙ has_also)
+          same.renaming.once first second at (sym (named_other names reference b first differ)
+          ∙ has) (sym (named_other names reference b second differ_also) ∙ has_also)
     ]
   ]
 
@@ -273,7 +311,8 @@ both_keep {names = names} {one = one} {other = other} same constant none none_al
     | inl old ↦ kept_before other.constants also constant b named (made.named also at named old given)
     | inr new ↦
         let is_b : b ≡ named = same_Some b named (sym (named_here names a b) ∙ ap (named_too names a b) new.2 ∙ given) in
-        subst (λ (c : Constant). kept_in (one_more other.constants constant b) c ≡ Some named) new.1 (kept_last other.constants constant b none_also ∙ ap Some is_b)
+        subst (λ (c : Constant). kept_in (one_more other.constants constant b) c
+        ≡ Some named) new.1 (kept_last other.constants constant b none_also ∙ ap Some is_b)
   ];
   fresh = λ also at has free. elim (kept_then one.constants also constant a at has) [
     | inl old ↦ made.fresh also at old free
@@ -298,39 +337,46 @@ pub both_have :
     → SameHeaps names one other
     → (constant : Constant)
     → SameConstant names one other constant
-both_have {names = names} {one = one} {other = other} same constant = by (kept_in one.constants constant) (kept_in other.constants constant) refl refl where
-  finish : (first second : Made) → constant_made one constant ≡ first → constant_made other constant ≡ second → AreMade names first second → SameConstant names one other constant
-  finish first second is is_also goal =
-      let at_first = subst (λ (m : Made). AreMade names m second) (sym is) goal in
-      let both = subst (λ (m : Made). AreMade names (constant_made one constant) m) (sym is_also) at_first in
-      record { more = both.0; grows = both.1; heaps = both.2; is = both.3 }
+both_have {names = names} {one = one} {other = other} same constant = by (kept_in one.constants constant)
+    (kept_in other.constants constant) refl refl where
+      finish : (first second : Made) → constant_made one constant ≡ first → constant_made other constant ≡ second → AreMade names first second
+          → SameConstant names one other constant
+      finish first second is is_also goal =
+          let at_first = subst (λ (m : Made). AreMade names m second) (sym is) goal in
+          let both = subst (λ (m : Made). AreMade names (constant_made one constant) m) (sym is_also) at_first in
+          record { more = both.0; grows = both.1; heaps = both.2; is = both.3 }
 
-  by : (first second : Option ℕ) → kept_in one.constants constant ≡ first → kept_in other.constants constant ≡ second → SameConstant names one other constant
-  by (Some reference) (Some named) is is_also =
-      let was = same.kept constant named is_also in
-      let same_one : was.0 ≡ reference = same_Some was.0 reference (sym was.1 ∙ is) in
-      finish (record { heap = one; reference = reference }) (record { heap = other; reference = named }) (made_kept one constant reference is) (made_kept other constant named is_also)
-      (names, names_themselves names, same, ap names (sym same_one) ∙ was.2)
-  by (Some reference) None is none =
-      finish (record { heap = one; reference = reference }) (record { heap = keeping other constant; reference = length other.objects }) (made_kept one constant reference is) (made_new other constant none) (
-        named_too names reference (length other.objects),
-        named_too_more names reference (length other.objects) (unnamed (names reference) refl),
-        second_keeps same constant reference is none (unnamed (names reference) refl),
-        named_here names reference (length other.objects),
-      ) where
-        unnamed : (found : Option ℕ) → names reference ≡ found → names reference ≡ None
-        unnamed None free = free
-        unnamed (Some named) given = absurd (none-some named (sym none ∙ same.named constant reference named is given))
-  by None (Some named) none is_also =
-      let was = same.kept constant named is_also in
-      absurd (none-some was.0 (sym none ∙ was.1))
-  by None None none none_also =
-      finish (record { heap = keeping one constant; reference = length one.objects }) (record { heap = keeping other constant; reference = length other.objects }) (made_new one constant none) (made_new other constant none_also) (
-        named_too names (length one.objects) (length other.objects),
-        named_too_more names (length one.objects) (length other.objects) (new_unnamed same),
-        both_keep same constant none none_also,
-        named_here names (length one.objects) (length other.objects),
-      )
+      by : (first second : Option ℕ) → kept_in one.constants constant ≡ first → kept_in other.constants constant ≡ second
+          → SameConstant names one other constant
+      by (Some reference) (Some named) is is_also =
+          let was = same.kept constant named is_also in
+          let same_one : was.0 ≡ reference = same_Some was.0 reference (sym was.1 ∙ is) in
+          finish (record { heap = one; reference = reference }) (record { heap = other; reference = named })
+          (made_kept one constant reference is) (made_kept other constant named is_also)
+          (names, names_themselves names, same, ap names (sym same_one) ∙ was.2)
+      by (Some reference) None is none =
+          finish (record { heap = one; reference = reference }) (record { heap = keeping other constant; reference = length other.objects })
+          (made_kept one constant reference is) (made_new other constant none) (
+            named_too names reference (length other.objects),
+            named_too_more names reference (length other.objects) (unnamed (names reference) refl),
+            second_keeps same constant reference is none (unnamed (names reference) refl),
+            named_here names reference (length other.objects),
+          ) where
+            unnamed : (found : Option ℕ) → names reference ≡ found → names reference ≡ None
+            unnamed None free = free
+            unnamed (Some named) given = absurd (none-some named (sym none ∙ same.named constant reference named is given))
+      by None (Some named) none is_also =
+          let was = same.kept constant named is_also in
+          absurd (none-some was.0 (sym none ∙ was.1))
+      by None None none none_also =
+          finish (record { heap = keeping one constant; reference = length one.objects })
+          (record { heap = keeping other constant; reference = length other.objects }) (made_new one constant none)
+          (made_new other constant none_also) (
+            named_too names (length one.objects) (length other.objects),
+            named_too_more names (length one.objects) (length other.objects) (new_unnamed same),
+            both_keep same constant none none_also,
+            named_here names (length one.objects) (length other.objects),
+          )
 
 -- the first alone makes a constant, which has no name
 pub first_has :
@@ -369,20 +415,27 @@ first_has {names = names} {one = one} {other = other} same constant = by (kept_i
   by None none = subst (λ (m : Made). SameHeaps names m.heap other) (sym (made_new one constant none)) (kept_new none)
 
 -- what was kept is kept where a constant is made
-pub kept_by_made : (heap : Heap) (constant also : Constant) (reference : ℕ) → kept_in heap.constants also ≡ Some reference → kept_in (constant_made heap constant).heap.constants also ≡ Some reference
+pub kept_by_made : (heap : Heap) (constant also : Constant) (reference : ℕ) → kept_in heap.constants also ≡ Some reference
+    → kept_in (constant_made heap constant).heap.constants also ≡ Some reference
 unfolding keeping
 kept_by_made heap constant also reference is = by (kept_in heap.constants constant) refl where
-  by : (found : Option ℕ) → kept_in heap.constants constant ≡ found → kept_in (constant_made heap constant).heap.constants also ≡ Some reference
+  by : (found : Option ℕ) → kept_in heap.constants constant ≡ found
+      → kept_in (constant_made heap constant).heap.constants also ≡ Some reference
   by (Some at) there = ap (λ (m : Made). kept_in m.heap.constants also) (made_kept heap constant at there) ∙ is
-  by None none = ap (λ (m : Made). kept_in m.heap.constants also) (made_new heap constant none) ∙ kept_before heap.constants also constant (length heap.objects) reference is
+  by None none = ap (λ (m : Made). kept_in m.heap.constants also) (made_new heap constant none)
+      ∙ kept_before heap.constants also constant (length heap.objects) reference is
 
 -- a constant that is made is kept
-pub made_is_kept : (heap : Heap) (constant : Constant) → kept_in (constant_made heap constant).heap.constants constant ≡ Some (constant_made heap constant).reference
+pub made_is_kept : (heap : Heap) (constant : Constant)
+    → kept_in (constant_made heap constant).heap.constants constant ≡ Some (constant_made heap constant).reference
 unfolding keeping
 made_is_kept heap constant = by (kept_in heap.constants constant) refl where
-  by : (found : Option ℕ) → kept_in heap.constants constant ≡ found → kept_in (constant_made heap constant).heap.constants constant ≡ Some (constant_made heap constant).reference
+  by : (found : Option ℕ) → kept_in heap.constants constant ≡ found
+      → kept_in (constant_made heap constant).heap.constants constant ≡ Some (constant_made heap constant).reference
   by (Some at) there =
-      ap (λ (m : Made). kept_in m.heap.constants constant) (made_kept heap constant at there) ∙ there ∙ ap (λ (m : Made). Some m.reference) (sym (made_kept heap constant at there))
+      ap (λ (m : Made). kept_in m.heap.constants constant) (made_kept heap constant at there) ∙ there
+      ∙ ap (λ (m : Made). Some m.reference) (sym (made_kept heap constant at there))
   by None none =
-      ap (λ (m : Made). kept_in m.heap.constants constant) (made_new heap constant none) ∙ kept_last heap.constants constant (length heap.objects) none
+      ap (λ (m : Made). kept_in m.heap.constants constant) (made_new heap constant none)
+      ∙ kept_last heap.constants constant (length heap.objects) none
       ∙ ap (λ (m : Made). Some m.reference) (sym (made_new heap constant none))

@@ -25,7 +25,8 @@ new_unnamed {names = names} {one = one} same = go (names (length one.objects)) r
       absurd (none_at_end one.objects there.0 there.2)
 
 -- no reference has a new one for its name
-pub new_no_name : {names : Names} {one other : Heap} → SameHeaps names one other → (reference : ℕ) → names reference ≡ Some (length other.objects) → ⊥
+pub new_no_name : {names : Names} {one other : Heap} → SameHeaps names one other → (reference : ℕ)
+    → names reference ≡ Some (length other.objects) → ⊥
 new_no_name {other = other} same reference is =
     let there = same.objects reference (length other.objects) is in
     none_at_end other.objects there.1 there.3
@@ -35,20 +36,25 @@ new_no_name {other = other} same reference is =
 own_kept :
     {before after : Heap}
     → after.constants ≡ before.constants
-    → ((reference : ℕ) (object : Object) → object_at before reference ≡ Some object → (also : Object) × (object_at after reference ≡ Some also))
+    → ((reference : ℕ) (object : Object) → object_at before reference ≡ Some object
+    → (also : Object) × (object_at after reference ≡ Some also))
     → HasOwnConstants before
     → HasOwnConstants after
 own_kept {before = before} {after = after} same stays own = record {
   there = λ constant reference is.
       let old = own.there constant reference (ap (λ kept. kept_in kept constant) (sym same) ∙ is) in
       stays reference old.0 old.1;
-  is_of = λ constant reference is. ap (λ kept. constant_in kept reference) same ∙ own.is_of constant reference (ap (λ kept. kept_in kept constant) (sym same) ∙ is);
-  has = λ constant reference is. ap (λ kept. kept_in kept constant) same ∙ own.has constant reference (ap (λ kept. constant_in kept reference) (sym same) ∙ is);
+  is_of = λ constant reference is. ap (λ kept. constant_in kept reference) same
+      ∙ own.is_of constant reference (ap (λ kept. kept_in kept constant) (sym same) ∙ is);
+  has = λ constant reference is. ap (λ kept. kept_in kept constant) same
+      ∙ own.has constant reference (ap (λ kept. constant_in kept reference) (sym same) ∙ is);
 }
 
-pub own_allocated : (heap : Heap) (shape : Shape) (values : List Value) → HasOwnConstants heap → HasOwnConstants (allocated heap shape values).heap
+pub own_allocated : (heap : Heap) (shape : Shape) (values : List Value) → HasOwnConstants heap
+    → HasOwnConstants (allocated heap shape values).heap
 own_allocated heap shape values own =
-    own_kept refl (λ reference object is. (object, get_old heap.objects (record { shape = shape; values = values; monitor = 0 }) reference object is)) own
+    own_kept refl (λ reference object is.
+    (object, get_old heap.objects (record { shape = shape; values = values; monitor = 0 }) reference object is)) own
 
 -- ---- both allocate, or one does
 
@@ -57,7 +63,8 @@ pub both_allocate :
     → SameHeaps names one other
     → (shape : Shape) (values also : List Value)
     → SameValues (named_too names (length one.objects) (length other.objects)) values also
-    → SameHeaps (named_too names (length one.objects) (length other.objects)) (allocated one shape values).heap (allocated other shape also).heap
+    → SameHeaps (named_too names (length one.objects) (length other.objects)) (allocated one shape values).heap
+    (allocated other shape also).heap
 both_allocate {names = names} {one = one} {other = other} same shape values also are = record {
   renaming = record { once = once };
   objects = objects;
@@ -83,7 +90,8 @@ both_allocate {names = names} {one = one} {other = other} same shape values also
   grows : NamesMore names more
   grows = named_too_more names a b (new_unnamed same)
 
-  old_name : (reference : ℕ) (object : Object) (named : ℕ) → object_at one reference ≡ Some object → more reference ≡ Some named → names reference ≡ Some named
+  old_name : (reference : ℕ) (object : Object) (named : ℕ) → object_at one reference ≡ Some object → more reference ≡ Some named
+      → names reference ≡ Some named
   old_name reference object named there is =
       sym (named_other names a b reference (λ e. none_at_end one.objects object (ap (slice_get one.objects) e ∙ there))) ∙ is
 
@@ -106,7 +114,8 @@ both_allocate {names = names} {one = one} {other = other} same shape values also
           let new : reference ≡ b = same_Some reference b (sym is_also ∙ ap more (sym e_also) ∙ named_here names a b) in
           absurd (new_no_name same first (sym (named_other names a b first differ) ∙ is ∙ ap Some new))
       | inr differ_also ↦
-          same.renaming.once first second reference (sym (named_other names a b first differ) ∙ is) (sym (named_other names a b second differ_also) ∙ is_also)
+          same.renaming.once first second reference (sym (named_other names a b first differ)
+          ∙ is) (sym (named_other names a b second differ_also) ∙ is_also)
     ]
   ]
 
@@ -122,8 +131,10 @@ both_allocate {names = names} {one = one} {other = other} same shape values also
         let new : b ≡ named = same_Some b named (sym (named_here names a b) ∙ ap more e ∙ is) in (
           record { shape = shape; values = values; monitor = 0 },
           record { shape = shape; values = also; monitor = 0 },
-          ap (slice_get (one.objects ++ record { shape = shape; values = values; monitor = 0 } ∷ [])) (sym e) ∙ get_new one.objects (record { shape = shape; values = values; monitor = 0 }),
-          ap (slice_get (other.objects ++ record { shape = shape; values = also; monitor = 0 } ∷ [])) (sym new) ∙ get_new other.objects (record { shape = shape; values = also; monitor = 0 }),
+          ap (slice_get (one.objects ++ record { shape = shape; values = values; monitor = 0 } ∷ [])) (sym e)
+              ∙ get_new one.objects (record { shape = shape; values = values; monitor = 0 }),
+          ap (slice_get (other.objects ++ record { shape = shape; values = also; monitor = 0 } ∷ [])) (sym new)
+              ∙ get_new other.objects (record { shape = shape; values = also; monitor = 0 }),
           record { shape = refl; values = are; monitor = refl },
         )
     | inr differ ↦
@@ -152,7 +163,8 @@ first_allocates {names = names} {one = one} {other = other} same shape values = 
   kept = same.kept;
   named = same.named;
   fresh = λ constant reference is none.
-      get_old one.objects (record { shape = shape; values = values; monitor = 0 }) reference (fresh_constant constant) (same.fresh constant reference is none);
+      get_old one.objects (record { shape = shape; values = values; monitor = 0 }) reference (fresh_constant constant)
+      (same.fresh constant reference is none);
 }
 
 -- the second alone allocates: no reference has the new one for its name
@@ -175,9 +187,11 @@ second_allocates {names = names} {one = one} {other = other} same shape values =
 
 -- ---- an object changes
 
-own_changed : (heap : Heap) (reference : ℕ) (object new : Object) → object_at heap reference ≡ Some object → HasOwnConstants heap → HasOwnConstants (with_object heap reference new)
+own_changed : (heap : Heap) (reference : ℕ) (object new : Object) → object_at heap reference ≡ Some object → HasOwnConstants heap
+    → HasOwnConstants (with_object heap reference new)
 own_changed heap reference object new there own = own_kept refl stays own where
-  stays : (at : ℕ) (old : Object) → object_at heap at ≡ Some old → (also : Object) × (object_at (with_object heap reference new) at ≡ Some also)
+  stays : (at : ℕ) (old : Object) → object_at heap at ≡ Some old
+      → (also : Object) × (object_at (with_object heap reference new) at ≡ Some also)
   stays at old is = elim (same_or_not reference at) [
     | inl e ↦ (new, ap (slice_get (slice_set heap.objects reference new)) (sym e) ∙ set_here heap.objects reference object new there)
     | inr differ ↦ (old, set_other heap.objects reference at new differ ∙ is)
@@ -262,7 +276,8 @@ with_monitor_there : (heap : Heap) (reference count : ℕ) (object : Object) →
     → with_monitor heap reference count ≡ with_object heap reference (record object { monitor = count })
 with_monitor_there heap reference count object is = rw (is) refl
 
-pub monitor_there : (heap : Heap) (reference : ℕ) (object : Object) → object_at heap reference ≡ Some object → monitor_count heap reference ≡ object.monitor
+pub monitor_there : (heap : Heap) (reference : ℕ) (object : Object) → object_at heap reference ≡ Some object
+    → monitor_count heap reference ≡ object.monitor
 monitor_there heap reference object is = rw (is) refl
 
 values_set :
@@ -284,10 +299,12 @@ pub both_write :
     → SameHeaps names (with_value one reference index value) (with_value other named index also)
 both_write {names = names} {one = one} {other = other} {value = value} {also = also} same reference named index is alike =
     let old = same.objects reference named is in
-    subst (λ (h : Heap). SameHeaps names h (with_value other named index also)) (sym (with_value_there one reference index value old.0 old.2))
+    subst (λ (h : Heap). SameHeaps names h (with_value other named index also))
+    (sym (with_value_there one reference index value old.0 old.2))
     (subst (SameHeaps names (with_object one reference (record old.0 { values = slice_set old.0.values index value })))
     (sym (with_value_there other named index also old.1 old.3))
-    (both_change same reference named old.0 old.1 (record old.0 { values = slice_set old.0.values index value }) (record old.1 { values = slice_set old.1.values index also })
+    (both_change same reference named old.0 old.1 (record old.0 { values = slice_set old.0.values index value })
+    (record old.1 { values = slice_set old.1.values index also })
     is old.2 old.3 (record { shape = old.4.shape; values = values_set old.4.values alike index; monitor = old.4.monitor })))
 
 both_monitor :
@@ -322,7 +339,8 @@ pub both_enter :
     → names reference ≡ Some named
     → SameHeaps names (entered one reference) (entered other named)
 both_enter {names = names} {one = one} {other = other} same reference named is =
-    subst (λ (count : ℕ). SameHeaps names (entered one reference) (with_monitor other named (count + 1))) (sym (same_monitor same reference named is))
+    subst (λ (count : ℕ). SameHeaps names (entered one reference) (with_monitor other named (count + 1)))
+    (sym (same_monitor same reference named is))
     (both_monitor same reference named (monitor_count one reference + 1) is)
 
 pub both_leave :
@@ -332,12 +350,14 @@ pub both_leave :
     → names reference ≡ Some named
     → SameHeaps names (left one reference) (left other named)
 both_leave {names = names} {one = one} {other = other} same reference named is =
-    subst (λ (count : ℕ). SameHeaps names (left one reference) (with_monitor other named (count - 1))) (sym (same_monitor same reference named is))
+    subst (λ (count : ℕ). SameHeaps names (left one reference) (with_monitor other named (count - 1)))
+    (sym (same_monitor same reference named is))
     (both_monitor same reference named (monitor_count one reference - 1) is)
 
 -- ---- constants stay
 
-pub value_constants : (heap : Heap) (reference index : ℕ) (value : Value) → (with_value heap reference index value).constants ≡ heap.constants
+pub value_constants : (heap : Heap) (reference index : ℕ) (value : Value)
+    → (with_value heap reference index value).constants ≡ heap.constants
 value_constants heap reference index value = by (object_at heap reference) refl where
   by : (found : Option Object) → object_at heap reference ≡ found → (with_value heap reference index value).constants ≡ heap.constants
   by None is = rw (is) refl

@@ -27,8 +27,10 @@ folder_named : (P : Program) (name : Name) (ones others : List RunClass) → Sam
     → SameNamed (named name (map (λ (class : RunClass). class.header) ones)) (named name (map (λ (class : RunClass). class.header) others))
 folder_named P name ones others same =
     let both = headers_named P name [] ones others same in
-    subst (λ (x : List Header). SameNamed (named name x) (named name (map (λ (class : RunClass). class.header) others))) (append-nil (map (λ (class : RunClass). class.header) ones))
-    (subst (λ (x : List Header). SameNamed (named name (map (λ (class : RunClass). class.header) ones ++ [])) (named name x)) (append-nil (map (λ (class : RunClass). class.header) others)) both)
+    subst (λ (x : List Header). SameNamed (named name x) (named name (map (λ (class : RunClass). class.header) others)))
+    (append-nil (map (λ (class : RunClass). class.header) ones))
+    (subst (λ (x : List Header). SameNamed (named name (map (λ (class : RunClass). class.header) ones ++ [])) (named name x))
+    (append-nil (map (λ (class : RunClass). class.header) others)) both)
 
 abbrev is_instance_field : Member → Bool
 is_instance_field field = not (has field.flags STATIC)
@@ -36,7 +38,8 @@ is_instance_field field = not (has field.flags STATIC)
 abbrev slot : Name → Member → Reference
 slot name field = record { class = name; name = field.name; desc = field.desc }
 
-slots_same : (name : Name) (ones others : List Member) → SameFields ones others → map (slot name) (filter is_instance_field others) ≡ map (slot name) (filter is_instance_field ones)
+slots_same : (name : Name) (ones others : List Member) → SameFields ones others
+    → map (slot name) (filter is_instance_field others) ≡ map (slot name) (filter is_instance_field ones)
 slots_same name [] [] same = refl
 slots_same name [] (other ∷ others) same = absurd same
 slots_same name (one ∷ ones) [] same = absurd same
@@ -49,7 +52,8 @@ slots_same name (one ∷ ones) (other ∷ others) same =
       by true rest = rest
       by false rest = rw (same.0, same.1, rest) refl
 
-blanks_same : (ones others : List Member) → SameFields ones others → blank_values (filter is_instance_field others) ≡ blank_values (filter is_instance_field ones)
+blanks_same : (ones others : List Member) → SameFields ones others
+    → blank_values (filter is_instance_field others) ≡ blank_values (filter is_instance_field ones)
 blanks_same [] [] same = refl
 blanks_same [] (other ∷ others) same = absurd same
 blanks_same (one ∷ ones) [] same = absurd same
@@ -68,7 +72,8 @@ module _ {P Q : Program} (same : SamePrograms P Q) where
 
   own_slots_same : (name : Name) → own_slots Q name ≡ own_slots P name
   own_slots_same name = by (named name (headers_in P).folder) (named name (headers_in Q).folder) refl refl (same_folder name) where
-    by : (one other : Option Header) → named name (headers_in P).folder ≡ one → named name (headers_in Q).folder ≡ other → SameNamed one other → own_slots Q name ≡ own_slots P name
+    by : (one other : Option Header) → named name (headers_in P).folder ≡ one → named name (headers_in Q).folder ≡ other
+        → SameNamed one other → own_slots Q name ≡ own_slots P name
     by None None is is_also named_none = rw (is, is_also) refl
     by None (Some other) is is_also impossible = elim impossible [ ]
     by (Some one) None is is_also impossible = elim impossible [ ]
@@ -76,7 +81,8 @@ module _ {P Q : Program} (same : SamePrograms P Q) where
 
   own_blanks_same : (name : Name) → blank_values (own_fields (headers_in Q) name) ≡ blank_values (own_fields (headers_in P) name)
   own_blanks_same name = by (named name (headers_in P).folder) (named name (headers_in Q).folder) refl refl (same_folder name) where
-    by : (one other : Option Header) → named name (headers_in P).folder ≡ one → named name (headers_in Q).folder ≡ other → SameNamed one other → blank_values (own_fields (headers_in Q) name) ≡ blank_values (own_fields (headers_in P) name)
+    by : (one other : Option Header) → named name (headers_in P).folder ≡ one → named name (headers_in Q).folder ≡ other
+        → SameNamed one other → blank_values (own_fields (headers_in Q) name) ≡ blank_values (own_fields (headers_in P) name)
     by None None is is_also named_none = rw (is, is_also) refl
     by None (Some other) is is_also impossible = elim impossible [ ]
     by (Some one) None is is_also impossible = elim impossible [ ]
@@ -88,12 +94,14 @@ module _ {P Q : Program} (same : SamePrograms P Q) where
   up_same zero name = refl
   up_same (suc left) None = refl
   up_same (suc left) (Some name) = by (header_named P name) (header_named Q name) refl refl (same_header same name) (up_same left) where
-    by : (one other : Option Header) → header_named P name ≡ one → header_named Q name ≡ other → SameNamed one other → ((above : Option Name) → classes_up (headers_in Q) left above ≡ classes_up (headers_in P) left above)
+    by : (one other : Option Header) → header_named P name ≡ one → header_named Q name ≡ other → SameNamed one other
+        → ((above : Option Name) → classes_up (headers_in Q) left above ≡ classes_up (headers_in P) left above)
         → classes_up (headers_in Q) (suc left) (Some name) ≡ classes_up (headers_in P) (suc left) (Some name)
     by None None is is_also named_none rest = rw (is, is_also) (ap (λ (names : List Name). name ∷ names) (rest None))
     by None (Some other) is is_also impossible rest = elim impossible [ ]
     by (Some one) None is is_also impossible rest = elim impossible [ ]
-    by (Some one) (Some other) is is_also (named_both alike) rest = rw (is, is_also, alike.superclass) (ap (λ (names : List Name). name ∷ names) (rest one.super_name))
+    by (Some one) (Some other) is is_also (named_both alike) rest = rw (is, is_also, alike.superclass)
+        (ap (λ (names : List Name). name ∷ names) (rest one.super_name))
 
   lengths_same : (ones others : List RunClass) → SameClasses P ones others → length others ≡ length ones
   lengths_same [] [] alike = refl
@@ -104,11 +112,18 @@ module _ {P Q : Program} (same : SamePrograms P Q) where
   as_many : length (all_headers (headers_in Q)) ≡ length (all_headers (headers_in P))
   as_many =
       length-append (headers_in Q).folder Q.library
-      ∙ rw (length-map Q.classes (λ (class : RunClass). class.header), length-map P.classes (λ (class : RunClass). class.header), lengths_same P.classes Q.classes same.classes, same.library) refl
+      ∙ rw (
+        length-map Q.classes (λ (class : RunClass). class.header),
+        length-map P.classes
+            (λ (class : RunClass). class.header),
+        lengths_same P.classes Q.classes same.classes,
+        same.library,
+      ) refl
       ∙ sym (length-append (headers_in P).folder P.library)
 
   superclasses_same : (name : Name) → superclasses (headers_in Q) name ≡ superclasses (headers_in P) name
-  superclasses_same name = ap (λ (left : ℕ). classes_up (headers_in Q) left (Some name)) as_many ∙ up_same (length (all_headers (headers_in P))) (Some name)
+  superclasses_same name = ap (λ (left : ℕ). classes_up (headers_in Q) left (Some name)) as_many
+      ∙ up_same (length (all_headers (headers_in P))) (Some name)
 
   pub same_slots : (name : Name) → slots_of Q name ≡ slots_of P name
   same_slots name =
@@ -118,12 +133,14 @@ module _ {P Q : Program} (same : SamePrograms P Q) where
   pub same_slot : (name : Name) (field : Reference) → slot_number Q name field ≡ slot_number P name field
   same_slot name field = ap (number_of_first (same_reference field)) (same_slots name)
 
-  blanks_through : (names : List Name) → blank_values (flat_map (own_fields (headers_in Q)) names) ≡ blank_values (flat_map (own_fields (headers_in P)) names)
+  blanks_through : (names : List Name)
+      → blank_values (flat_map (own_fields (headers_in Q)) names) ≡ blank_values (flat_map (own_fields (headers_in P)) names)
   blanks_through [] = refl
   blanks_through (name ∷ names) =
       map-append (λ (field : Member). blank_value field.desc) (own_fields (headers_in Q) name) (flat_map (own_fields (headers_in Q)) names)
       ∙ rw (own_blanks_same name, blanks_through names) refl
-      ∙ sym (map-append (λ (field : Member). blank_value field.desc) (own_fields (headers_in P) name) (flat_map (own_fields (headers_in P)) names))
+      ∙ sym (map-append (λ (field : Member). blank_value field.desc) (own_fields (headers_in P) name)
+      (flat_map (own_fields (headers_in P)) names))
 
   pub same_blanks : (name : Name) → blank_values (instance_fields (headers_in Q) name) ≡ blank_values (instance_fields (headers_in P) name)
   same_blanks name =

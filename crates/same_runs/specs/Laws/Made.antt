@@ -16,7 +16,8 @@ pub record SameMade (names : Names) (one other : Heap) (made also : Made) : Type
   pub is : more made.reference ≡ Some also.reference
   pub constants : made.heap.constants ≡ one.constants
 
-pub made_both : {names : Names} {one other : Heap} → SameHeaps names one other → (shape : Shape) (ones others : List Value) → SameValues names ones others
+pub made_both : {names : Names} {one other : Heap} → SameHeaps names one other → (shape : Shape) (ones others : List Value)
+    → SameValues names ones others
     → SameMade names one other (allocated one shape ones) (allocated other shape others)
 made_both {names = names} {one = one} {other = other} same shape ones others are =
     let grows = named_too_more names (length one.objects) (length other.objects) (new_unnamed same) in

@@ -27,14 +27,17 @@ number_old r (one ∷ ones) (old ∷ olds) added number same is =
           → ((later : ℕ) → number_of_first (is_method r) ones ≡ Some later → number_of_first (is_method r) (olds ++ added) ≡ Some later)
           → (if b then Some zero else option_map suc (number_of_first (is_method r) (olds ++ added))) ≡ Some number
       by true found e is rest = is
-      by false None e is rest = let none : option_map suc (number_of_first (is_method r) ones) ≡ None = rw (e) refl in absurd (none-some number (sym none ∙ is))
+      by false None e is rest = let none : option_map suc (number_of_first (is_method r) ones)
+          ≡ None = rw (e) refl in absurd (none-some number (sym none ∙ is))
       by false (Some later) e is rest =
           let here : Some (suc later) ≡ Some number = sym (rw (e) refl) ∙ is in
           rw (rest later e) here
 
-none_of_added : (P : Program) (class : RunClass) (r : Reference) (added : List RunMethod) → AllByRecursion (IsAdded P class) added → r.name ≢ init → number_of_first (is_method r) added ≡ None
+none_of_added : (P : Program) (class : RunClass) (r : Reference) (added : List RunMethod) → AllByRecursion (IsAdded P class) added
+    → r.name ≢ init → number_of_first (is_method r) added ≡ None
 none_of_added P class r [] all other = refl
-none_of_added P class r (method ∷ added) all other = rw (no_init r method.member other all.0.is_init, none_of_added P class r added all.1 other) refl
+none_of_added P class r (method ∷ added) all other = rw
+    (no_init r method.member other all.0.is_init, none_of_added P class r added all.1 other) refl
 
 pub no_number : (r : Reference) (ones olds added : List RunMethod) → SameMethods ones olds
     → number_of_first (is_method r) added ≡ None
@@ -51,7 +54,8 @@ no_number r (one ∷ ones) (old ∷ olds) added same none_added none =
           → (number_of_first (is_method r) ones ≡ None → number_of_first (is_method r) (olds ++ added) ≡ None)
           → (if b then Some zero else option_map suc (number_of_first (is_method r) (olds ++ added))) ≡ None
       by true found e none rest = absurd (none-some zero (sym none))
-      by false (Some later) e none rest = let some : option_map suc (number_of_first (is_method r) ones) ≡ Some (suc later) = rw (e) refl in absurd (none-some (suc later) (sym none ∙ some))
+      by false (Some later) e none rest = let some : option_map suc (number_of_first (is_method r) ones)
+          ≡ Some (suc later) = rw (e) refl in absurd (none-some (suc later) (sym none ∙ some))
       by false None e none rest = rw (rest e) refl
 
 -- ---- a method by its number
@@ -95,7 +99,8 @@ module _ {P Q : Program} (same : SamePrograms P Q) where
 
   pub same_place : (r : Reference) (at : MethodAt) → place_of_method P r ≡ Some at → place_of_method Q r ≡ Some at
   same_place r at is = by (folder_number P r.class) refl where
-    in_class : (number : ℕ) (class also : Option RunClass) → folder_number P r.class ≡ Some number → slice_get P.classes number ≡ class → slice_get Q.classes number ≡ also → SameAt P class also
+    in_class : (number : ℕ) (class also : Option RunClass) → folder_number P r.class ≡ Some number → slice_get P.classes number ≡ class
+        → slice_get Q.classes number ≡ also → SameAt P class also
         → place_of_method Q r ≡ Some at
     in_class number None None where_ here here_also at_none = absurd (none-some at (sym (rw (where_, here) refl) ∙ is))
     in_class number None (Some also) where_ here here_also impossible = elim impossible [ ]
@@ -111,11 +116,13 @@ module _ {P Q : Program} (same : SamePrograms P Q) where
 
     by : (found : Option ℕ) → folder_number P r.class ≡ found → place_of_method Q r ≡ Some at
     by None where_ = absurd (none-some at (sym (rw (where_) refl) ∙ is))
-    by (Some number) where_ = in_class number (slice_get P.classes number) (slice_get Q.classes number) where_ refl refl (at_number same number)
+    by (Some number) where_ = in_class number (slice_get P.classes number) (slice_get Q.classes number) where_ refl refl
+        (at_number same number)
 
   pub same_no_place : (r : Reference) → r.name ≢ init → place_of_method P r ≡ None → place_of_method Q r ≡ None
   same_no_place r other_name none = by (folder_number P r.class) refl where
-    in_class : (number : ℕ) (class also : Option RunClass) → folder_number P r.class ≡ Some number → slice_get P.classes number ≡ class → slice_get Q.classes number ≡ also → SameAt P class also
+    in_class : (number : ℕ) (class also : Option RunClass) → folder_number P r.class ≡ Some number → slice_get P.classes number ≡ class
+        → slice_get Q.classes number ≡ also → SameAt P class also
         → place_of_method Q r ≡ None
     in_class number None None where_ here here_also at_none = rw (same_number same r.class, where_, here_also) refl
     in_class number None (Some also) where_ here here_also impossible = elim impossible [ ]
@@ -131,23 +138,29 @@ module _ {P Q : Program} (same : SamePrograms P Q) where
 
     by : (found : Option ℕ) → folder_number P r.class ≡ found → place_of_method Q r ≡ None
     by None where_ = rw (same_number same r.class, where_) refl
-    by (Some number) where_ = in_class number (slice_get P.classes number) (slice_get Q.classes number) where_ refl refl (at_number same number)
+    by (Some number) where_ = in_class number (slice_get P.classes number) (slice_get Q.classes number) where_ refl refl
+        (at_number same number)
 
 -- a place is that of a method
-number_is : (r : Reference) (methods : List RunMethod) (number : ℕ) → number_of_first (is_method r) methods ≡ Some number → (method : RunMethod) × (slice_get methods number ≡ Some method)
+number_is : (r : Reference) (methods : List RunMethod) (number : ℕ) → number_of_first (is_method r) methods ≡ Some number
+    → (method : RunMethod) × (slice_get methods number ≡ Some method)
 number_is r [] number is = absurd (none-some number is)
-number_is r (method ∷ methods) number is = by (member_of r method.member) (number_of_first (is_method r) methods) refl is (number_is r methods) where
-  by : (b : Bool) (found : Option ℕ) → number_of_first (is_method r) methods ≡ found → (if b then Some zero else option_map suc (number_of_first (is_method r) methods)) ≡ Some number
-      → ((later : ℕ) → number_of_first (is_method r) methods ≡ Some later → (one : RunMethod) × (slice_get methods later ≡ Some one))
-      → (one : RunMethod) × (slice_get (method ∷ methods) number ≡ Some one)
-  by true found e is rest = (method, ap (slice_get (method ∷ methods)) (sym (same_Some zero number is)))
-  by false None e is rest = let none : option_map suc (number_of_first (is_method r) methods) ≡ None = rw (e) refl in absurd (none-some number (sym none ∙ is))
-  by false (Some later) e is rest =
-      let here : suc later ≡ number = same_Some (suc later) number (sym (rw (e) refl) ∙ is) in
-      let found = rest later e in
-      (found.0, ap (slice_get (method ∷ methods)) (sym here) ∙ found.1)
+number_is r (method ∷ methods) number is = by (member_of r method.member) (number_of_first (is_method r) methods) refl is
+    (number_is r methods) where
+      by : (b : Bool) (found : Option ℕ) → number_of_first (is_method r) methods ≡ found
+          → (if b then Some zero else option_map suc (number_of_first (is_method r) methods)) ≡ Some number
+          → ((later : ℕ) → number_of_first (is_method r) methods ≡ Some later → (one : RunMethod) × (slice_get methods later ≡ Some one))
+          → (one : RunMethod) × (slice_get (method ∷ methods) number ≡ Some one)
+      by true found e is rest = (method, ap (slice_get (method ∷ methods)) (sym (same_Some zero number is)))
+      by false None e is rest = let none : option_map suc (number_of_first (is_method r) methods)
+          ≡ None = rw (e) refl in absurd (none-some number (sym none ∙ is))
+      by false (Some later) e is rest =
+          let here : suc later ≡ number = same_Some (suc later) number (sym (rw (e) refl) ∙ is) in
+          let found = rest later e in
+          (found.0, ap (slice_get (method ∷ methods)) (sym here) ∙ found.1)
 
-pub place_is : (P : Program) (r : Reference) (at : MethodAt) → place_of_method P r ≡ Some at → (method : RunMethod) × (run_method P at ≡ Some method)
+pub place_is : (P : Program) (r : Reference) (at : MethodAt) → place_of_method P r ≡ Some at
+    → (method : RunMethod) × (run_method P at ≡ Some method)
 place_is P r at is = by (folder_number P r.class) refl where
   by : (found : Option ℕ) → folder_number P r.class ≡ found → (method : RunMethod) × (run_method P at ≡ Some method)
   by None where_ = absurd (none-some at (sym (rw (where_) refl) ∙ is))
@@ -155,9 +168,11 @@ place_is P r at is = by (folder_number P r.class) refl where
     in_class : (class : Option RunClass) → slice_get P.classes number ≡ class → (method : RunMethod) × (run_method P at ≡ Some method)
     in_class None here = absurd (none-some at (sym (rw (where_, here) refl) ∙ is))
     in_class (Some class) here = found (number_of_first (is_method r) class.methods) refl where
-      found : (at_number : Option ℕ) → number_of_first (is_method r) class.methods ≡ at_number → (method : RunMethod) × (run_method P at ≡ Some method)
+      found : (at_number : Option ℕ) → number_of_first (is_method r) class.methods ≡ at_number
+          → (method : RunMethod) × (run_method P at ≡ Some method)
       found None e = absurd (none-some at (sym (rw (where_, here, e) refl) ∙ is))
       found (Some method) e =
-          let place : record { class = number; method = method } ≡ at = same_Some (record { class = number; method = method }) at (sym (rw (where_, here, e) refl) ∙ is) in
+          let place : record { class = number; method = method }
+          ≡ at = same_Some (record { class = number; method = method }) at (sym (rw (where_, here, e) refl) ∙ is) in
           let one = number_is r class.methods method e in
           (one.0, subst (λ (a : MethodAt). run_method P a ≡ Some one.0) place (rw (here) one.1))

@@ -22,7 +22,8 @@ pub named_here : (names : Names) (reference named : ℕ) → named_too names ref
 unfolding named_too
 named_here names reference named = rw (eq-eqb reference reference refl) refl
 
-pub named_other : (names : Names) (reference named other : ℕ) → (reference ≡ other → ⊥) → named_too names reference named other ≡ names other
+pub named_other : (names : Names) (reference named other : ℕ) → (reference ≡ other → ⊥)
+    → named_too names reference named other ≡ names other
 unfolding named_too
 named_other names reference named other differ = rw (ne_eqb reference other differ) refl
 
@@ -42,7 +43,8 @@ value_more grows same_double = same_double
 value_more grows same_null = same_null
 value_more grows (same_reference {reference = reference} {named = named} is) = same_reference (grows.keeps reference named is)
 
-pub values_more : {names more : Names} {ones others : List Value} → NamesMore names more → SameValues names ones others → SameValues more ones others
+pub values_more : {names more : Names} {ones others : List Value} → NamesMore names more → SameValues names ones others
+    → SameValues more ones others
 values_more grows no_values = no_values
 values_more grows (and_value one rest) = and_value (value_more grows one) (values_more grows rest)
 
@@ -50,7 +52,8 @@ pub unit_more : {names more : Names} {one other : Option Value} → NamesMore na
 unit_more grows no_value = no_value
 unit_more grows (has_value same) = has_value (value_more grows same)
 
-pub units_more : {names more : Names} {ones others : List (Option Value)} → NamesMore names more → SameUnits names ones others → SameUnits more ones others
+pub units_more : {names more : Names} {ones others : List (Option Value)} → NamesMore names more → SameUnits names ones others
+    → SameUnits more ones others
 units_more grows no_units = no_units
 units_more grows (and_unit one rest) = and_unit (unit_more grows one) (units_more grows rest)
 
@@ -58,7 +61,8 @@ pub held_more : {names more : Names} {one other : Option ℕ} → NamesMore name
 held_more grows none_held = none_held
 held_more grows (one_held {reference = reference} {named = named} is) = one_held (grows.keeps reference named is)
 
-pub references_more : {names more : Names} {ones others : List ℕ} → NamesMore names more → SameReferences names ones others → SameReferences more ones others
+pub references_more : {names more : Names} {ones others : List ℕ} → NamesMore names more → SameReferences names ones others
+    → SameReferences more ones others
 references_more grows no_references = no_references
 references_more grows (and_reference {reference = reference} {named = named} is rest) =
     and_reference (grows.keeps reference named is) (references_more grows rest)

@@ -20,7 +20,8 @@ use Rattle.same_runs.specs.Laws.Shapes.{same_class_of}
 
 -- ---- known references
 
-known_same : {names : Names} → IsRenaming names → {ones others : List ℕ} → SameReferences names ones others → (reference named : ℕ) → names reference ≡ Some named
+known_same : {names : Names} → IsRenaming names → {ones others : List ℕ} → SameReferences names ones others → (reference named : ℕ)
+    → names reference ≡ Some named
     → known_number others named ≡ known_number ones reference
 known_same renaming no_references reference named is = refl
 known_same {names = names} renaming (and_reference {reference = first} {named = first_named} here rest) reference named is =
@@ -39,7 +40,8 @@ lengths_same : {names : Names} {ones others : List ℕ} → SameReferences names
 lengths_same no_references = refl
 lengths_same (and_reference is rest) = ap suc (lengths_same rest)
 
-one_more : {names : Names} {ones others : List ℕ} {reference named : ℕ} → SameReferences names ones others → names reference ≡ Some named → SameReferences names (ones ++ reference ∷ []) (others ++ named ∷ [])
+one_more : {names : Names} {ones others : List ℕ} {reference named : ℕ} → SameReferences names ones others → names reference ≡ Some named
+    → SameReferences names (ones ++ reference ∷ []) (others ++ named ∷ [])
 one_more no_references is = and_reference is no_references
 one_more (and_reference here rest) is = and_reference here (one_more rest is)
 
@@ -49,7 +51,8 @@ pub record SameNumbered (A : Type 0) (names : Names) (one other : Numbered A) : 
   pub known : SameReferences names one.known other.known
 
 module _ {P Q : Program} {names : Names} {one other : Heap} (same : SamePrograms P Q) (heaps : SameHeaps names one other) where
-  constant_same : (reference named : ℕ) → names reference ≡ Some named → constant_in other.constants named ≡ constant_in one.constants reference
+  constant_same : (reference named : ℕ) → names reference ≡ Some named
+      → constant_in other.constants named ≡ constant_in one.constants reference
   constant_same reference named is = by (constant_in one.constants reference) (constant_in other.constants named) refl refl where
     there : (constant : Constant) → constant_in other.constants named ≡ Some constant → constant_in one.constants reference ≡ Some constant
     there constant e =
@@ -57,7 +60,8 @@ module _ {P Q : Program} {names : Names} {one other : Heap} (same : SamePrograms
         let same_one : was.0 ≡ reference = heaps.renaming.once was.0 reference named was.2 is in
         ap (constant_in one.constants) (sym same_one) ∙ heaps.own.is_of constant was.0 was.1
 
-    by : (first second : Option Constant) → constant_in one.constants reference ≡ first → constant_in other.constants named ≡ second → constant_in other.constants named ≡ constant_in one.constants reference
+    by : (first second : Option Constant) → constant_in one.constants reference ≡ first → constant_in other.constants named ≡ second
+        → constant_in other.constants named ≡ constant_in one.constants reference
     by None None e e_also = e_also ∙ sym e
     by (Some constant) second e e_also =
         heaps.own_also.is_of constant named (heaps.named constant reference named (heaps.own.has constant reference e) is) ∙ sym e
@@ -71,12 +75,14 @@ module _ {P Q : Program} {names : Names} {one other : Heap} (same : SamePrograms
   pub reference_numbered : {ones others : List ℕ} → SameReferences names ones others → (reference named : ℕ) → names reference ≡ Some named
       → SameNumbered SeenRef names (numbered_reference P one ones reference) (numbered_reference Q other others named)
   reference_numbered {ones = ones} {others = others} known reference named is = by (known_number ones reference) refl where
-    by : (found : Option ℕ) → known_number ones reference ≡ found → SameNumbered SeenRef names (numbered_reference P one ones reference) (numbered_reference Q other others named)
+    by : (found : Option ℕ) → known_number ones reference ≡ found
+        → SameNumbered SeenRef names (numbered_reference P one ones reference) (numbered_reference Q other others named)
     by (Some number) e = rw (e, known_same heaps.renaming known reference named is ∙ e) (record { seen = refl; known = known })
     by None e = rw (e, known_same heaps.renaming known reference named is ∙ e)
         (record { seen = rw (lengths_same known, first_same reference named is) refl; known = one_more known is })
 
-  pub value_numbered : {ones others : List ℕ} {value also : Value} → SameReferences names ones others → SameValue names value also → SameNumbered Seen names (numbered P one ones value) (numbered Q other others also)
+  pub value_numbered : {ones others : List ℕ} {value also : Value} → SameReferences names ones others → SameValue names value also
+      → SameNumbered Seen names (numbered P one ones value) (numbered Q other others also)
   value_numbered known same_int = record { seen = refl; known = known }
   value_numbered known same_long = record { seen = refl; known = known }
   value_numbered known same_float = record { seen = refl; known = known }
@@ -118,6 +124,8 @@ module _ {P Q : Program} {names : Names} {one other : Heap} (same : SamePrograms
 
   -- ---- monitors of known references
 
-  pub monitors_same : {ones others : List ℕ} → SameReferences names ones others → map (monitor_count other) others ≡ map (monitor_count one) ones
+  pub monitors_same : {ones others : List ℕ} → SameReferences names ones others
+      → map (monitor_count other) others ≡ map (monitor_count one) ones
   monitors_same no_references = refl
-  monitors_same (and_reference {reference = reference} {named = named} is rest) = rw (same_monitor heaps reference named is, monitors_same rest) refl
+  monitors_same (and_reference {reference = reference} {named = named} is rest) = rw
+      (same_monitor heaps reference named is, monitors_same rest) refl

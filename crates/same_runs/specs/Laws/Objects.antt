@@ -12,7 +12,8 @@ get_new [] y = refl
 get_new (first ∷ xs) y = get_new xs y
 
 -- what stands there stood there before, or is the new one
-pub get_before : {A : Type 0} (xs : List A) (y : A) (at : ℕ) (x : A) → (at ≡ length xs → ⊥) → slice_get (xs ++ y ∷ []) at ≡ Some x → slice_get xs at ≡ Some x
+pub get_before : {A : Type 0} (xs : List A) (y : A) (at : ℕ) (x : A) → (at ≡ length xs → ⊥) → slice_get (xs ++ y ∷ []) at ≡ Some x
+    → slice_get xs at ≡ Some x
 get_before [] y zero x differ is = absurd (differ refl)
 get_before [] y (suc at) x differ is = absurd (none-some x is)
 get_before (first ∷ xs) y zero x differ is = is
@@ -26,7 +27,8 @@ set_here [] at x y is = absurd (none-some x is)
 set_here (first ∷ xs) zero x y is = refl
 set_here (first ∷ xs) (suc at) x y is = set_here xs at x y is
 
-pub set_other : {A : Type 0} (xs : List A) (at other : ℕ) (y : A) → (at ≡ other → ⊥) → slice_get (slice_set xs at y) other ≡ slice_get xs other
+pub set_other : {A : Type 0} (xs : List A) (at other : ℕ) (y : A) → (at ≡ other → ⊥)
+    → slice_get (slice_set xs at y) other ≡ slice_get xs other
 set_other [] at other y differ = refl
 set_other (first ∷ xs) zero zero y differ = absurd (differ refl)
 set_other (first ∷ xs) zero (suc other) y differ = refl

@@ -58,20 +58,23 @@ module _ {P Q : Program} {Allocated Entered : ℕ → ℕ → Type 0} {names : N
   pub pushes_constant : (constant : Constant) → Both (push_constant_work one constant) (push_constant_work other constant)
   pushes_constant constant =
       let made = both_have memories.heaps constant in
-      both_give made.more made.grows (memories_still made.grows (keeps_made one.heap constant) made.heaps memories) (and_value (same_reference made.is) no_values)
+      both_give made.more made.grows (memories_still made.grows (keeps_made one.heap constant) made.heaps memories)
+      (and_value (same_reference made.is) no_values)
 
   -- ---- objects of references
 
   pub of_objects :
       (reference named : ℕ) (f g : Object → Completion)
       → names reference ≡ Some named
-      → ((object also : Object) → object_at one.heap reference ≡ Some object → object_at other.heap named ≡ Some also → SameObject names object also → Both (f object) (g also))
+      → ((object also : Object) → object_at one.heap reference ≡ Some object → object_at other.heap named ≡ Some also
+      → SameObject names object also → Both (f object) (g also))
       → Both (if_there one reference f) (if_there other named g)
   of_objects reference named f g is each =
       let old = memories.heaps.objects reference named is in
       rw (old.2, old.3) (each old.0 old.1 old.2 old.3 old.4)
 
-  pub casts : (name : Name) {ones others : List Value} → SameValues names ones others → Both (check_cast_work P one name ones) (check_cast_work Q other name others)
+  pub casts : (name : Name) {ones others : List Value} → SameValues names ones others
+      → Both (check_cast_work P one name ones) (check_cast_work Q other name others)
   casts name no_values = both_end
   casts name (and_value same_int rest) = both_end
   casts name (and_value same_long rest) = both_end
@@ -80,16 +83,23 @@ module _ {P Q : Program} {Allocated Entered : ℕ → ℕ → Type 0} {names : N
   casts name (and_value same_null no_values) = gives_value same_null
   casts name (and_value same_null (and_value more rest)) = both_end
   casts name (and_value (same_reference {reference = reference} {named = named} is) no_values) =
-      of_objects reference named _ _ is (λ object also there there_also alike. tested object also alike (is_instance P object.shape name) refl) where
+      of_objects reference named _ _ is
+      (λ object also there there_also alike. tested object also alike (is_instance P object.shape name) refl) where
         tested : (object also : Object) → SameObject names object also → (b : Bool) → is_instance P object.shape name ≡ b
-            → Both (if is_instance P object.shape name then gives one (values.Ref reference ∷ []) else raises class_cast) (if is_instance Q also.shape name then gives other (values.Ref named ∷ []) else raises class_cast)
+            → Both (if is_instance P object.shape name then gives one (values.Ref reference ∷ []) else raises class_cast)
+            (if is_instance Q also.shape name then gives other (values.Ref named ∷ []) else raises class_cast)
         tested object also alike true e =
-            rw (e, ap (λ (s : Shape). is_instance Q s name) alike.shape ∙ same_instance same object.shape name ∙ e) (gives_value (same_reference is))
+            rw (
+              e,
+              ap (λ (s : Shape). is_instance Q s name) alike.shape ∙ same_instance same object.shape name
+                  ∙ e,
+            ) (gives_value (same_reference is))
         tested object also alike false e =
             rw (e, ap (λ (s : Shape). is_instance Q s name) alike.shape ∙ same_instance same object.shape name ∙ e) both_raise
   casts name (and_value (same_reference is) (and_value more rest)) = both_end
 
-  pub tests : (name : Name) {ones others : List Value} → SameValues names ones others → Both (instance_of_work P one name ones) (instance_of_work Q other name others)
+  pub tests : (name : Name) {ones others : List Value} → SameValues names ones others
+      → Both (instance_of_work P one name ones) (instance_of_work Q other name others)
   tests name no_values = both_end
   tests name (and_value same_int rest) = both_end
   tests name (and_value same_long rest) = both_end
@@ -111,24 +121,35 @@ module _ {P Q : Program} {Allocated Entered : ℕ → ℕ → Type 0} {names : N
   throws_same (and_value same_null no_values) = both_raise
   throws_same (and_value same_null (and_value more rest)) = both_end
   throws_same (and_value (same_reference {reference = reference} {named = named} is) no_values) =
-      of_objects reference named _ _ is (λ object also there there_also alike. tested object also alike (shape_conforms P object.shape throwable) refl) where
+      of_objects reference named _ _ is
+      (λ object also there there_also alike. tested object also alike (shape_conforms P object.shape throwable) refl) where
         tested : (object also : Object) → SameObject names object also → (b : Bool) → shape_conforms P object.shape throwable ≡ b
-            → Both (if shape_conforms P object.shape throwable then throws reference else ends stuck) (if shape_conforms Q also.shape throwable then throws named else ends stuck)
+            → Both (if shape_conforms P object.shape throwable then throws reference else ends stuck)
+            (if shape_conforms Q also.shape throwable then throws named else ends stuck)
         tested object also alike true e =
-            rw (e, ap (λ (s : Shape). shape_conforms Q s throwable) alike.shape ∙ same_conforms same object.shape throwable ∙ e) (both_throw is)
+            rw (
+              e,
+              ap (λ (s : Shape). shape_conforms Q s throwable) alike.shape ∙ same_conforms same object.shape throwable
+                  ∙ e,
+            ) (both_throw is)
         tested object also alike false e =
             rw (e, ap (λ (s : Shape). shape_conforms Q s throwable) alike.shape ∙ same_conforms same object.shape throwable ∙ e) both_end
   throws_same (and_value (same_reference is) (and_value more rest)) = both_end
 
   -- ---- monitors
 
-  pub entered_same : IsComparison Entered → (reference named : ℕ) → names reference ≡ Some named → Both (gives (with_entered one reference) []) (gives (with_entered other named) [])
+  pub entered_same : IsComparison Entered → (reference named : ℕ) → names reference ≡ Some named
+      → Both (gives (with_entered one reference) []) (gives (with_entered other named) [])
   entered_same compares reference named is =
-      let still = memories_still (names_themselves names) (keeps_all one.heap (entered one.heap reference) (entered_constants one.heap reference)) (both_enter memories.heaps reference named is) memories in
+      let still = memories_still (names_themselves names)
+      (keeps_all one.heap (entered one.heap reference) (entered_constants one.heap reference))
+      (both_enter memories.heaps reference named is) memories in
       both_give names (names_themselves names)
-      (memories_counted one.allocations other.allocations (one.entries + 1) (other.entries + 1) memories.allocations (compares.both one.entries other.entries 1 memories.entries) still) no_values
+      (memories_counted one.allocations other.allocations (one.entries + 1) (other.entries + 1) memories.allocations
+      (compares.both one.entries other.entries 1 memories.entries) still) no_values
 
-  pub enters : IsComparison Entered → {ones others : List Value} → SameValues names ones others → Both (enter_monitor_work one ones) (enter_monitor_work other others)
+  pub enters : IsComparison Entered → {ones others : List Value} → SameValues names ones others
+      → Both (enter_monitor_work one ones) (enter_monitor_work other others)
   enters compares no_values = both_end
   enters compares (and_value same_int rest) = both_end
   enters compares (and_value same_long rest) = both_end
@@ -140,7 +161,8 @@ module _ {P Q : Program} {Allocated Entered : ℕ → ℕ → Type 0} {names : N
       of_objects reference named _ _ is (λ object also there there_also alike. entered_same compares reference named is)
   enters compares (and_value (same_reference is) (and_value more rest)) = both_end
 
-  pub leaves : {ones others : List Value} → SameValues names ones others → Both (leave_monitor_work one ones) (leave_monitor_work other others)
+  pub leaves : {ones others : List Value} → SameValues names ones others
+      → Both (leave_monitor_work one ones) (leave_monitor_work other others)
   leaves no_values = both_end
   leaves (and_value same_int rest) = both_end
   leaves (and_value same_long rest) = both_end
@@ -157,7 +179,8 @@ module _ {P Q : Program} {Allocated Entered : ℕ → ℕ → Type 0} {names : N
         tested object also alike false e =
             rw (e, ap (λ (count : ℕ). count == 0) alike.monitor ∙ e)
             (both_give names (names_themselves names)
-            (memories_still (names_themselves names) (keeps_all one.heap (left one.heap reference) (left_constants one.heap reference)) (both_leave memories.heaps reference named is) memories)
+            (memories_still (names_themselves names) (keeps_all one.heap (left one.heap reference) (left_constants one.heap reference))
+            (both_leave memories.heaps reference named is) memories)
             no_values)
   leaves (and_value (same_reference is) (and_value more rest)) = both_end
 

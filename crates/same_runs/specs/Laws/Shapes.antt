@@ -20,7 +20,8 @@ module _ {P Q : Program} (same : SamePrograms P Q) where
   same_class_of (External class also) = refl
 
   any_below : (also : List Name) (name : Name)
-      → list_any (λ (interface : Name). Q.links.below interface name) also ≡ list_any (λ (interface : Name). P.links.below interface name) also
+      → list_any (λ (interface : Name). Q.links.below interface name) also
+      ≡ list_any (λ (interface : Name). P.links.below interface name) also
   any_below [] name = refl
   any_below (first ∷ also) name = rw (same_below first name, any_below also name) refl
 
@@ -46,5 +47,6 @@ module _ {P Q : Program} (same : SamePrograms P Q) where
 
   pub same_conforms : (shape : Shape) (name : Name) → shape_conforms Q shape name ≡ shape_conforms P shape name
   same_conforms (Folder number) name = rw (same_interface same name, same_instance (Folder number) name) refl
-  same_conforms (Array desc len) name = rw (same_interface same name, same_below desc name, same_components (component_text desc) (component_text name)) refl
+  same_conforms (Array desc len) name = rw
+      (same_interface same name, same_below desc name, same_components (component_text desc) (component_text name)) refl
   same_conforms (External class also) name = rw (same_interface same name, same_instance (External class also) name) refl

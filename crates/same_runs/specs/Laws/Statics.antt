@@ -29,25 +29,30 @@ keeps_made heap constant = record { keeps = kept_by_made heap constant }
 
 -- ---- what a class was begun with
 
-pub start_same : (before after : Heap) (value : StartValue) → KeepsConstants before after → IsSome (start_in before.constants value) → start_in after.constants value ≡ start_in before.constants value
+pub start_same : (before after : Heap) (value : StartValue) → KeepsConstants before after → IsSome (start_in before.constants value)
+    → start_in after.constants value ≡ start_in before.constants value
 start_same before after (start_value value) keeps some = refl
 start_same before after (start_string text) keeps some = by (kept_in before.constants (Str text)) refl some where
-  by : (found : Option ℕ) → kept_in before.constants (Str text) ≡ found → IsSome (option_map values.Ref found) → option_map values.Ref (kept_in after.constants (Str text)) ≡ option_map values.Ref (kept_in before.constants (Str text))
+  by : (found : Option ℕ) → kept_in before.constants (Str text) ≡ found → IsSome (option_map values.Ref found)
+      → option_map values.Ref (kept_in after.constants (Str text)) ≡ option_map values.Ref (kept_in before.constants (Str text))
   by None is some = absurd (false≢true some)
   by (Some reference) is some = rw (is, keeps.keeps (Str text) reference is) refl
 
-pub kept_still : (before after : Heap) (starts : List StaticStart) → KeepsConstants before after → AllByRecursion (IsKeptStart before.constants) starts → AllByRecursion (IsKeptStart after.constants) starts
+pub kept_still : (before after : Heap) (starts : List StaticStart) → KeepsConstants before after
+    → AllByRecursion (IsKeptStart before.constants) starts → AllByRecursion (IsKeptStart after.constants) starts
 kept_still before after [] keeps all = tt
 kept_still before after (start ∷ starts) keeps all =
     (subst IsSome (sym (start_same before after start.value keeps all.0)) all.0, kept_still before after starts keeps all.1)
 
-pub started_same : (P : Program) (class field : ℕ) (before after : Heap) (starts : List StaticStart) → KeepsConstants before after → AllByRecursion (IsKeptStart before.constants) starts
+pub started_same : (P : Program) (class field : ℕ) (before after : Heap) (starts : List StaticStart) → KeepsConstants before after
+    → AllByRecursion (IsKeptStart before.constants) starts
     → started P class after.constants starts field ≡ started P class before.constants starts field
 started_same P class field before after [] keeps all = refl
 started_same P class field before after (start ∷ starts) keeps all =
     rw (start_same before after start.value keeps all.0, started_same P class field before after starts keeps all.1) refl
 
-pub as_begun_still : (P : Program) (class : ℕ) (memory : Memory) (heap : Heap) → KeepsConstants memory.heap heap → IsAsBegun P memory class → IsAsBegun P (with_heap memory heap) class
+pub as_begun_still : (P : Program) (class : ℕ) (memory : Memory) (heap : Heap) → KeepsConstants memory.heap heap
+    → IsAsBegun P memory class → IsAsBegun P (with_heap memory heap) class
 as_begun_still P class memory heap keeps as_begun = record {
   kept = kept_still memory.heap heap (starts_of P class) keeps as_begun.kept;
   statics = λ field. as_begun.statics field ∙ sym (started_same P class field memory.heap heap (starts_of P class) keeps as_begun.kept);
@@ -91,7 +96,8 @@ pub statics_counted :
     {P : Program} {names : Names} {now : List ℕ} {one other : Memory}
     → (allocations also entries entries_also : ℕ)
     → SameStatics P names now one other
-    → SameStatics P names now (record one { allocations = allocations; entries = entries }) (record other { allocations = also; entries = entries_also })
+    → SameStatics P names now (record one { allocations = allocations; entries = entries })
+    (record other { allocations = also; entries = entries_also })
 statics_counted {P = P} {one = one} allocations also entries entries_also same = record {
   begun = same.begun;
   values = same.values;
@@ -113,7 +119,8 @@ pub memories_counted :
     → Allocated allocations also
     → Entered entries entries_also
     → SameMemories P Allocated Entered names now one other
-    → SameMemories P Allocated Entered names now (record one { allocations = allocations; entries = entries }) (record other { allocations = also; entries = entries_also })
+    → SameMemories P Allocated Entered names now (record one { allocations = allocations; entries = entries })
+    (record other { allocations = also; entries = entries_also })
 memories_counted allocations also entries entries_also allocated entered same = record {
   heaps = same.heaps;
   statics = statics_counted allocations also entries entries_also same.statics;

@@ -20,9 +20,11 @@ use Rattle.same_runs.specs.Laws.Names.{names_themselves}
 use Rattle.same_runs.specs.Laws.Shapes.{same_instance}
 use Rattle.same_runs.specs.Laws.Statics.{keeps_all, memories_still}
 
-handler_by : (P : Program) (heap : Heap) (f : MethodState) (reference : ℕ) → handler_at P heap (point_at P f.at f.place) reference ≡ handler_for P heap (catches_at P f) reference
+handler_by : (P : Program) (heap : Heap) (f : MethodState) (reference : ℕ)
+    → handler_at P heap (point_at P f.at f.place) reference ≡ handler_for P heap (catches_at P f) reference
 handler_by P heap f reference = by (point_at P f.at f.place) refl where
-  by : (found : Option Point) → point_at P f.at f.place ≡ found → handler_at P heap (point_at P f.at f.place) reference ≡ handler_for P heap (catches_at P f) reference
+  by : (found : Option Point) → point_at P f.at f.place ≡ found
+      → handler_at P heap (point_at P f.at f.place) reference ≡ handler_for P heap (catches_at P f) reference
   by None is = rw (is) refl
   by (Some point) is = rw (is) refl
 
@@ -34,9 +36,11 @@ pub unlocked_same :
     → SameMemories P Allocated Entered names [] (unlocked one held) (unlocked other also)
 unlocked_same memories none_held = memories
 unlocked_same {names = names} {one = one} memories (one_held {reference = reference} {named = named} is) =
-    memories_still (names_themselves names) (keeps_all one.heap (left one.heap reference) (left_constants one.heap reference)) (heaps.both_leave memories.heaps reference named is) memories
+    memories_still (names_themselves names) (keeps_all one.heap (left one.heap reference) (left_constants one.heap reference))
+    (heaps.both_leave memories.heaps reference named is) memories
 
-module _ {P Q : Program} {Allocated Entered : ℕ → ℕ → Type 0} {Lands : Names → List RunFrame → List RunFrame → Type 0} {names : Names} (same : SamePrograms P Q) where
+module _ {P Q : Program} {Allocated Entered : ℕ → ℕ → Type 0} {Lands : Names → List RunFrame → List RunFrame
+    → Type 0} {names : Names} (same : SamePrograms P Q) where
   -- the handlers of both catch an object, or neither's do
   handlers_same :
       {one other : Memory} {f g : MethodState} {ones others : List RunFrame} {catches also : List Catch} (reference named : ℕ)
@@ -44,19 +48,26 @@ module _ {P Q : Program} {Allocated Entered : ℕ → ℕ → Type 0} {Lands : N
       → names reference ≡ Some named
       → SameCatches Lands names f g ones others catches also
       → ((handler_for P one.heap catches reference ≡ None) × (handler_for Q other.heap also named ≡ None))
-      ⊎ ((to to_also : ℕ) × (handler_for P one.heap catches reference ≡ Some to) × (handler_for Q other.heap also named ≡ Some to_also) × Lands names (Method (caught f to reference) ∷ ones) (Method (caught g to_also named) ∷ others))
+      ⊎ ((to to_also : ℕ) × (handler_for P one.heap catches reference ≡ Some to) × (handler_for Q other.heap also named ≡ Some to_also)
+      × Lands names (Method (caught f to reference) ∷ ones) (Method (caught g to_also named) ∷ others))
   handlers_same reference named memories is no_catches = inl (refl, refl)
   handlers_same reference named memories is (and_catch {class = None} {to = to} {to_also = to_also} lands rest) =
       inr (to, to_also, refl, refl, lands names reference named (names_themselves names) is)
-  handlers_same {one = one} {other = other} {f = f} {g = g} {ones = ones} {others = others} reference named memories is (and_catch {class = Some name} {to = to} {to_also = to_also} {catches = catches} {also = also} lands rest) =
+  handlers_same {one = one} {other = other} {f = f} {g = g} {ones = ones} {others = others} reference named memories is
+      (and_catch {class = Some name} {to = to} {to_also = to_also} {catches = catches} {also = also} lands rest) =
       let old = memories.heaps.objects reference named is in
       by old.0 old.1 old.2 old.3 old.4 (handlers_same reference named memories is rest) (is_instance P old.0.shape name) refl where
-        by : (object object_also : Object) → object_at one.heap reference ≡ Some object → object_at other.heap named ≡ Some object_also → SameObject names object object_also
+        by : (object object_also : Object) → object_at one.heap reference ≡ Some object → object_at other.heap named ≡ Some object_also
+            → SameObject names object object_also
             → (((handler_for P one.heap catches reference ≡ None) × (handler_for Q other.heap also named ≡ None))
-            ⊎ ((to to_also : ℕ) × (handler_for P one.heap catches reference ≡ Some to) × (handler_for Q other.heap also named ≡ Some to_also) × Lands names (Method (caught f to reference) ∷ ones) (Method (caught g to_also named) ∷ others)))
+            ⊎ ((to to_also : ℕ) × (handler_for P one.heap catches reference ≡ Some to)
+            × (handler_for Q other.heap also named ≡ Some to_also)
+            × Lands names (Method (caught f to reference) ∷ ones) (Method (caught g to_also named) ∷ others)))
             → (b : Bool) → is_instance P object.shape name ≡ b
-            → ((handler_for P one.heap (record { to = to; class = Some name } ∷ catches) reference ≡ None) × (handler_for Q other.heap (record { to = to_also; class = Some name } ∷ also) named ≡ None))
-            ⊎ ((to_one to_two : ℕ) × (handler_for P one.heap (record { to = to; class = Some name } ∷ catches) reference ≡ Some to_one) × (handler_for Q other.heap (record { to = to_also; class = Some name } ∷ also) named ≡ Some to_two)
+            → ((handler_for P one.heap (record { to = to; class = Some name } ∷ catches) reference ≡ None)
+            × (handler_for Q other.heap (record { to = to_also; class = Some name } ∷ also) named ≡ None))
+            ⊎ ((to_one to_two : ℕ) × (handler_for P one.heap (record { to = to; class = Some name } ∷ catches) reference ≡ Some to_one)
+            × (handler_for Q other.heap (record { to = to_also; class = Some name } ∷ also) named ≡ Some to_two)
             × Lands names (Method (caught f to_one reference) ∷ ones) (Method (caught g to_two named) ∷ others))
         by object object_also there there_also alike more true e =
             let e_also = ap (λ (s : Shape). is_instance Q s name) alike.shape ∙ same_instance same object.shape name ∙ e in
@@ -78,15 +89,20 @@ module _ {P Q : Program} {Allocated Entered : ℕ → ℕ → Type 0} {Lands : N
   unwind_same reference named one other in_beginnings memories is = both_nowhere
   unwind_same reference named one other in_none memories is = both_nowhere
   unwind_same reference named one other (in_first {f = f} {ones = ones} {others = others} passes rest) memories is =
-      rw (handler_by P one.heap f reference, passes.catches_none, passes.is, passes.no_initialiser, passes.holds_none) (unwind_same reference named one other rest memories is)
-  unwind_same {SameFrames = SameFrames} reference named one other (in_both {f = f} {g = g} {ones = ones} {others = others} ends held catches frames rest) memories is =
+      rw (handler_by P one.heap f reference, passes.catches_none, passes.is, passes.no_initialiser, passes.holds_none)
+      (unwind_same reference named one other rest memories is)
+  unwind_same {SameFrames = SameFrames} reference named one other
+      (in_both {f = f} {g = g} {ones = ones} {others = others} ends held catches frames rest) memories is =
       elim (handlers_same reference named memories is catches) [
         | inr found ↦ rw (handler_by P one.heap f reference, handler_by Q other.heap g named, found.2, found.3) (both_catch memories found.4)
         | inl none ↦ rw (handler_by P one.heap f reference, handler_by Q other.heap g named, none.0, none.1, ends.is, ends.is_also, ends.same)
-            (past (is_initialiser ends.method) (unwind_same reference named (unlocked one f.held) (unlocked other g.held) rest (unlocked_same memories held) is))
+            (past (is_initialiser ends.method)
+            (unwind_same reference named (unlocked one f.held) (unlocked other g.held) rest (unlocked_same memories held) is))
       ] where
-        past : (b : Bool) → SameLanding P Allocated Entered SameFrames Lands names (unwind P reference ones (unlocked one f.held)) (unwind Q named others (unlocked other g.held))
-            → SameLanding P Allocated Entered SameFrames Lands names (if b then leaves_initialiser one ones else unwind P reference ones (unlocked one f.held))
+        past : (b : Bool) → SameLanding P Allocated Entered SameFrames Lands names (unwind P reference ones (unlocked one f.held))
+            (unwind Q named others (unlocked other g.held))
+            → SameLanding P Allocated Entered SameFrames Lands names
+            (if b then leaves_initialiser one ones else unwind P reference ones (unlocked one f.held))
             (if b then leaves_initialiser other others else unwind Q named others (unlocked other g.held))
         past true more = both_leave memories
         past false more = more

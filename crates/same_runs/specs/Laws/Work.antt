@@ -24,20 +24,24 @@ use Rattle.same_runs.specs.Laws.FieldWork.{gets_field, gets_static, makes_object
 use Rattle.same_runs.specs.Laws.OperandWork.{casts, enters, gives_value, itself, leaves, pushes_constant, tests, throws_same}
 
 module _ {P Q : Program} {Allocated Entered : ℕ → ℕ → Type 0} {names : Names} {one other : Memory}
-    (same : SamePrograms P Q) (allocated : IsComparison Allocated) (entered : IsComparison Entered) (memories : SameMemories P Allocated Entered names [] one other) where
+    (same : SamePrograms P Q) (allocated : IsComparison Allocated) (entered : IsComparison Entered)
+    (memories : SameMemories P Allocated Entered names [] one other) where
   abbrev Both : Completion → Completion → Type 0
   Both completion also = SameCompletions P Allocated Entered names one other completion also
 
   same_field : (r : Reference) → Q.links.field r ≡ P.links.field r
   same_field r = ap (λ (links : Links). links.field r) same.links
 
-  stores_field : (r : Reference) (initialises initialises_also : Option Name) → SameBar P Q r initialises initialises_also → {ones others : List Value} → SameValues names ones others
+  stores_field : (r : Reference) (initialises initialises_also : Option Name) → SameBar P Q r initialises initialises_also
+      → {ones others : List Value} → SameValues names ones others
       → Both (work P one (put_field r initialises) ones) (work Q other (put_field r initialises_also) others)
   stores_field r initialises initialises_also bar {ones = ones} {others = others} are =
-      subst (λ (found : Option Reference). Both (put_field_work P one r.class (P.links.field r) initialises ones) (put_field_work Q other r.class found initialises_also others)) (sym (same_field r))
+      subst (λ (found : Option Reference). Both (put_field_work P one r.class (P.links.field r) initialises ones)
+      (put_field_work Q other r.class found initialises_also others)) (sym (same_field r))
       (puts_field same memories r.class (P.links.field r) initialises initialises_also bar are)
 
-  works : (op : Op) → IsInBoth P Q op → {ones others : List Value} → SameValues names ones others → Both (work P one op ones) (work Q other op others)
+  works : (op : Op) → IsInBoth P Q op → {ones others : List Value} → SameValues names ones others
+      → Both (work P one op ones) (work Q other op others)
   works (push_value value) in_both are = gives_value same memories (itself names value in_both)
   works (push_constant constant) in_both are = pushes_constant same memories constant
   works (pure_arithmetic opcode) in_both are = computes same memories (meaning_in pure_meanings opcode) are
@@ -45,12 +49,15 @@ module _ {P Q : Program} {Allocated Entered : ℕ → ℕ → Type 0} {names : N
   works (float_arithmetic opcode) in_both are = asks_same same memories opcode (operation_in float_operations opcode) are
   works throw_reference in_both are = throws_same same memories are
   works (get_static r) in_both are =
-      subst (λ (found : Option Reference). Both (get_static_work P one (P.links.field r)) (get_static_work Q other found)) (sym (same_field r)) (gets_static same memories (P.links.field r))
+      subst (λ (found : Option Reference). Both (get_static_work P one (P.links.field r)) (get_static_work Q other found))
+      (sym (same_field r)) (gets_static same memories (P.links.field r))
   works (put_static r initialises) in_both {ones = ones} {others = others} are =
-      subst (λ (found : Option Reference). Both (put_static_work P one (P.links.field r) initialises ones) (put_static_work Q other found initialises others)) (sym (same_field r))
+      subst (λ (found : Option Reference). Both (put_static_work P one (P.links.field r) initialises ones)
+      (put_static_work Q other found initialises others)) (sym (same_field r))
       (puts_static same memories (P.links.field r) initialises in_both are)
   works (get_field r) in_both {ones = ones} {others = others} are =
-      subst (λ (found : Option Reference). Both (get_field_work P one r.class (P.links.field r) ones) (get_field_work Q other r.class found others)) (sym (same_field r))
+      subst (λ (found : Option Reference). Both (get_field_work P one r.class (P.links.field r) ones)
+      (get_field_work Q other r.class found others)) (sym (same_field r))
       (gets_field same memories r.class (P.links.field r) are)
   works (put_field r initialises) in_both are = stores_field r initialises initialises in_both are
   works (call_static r) in_both are = calls_static same memories r are
@@ -85,6 +92,7 @@ module _ {P Q : Program} {Allocated Entered : ℕ → ℕ → Type 0} {names : N
   works return_nothing in_both are = both_end
   works (return_value type) in_both are = both_end
 
-  pub work_same : {op also : Op} {ones others : List Value} → SameOp P Q op also → SameValues names ones others → Both (work P one op ones) (work Q other also others)
+  pub work_same : {op also : Op} {ones others : List Value} → SameOp P Q op also → SameValues names ones others
+      → Both (work P one op ones) (work Q other also others)
   work_same (same_op {op = op} in_both) are = works op in_both are
   work_same (same_store {r = r} {one = initialises} {other = initialises_also} bar) are = stores_field r initialises initialises_also bar are
