@@ -16,5 +16,6 @@ returns-in_ok-insert-2 c =
     let ahead = c.self.inside.ahead.keys in
     let behind = c.self.inside.behind.keys in
     let more = c.insert-else-at-self.new.self.keys in
-    let listed = subst (λ (list : List ℕ). HasListed behind list c.args.at) (sym c.in_ok-insert-2.ensures.keys) (inserted behind c.args.at) in
+    let listed = subst (λ (list : List ℕ). HasListed behind list c.args.at) (sym c.in_ok-insert-2.ensures.keys)
+    (inserted behind c.args.at) in
     subst (λ (list : List ℕ). HasListed list (ahead ++ more) c.args.at) c.self.view_is (listed_back ahead behind more c.args.at listed)
