@@ -179,7 +179,8 @@ pub point_planned :
     → made ≡ differing state left
     → plans ≡ made_edges (reached_in states) edges
     → IsPlanOf (scope_of classes links flat) (reached_in states) at (Some (record { state = copy; made = made; edges = plans }))
-point_planned classes flat states at state left edges copy made plans links are reaching found left_state is_left effect same_copy same_made same_plans =
+point_planned classes flat states at state left edges copy made plans links are reaching found left_state is_left effect =
+    λ same_copy same_made same_plans.
     let s = scope_of classes links flat in
     let under = (reaching links are).under in
     let point = point_there flat.points at (under.inside at state found) in

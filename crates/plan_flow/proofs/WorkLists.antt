@@ -1,10 +1,10 @@
 -- Points in a sorted set, as a list.
-use Rattle.std.proofs.Common.{◌≡◌, ℕ, ◌==◌, nat_lt, Bool, true, false, cond, List, [], ◌∷◌, IsTrue, refl, sym, subst, inl, inr, arith}
+use Rattle.std.proofs.Common.{◌≡◌, ℕ, ◌+◌, ◌==◌, nat_lt, Bool, true, false, cond, List, [], ◌∷◌, ◌++◌, length, IsTrue, refl, sym, subst, inl, inr, ◌⊎◌, arith}
 use Rattle.std.specs.BTreeSet.{insert_key}
 use Rattle.std.specs.Ordering.{nat_cmp, match_ordering}
 use Rattle.std.specs.declared.cmp.Ordering.{Ordering}
 use Rattle.std.specs.declared.cmp.Ordering.TheVariants.{Less, Equal, Greater}
-use Rattle.std.proofs.lemmas.Bool.{or_left, or_right, or_cases, eq-eqb, eqb-true}
+use Rattle.std.proofs.lemmas.Bool.{or_left, or_right, or_cases, eq-eqb, eqb-true, false≢true}
 use Rattle.plan_flow.specs.Inner.Reaching.{HasListed}
 use Rattle.virtual_state.specs.Sites.{has}
 
@@ -48,3 +48,50 @@ inserted (first ∷ list) at = by (nat_cmp at first) refl (inserted list at) whe
     ];
     more = let more = rest.more in omega (arith, more);
   }
+
+-- ---- two lists
+
+has_front : (front back : List ℕ) (at : ℕ) → IsTrue (has front at) → IsTrue (has (front ++ back) at)
+has_front [] back at there = absurd (false≢true there)
+has_front (first ∷ front) back at there = elim (or_cases (first == at) (has front at) there) [
+  | inl here ↦ or_left (first == at) (has (front ++ back) at) here
+  | inr rest ↦ or_right (first == at) (has (front ++ back) at) (has_front front back at rest)
+]
+
+has_back : (front back : List ℕ) (at : ℕ) → IsTrue (has back at) → IsTrue (has (front ++ back) at)
+has_back [] back at there = there
+has_back (first ∷ front) back at there = or_right (first == at) (has (front ++ back) at) (has_back front back at there)
+
+has_either : (front back : List ℕ) (at : ℕ) → IsTrue (has (front ++ back) at) → IsTrue (has front at) ⊎ IsTrue (has back at)
+has_either [] back at there = inr there
+has_either (first ∷ front) back at there = elim (or_cases (first == at) (has (front ++ back) at) there) [
+  | inl here ↦ inl (or_left (first == at) (has front at) here)
+  | inr rest ↦ elim (has_either front back at rest) [
+    | inl in_front ↦ inl (or_right (first == at) (has front at) in_front)
+    | inr in_back ↦ inr in_back
+  ]
+]
+
+length_both : (front back : List ℕ) → length (front ++ back) ≡ length front + length back
+length_both [] back = omega arith
+length_both (first ∷ front) back = let rest = length_both front back in omega (arith, rest)
+
+pub listed_front : (front more back : List ℕ) (at : ℕ) → HasListed front more at → HasListed (front ++ back) (more ++ back) at
+listed_front front more back at listed = record {
+  here = has_front more back at listed.here;
+  others = λ other there. elim (has_either front back other there) [
+    | inl in_front ↦ has_front more back other (listed.others other in_front)
+    | inr in_back ↦ has_back more back other in_back
+  ];
+  more = let one = length_both front back in let two = length_both more back in let few = listed.more in omega (arith, one, two, few);
+}
+
+pub listed_back : (front back more : List ℕ) (at : ℕ) → HasListed back more at → HasListed (front ++ back) (front ++ more) at
+listed_back front back more at listed = record {
+  here = has_back front more at listed.here;
+  others = λ other there. elim (has_either front back other there) [
+    | inl in_front ↦ has_front front more other in_front
+    | inr in_back ↦ has_back front more other (listed.others other in_back)
+  ];
+  more = let one = length_both front back in let two = length_both front more in let few = listed.more in omega (arith, one, two, few);
+}

@@ -27,9 +27,9 @@ use std::alloc::Global;
 use virtual_state::{SiteSet, VState, differing};
 
 /// The least plan of flat code that control does not leave: each other valid plan makes an object wherever this one does, or
-/// earlier. Takes the points off a work list, lowest first, and raises the states of the targets of their edges, until each
-/// edge leads to its target (the iteration of partial escape analysis, CGO 2014, over a work list in place of a walk over the
-/// control flow).
+/// earlier. Takes the points off a work list, pass after pass by increasing number, and raises the states of the targets of
+/// their edges, until each edge leads to its target (the iteration of partial escape analysis, CGO 2014, over a work list in
+/// place of a walk over the control flow).
 ///
 /// # Errors
 /// `NoMemory`, where memory runs out.

@@ -6,19 +6,24 @@ use class_model::NoMemory;
 use std::alloc::Global;
 use std::collections::BTreeSet;
 use std::marker::Model;
+use std::mem;
 
-/// A work list of points, each once.
+/// A work list of points, each once. It goes over them by increasing number, and then over those that came back meanwhile, so
+/// that what several edges say of the start of a loop is carried into the loop at once.
 #[derive(Debug, Drop)]
 pub(crate) struct WorkList {
-    points: BTreeSet<usize>,
+    // The points above the one that was taken last, and the others.
+    ahead: BTreeSet<usize>,
+    behind: BTreeSet<usize>,
+    last: usize,
 }
 
 impl Model for WorkList {
-    ghost use Rattle.std.specs.Prelude.{List, ℕ};
+    ghost use Rattle.std.specs.Prelude.{◌++◌, List, ℕ};
 
     ghost Value = { List ℕ };
 
-    ghost view = { λ work. work.points.keys };
+    ghost view = { λ work. work.ahead.keys ++ work.behind.keys };
 }
 
 impl WorkList {
@@ -27,7 +32,9 @@ impl WorkList {
         ensures { result ≡ [] }
     {
         WorkList {
-            points: BTreeSet::new(alloc),
+            ahead: BTreeSet::new(alloc),
+            behind: BTreeSet::new(alloc),
+            last: 0,
         }
     }
 
@@ -35,16 +42,25 @@ impl WorkList {
     pub(crate) fn add(&mut self, at: usize) -> Result<(), NoMemory>
         ensures { OnOk result (HasListed self.old self.new at) }
     {
-        self.points.insert(at)?;
+        if at > self.last {
+            self.ahead.insert(at)?;
+        } else {
+            self.behind.insert(at)?;
+        }
         Ok(())
     }
 
-    /// Takes out the lowest point, if there is one.
+    /// Takes out the next point, if there is one.
     pub(crate) fn take(&mut self) -> Option<usize>
         ensures some { IfSome result (λ at. self.old ≡ at ∷ self.new) }
         ensures none { IfNone result (self.old ≡ []) }
         ensures same { IfNone result (self.new ≡ self.old) }
     {
-        self.points.pop_first()
+        if self.ahead.is_empty() {
+            mem::swap(&mut self.ahead, &mut self.behind);
+        }
+        let at = self.ahead.pop_first()?;
+        self.last = at;
+        Some(at)
     }
 }
