@@ -13,7 +13,9 @@ ghost use Rattle.machine_step.specs.Programs.{IsProgram};
 
 use crate::questions::classes::{class_name, is_interface_named};
 use class_model::Text;
-use class_tree::{OBJECT, Tree, a_tree_is_a_hierarchy, innermost, is_above_arrays, is_array, is_below};
+use class_tree::{
+    OBJECT, Tree, a_tree_is_a_hierarchy, innermost, is_above_arrays, is_array, is_below,
+};
 use machine_values::Shape;
 
 /// Whether an object of a shape is an instance of a class or array type. It does not allocate.
