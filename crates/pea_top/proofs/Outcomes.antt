@@ -205,7 +205,7 @@ module _ (words : List Word) (old new : Files) {files : List NamedFile} {tree : 
     program = shown.program;
     is_program = shown.is_program;
     is = subst (λ (count : ℕ). text ≡ events_text (shown_after shown.program actions count)) same shown.is;
-    not_stuck = subst (λ (count : ℕ). IsNeverStuck tree shown.program actions count) same shown.not_stuck;
+    not_stuck = subst (λ (count : ℕ). IsNeverStuck shown.program actions count) same shown.not_stuck;
   }
 
   -- the work of a command was carried out, or that stopped

@@ -1,6 +1,5 @@
 -- What a call leaves of the files, and what it prints.
 use Rattle.std.specs.Prelude.{◌≡◌, ◌≢◌, ℕ, ◌⊎◌, List, ◌++◌, length, sum_by, Some, None, IsSome}
-use Rattle.std.specs.List.{AllByRecursion}
 use Rattle.class_model.specs.ClassOf.{ClassOf}
 use Rattle.class_model.specs.Header.{HeaderOf}
 use Rattle.class_model.specs.declared.class_file.ClassFile.{ClassFile}
@@ -14,9 +13,7 @@ use Rattle.machine_values.specs.declared.action.Action.{Action}
 use Rattle.member_link.specs.Machine.Programs.{Program}
 use Rattle.member_link.specs.Machine.Runs.{shown_after}
 use Rattle.machine_values.specs.declared.event.End.TheVariants as ends
-use Rattle.never_stuck.specs.PlainFolders.{HasNoOwnHandles}
 use Rattle.script_text.specs.Events.{events_text}
-use Rattle.typed_runs.specs.Families.{NamesElement}
 use Rattle.pea_top.specs.Words.{Word, Command, Optimise, Verify, Run, input_of, Spells}
 use Rattle.pea_top.specs.Folders.{IsBytesBefore, AreNames, AreReadAs, HasClassFiles}
 use Rattle.pea_top.specs.Lines.{summary_line, verified_line}
@@ -72,13 +69,9 @@ pub record LeavesPart (words : List Word) (old new : Files) : Type 0 where
 abbrev pub method_count : List ClassFile → ℕ
 method_count classes = sum_by (λ class. length class.methods) classes
 
--- The run does not end stuck, where no class of the folder is that of method handles or method types, and each array that the library
--- makes is of an element that is there.
-abbrev pub IsNeverStuck : Classes → Program → List Action → ℕ → Type 0
-IsNeverStuck tree program actions steps =
-    HasNoOwnHandles tree
-    → AllByRecursion (NamesElement program) actions
-    → (shown_after program actions steps).end ≢ ends.Stuck
+-- the run does not end stuck, whatever the library does
+abbrev pub IsNeverStuck : Program → List Action → ℕ → Type 0
+IsNeverStuck program actions steps = (shown_after program actions steps).end ≢ ends.Stuck
 
 -- the text of what these class files show, with the headers of the library and by the script, in at most so many steps
 pub record IsRunText (files : Files) (script library : Word) (steps : ℕ) (classes : List ClassFile)
@@ -93,7 +86,7 @@ pub record IsRunText (files : Files) (script library : Word) (steps : ℕ) (clas
   pub program : Program
   pub is_program : IsProgram tree program
   pub is : text ≡ events_text (shown_after program actions steps)
-  pub not_stuck : IsNeverStuck tree program actions steps
+  pub not_stuck : IsNeverStuck program actions steps
 
 -- what is printed of a command that was done, over so many files of its input, of which these are its class files
 abbrev pub IsDoneText : Command → Files → ℕ → List ClassFile → Bytes → Type 0

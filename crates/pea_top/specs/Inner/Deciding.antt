@@ -53,7 +53,7 @@ pub record IsShown (tree : Classes) (actions : List Action) (steps : ℕ) (text 
   pub program : Program
   pub is_program : IsProgram tree program
   pub is : text ≡ events_text (shown_after program actions steps)
-  pub not_stuck : IsNeverStuck tree program actions steps
+  pub not_stuck : IsNeverStuck program actions steps
 
 -- what was read for a command, and what is left to do
 pub record IsPrepared (command : Command) (old : Files) (files : List NamedFile)
