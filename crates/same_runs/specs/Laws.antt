@@ -19,6 +19,7 @@ pub mod FieldWork
 pub mod ArrayWork
 pub mod Numbering
 pub mod Unwinding
+pub mod InitialiserStarts
 pub mod Work
 pub mod Begun
 pub mod BegunAlone
