@@ -173,14 +173,11 @@ def interface_calls(count, folder):
     made.write(folder, "M.class")
 
 
-def same_descriptor(count, folder):
-    """So many methods of one descriptor, which has 64,000 bytes; each but the last hundred has code."""
+def same_descriptors(count, folder):
+    """So many abstract methods of one descriptor, which has 64,000 bytes."""
     made, desc = ClassFile(flags=PUBLIC | SUPER | ABSTRACT), long_type(folder, 64_000)
     for number in range(count):
-        if number < count - 100:
-            made.method(f"m{number}", desc, RETURN, 0, 1)
-        else:
-            made.abstract(f"m{number}", desc)
+        made.abstract(f"m{number}", desc)
     made.write(folder, "M.class")
 
 
@@ -285,7 +282,7 @@ def deep(count, folder):
 SHAPES = {
     made.__name__: made
     for made in (
-        nops, handlers, targets, changes, calls, references, interface_calls, same_descriptor, full, wide, fields, methods,
+        nops, handlers, targets, changes, calls, references, interface_calls, same_descriptors, full, wide, fields, methods,
         constants, texts, tiny, tables, lookups, names, deep,
     )
 }
