@@ -1,5 +1,5 @@
 -- Tests that decide what they are asked.
-use Rattle.std.proofs.Common.{◌≡◌, ◌↔◌, nat_le, nat_eq, ℕ, ◌+◌, ◌≤◌, List, Option, Some, None, true, IsTrue, eq-eqb, refl, sym, ap, ◌∙◌}
+use Rattle.std.proofs.Common.{◌↔◌, nat_le, nat_eq, ℕ, ◌+◌, ◌≤◌, List, Option, Some, None, true, IsTrue, eq-eqb, refl, sym, ap, ◌∙◌}
 use Rattle.std.proofs.lemmas.Bool.{eqb-true, leb-true, le-leb}
 use Rattle.class_model.specs.Code.{CountsArguments}
 use Rattle.class_model.specs.Laws.Descriptors.{bytes_spell}

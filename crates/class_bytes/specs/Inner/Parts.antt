@@ -1,5 +1,5 @@
 -- The parts of a class file behind its pool, and of what it is asked, each from its place on.
-use Rattle.std.specs.Prelude.{◌≡◌, ◌+◌, ◌*◌, ℕ, List, [], ◌∷◌, ◌++◌, length, IsTrue}
+use Rattle.std.specs.Prelude.{◌+◌, ◌*◌, ℕ, List, [], ◌∷◌, ◌++◌, length, IsTrue}
 use Rattle.std.specs.List.{flat_map}
 use Rattle.class_model.specs.Checks.{Check, check, Fault}
 use Rattle.class_model.specs.ClassOf.{fields_checks, methods_checks}
