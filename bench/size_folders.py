@@ -198,6 +198,17 @@ def wide(count, folder):
     made.write(folder, "M.class")
 
 
+def wide_handlers(count, folder):
+    """Two methods of 65,535 bytes inside a handler, behind a frame of so many locals: one of nops, and one that pushes and pops."""
+    made = ClassFile()
+    locals_before = full_frame(1, [INT] * count)
+    for name, body in (("m", NOP * (MOST - 3)), ("p", (ICONST_0 + POP) * (MOST // 2 - 1))):
+        end = len(body) + 2
+        frames = [locals_before] + caught_frames(made, end - 2, 1)
+        made.method(name, "()V", RETURN + body + RETURN + ATHROW, 1, count, [(1, end, end, 0)], frames)
+    made.write(folder, "M.class")
+
+
 def field_types(count):
     """So many field descriptors, no two of which are equal."""
     return ["[" * (number // 8) + "BCDFIJSZ"[number % 8] for number in range(count)]
@@ -280,10 +291,10 @@ def deep(count, folder):
 
 
 SHAPES = {
-    made.__name__: made
+    made.__name__.replace("_", "-"): made
     for made in (
-        nops, handlers, targets, changes, calls, references, interface_calls, same_descriptors, full, wide, fields, methods,
-        constants, texts, tiny, tables, lookups, names, deep,
+        nops, handlers, targets, changes, calls, references, interface_calls, same_descriptors, full, wide, wide_handlers, fields,
+        methods, constants, texts, tiny, tables, lookups, names, deep,
     )
 }
 

@@ -77,6 +77,7 @@ interface_calls 640000 2000 - verified
 same_descriptors 65000 2000 - verified
 full 64 - 100 verified
 wide 65535 - 200 verified
+wide-handlers 65535 - 200 verified
 fields 65535 - - verified
 methods 65535 - - verified
 constants 65534 - - verified
