@@ -1,10 +1,9 @@
 -- A method that ends in both runs: its value goes to the same frame below, or is shown to the library, and its monitor is left.
-use Rattle.std.proofs.Common.{◌≡◌, ℕ, Bool, true, false, List, [], ◌∷◌, Option, Some, None, IsTrue, IsFalse, if◌then◌else◌, refl}
+use Rattle.std.proofs.Common.{◌≡◌, ℕ, Bool, true, false, List, [], ◌∷◌, Option, None, IsTrue, IsFalse, if◌then◌else◌, refl}
 use Rattle.class_model.specs.Descriptors.{kind_of}
 use Rattle.class_model.specs.declared.descriptor.FieldType.{FieldType}
 use Rattle.machine_values.specs.Frames.{MethodState}
-use Rattle.machine_values.specs.Values.{has_kind, narrowed}
-use Rattle.machine_values.specs.declared.event.EventKind.TheVariants as kinds
+use Rattle.machine_values.specs.Values.{has_kind}
 use Rattle.machine_values.specs.declared.frame.RunFrame.{RunFrame}
 use Rattle.machine_values.specs.declared.frame.RunFrame.TheVariants.{Library}
 use Rattle.machine_values.specs.declared.value.Value.{Value}
