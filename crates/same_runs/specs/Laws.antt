@@ -34,3 +34,4 @@ pub mod Handled
 pub mod Acted
 pub mod Returned
 pub mod Simulated
+pub mod ReplacedPrograms
