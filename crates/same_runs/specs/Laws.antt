@@ -35,3 +35,4 @@ pub mod Acted
 pub mod Returned
 pub mod Simulated
 pub mod ReplacedPrograms
+pub mod FlatPrograms

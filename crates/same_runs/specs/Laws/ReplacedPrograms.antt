@@ -1,4 +1,5 @@
--- A program in which some methods run other code, flags of fields are cleared, and instance initialisers are added is the same but for these.
+-- A program in which some methods run other code, flags of fields are cleared, and instance initialisers are added is the same but for
+-- these.
 use Rattle.std.proofs.Common.{arith, ◌≡◌, ◌+◌, ◌*◌, ◌≤◌, ◌%◌, ◌^◌, ◌==◌, not, ℕ, zero, suc, Bool, true, false, List, [], ◌∷◌, ◌++◌, map, slice_get, bit_and, is_some, Option, Some, None, IsTrue, refl, sym, ap, subst, ◌∙◌}
 use Rattle.std.specs.Int.{bit_at}
 use Rattle.std.specs.Int.Bits.{and_self, bit_xor, xor_add_and}
@@ -46,7 +47,8 @@ static_stays flags cleared = ap (λ (n : ℕ). not (n == 0)) (and_pow (without_f
 
 -- ---- members
 
-fields_same : (r : Replacement) (class number : ℕ) (fields : List Member) → SameFields fields (map_numbered (field_cleared r class) number fields)
+fields_same : (r : Replacement) (class number : ℕ) (fields : List Member)
+    → SameFields fields (map_numbered (field_cleared r class) number fields)
 fields_same r class number [] = tt
 fields_same r class number (field ∷ fields) =
     (refl, refl, static_stays field.flags (r.cleared class number), fields_same r class (suc number) fields)
@@ -115,7 +117,9 @@ module _ {P : Program} {r : Replacement} (alike : ReplacesAlike P r) where
     same = map_numbered (method_replaced r number) zero class.methods;
     added = r.added number;
     methods = refl;
-    header_methods = sym (map-append (λ (method : RunMethod). method.member) (map_numbered (method_replaced r number) zero class.methods) (r.added number)
+    header_methods =
+        sym (map-append (λ (method : RunMethod). method.member) (map_numbered (method_replaced r number) zero class.methods)
+        (r.added number)
         ∙ ap (λ (members : List Member). members ++ map (λ (method : RunMethod). method.member) (r.added number))
         (members_same r number zero class.methods ∙ alike.members number class is));
     are_same = methods_same r number zero class.methods;
@@ -124,7 +128,9 @@ module _ {P : Program} {r : Replacement} (alike : ReplacesAlike P r) where
   }
 
   classes_same : (number : ℕ) (classes : List RunClass)
-      → ((later : ℕ) (class : RunClass) → slice_get classes later ≡ Some class → SameClass P class (replaced_class r (number + later) class))
+      → ((later : ℕ) (class : RunClass)
+      → slice_get classes later ≡ Some class
+      → SameClass P class (replaced_class r (number + later) class))
       → SameClasses P classes (map_numbered (replaced_class r) number classes)
   classes_same number [] each = tt
   classes_same number (class ∷ classes) each = (

@@ -63,7 +63,8 @@ module _ {P Q : Program} {c : Comparison} (same : SamePrograms P Q) (compares : 
       → SameValues names values also
       → SameAfter P c names (returned P first f rest values) (returned Q second g rest_also also)
   returned_same {f = f} {g = g} {rest = rest} {rest_also = rest_also} {values = values} {also = also} returns are =
-      rw (returns.ends.is, returns.ends.is_also, returns.ends.same) (by (is_initialiser returns.ends.method) returns.initialised returns.below) where
+      rw (returns.ends.is, returns.ends.is_also, returns.ends.same)
+      (by (is_initialiser returns.ends.method) returns.initialised returns.below) where
         by : (b : Bool) → (IsTrue b → c.frames names rest rest_also) → (IsFalse b → SameBelow P Q c names rest rest_also)
             → SameAfter P c names
             (if b then record first { memory = unlocked first.memory f.held; frames = rest } else returned_to P first f.held values rest)
