@@ -4,6 +4,7 @@ use Rattle.std.proofs.Common.{arith, ◌≡◌, ◌+◌, ◌*◌, ◌≤◌, ◌
 use Rattle.std.specs.Int.{bit_at}
 use Rattle.std.specs.Int.Bits.{and_self, bit_xor, xor_add_and}
 use Rattle.std.specs.List.{AllByRecursion}
+use Rattle.std.proofs.lemmas.Bool.{eqb-true, false≢true}
 use Rattle.std.proofs.lemmas.List.{map-append}
 use Rattle.std.proofs.lemmas.Nat.{and_assoc, and_le_l}
 use Rattle.std.proofs.lemmas.Nat.Bits.{and_pow, bit_at-lt, bit_at_and, bit_at_xor}
@@ -16,15 +17,17 @@ use Rattle.same_runs.specs.SamePrograms.{IsAdded, IsPlainStart, LinksNoInit, Sam
 
 -- ---- flags
 
--- a flag that is neither private nor final stays, by its bit
-pub flag_stays : (flags cleared k : ℕ) → bit_at (PRIVATE + FINAL) k ≡ 0 → bit_at (without_flags flags cleared) k ≡ bit_at flags k
+-- a flag that is not cleared, or is neither private nor final, stays, by its bit
+pub flag_stays : (flags cleared k : ℕ) → bit_at (bit_and cleared (PRIVATE + FINAL)) k ≡ 0
+    → bit_at (without_flags flags cleared) k ≡ bit_at flags k
 flag_stays flags cleared k other = ap (λ (n : ℕ). bit_at n k) (sym differ) ∙ bit_at_xor flags taken k ∙ stays where
   taken : ℕ
   taken = bit_and flags (bit_and cleared (PRIVATE + FINAL))
 
   -- what is cleared was set
   within : bit_and flags taken ≡ taken
-  within = sym (and_assoc (bit_and cleared (PRIVATE + FINAL)) flags flags)
+  within =
+      sym (and_assoc (bit_and cleared (PRIVATE + FINAL)) flags flags)
       ∙ ap (λ (n : ℕ). bit_and n (bit_and cleared (PRIVATE + FINAL))) (and_self flags)
 
   differ : bit_xor flags taken ≡ without_flags flags cleared
@@ -34,16 +37,35 @@ flag_stays flags cleared k other = ap (λ (n : ℕ). bit_at n k) (sym differ) �
 
   untaken : bit_at taken k ≡ 0
   untaken =
-      let outer = bit_at_and flags (bit_and cleared (PRIVATE + FINAL)) k in
-      let inner = bit_at_and cleared (PRIVATE + FINAL) k in
-      omega (arith, outer, inner, other)
+      let both = bit_at_and flags (bit_and cleared (PRIVATE + FINAL)) k in
+      omega (arith, both, other)
 
   stays : (bit_at flags k + bit_at taken k) % 2 ≡ bit_at flags k
   stays = omega (arith, untaken, bit_at-lt flags k)
 
+-- a flag of a place is there where its bit is
+has_bit : (flags other k : ℕ) → bit_at other k ≡ bit_at flags k → has other (2 ^ k) ≡ has flags (2 ^ k)
+has_bit flags other k same =
+    ap (λ (n : ℕ). not (n == 0)) (and_pow other k ∙ ap (λ (n : ℕ). n * 2 ^ k) same ∙ sym (and_pow flags k))
+
 pub static_stays : (flags cleared : ℕ) → has (without_flags flags cleared) STATIC ≡ has flags STATIC
-static_stays flags cleared = ap (λ (n : ℕ). not (n == 0)) (and_pow (without_flags flags cleared) 3
-    ∙ ap (λ (n : ℕ). n * 2 ^ 3) (flag_stays flags cleared 3 refl) ∙ sym (and_pow flags 3))
+static_stays flags cleared =
+    has_bit flags (without_flags flags cleared) 3 (flag_stays flags cleared 3 (omega (arith, bit_at_and cleared (PRIVATE + FINAL) 3, other))) where
+      other : bit_at (PRIVATE + FINAL) 3 ≡ 0
+      other = refl
+
+-- the final flag stays where it is not cleared
+pub final_stays : (flags cleared : ℕ) → has cleared FINAL ≡ false → has (without_flags flags cleared) FINAL ≡ has flags FINAL
+final_stays flags cleared kept =
+    has_bit flags (without_flags flags cleared) 4 (flag_stays flags cleared 4 (omega (arith, bit_at_and cleared (PRIVATE + FINAL) 4, uncleared))) where
+      nothing : bit_and cleared (2 ^ 4) ≡ 0
+      nothing = by (bit_and cleared (2 ^ 4) == 0) refl where
+        by : (b : Bool) → (bit_and cleared (2 ^ 4) == 0) ≡ b → bit_and cleared (2 ^ 4) ≡ 0
+        by true e = eqb-true (bit_and cleared (2 ^ 4)) 0 e
+        by false e = absurd (false≢true (sym kept ∙ rw (e) refl))
+
+      uncleared : bit_at cleared 4 ≡ 0
+      uncleared = omega (arith, and_pow cleared 4, nothing)
 
 -- ---- members
 
