@@ -33,3 +33,7 @@ pub mod Performed
 pub mod GivenValues
 pub mod Handled
 pub mod Acted
+pub mod Returned
+pub mod Simulated
+pub mod ReplacedPrograms
+pub mod FlatPrograms
