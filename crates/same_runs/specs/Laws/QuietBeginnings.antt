@@ -102,11 +102,12 @@ module _ {P Q : Program} (same : SamePrograms P Q) where
 
 -- ---- classes that are still to begin
 
-abbrev unbegun : List ℕ → Memory → ℕ
+abbrev pub unbegun : List ℕ → Memory → ℕ
 unbegun [] memory = 0
 unbegun (class ∷ classes) memory = (if is_begun memory class then 0 else 1) + unbegun classes memory
 
-fewer : (classes : List ℕ) (before after : Memory) → ((at : ℕ) → IsTrue (is_begun before at) → IsTrue (is_begun after at))
+-- no more of them are left where more are begun
+pub fewer : (classes : List ℕ) (before after : Memory) → ((at : ℕ) → IsTrue (is_begun before at) → IsTrue (is_begun after at))
     → unbegun classes after ≤ unbegun classes before
 fewer [] before after more = let none : 0 ≤ 0 = omega arith in none
 fewer (class ∷ classes) before after more = by (is_begun before class) (is_begun after class) refl refl
@@ -118,7 +119,8 @@ fewer (class ∷ classes) before after more = by (is_begun before class) (is_beg
       by false true is is_also rest = omega (arith, rest)
       by false false is is_also rest = omega (arith, rest)
 
-one_fewer : (classes : List ℕ) (before after : Memory) (class : ℕ) → ((at : ℕ) → IsTrue (is_begun before at) → IsTrue (is_begun after at))
+-- and fewer where one of them was begun
+pub one_fewer : (classes : List ℕ) (before after : Memory) (class : ℕ) → ((at : ℕ) → IsTrue (is_begun before at) → IsTrue (is_begun after at))
     → list_any (λ (other : ℕ). other == class) classes ≡ true → IsFalse (is_begun before class) → IsTrue (is_begun after class)
     → unbegun classes after < unbegun classes before
 one_fewer [] before after class more is none begun = absurd (false≢true is)
@@ -157,7 +159,7 @@ pub record IsUnbegun (R : Program) (memory : Memory) (names : List Name) (class 
   pub is_number : folder_number R name ≡ Some class
   pub none : IsFalse (is_begun memory class)
 
-unbegun_is : (R : Program) (memory : Memory) (names : List Name) (class : ℕ) → first_unbegun R memory names ≡ Some class
+pub unbegun_is : (R : Program) (memory : Memory) (names : List Name) (class : ℕ) → first_unbegun R memory names ≡ Some class
     → IsUnbegun R memory names class
 unbegun_is R memory [] class is = absurd (none-some class is)
 unbegun_is R memory (name ∷ names) class is = by (folder_number R name) refl (unbegun_is R memory names class) where
@@ -235,7 +237,8 @@ pub record GoesBy (P Q : Program) (Allocated Entered : ℕ → ℕ → Type 0) (
   pub memories : SameMemories P Allocated Entered more [] one after
   pub begun : (at : ℕ) → IsTrue (is_begun before at) → IsTrue (is_begun after at)
 
-also_there : {P Q : Program} → SamePrograms P Q → (class : ℕ) (found : RunClass) → slice_get P.classes class ≡ Some found
+-- a class of the first is one of the second
+pub also_there : {P Q : Program} → SamePrograms P Q → (class : ℕ) (found : RunClass) → slice_get P.classes class ≡ Some found
     → (also : RunClass) × (slice_get Q.classes class ≡ Some also)
 also_there {P = P} {Q = Q} same class found is = by (slice_get P.classes class) (slice_get Q.classes class) refl refl
     (at_number same class) where
