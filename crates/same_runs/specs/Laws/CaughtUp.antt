@@ -100,3 +100,136 @@ turned_by_work R r f rest point goes stands is worked enough =
       performed : work_step R counted f rest point.op
           ≡ perform R counted f (less (arity point.op) f) rest (work R r.world.memory point.op (operands_of (arity point.op) f))
       performed = rw (enough) refl
+
+-- ---- an operation that is in both
+
+-- Two runs at an operation that is in both and works on its operands, where worlds are the same.
+pub record AtOperation (P Q : Program) (c : Comparison) (names : Names) (one other : Run) (f g : MethodState)
+    (rest others : List RunFrame) (point also : Point)
+    : Type 0 where
+  pub goes : one.world.halt ≡ going
+  pub goes_also : other.world.halt ≡ going
+  pub stands : one.world.frames ≡ Method f ∷ rest
+  pub stands_also : other.world.frames ≡ Method g ∷ others
+  pub is : point_at P f.at f.place ≡ Some point
+  pub is_also : point_at Q g.at g.place ≡ Some also
+  pub works : (w : World) → op_step P w f rest point.op ≡ work_step P w f rest point.op
+  pub works_also : (w : World) → op_step Q w g others also.op ≡ work_step Q w g others also.op
+  pub enough : nat_le (arity point.op) (length f.stack) ≡ true
+  pub enough_also : nat_le (arity also.op) (length g.stack) ≡ true
+  pub same : SameOp P Q point.op also.op
+  pub operands : SameValues names (operands_of (arity point.op) f) (operands_of (arity also.op) g)
+  pub memories : SameMemories P c.allocated c.entered names [] one.world.memory other.world.memory
+  pub seen : SameSeen c names one.world other.world
+  pub frames : Goes P Q c names f (less (arity point.op) f) g (less (arity also.op) g) rest others
+
+module _ {P Q : Program} {c : Comparison} (same : SamePrograms P Q) (alike : BeginAlike P Q) (compares : Compares c) {f g : MethodState}
+    {rest others : List RunFrame} {point also : Point} (one : Run) where
+  -- both take a turn, or the second has to begin a class first
+  performed :
+      {names : Names} {other : Run}
+      → AtOperation P Q c names one other f g rest others point also
+      → MustBegin one.world.memory other.world.memory (work Q other.world.memory also.op (operands_of (arity also.op) g))
+      ⊎ BothTurn P Q c names one other
+  performed {names = names} {other = other} at = by
+      (operation_performed {first = counted one} {second = counted other} {before = f} {taken = less (arity point.op) f} {also = g}
+      {taken_also = less (arity also.op) g} {rest = rest} {rest_also = others} same compares at.memories
+      (record { known = at.seen.known; events = at.seen.events }) at.goes at.goes_also at.frames at.same at.operands) where
+        counted : Run → World
+        counted r = record r.world { steps = r.world.steps + 1 }
+
+        first : World
+        first = perform P (counted one) f (less (arity point.op) f) rest
+            (work P one.world.memory point.op (operands_of (arity point.op) f))
+
+        second : World
+        second = perform Q (counted other) g (less (arity also.op) g) others
+            (work Q other.world.memory also.op (operands_of (arity also.op) g))
+
+        by : MustBegin one.world.memory other.world.memory (work Q other.world.memory also.op (operands_of (arity also.op) g))
+            ⊎ SameAfter P c names first second
+            → MustBegin one.world.memory other.world.memory (work Q other.world.memory also.op (operands_of (arity also.op) g))
+            ⊎ BothTurn P Q c names one other
+        by (inl must) = inl must
+        by (inr after) = inr (record {
+          waits = other;
+          quietly = at_once;
+          first = first;
+          second = second;
+          turned = turned_by_work P one f rest point at.goes at.stands at.is at.works at.enough;
+          turned_also = turned_by_work Q other g others also at.goes_also at.stands_also at.is_also at.works_also at.enough_also;
+          after = after;
+        })
+
+  -- quiet turns of the second, and what both do then
+  behind_quiet :
+      {names : Names} {other : Run} (at : AtOperation P Q c names one other f g rest others point also)
+      (by : GoesBy P Q c.allocated c.entered names one.world.memory other other other.world.frames other.world.memory)
+      → (AtOperation P Q c by.more one (standing other (Method g ∷ others) by.after by.steps) f g rest others point also
+      → BothTurn P Q c by.more one (standing other (Method g ∷ others) by.after by.steps))
+      → BothTurn P Q c names one other
+  behind_quiet {names = names} {other = other} at by then = record {
+    waits = later.waits;
+    quietly = quietly_then
+        (subst (λ (now : List RunFrame). Quietly Q other (standing other now by.after by.steps)) at.stands_also by.quietly) later.quietly;
+    first = later.first;
+    second = later.second;
+    turned = later.turned;
+    turned_also = later.turned_also;
+    after = after_fewer by.grows later.after;
+  } where
+    later : BothTurn P Q c by.more one (standing other (Method g ∷ others) by.after by.steps)
+    later = then (record {
+      goes = at.goes;
+      goes_also = at.goes_also;
+      stands = at.stands;
+      stands_also = refl;
+      is = at.is;
+      is_also = at.is_also;
+      works = at.works;
+      works_also = at.works_also;
+      enough = at.enough;
+      enough_also = at.enough_also;
+      same = at.same;
+      operands = values_more by.grows at.operands;
+      memories = by.memories;
+      seen = record { known = references_more by.grows at.seen.known; events = at.seen.events };
+      frames = goes_more by.grows at.frames;
+    })
+
+  all_kept : (left : ℕ) (names : Names) (other : Run)
+      → unbegun one.world.memory.begun other.world.memory < left
+      → AtOperation P Q c names one other f g rest others point also
+      → BothTurn P Q c names one other
+  all_kept zero names other low at = absurd (omega (arith, low))
+  all_kept (suc left) names other low at = by (all_kept left) (performed at) where
+    by : ((more : Names) (later : Run)
+        → unbegun one.world.memory.begun later.world.memory < left
+        → AtOperation P Q c more one later f g rest others point also
+        → BothTurn P Q c more one later)
+        → MustBegin one.world.memory other.world.memory (work Q other.world.memory also.op (operands_of (arity also.op) g))
+        ⊎ BothTurn P Q c names one other
+        → BothTurn P Q c names one other
+    by again (inr turned) = turned
+    by again (inl must) = behind_quiet at quiet.0
+        (λ then. again quiet.0.more (standing other (Method g ∷ others) quiet.0.after quiet.0.steps) still_fewer then) where
+          quiet : (by : GoesBy P Q c.allocated c.entered names one.world.memory other other other.world.frames other.world.memory)
+              × IsTrue (is_begun by.after must.class)
+          quiet = operation_goes_by g others also must.class same alike at.goes_also at.stands_also at.is_also at.works_also at.enough_also
+              must.is must.begun must.begun_not at.memories
+
+          still_fewer : unbegun one.world.memory.begun quiet.0.after < left
+          still_fewer =
+              let down = one_fewer one.world.memory.begun other.world.memory quiet.0.after must.class quiet.0.begun must.begun
+              must.begun_not quiet.1 in
+              omega (arith, down, low)
+
+  -- An operation that is in both: the second first begins the classes that it needs and the first has begun, and then both take the same turn.
+  pub operation_kept :
+      {names : Names} {other : Run}
+      → AtOperation P Q c names one other f g rest others point also
+      → BothTurn P Q c names one other
+  operation_kept {names = names} {other = other} at =
+      all_kept (suc (unbegun one.world.memory.begun other.world.memory)) names other
+      (let less : unbegun one.world.memory.begun other.world.memory < suc (unbegun one.world.memory.begun other.world.memory) =
+      omega arith in less) at
