@@ -34,3 +34,4 @@ pub mod Handled
 pub mod Acted
 pub mod CaughtUp
 pub mod FirstAbove
+pub mod FirstBeginnings

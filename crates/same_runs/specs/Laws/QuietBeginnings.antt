@@ -32,20 +32,26 @@ use Rattle.same_runs.specs.Laws.Begun.{marked, marked_itself, marked_still}
 use Rattle.same_runs.specs.Laws.BegunAlone.{second_has_begun, starts_begun}
 use Rattle.same_runs.specs.Laws.BegunClasses.{begun_is_there, folder_class}
 use Rattle.same_runs.specs.Laws.ComeFirst.{same_come_first}
+use Rattle.same_runs.specs.Laws.FirstAbove.{above_first}
 use Rattle.same_runs.specs.Laws.Methods.{place_is, same_code, same_no_place, same_place}
 use Rattle.same_runs.specs.Laws.Names.{more_and_more, names_themselves, references_more}
 use Rattle.same_runs.specs.Laws.Programs.{SameAt, at_none, at_both, at_number, same_name, same_number}
 
 -- ---- what is taken of both programs
 
--- Each class is below itself, and the same classes come first in both programs: that of a hierarchy, in which each superinterface is an
--- interface.
+-- Each class is below itself and below what is above the classes that come first, and the same classes come first in both programs: that of
+-- a hierarchy, in which each superinterface is an interface.
 pub record BeginAlike (P Q : Program) : Type 0 where
   pub itself : (name : Name) → IsTrue (P.links.below name name)
   pub first : (class : ℕ) (one also : RunClass)
       → slice_get P.classes class ≡ Some one
       → slice_get Q.classes class ≡ Some also
       → come_first Q also.header ≡ come_first P one.header
+  pub above : (class number : ℕ) (one : RunClass) (name high : Name)
+      → slice_get P.classes class ≡ Some one
+      → slice_get (come_first P one.header) number ≡ Some name
+      → IsTrue (P.links.below name high)
+      → IsTrue (P.links.below one.header.name high)
 
 -- a class is below itself where links are those of a hierarchy
 pub below_itself : {headers : Headers} (P : Program) → AreLinksOf headers P.links → (name : Name) → IsTrue (P.links.below name name)
@@ -54,7 +60,11 @@ below_itself P links name = (links.below name name).1 (itself name)
 -- what begins alike where the first is a hierarchy with its links
 pub hierarchies_begin_alike : (P Q : Program) → SamePrograms P Q → IsHierarchy (headers_in P) → AreLinksOf (headers_in P) P.links
     → BeginAlike P Q
-hierarchies_begin_alike P Q same tree links = record { itself = below_itself P links; first = same_come_first same tree }
+hierarchies_begin_alike P Q same tree links = record {
+  itself = below_itself P links;
+  first = same_come_first same tree;
+  above = above_first P tree links;
+}
 
 -- a class that the first has begun alone begins quietly
 pub alone_quietly :
