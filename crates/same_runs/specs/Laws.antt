@@ -35,3 +35,4 @@ pub mod Acted
 pub mod CaughtUp
 pub mod FirstAbove
 pub mod FirstBeginnings
+pub mod BothBegin
