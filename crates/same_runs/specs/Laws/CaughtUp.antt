@@ -88,7 +88,7 @@ pub turned_by_work : (R : Program) (r : Run) (f : MethodState) (rest : List RunF
     → nat_le (arity point.op) (length f.stack) ≡ true
     → turn R r ≡ record r {
       world = perform R (record r.world { steps = r.world.steps + 1 }) f (less (arity point.op) f) rest
-          (work R r.world.memory point.op (operands_of (arity point.op) f))
+          (work R r.world.memory point.op (operands_of (arity point.op) f));
     }
 turned_by_work R r f rest point goes stands is worked enough =
     turned_going R r (Method f ∷ rest) goes stands refl
