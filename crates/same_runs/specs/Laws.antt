@@ -36,3 +36,5 @@ pub mod CaughtUp
 pub mod FirstAbove
 pub mod FirstBeginnings
 pub mod BothBegin
+pub mod Operations
+pub mod AloneTurn

@@ -112,7 +112,8 @@ turned_by_beginning R r class rest found goes stands is =
     turned_going R r (Beginning class ∷ rest) goes stands refl
     ∙ ap (λ (now : Option RunClass). record r { world = beginning_of R class (record r.world { steps = r.world.steps + 1 }) rest now }) is
 
-turned_next : (R : Program) (r : Run) (class : ℕ) (rest : List RunFrame) (found : RunClass) (next : Option ℕ)
+-- and with a class that comes first, or none
+pub turned_next : (R : Program) (r : Run) (class : ℕ) (rest : List RunFrame) (found : RunClass) (next : Option ℕ)
     → r.world.halt ≡ going
     → r.world.frames ≡ Beginning class ∷ rest
     → slice_get R.classes class ≡ Some found
@@ -122,7 +123,8 @@ turned_next R r class rest found next goes stands is is_next =
     turned_by_beginning R r class rest (Some found) goes stands is
     ∙ ap (λ (now : Option ℕ). record r { world = begun_next R class (record r.world { steps = r.world.steps + 1 }) rest now }) is_next
 
-turned_past : (R : Program) (r : Run) (class : ℕ) (rest : List RunFrame) (found : RunClass) (initialiser : Option MethodAt)
+-- where none comes first
+pub turned_past : (R : Program) (r : Run) (class : ℕ) (rest : List RunFrame) (found : RunClass) (initialiser : Option MethodAt)
     → r.world.halt ≡ going
     → r.world.frames ≡ Beginning class ∷ rest
     → slice_get R.classes class ≡ Some found
@@ -172,7 +174,8 @@ pub record AtBeginning (P Q : Program) (c : Comparison) (names : Names) (one oth
   pub seen : SameSeen c names one.world other.world
   pub frames : BeginsOn P Q c names class rest others
 
-abbrev counted : Run → World
+-- the world of a run, a step further
+abbrev pub counted : Run → World
 counted r = record r.world { steps = r.world.steps + 1 }
 
 module _ {P Q : Program} {c : Comparison} (same : SamePrograms P Q) (alike : BeginAlike P Q) (class : ℕ) (rest others : List RunFrame)

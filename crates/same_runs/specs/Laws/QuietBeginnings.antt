@@ -154,11 +154,11 @@ one_fewer (first ∷ classes) before after class more is none begun = here (firs
         there false false here here_also later = rw (here, here_also) (omega (arith, later))
 
 -- a class that begins is begun, and so are those before it
-begins_more : (R : Program) (class : ℕ) (memory : Memory) (at : ℕ) → IsTrue (is_begun memory at)
+pub begins_more : (R : Program) (class : ℕ) (memory : Memory) (at : ℕ) → IsTrue (is_begun memory at)
     → IsTrue (is_begun (begun_memory R class memory) at)
 begins_more R class memory at is = starts_begun R class at (marked memory class) (starts_of R class) ∙ marked_still memory class at is
 
-begins_itself : (R : Program) (class : ℕ) (memory : Memory) → IsTrue (is_begun (begun_memory R class memory) class)
+pub begins_itself : (R : Program) (class : ℕ) (memory : Memory) → IsTrue (is_begun (begun_memory R class memory) class)
 begins_itself R class memory = starts_begun R class class (marked memory class) (starts_of R class) ∙ marked_itself memory class
 
 -- the first class that is not begun is one of the names, by its number
