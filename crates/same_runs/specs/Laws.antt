@@ -37,3 +37,9 @@ pub mod Returned
 pub mod Simulated
 pub mod ReplacedPrograms
 pub mod FlatPrograms
+pub mod CaughtUp
+pub mod FirstAbove
+pub mod FirstBeginnings
+pub mod BothBegin
+pub mod Operations
+pub mod AloneTurn
