@@ -32,3 +32,4 @@ pub mod Performed
 pub mod GivenValues
 pub mod Handled
 pub mod Acted
+pub mod Moves
