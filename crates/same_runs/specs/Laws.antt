@@ -33,3 +33,4 @@ pub mod GivenValues
 pub mod Handled
 pub mod Acted
 pub mod Moves
+pub mod LongerStacks
