@@ -43,3 +43,5 @@ pub mod FirstBeginnings
 pub mod BothBegin
 pub mod Operations
 pub mod AloneTurn
+pub mod Moves
+pub mod LongerStacks
