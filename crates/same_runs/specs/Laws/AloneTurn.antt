@@ -1,7 +1,9 @@
 -- Turns of the first run alone that begin classes as which nothing runs: an operation begins its class, and a beginning that stands on top of
 -- the first alone goes on with a class that comes first, or is over.
-use Rattle.std.proofs.Common.{◌≡◌, ◌&&◌, ◌+◌, nat_le, ℕ, Bool, true, false, List, [], ◌∷◌, is_some, length, slice_get, Option, Some, None, IsTrue, IsFalse, refl, sym, ap, subst, ◌∙◌}
-use Rattle.std.proofs.lemmas.Option.{same_Some}
+use Rattle.std.proofs.Common.{◌≡◌, ◌≢◌, ◌==◌, ◌<◌, ◌&&◌, ◌+◌, nat_le, ℕ, zero, suc, Bool, true, false, List, [], ◌∷◌, is_some, length, slice_get, Option, Some, None, IsTrue, IsFalse, refl, sym, ap, subst, ◌∙◌, arith}
+use Rattle.std.specs.List.{list_any}
+use Rattle.std.proofs.lemmas.Bool.{eq-eqb, false≢true}
+use Rattle.std.proofs.lemmas.Option.{same_Some, slice_get_within}
 use Rattle.class_model.specs.Descriptors.{parameters_of}
 use Rattle.class_model.specs.Members.{STATIC}
 use Rattle.class_model.specs.declared.class_file.MethodAt.{MethodAt}
@@ -28,7 +30,7 @@ use Rattle.same_runs.specs.Laws.BothBegin.{counted, turned_next, turned_past}
 use Rattle.same_runs.specs.Laws.CaughtUp.{less, operands_of, turned_by_work}
 use Rattle.same_runs.specs.Laws.FirstBeginnings.{comes_first_inert, first_has_begun, first_is_over}
 use Rattle.same_runs.specs.Laws.Operations.{WorksOnOperands, step_works}
-use Rattle.same_runs.specs.Laws.QuietBeginnings.{BeginAlike, IsUnbegun, unbegun_is}
+use Rattle.same_runs.specs.Laws.QuietBeginnings.{BeginAlike, IsUnbegun, begins_itself, begins_more, one_fewer, unbegun, unbegun_is}
 
 -- What the turn leads to: the memory of the second stands still.
 pub data AloneTurn (P : Program) (Allocated Entered : ℕ → ℕ → Type 0) (names : Names) (now : List ℕ) (class : ℕ) (rest : List RunFrame)
@@ -155,3 +157,34 @@ static_call_begins P memory named (Some method) values class is =
           let stuck_one : ends stuck ≡ begins class = sym (rw (e) refl) ∙ is in
           absurd (cc stuck_one)
       by true e = first (folder_number P method.class) refl (sym (rw (e) refl) ∙ is)
+
+-- ---- fewer are left
+
+-- the numbers below one
+abbrev pub numbers_below : ℕ → List ℕ
+numbers_below zero = []
+numbers_below (suc count) = count ∷ numbers_below count
+
+is_below : (class count : ℕ) → class < count → list_any (λ (other : ℕ). other == class) (numbers_below count) ≡ true
+is_below class zero low = absurd (omega (arith, low))
+is_below class (suc count) low = by (count == class) refl (is_below class count) where
+  by : (b : Bool) → (count == class) ≡ b
+      → (class < count → list_any (λ (other : ℕ). other == class) (numbers_below count) ≡ true)
+      → list_any (λ (other : ℕ). other == class) (numbers_below (suc count)) ≡ true
+  by true e rest = rw (e) refl
+  by false e rest = rw (e) (rest (omega (arith, low, differ))) where
+    differ : count ≢ class
+    differ same = false≢true (sym e ∙ eq-eqb count class same)
+
+-- how many classes of the folder are not begun
+abbrev pub unbegun_in : Program → Memory → ℕ
+unbegun_in P memory = unbegun (numbers_below (length P.classes)) memory
+
+-- one less where a class of the folder begins
+pub begins_fewer : (P R : Program) (class : ℕ) (found : RunClass) (memory : Memory)
+    → slice_get P.classes class ≡ Some found
+    → IsFalse (is_begun memory class)
+    → unbegun_in P (begun_memory R class memory) < unbegun_in P memory
+begins_fewer P R class found memory is none =
+    one_fewer (numbers_below (length P.classes)) memory (begun_memory R class memory) class (begins_more R class memory)
+    (is_below class (length P.classes) (slice_get_within P.classes class found is)) none (begins_itself R class memory)
