@@ -1,5 +1,5 @@
--- Turns of the first run alone that begin classes as which nothing runs: an operation begins its class, and a beginning that stands on top of
--- the first alone goes on with a class that comes first, or is over.
+-- Turns of the first run alone that begin classes with nothing to run: an operation begins its class, and a beginning that stands on top
+-- of the first alone goes on with a class that comes first, or is over.
 use Rattle.std.proofs.Common.{◌≡◌, ◌≢◌, ◌==◌, ◌<◌, ◌&&◌, ◌+◌, nat_le, ℕ, zero, suc, Bool, true, false, List, [], ◌∷◌, is_some, length, slice_get, Option, Some, None, IsTrue, IsFalse, refl, sym, ap, subst, ◌∙◌, arith}
 use Rattle.std.specs.List.{list_any}
 use Rattle.std.proofs.lemmas.Bool.{eq-eqb, false≢true}
@@ -48,7 +48,7 @@ pub data AloneTurn (P : Program) (Allocated Entered : ℕ → ℕ → Type 0) (n
       → SameMemories P Allocated Entered names now one.world.memory other
       → AloneTurn P Allocated Entered names now class rest one other
 
--- a turn of a beginning of the first alone, of a class of the folder as which begins nothing runs
+-- a turn of a beginning of the first alone, of a class of the folder with nothing to run
 pub beginning_alone :
     {P Q : Program} {Allocated Entered : ℕ → ℕ → Type 0} {names : Names} {now : List ℕ} {one : Run} {other : Memory} (class : ℕ)
     (rest : List RunFrame) (found : RunClass)
@@ -80,7 +80,7 @@ beginning_alone {P = P} {Allocated = Allocated} {Entered = Entered} {names = nam
 
 -- ---- an operation that begins its class
 
--- an operation of the first alone, as whose class begins nothing runs
+-- an operation of the first alone, whose class has nothing to run
 pub operation_begins_alone :
     {P : Program} {Allocated Entered : ℕ → ℕ → Type 0} {names : Names} {now : List ℕ} {other : Memory} {rest : List RunFrame}
     (one : Run) (f : MethodState) (point : Point) (class : ℕ)
@@ -97,7 +97,8 @@ pub operation_begins_alone :
     × SameMemories P Allocated Entered names (class ∷ now) (begun_memory P class one.world.memory) other
 operation_begins_alone {P = P} {rest = rest} one f point class goes stands is works enough begins_it none inert memories = (
   turned_by_work P one f rest point goes stands is (step_works P f rest point.op works) enough
-      ∙ ap (λ (completion : Completion). record one { world = perform P (counted one) f (less (arity point.op) f) rest completion }) begins_it,
+      ∙ ap (λ (completion : Completion). record one { world = perform P (counted one) f (less (arity point.op) f) rest completion })
+      begins_it,
   first_begins class none inert memories,
 )
 

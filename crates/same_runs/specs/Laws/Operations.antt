@@ -148,8 +148,8 @@ operands_same {names = names} {op = op} {also = also} {ones = ones} {top = top} 
 
 -- Two runs at the same operation, where worlds are the same: what has to be shown of them.
 pub at_operation :
-    {P Q : Program} {c : Comparison} {names : Names} {one other : Run} {f g : MethodState} {rest others : List RunFrame} {point also : Point}
-    (top under : List Value)
+    {P Q : Program} {c : Comparison} {names : Names} {one other : Run} {f g : MethodState} {rest others : List RunFrame}
+    {point also : Point} (top under : List Value)
     → one.world.halt ≡ going
     → other.world.halt ≡ going
     → one.world.frames ≡ Method f ∷ rest
