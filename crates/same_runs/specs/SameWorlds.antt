@@ -1,6 +1,6 @@
 -- Worlds of two runs that are the same but for the numbers of references. What goes together beyond that a theorem says itself: how counts
 -- compare, which frames go together, and those in which an object has landed in a handler.
-use Rattle.std.specs.Prelude.{◌≡◌, ◌≢◌, ◌+◌, ℕ, List, [], ◌∷◌, Option, Some, None, false}
+use Rattle.std.specs.Prelude.{◌≡◌, ◌≢◌, ◌+◌, ℕ, List, [], ◌∷◌, Option, Some, None, IsTrue, IsFalse, false}
 use Rattle.class_model.specs.declared.class_file.MethodAt.{MethodAt}
 use Rattle.machine_values.specs.Frames.{MethodState}
 use Rattle.machine_values.specs.Values.{units_of_values}
@@ -10,12 +10,12 @@ use Rattle.machine_values.specs.declared.frame.RunFrame.TheVariants.{Library, Be
 use Rattle.machine_values.specs.declared.value.Value.{Value}
 use Rattle.member_link.specs.Machine.Acting.{Waiting, waiting_in}
 use Rattle.member_link.specs.Machine.Beginnings.{frame_with}
-use Rattle.member_link.specs.Machine.Performing.{resumed}
+use Rattle.member_link.specs.Machine.Performing.{is_initialiser, resumed}
 use Rattle.member_link.specs.Machine.Programs.{Program, RunMethod, run_method}
 use Rattle.member_link.specs.Machine.Stepping.{is_library_turn}
 use Rattle.member_link.specs.Machine.Worlds.{World, going}
 use Rattle.same_runs.specs.Renamings.{Names, NamesMore, SameHeld, SameReferences, SameValues}
-use Rattle.same_runs.specs.SameFrames.{Unwinds}
+use Rattle.same_runs.specs.SameFrames.{EndSame, Unwinds}
 use Rattle.same_runs.specs.SameMemories.{BeginsQuietly, SameMemories}
 
 -- how a theorem compares runs
@@ -173,3 +173,30 @@ pub record AtLibrary (P Q : Program) (c : Comparison) (names : Names) (made made
       → NamesMore names more
       → Unwinds P Q c.frames c.lands more (Library made ∷ rest) (Library made_also ∷ rest_also)
   pub waits : SameWaiting P Q c names (waiting_in P (Library made ∷ rest)) (waiting_in Q (Library made_also ∷ rest_also))
+
+-- ---- what a theorem says of frames whose methods end in both
+
+-- Frames below methods that end: where the library or methods waited for them, what goes together behind their results.
+pub data SameBelow (P Q : Program) (c : Comparison) (names : Names)
+    : List RunFrame → List RunFrame → Type 0 where
+  none_below : SameBelow P Q c names [] []
+  beginnings_below : {class also : ℕ} {ones others : List RunFrame}
+      → SameBelow P Q c names (Beginning class ∷ ones) (Beginning also ∷ others)
+  library_below : {made made_also : Option ℕ} {ones others : List RunFrame}
+      → SameHeld names made made_also
+      → c.frames names (Library None ∷ ones) (Library None ∷ others)
+      → SameBelow P Q c names (Library made ∷ ones) (Library made_also ∷ others)
+  methods_below : {waiting also : MethodState} {ones others : List RunFrame}
+      → ((values values_also : List Value)
+      → SameValues names values values_also
+      → c.frames names (Method (resumed waiting values) ∷ ones) (Method (resumed also values_also) ∷ others))
+      → SameBelow P Q c names (Method waiting ∷ ones) (Method also ∷ others)
+
+-- What goes together behind the end of a method in both: a class initialiser leaves the frames below as they are.
+pub record Returns (P Q : Program) (c : Comparison) (names : Names) (f g : MethodState)
+    (rest rest_also : List RunFrame)
+    : Type 0 where
+  pub ends : EndSame P Q f g
+  pub held : SameHeld names f.held g.held
+  pub initialised : IsTrue (is_initialiser ends.method) → c.frames names rest rest_also
+  pub below : IsFalse (is_initialiser ends.method) → SameBelow P Q c names rest rest_also
