@@ -133,7 +133,8 @@ pub turned_past : (R : Program) (r : Run) (class : ℕ) (rest : List RunFrame) (
     → turn R r ≡ record r { world = past_beginning R (record r.world { steps = r.world.steps + 1 }) rest initialiser }
 turned_past R r class rest found initialiser goes stands is is_next is_method =
     turned_next R r class rest found None goes stands is is_next
-    ∙ ap (λ (now : Option MethodAt). record r { world = past_beginning R (record r.world { steps = r.world.steps + 1 }) rest now }) is_method
+    ∙ ap (λ (now : Option MethodAt). record r { world = past_beginning R (record r.world { steps = r.world.steps + 1 }) rest now })
+    is_method
 
 -- ---- what a theorem says of frames with a beginning on top
 
@@ -160,7 +161,8 @@ pub begins_on_more : {P Q : Program} {c : Comparison} {names more : Names} {clas
 begins_on_more grows frames = record {
   begins = λ later first grows_later. frames.begins later first (more_and_more grows grows_later);
   is_over = λ later grows_later none. frames.is_over later (more_and_more grows grows_later) none;
-  initialises = λ later at method grows_later is is_method. frames.initialises later at method (more_and_more grows grows_later) is is_method;
+  initialises = λ later at method grows_later is is_method.
+      frames.initialises later at method (more_and_more grows grows_later) is is_method;
 }
 
 -- Two runs with the beginning of a class on top, where worlds are the same.
@@ -342,8 +344,8 @@ module _ {P Q : Program} {c : Comparison} (same : SamePrograms P Q) (alike : Beg
               (next_same P one.world.memory other.world.memory first (come_first P found.header) at.memories.statics.begun none
               (in_first (Some first) e)) e none
           at_first true begun = behind_quiet at quiet.0
-              (λ grows_later. again quiet.0.more (standing other (Beginning class ∷ others) quiet.0.after quiet.0.steps) found also still_fewer is
-              is_also grows_later) where
+              (λ later. again quiet.0.more (standing other (Beginning class ∷ others) quiet.0.after quiet.0.steps) found also still_fewer is
+              is_also later) where
                 none : IsFalse (is_begun other.world.memory first)
                 none = (unbegun_is Q other.world.memory (come_first Q also.header) first e).none
 

@@ -1,5 +1,5 @@
--- An operation that is in both, where the second has perhaps still to begin classes that the first has begun before: it begins them by turns
--- that show nothing, and then both take the same turn.
+-- An operation that is in both, where the second has perhaps still to begin classes that the first has begun before: it begins them by
+-- turns that show nothing, and then both take the same turn.
 use Rattle.std.proofs.Common.{◌≡◌, ◌+◌, ◌<◌, ◌≤◌, nat_le, ℕ, zero, suc, Bool, true, false, List, [], ◌∷◌, drop, length, reverse, take, Option, Some, IsTrue, refl, ap, sym, subst, ◌∙◌, arith, inl, inr, ◌⊎◌}
 use Rattle.machine_values.specs.Frames.{MethodState}
 use Rattle.machine_values.specs.declared.frame.RunFrame.{RunFrame}
@@ -68,7 +68,8 @@ pub turned_going : (R : Program) (r : Run) (frames : List RunFrame)
     → turn R r ≡ record r { world = frames_step R (record r.world { steps = r.world.steps + 1 }) frames }
 turned_going R r frames goes stands no_turn =
     ap (turn_by R r) goes
-    ∙ rw (none) (ap (λ (now : List RunFrame). record r { world = frames_step R (record r.world { steps = r.world.steps + 1 }) now }) stands) where
+    ∙ rw (none) (ap (λ (now : List RunFrame). record r { world = frames_step R (record r.world { steps = r.world.steps + 1 }) now })
+    stands) where
       none : is_library_turn r.world.frames ≡ false
       none = ap is_library_turn stands ∙ no_turn
 
@@ -224,7 +225,8 @@ module _ {P Q : Program} {c : Comparison} (same : SamePrograms P Q) (alike : Beg
               must.begun_not quiet.1 in
               omega (arith, down, low)
 
-  -- An operation that is in both: the second first begins the classes that it needs and the first has begun, and then both take the same turn.
+  -- An operation that is in both: the second first begins the classes that it needs and the first has begun, and then both take the same
+  -- turn.
   pub operation_kept :
       {names : Names} {other : Run}
       → AtOperation P Q c names one other f g rest others point also

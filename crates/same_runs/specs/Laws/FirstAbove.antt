@@ -80,7 +80,8 @@ module _ (P : Program) where
     behind = all_filtered (IsAbove low) (λ (name : Name). has_defaults (header_named P name))
         (interfaces_up P (length (all_headers (headers_in P))) header.interfaces)
         (interfaces_above low (length (all_headers (headers_in P))) header.interfaces
-        (each_directly (headers_in P) header.interfaces (IsAbove low) (λ other there. directly low other (interface low other header is there))))
+        (each_directly (headers_in P) header.interfaces (IsAbove low)
+        (λ other there. directly low other (interface low other header is there))))
 
     by : (b : Bool) → is_interface header ≡ b → (o : Option Name) → header.super_name ≡ o
         → AllByRecursion (IsAbove low) (come_first P header)
@@ -102,7 +103,8 @@ module _ (P : Program) where
       → IsTrue (P.links.below one.header.name high)
   above_first tree links class number one name high is is_name above =
       (links.below one.header.name high).1
-      (below_then (all_there (IsAbove one.header.name) (come_first P one.header) number name (first_above one.header.name one.header stands) is_name)
+      (below_then
+      (all_there (IsAbove one.header.name) (come_first P one.header) number name (first_above one.header.name one.header stands) is_name)
       ((links.below name high).0 above)) where
         placed : (classes : List RunClass) (at : ℕ) → slice_get classes at ≡ Some one
             → slice_get (map (λ (x : RunClass). x.header) classes) at ≡ Some one.header

@@ -113,7 +113,8 @@ pub comes_first_inert : {P Q : Program} (class first : ℕ) (found : RunClass) (
 comes_first_inert {P = P} class first found memory alike inert is next above is_above = inert above
     (subst (λ (name : Name). IsTrue (P.links.below name (name_of_class P above))) (sym own)
     (alike.above class left.number found left.name (name_of_class P above) is left.is_name
-    (subst (λ (name : Name). IsTrue (P.links.below name (name_of_class P above))) (folder_name P left.name first left.is_number) is_above))) where
+    (subst (λ (name : Name). IsTrue (P.links.below name (name_of_class P above))) (folder_name P left.name first left.is_number)
+    is_above))) where
       left : IsUnbegun P memory (come_first P found.header) first
       left = unbegun_is P memory (come_first P found.header) first next
 

@@ -1,8 +1,7 @@
--- Operations that work on their operands, and not on the frame alone: a step of such a one performs what it comes to. Those that are the same
--- take as many operands.
+-- Operations that work on their operands, and not on the frame alone: a step of such a one performs what it comes to. Those that are the
+-- same take as many operands.
 use Rattle.std.proofs.Common.{◌≡◌, ◌+◌, ◌≤◌, nat_le, ℕ, zero, suc, true, false, List, [], ◌∷◌, ◌++◌, length, reverse, take, Option, Some, refl, ap, sym, subst, ◌∙◌, arith}
 use Rattle.std.proofs.lemmas.Bool.{le-leb, leb-true}
-use Rattle.std.proofs.lemmas.Grind.{reverse_onto}
 use Rattle.machine_values.specs.Frames.{MethodState}
 use Rattle.machine_values.specs.declared.frame.RunFrame.{RunFrame}
 use Rattle.machine_values.specs.declared.frame.RunFrame.TheVariants.{Method}
@@ -13,11 +12,12 @@ use Rattle.member_link.specs.Machine.Runs.{Run}
 use Rattle.member_link.specs.Machine.Stepping.{op_step, work_step}
 use Rattle.member_link.specs.Machine.Work.{arity}
 use Rattle.member_link.specs.Machine.Worlds.{World, going}
-use Rattle.same_runs.specs.Renamings.{Names, SameValue, SameValues, no_values, and_value}
+use Rattle.same_runs.specs.Renamings.{Names, SameValues, no_values, and_value}
 use Rattle.same_runs.specs.SameMemories.{SameMemories}
-use Rattle.same_runs.specs.SamePrograms.{SameOp, same_op, same_store}
+use Rattle.same_runs.specs.SamePrograms.{SameOp, same_op, same_store, same_initialiser}
 use Rattle.same_runs.specs.SameWorlds.{Comparison, Goes, SameSeen}
 use Rattle.same_runs.specs.Laws.CaughtUp.{AtOperation, less, operands_of}
+use Rattle.same_runs.specs.Laws.Moves.{same_reversed}
 
 -- an operation that is more than one of the frame
 abbrev pub WorksOnOperands : Op → Type 0
@@ -88,28 +88,15 @@ step_works R f rest leave_monitor is w = refl
 pub both_work : {P Q : Program} {op also : Op} → SameOp P Q op also → WorksOnOperands op → WorksOnOperands also
 both_work (same_op in_both) is = is
 both_work (same_store bar) is = tt
+both_work (same_initialiser name there) is = tt
 
 -- and takes as many
 pub same_arity : {P Q : Program} {op also : Op} → SameOp P Q op also → arity also ≡ arity op
 same_arity (same_op in_both) = refl
 same_arity (same_store bar) = refl
+same_arity (same_initialiser name there) = refl
 
 -- ---- operands
-
--- values one by one behind each other
-pub values_appended : {names : Names} {ones others more also : List Value} → SameValues names ones others → SameValues names more also
-    → SameValues names (ones ++ more) (others ++ also)
-values_appended no_values are = are
-values_appended (and_value one rest) are = and_value one (values_appended rest are)
-
--- values in reverse order
-pub values_reversed : {names : Names} {ones others : List Value} → SameValues names ones others
-    → SameValues names (reverse ones) (reverse others)
-values_reversed no_values = no_values
-values_reversed {names = names} (and_value {one = one} {other = other} {ones = ones} {others = others} first rest) =
-    subst (λ (now : List Value). SameValues names (reverse (one ∷ ones)) now) (sym (reverse_onto others other []))
-    (subst (λ (now : List Value). SameValues names now (reverse others ++ other ∷ [])) (sym (reverse_onto ones one []))
-    (values_appended (values_reversed rest) (and_value first no_values)))
 
 -- the topmost entries of a stack, where the second may have others below
 pub taken_same : {names : Names} {ones top : List Value} (count : ℕ) (under : List Value)
@@ -141,15 +128,15 @@ operands_same {names = names} {op = op} {also = also} {ones = ones} {top = top} 
   ap (λ (count : ℕ). nat_le count (length (top ++ under))) (same_arity same)
       ∙ le-leb (arity op) (length (top ++ under)) (as_many (arity op) under there are),
   subst (λ (count : ℕ). SameValues names (reverse (take (arity op) ones)) (reverse (take count (top ++ under)))) (sym (same_arity same))
-      (values_reversed (taken_same (arity op) under there are)),
+      (same_reversed (taken_same (arity op) under there are)),
 ) where
   there : arity op ≤ length ones
   there = leb-true (arity op) (length ones) enough
 
 -- Two runs at the same operation, where worlds are the same: what has to be shown of them.
 pub at_operation :
-    {P Q : Program} {c : Comparison} {names : Names} {one other : Run} {f g : MethodState} {rest others : List RunFrame} {point also : Point}
-    (top under : List Value)
+    {P Q : Program} {c : Comparison} {names : Names} {one other : Run} {f g : MethodState} {rest others : List RunFrame}
+    {point also : Point} (top under : List Value)
     → one.world.halt ≡ going
     → other.world.halt ≡ going
     → one.world.frames ≡ Method f ∷ rest

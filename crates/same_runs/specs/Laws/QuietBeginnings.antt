@@ -130,7 +130,8 @@ fewer (class ∷ classes) before after more = by (is_begun before class) (is_beg
       by false false is is_also rest = omega (arith, rest)
 
 -- and fewer where one of them was begun
-pub one_fewer : (classes : List ℕ) (before after : Memory) (class : ℕ) → ((at : ℕ) → IsTrue (is_begun before at) → IsTrue (is_begun after at))
+pub one_fewer : (classes : List ℕ) (before after : Memory) (class : ℕ)
+    → ((at : ℕ) → IsTrue (is_begun before at) → IsTrue (is_begun after at))
     → list_any (λ (other : ℕ). other == class) classes ≡ true → IsFalse (is_begun before class) → IsTrue (is_begun after class)
     → unbegun classes after < unbegun classes before
 one_fewer [] before after class more is none begun = absurd (false≢true is)
