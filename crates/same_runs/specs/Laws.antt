@@ -35,4 +35,5 @@ pub mod Acted
 pub mod Returned
 pub mod Simulated
 pub mod ReplacedPrograms
+pub mod ClearedFlags
 pub mod FlatPrograms
