@@ -21,7 +21,8 @@ data FieldAlike (r : Replacement) (class number : ℕ) (field : Reference) (fiel
       → FieldAlike r class number field fields (Some member) (Some (field_cleared r class (number + later) member))
 
 fields_by : (r : Replacement) (class : ℕ) (field : Reference) (number : ℕ) (fields : List Member)
-    → FieldAlike r class number field fields (first_member field fields) (first_member field (map_numbered (field_cleared r class) number fields))
+    → FieldAlike r class number field fields (first_member field fields)
+    (first_member field (map_numbered (field_cleared r class) number fields))
 fields_by r class field number [] = no_such_field refl
 fields_by r class field number (member ∷ members) =
     by (member_of field member) refl (first_member field members)
@@ -79,7 +80,8 @@ pub data IsCleared (P : Program) (r : Replacement) (field : Reference) : Option 
       → static_number P class field ≡ Some number
       → IsCleared P r field (Some member) (Some (field_cleared r class number member))
 
-pub field_replaced : (P : Program) (r : Replacement) (field : Reference) → IsCleared P r field (field_of P field) (field_of (replaced P r) field)
+pub field_replaced : (P : Program) (r : Replacement) (field : Reference)
+    → IsCleared P r field (field_of P field) (field_of (replaced P r) field)
 field_replaced P r field = by (header_named P field.class) (header_named (replaced P r) field.class) refl refl
     (headers_by r field.class P.library zero P.classes) where
       in_class : (class : RunClass) (number : ℕ) → folder_number P field.class ≡ Some number → slice_get P.classes number ≡ Some class
