@@ -6,8 +6,8 @@ import sys
 
 NOP, ACONST_NULL, ICONST_0, FCONST_0 = b"\0", b"\1", b"\3", b"\x0b"
 ISTORE_0, FSTORE_0, RETURN, ATHROW = b"\x3b", b"\x43", b"\xb1", b"\xbf"
-INVOKESTATIC, POP, TABLESWITCH, LOOKUPSWITCH = b"\xb8", b"\x57", b"\xaa", b"\xab"
-PUBLIC, STATIC, SUPER, ABSTRACT = 1, 8, 0x20, 0x400
+INVOKESTATIC, INVOKEINTERFACE, POP, TABLESWITCH, LOOKUPSWITCH = b"\xb8", b"\xb9", b"\x57", b"\xaa", b"\xab"
+PUBLIC, STATIC, SUPER, INTERFACE, ABSTRACT = 1, 8, 0x20, 0x200, 0x400
 MOST = 65_535
 INT, FLOAT, OBJECT = b"\1", b"\2", b"\7"
 
@@ -45,6 +45,11 @@ class ClassFile:
         """A reference to a method of the class itself."""
         member = self.constant(b"\x0c" + u2(self.text(name)) + u2(self.text(desc)))
         return self.constant(b"\x0a" + u2(self.this) + u2(member), again)
+
+    def interface_method(self, owner, name, desc):
+        """A reference to a method of an interface."""
+        member = self.constant(b"\x0c" + u2(self.text(name)) + u2(self.text(desc)))
+        return self.constant(b"\x0b" + u2(self.type(owner)) + u2(member))
 
     def field(self, name, desc):
         self.fields.append(u2(PUBLIC | STATIC) + u2(self.text(name)) + u2(self.text(desc)) + u2(0))
@@ -151,6 +156,31 @@ def references(count, folder):
     made.write(folder, "M.class")
 
 
+def interface_calls(count, folder):
+    """So many calls of two methods of an interface by turns, whose descriptors have 20,000 bytes, 8,000 in each method."""
+    face, made, desc = ClassFile("I", PUBLIC | INTERFACE | ABSTRACT), ClassFile(), long_type(folder, 20_000)
+    descs = [desc, desc[:-1] + "I"]
+    for number, each in enumerate(descs):
+        face.abstract(f"f{number}", each)
+    face.write(folder, "I.class")
+    first, second = [made.interface_method("I", f"f{number}", each) for number, each in enumerate(descs)]
+    call = b"".join(
+        ACONST_NULL + ACONST_NULL + INVOKEINTERFACE + u2(method) + b"\2\0" + end
+        for method, end in ((first, b""), (second, POP))
+    )
+    for number in range(count // 8_000):
+        made.method(f"m{number}", "()V", call * 4_000 + RETURN, 2)
+    made.write(folder, "M.class")
+
+
+def same_descriptors(count, folder):
+    """So many abstract methods of one descriptor, which has 64,000 bytes."""
+    made, desc = ClassFile(flags=PUBLIC | SUPER | ABSTRACT), long_type(folder, 64_000)
+    for number in range(count):
+        made.abstract(f"m{number}", desc)
+    made.write(folder, "M.class")
+
+
 def full(count, folder):
     """So many frames of 65,535 locals, of which no two are equal."""
     made, frames = ClassFile(), []
@@ -165,6 +195,17 @@ def wide(count, folder):
     """65,535 instructions, each behind a frame of so many locals."""
     made = ClassFile()
     made.method("m", "()V", RETURN + NOP * (MOST - 2) + RETURN, 0, count, frames=[full_frame(1, [INT] * count)])
+    made.write(folder, "M.class")
+
+
+def wide_handlers(count, folder):
+    """Two methods of 65,535 bytes inside a handler, behind a frame of so many locals: one of nops, and one that pushes and pops."""
+    made = ClassFile()
+    locals_before = full_frame(1, [INT] * count)
+    for name, body in (("m", NOP * (MOST - 3)), ("p", (ICONST_0 + POP) * (MOST // 2 - 1))):
+        end = len(body) + 2
+        frames = [locals_before] + caught_frames(made, end - 2, 1)
+        made.method(name, "()V", RETURN + body + RETURN + ATHROW, 1, count, [(1, end, end, 0)], frames)
     made.write(folder, "M.class")
 
 
@@ -250,10 +291,10 @@ def deep(count, folder):
 
 
 SHAPES = {
-    made.__name__: made
+    made.__name__.replace("_", "-"): made
     for made in (
-        nops, handlers, targets, changes, calls, references, full, wide, fields, methods, constants, texts, tiny, tables, lookups,
-        names, deep,
+        nops, handlers, targets, changes, calls, references, interface_calls, same_descriptors, full, wide, wide_handlers, fields,
+        methods, constants, texts, tiny, tables, lookups, names, deep,
     )
 }
 

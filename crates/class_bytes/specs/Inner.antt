@@ -4,6 +4,7 @@ pub mod Bootstraps
 pub mod CodeParts
 pub mod Cut
 pub mod HeaderParts
+pub mod KnownShapes
 pub mod MethodParts
 pub mod Parts
 pub mod Shapes

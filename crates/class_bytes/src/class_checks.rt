@@ -14,6 +14,7 @@ use crate::cut::CutBody;
 use crate::fields::check_fields;
 use crate::head::check_head;
 use crate::home::Home;
+use crate::known_shapes::KnownShapes;
 use crate::methods::check_methods;
 use class_model::{ClassFault, Pool};
 use pool_bytes::RawPool;
@@ -63,11 +64,13 @@ fn check_behind(
         body.fields.as_slice(),
         fields + COUNT_LEN,
     )?;
+    let shapes = KnownShapes::of(alloc, pool);
     let home = Home {
         pool,
         major: body.version.major,
         flags: body.flags,
         name: pool.class_name(body.this_class),
+        shapes: &shapes,
     };
     let attrs = check_methods(alloc, &home, body.methods.as_slice(), methods + COUNT_LEN)?;
     check_class_attrs(alloc, pool, body.attrs.as_slice(), attrs + COUNT_LEN)

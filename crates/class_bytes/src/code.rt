@@ -16,9 +16,7 @@ use crate::handlers::check_handlers;
 use crate::home::Home;
 use crate::method_code::MethodCode;
 use crate::operands::check_operands;
-use class_model::{
-    ACC_STATIC, ClassFault, FileRule, PlacedList, Pool, has, method_shape, parameters_are_spelled,
-};
+use class_model::{ACC_STATIC, ClassFault, FileRule, PlacedList, has, parameters_are_spelled};
 use code_bytes::decode;
 use std::alloc::Global;
 
@@ -31,6 +29,7 @@ pub(crate) fn check_code(
     content: &[u8],
     at: u64,
 ) -> Result<(), ClassFault>
+    requires shapes { home.now.shapes.now ≡ home.now.pool.now }
     requires fits { at + 6 + length content.now < 2 ^ 63 }
     requires descriptor { IfSome (utf8_at home.now.pool.now method.now.desc)
         (IsDescriptorOf method.now.flags) }
@@ -55,6 +54,7 @@ fn check_part(
     part: &CutPart<'_>,
     at: u64,
 ) -> Result<(), ClassFault>
+    requires shapes { home.now.shapes.now ≡ home.now.pool.now }
     requires fits { at + 14 + parts_len (part_of part.now) < 2 ^ 63 }
     requires descriptor { IfSome (utf8_at home.now.pool.now method.now.desc)
         (IsDescriptorOf method.now.flags) }
@@ -64,7 +64,7 @@ fn check_part(
 {
     ask(fits_len(part.code), at + 10, FileRule::CodeLength)?;
     ask(
-        fits_locals(home.pool, method, part.max_locals),
+        fits_locals(home, method, part.max_locals),
         at + 8,
         FileRule::Locals,
     )?;
@@ -89,28 +89,19 @@ fn fits_len(code: &[u8]) -> bool
 }
 
 // Whether the parameters, this counted where there is one, have room in the locals.
-fn fits_locals(pool: &Pool, method: &CutMember<'_>, max_locals: u16) -> bool
-    requires { IfSome (utf8_at pool.now method.now.desc) (IsDescriptorOf method.now.flags) }
+fn fits_locals(home: &Home<'_>, method: &CutMember<'_>, max_locals: u16) -> bool
+    requires shapes { home.now.shapes.now ≡ home.now.pool.now }
+    requires descriptor { IfSome (utf8_at home.now.pool.now method.now.desc)
+        (IsDescriptorOf method.now.flags) }
     ensures { IsTrue result
-        ↔ IfSome (utf8_at pool.now method.now.desc)
+        ↔ IfSome (utf8_at home.now.pool.now method.now.desc)
         (λ text. units_at_call method.now.flags text ≤ max_locals) }
 {
-    let Some(text) = pool.utf8(method.desc) else {
-        return true;
-    };
-    units_at_call(text.bytes(), method.flags) <= max_locals
-}
-
-// The local units of the parameters that a method descriptor says, this counted where there is one.
-fn units_at_call(text: &[u8], flags: u16) -> u16
-    requires { IsDescriptorOf flags text.now }
-    ensures { result ≡ units_at_call flags text.now }
-{
     parameters_are_spelled();
-    let this = if has(flags, ACC_STATIC) { 0 } else { 1 };
-    match method_shape(text) {
-        Some(shape) => shape.units + this,
-        None => unreachable!(),
+    let this = if has(method.flags, ACC_STATIC) { 0 } else { 1 };
+    match home.shapes.at(method.desc) {
+        Some(shape) => u32::from(shape.units) + this <= u32::from(max_locals),
+        None => true,
     }
 }
 
@@ -135,6 +126,7 @@ fn decode_at(alloc: Global, code: &[u8], start: u64) -> Result<PlacedList, Class
 // Checks what stands in a code and behind it: the operands, the exception table and the attributes. The code
 // begins at this place.
 fn check_parts(alloc: Global, code: &MethodCode<'_>, start: u64) -> Result<(), ClassFault>
+    requires shapes { code.now.home.now.shapes.now ≡ code.now.home.now.pool.now }
     requires fits { start + parts_len (part_of code.now.part.now) < 2 ^ 63 }
     requires descriptor { IfSome (utf8_at code.now.home.now.pool.now code.now.method.now.desc)
         (IsDescriptorOf code.now.method.now.flags) }
@@ -145,13 +137,7 @@ fn check_parts(alloc: Global, code: &MethodCode<'_>, start: u64) -> Result<(), C
     let home = code.home;
     let handlers = part.handlers.as_slice();
     let table = start + part.code.len() as u64 + 2;
-    check_operands(
-        home.pool,
-        home.major,
-        part.max_locals,
-        code.instrs.as_slice(),
-        start,
-    )?;
+    check_operands(home, part.max_locals, code.instrs.as_slice(), start)?;
     check_handlers(
         alloc,
         home.pool,

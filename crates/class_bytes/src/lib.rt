@@ -20,6 +20,7 @@ mod header;
 mod header_checks;
 mod header_cutting;
 mod home;
+mod known_shapes;
 mod laws;
 mod method_code;
 mod methods;

@@ -24,7 +24,7 @@ use crate::names::{CODE, is_named};
 use crate::signatures::Signatures;
 use class_model::{
     ACC_ABSTRACT, ACC_INTERFACE, ACC_NATIVE, ACC_STATIC, CLINIT, ClassFault, FileRule, INIT,
-    MethodShape, Pool, a_descriptor_of_a_text, has, is_method_name, method_shape,
+    MethodShape, Pool, has, is_method_name,
 };
 use code_bytes::is_text;
 use std::alloc::Global;
@@ -37,7 +37,8 @@ pub(crate) fn check_methods(
     methods: &[CutMember<'_>],
     at: u64,
 ) -> Result<u64, ClassFault>
-    requires { at + methods_len (methods_of methods.now) < 2 ^ 63 }
+    requires shapes { home.now.shapes.now ≡ home.now.pool.now }
+    requires fits { at + methods_len (methods_of methods.now) < 2 ^ 63 }
     ensures { Tells (methods_checks (home_seen home.now) [] at (methods_of methods.now))
         (λ end. end ≡ at + methods_len (methods_of methods.now)) result }
 {
@@ -59,7 +60,8 @@ fn check_method(
     is_again: bool,
     at: u64,
 ) -> Result<u64, ClassFault>
-    requires { at + length (method_bytes (method_of method.now)) < 2 ^ 63 }
+    requires shapes { home.now.shapes.now ≡ home.now.pool.now }
+    requires fits { at + length (method_bytes (method_of method.now)) < 2 ^ 63 }
     ensures { (before : List Signature)
         → is_again
         ≡ stands_before home.now.pool.now before (method_signature (method_of method.now))
@@ -72,7 +74,7 @@ fn check_method(
     ask(!is_again, at, FileRule::Twice)?;
     ask(lacks_code || has_code, at, FileRule::NoCode)?;
     ask(!lacks_code || !has_code, at, FileRule::HasCode)?;
-    check_signature(home.pool, method, at)?;
+    check_signature(home, method, at)?;
     check_method_attrs(alloc, home, method, at + 8)
 }
 
@@ -138,15 +140,16 @@ fn fits_other(home: &Home<'_>, flags: u16, has_code: bool) -> bool
 }
 
 // Checks the name and the descriptor of a method, which stands at this place.
-fn check_signature(pool: &Pool, method: &CutMember<'_>, at: u64) -> Result<(), ClassFault>
-    requires { at + 8 < 2 ^ 63 }
-    ensures { Tells (signature_checks pool.now at (method_of method.now))
+fn check_signature(home: &Home<'_>, method: &CutMember<'_>, at: u64) -> Result<(), ClassFault>
+    requires shapes { home.now.shapes.now ≡ home.now.pool.now }
+    requires fits { at + 8 < 2 ^ 63 }
+    ensures { Tells (signature_checks home.now.pool.now at (method_of method.now))
         (λ done. Unit {0}) result }
 {
-    let shape = shape_at(pool, method.desc);
-    let name = ask_text(pool, method.name, at + 2)?;
+    let shape = own_shape(home, method);
+    let name = ask_text(home.pool, method.name, at + 2)?;
     ask(is_name_with(name.bytes(), shape), at + 2, FileRule::Name)?;
-    ask_text(pool, method.desc, at + 4)?;
+    ask_text(home.pool, method.desc, at + 4)?;
     ask(
         fits_units(method.flags, shape),
         at + 4,
@@ -154,13 +157,12 @@ fn check_signature(pool: &Pool, method: &CutMember<'_>, at: u64) -> Result<(), C
     )
 }
 
-// The shape of the method descriptor at an index, if one is there.
-fn shape_at(pool: &Pool, index: u16) -> Option<MethodShape>
-    ensures { IsShape (utf8_at pool.now index) result }
+// The shape of a method's descriptor, if it is one.
+fn own_shape(home: &Home<'_>, method: &CutMember<'_>) -> Option<MethodShape>
+    requires { home.now.shapes.now ≡ home.now.pool.now }
+    ensures { IsShape (utf8_at home.now.pool.now method.now.desc) result }
 {
-    let text = pool.utf8(index)?;
-    a_descriptor_of_a_text();
-    method_shape(text.bytes())
+    home.shapes.at(method.desc)
 }
 
 /// Whether bytes are the name of a method of a descriptor of this shape, if it is a method descriptor: an
@@ -199,6 +201,7 @@ fn check_method_attrs(
     method: &CutMember<'_>,
     at: u64,
 ) -> Result<u64, ClassFault>
+    requires shapes { home.now.shapes.now ≡ home.now.pool.now }
     requires fits { at + attrs_len (attrs_of method.now.attrs) < 2 ^ 63 }
     requires descriptor { IfSome (utf8_at home.now.pool.now method.now.desc)
         (IsDescriptorOf method.now.flags) }
@@ -227,6 +230,7 @@ fn check_method_attr(
     attr: &CutAttr<'_>,
     at: u64,
 ) -> Result<bool, ClassFault>
+    requires shapes { home.now.shapes.now ≡ home.now.pool.now }
     requires fits { at + 6 + length attr.now.content.now < 2 ^ 63 }
     requires descriptor { IfSome (utf8_at home.now.pool.now method.now.desc)
         (IsDescriptorOf method.now.flags) }

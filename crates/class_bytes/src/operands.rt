@@ -1,32 +1,30 @@
 //! Operands that ask the constant pool or the number of locals (JVM Specification SE 8, 4.9.1).
 ghost use Rattle.std.specs.Prelude.{◌≡◌, ◌↔◌, ◌<◌, ◌^◌, IfSome, IsTrue};
-ghost use Rattle.std.specs.Option.{option_copied};
 ghost use Rattle.class_model.specs.Answers.{Tells};
 ghost use Rattle.class_model.specs.Code.{operand_checks, IsLoadable, OperandFits, FitsLocal, IsCalled, CountsArguments, FitsArray, HasDimensions};
 ghost use Rattle.class_model.specs.Pool.{constant_at};
 ghost use Rattle.class_model.specs.PoolChecks.{IsClassAt, class_at, descriptor_at};
-ghost use Rattle.class_bytes.specs.Inner.Parts.{CountsUnits};
 
+use crate::home::Home;
 use class_model::opcodes::{INVOKEINTERFACE, INVOKESPECIAL, INVOKESTATIC, INVOKEVIRTUAL};
 use class_model::{
-    ClassFault, Const, FileRule, Instr, Kind, Placed, Pool, Text, a_descriptor_of_a_text,
-    dimensions, is_array_type, method_shape,
+    ClassFault, Const, FileRule, Instr, Kind, Placed, Pool, dimensions, is_array_type,
 };
 
 /// Checks the operands of a code's instructions, by offset; the code stands at this place.
 pub(crate) fn check_operands(
-    pool: &Pool,
-    major: u16,
+    home: &Home<'_>,
     max_locals: u16,
     code: &[Placed],
     start: u64,
 ) -> Result<(), ClassFault>
-    requires { start < 2 ^ 63 }
-    ensures { Tells (operand_checks start pool.now major max_locals code.now)
+    requires shapes { home.now.shapes.now ≡ home.now.pool.now }
+    requires fits { start < 2 ^ 63 }
+    ensures { Tells (operand_checks start home.now.pool.now home.now.major max_locals code.now)
         (λ done. Unit {0}) result }
 {
     for placed in code {
-        if !fits(pool, major, max_locals, &placed.instr) {
+        if !fits(home, max_locals, &placed.instr) {
             return Err(ClassFault::Malformed {
                 at: start + u64::from(placed.at),
                 rule: FileRule::Operand,
@@ -37,9 +35,12 @@ pub(crate) fn check_operands(
 }
 
 // Whether an instruction's operands fit the pool and the locals.
-fn fits(pool: &Pool, major: u16, max_locals: u16, instr: &Instr) -> bool
-    ensures { IsTrue result ↔ OperandFits pool.now major max_locals instr.now }
+fn fits(home: &Home<'_>, max_locals: u16, instr: &Instr) -> bool
+    requires { home.now.shapes.now ≡ home.now.pool.now }
+    ensures { IsTrue result
+        ↔ OperandFits home.now.pool.now home.now.major max_locals instr.now }
 {
+    let pool = home.pool;
     match instr {
         Instr::Ldc(index) => is_loadable(pool, *index),
         Instr::Ldc2(index) => matches!(pool.get(*index), Some(Const::Long(_) | Const::Double(_))),
@@ -51,7 +52,7 @@ fn fits(pool: &Pool, major: u16, max_locals: u16, instr: &Instr) -> bool
         | Instr::PutStatic(index)
         | Instr::GetField(index)
         | Instr::PutField(index) => matches!(pool.get(*index), Some(Const::Fieldref(..))),
-        Instr::Invoke(opcode, method, count) => is_called(pool, major, *opcode, *method, *count),
+        Instr::Invoke(opcode, method, count) => is_called(home, *opcode, *method, *count),
         Instr::Dynamic(index) => matches!(pool.get(*index), Some(Const::InvokeDynamic(..))),
         Instr::New(index) | Instr::Cast(index) | Instr::InstanceOf(index) => {
             is_class(pool, *index)
@@ -97,14 +98,16 @@ fn is_class(pool: &Pool, index: u16) -> bool
 
 // Whether a call names a method of its sort: invokevirtual a class's, invokeinterface an interface's, and
 // the other two a class's or in version 52 an interface's.
-fn is_called(pool: &Pool, major: u16, opcode: u8, method: u16, count: u8) -> bool
-    ensures { IsTrue result ↔ IsCalled pool.now major opcode method count }
+fn is_called(home: &Home<'_>, opcode: u8, method: u16, count: u8) -> bool
+    requires { home.now.shapes.now ≡ home.now.pool.now }
+    ensures { IsTrue result
+        ↔ IsCalled home.now.pool.now home.now.major opcode method count }
 {
-    match pool.get(method) {
+    match home.pool.get(method) {
         Some(Const::Methodref(..)) => matches!(opcode, INVOKEVIRTUAL..=INVOKESTATIC),
         Some(Const::InterfaceMethodref(_, member)) => match opcode {
-            INVOKESPECIAL | INVOKESTATIC => major == 52,
-            INVOKEINTERFACE => counts_arguments(pool, *member, count),
+            INVOKESPECIAL | INVOKESTATIC => home.major == 52,
+            INVOKEINTERFACE => counts_arguments(home, *member, count),
             _ => false,
         },
         _ => false,
@@ -113,33 +116,14 @@ fn is_called(pool: &Pool, major: u16, opcode: u8, method: u16, count: u8) -> boo
 
 // Whether a count is that of the arguments of a member's descriptor and the receiver, by units. One that is
 // no descriptor asks nothing.
-fn counts_arguments(pool: &Pool, member: u16, count: u8) -> bool
-    ensures { IsTrue result ↔ CountsArguments (descriptor_at pool.now member) count }
+fn counts_arguments(home: &Home<'_>, member: u16, count: u8) -> bool
+    requires { home.now.shapes.now ≡ home.now.pool.now }
+    ensures { IsTrue result ↔ CountsArguments (descriptor_at home.now.pool.now member) count }
 {
-    match member_descriptor(pool, member) {
-        Some(text) => counts_units(text, count),
+    match home.shapes.of_member(member) {
+        Some(shape) => u32::from(count) == u32::from(shape.units) + 1,
         None => true,
     }
-}
-
-// Whether a count is that of a descriptor's parameters by units and the receiver. A text that is no descriptor
-// asks nothing.
-fn counts_units(text: &Text, count: u8) -> bool
-    ensures { IsTrue result ↔ CountsUnits text.now count }
-{
-    a_descriptor_of_a_text();
-    match method_shape(text.bytes()) {
-        Some(shape) => u16::from(count) == shape.units + 1,
-        None => true,
-    }
-}
-
-// The descriptor of the NameAndType constant at an index, if it can be had.
-fn member_descriptor(pool: &Pool, index: u16) -> Option<&Text>
-    ensures { option_copied result ≡ descriptor_at pool.now index }
-{
-    let (_, descriptor) = pool.name_and_type(index)?;
-    pool.utf8(descriptor)
 }
 
 // Whether an array of the class that an index names can be made: an array class has fewer than 255

@@ -12,7 +12,7 @@ use Rattle.class_tree.specs.Headers.{Name, Headers, named}
 use Rattle.class_tree.specs.Names.{is_member}
 use Rattle.member_link.specs.Declarations.{IsFolderMethod}
 use Rattle.member_link.specs.DeclaredMembers.{Declared, declared}
-use Rattle.member_link.specs.Inner.FinalMarks.{key, slot_of, IsMarkedIfFinal, Grows, AreFinalMarks}
+use Rattle.member_link.specs.Inner.FinalMarks.{front, key, slot_of, IsMarkedIfFinal, Grows, AreFinalMarks}
 
 pub grows_same : (marks : List Bool) → Grows marks marks
 grows_same marks = record { len = refl; kept = λ slot is. is }
@@ -70,5 +70,5 @@ none_final {headers} {marks} are member none high folder final name desc =
     let own = all_named (λ header. All (IsMarkedIfFinal marks) header.methods) high.class headers.folder folder.header folder.found are.each in
     let marked = all_declared (IsMarkedIfFinal marks) high.member.name high.member.desc folder.header.methods high.member folder.declares own final in
     let slot : slot_of (length marks) member ≡ slot_of (length marks) high.member =
-    ap (λ n. key (key 0 n) member.desc % length marks) (sym name) ∙ ap (λ d. key (key 0 high.member.name) d % length marks) (sym desc) in
+    ap (λ n. key (key 0 n) (front member.desc) % length marks) (sym name) ∙ ap (λ d. key (key 0 high.member.name) (front d) % length marks) (sym desc) in
     false≢true (sym none ∙ ap (λ n. get_or marks n false) slot ∙ marked)

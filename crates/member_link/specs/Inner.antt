@@ -8,6 +8,7 @@ pub mod DefaultsOf
 pub mod FieldSearch
 pub mod FinalMarks
 pub mod FinalMethods
+pub mod NamedDescriptors
 pub mod NeededForms
 pub mod OpenMethods
 pub mod Resolutions

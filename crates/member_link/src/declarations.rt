@@ -20,7 +20,8 @@ use crate::ask::ask_at;
 use crate::final_methods::{final_marks, may_be_final};
 use crate::flags::is_inherited;
 use crate::found::Found;
-use crate::names::{is_descriptor_there, is_field_type_there};
+use crate::named_descriptors::NamedDescriptors;
+use crate::names::is_field_type_there;
 use crate::overriding::{Method, any_above, method_at, overrides_method};
 use class_model::{ACC_FINAL, Header, has};
 use class_tree::{LinkFault, LinkRule, Place, Tree, a_tree_is_a_hierarchy, ask};
@@ -108,12 +109,12 @@ fn check_fields(alloc: Global, tree: &Tree, header: &Header) -> Result<(), LinkF
 
 // Asks that the classes in the descriptors of the methods of the class at a place are there, and that its methods override
 // no final method of the folder.
-fn check_methods(
+fn check_methods<'a>(
     alloc: Global,
-    tree: &Tree,
+    tree: &'a Tree,
     finals: &[bool],
     place: Place,
-    header: &Header,
+    header: &'a Header,
 ) -> Result<(), LinkFault>
     requires finals { AreFinalMarks (headers_of tree.now) finals.now }
     requires place { StandsAt (headers_of tree.now) header.now.name place header.now }
@@ -121,8 +122,9 @@ fn check_methods(
         (asked_each (declared_method_checks (headers_of tree.now) header.now) header.now.methods)
         result }
 {
+    let mut descriptors = NamedDescriptors::new(tree);
     for member in header.methods.as_slice() {
-        let is_there = is_descriptor_there(alloc, tree, &member.desc)?;
+        let is_there = descriptors.are_there(alloc, &member.desc)?;
         ask_at(alloc, is_there, &header.name, member, LinkRule::Missing)?;
         let method = Method {
             place,

@@ -9,7 +9,7 @@ ghost use Rattle.class_tree.specs.Order.{header_at};
 ghost use Rattle.class_tree.specs.declared.place.Place.TheVariants.{Folder};
 ghost use Rattle.member_link.specs.DeclaredMembers.{Declared};
 ghost use Rattle.member_link.specs.Declarations.{IsFolderMethod};
-ghost use Rattle.member_link.specs.Inner.FinalMarks.{key, AreFinalMarks, Grows, IsMarkedIfFinal};
+ghost use Rattle.member_link.specs.Inner.FinalMarks.{front, key, AreFinalMarks, Grows, IsMarkedIfFinal};
 
 use class_model::{ACC_FINAL, Member, NoMemory, has};
 use class_tree::{Place, Tree};
@@ -90,10 +90,24 @@ pub(crate) fn may_be_final(tree: &Tree, marks: &[bool], method: &Member) -> bool
 // The place of the mark of a method among so many.
 fn slot_of(count: usize, method: &Member) -> usize
     requires { 0 < count }
-    ensures same { result ≡ key (key 0 method.now.name) method.now.desc % count }
+    ensures same { result ≡ key (key 0 method.now.name) (front method.now.desc) % count }
     ensures within { result < count }
 {
-    key_from(key_from(0, method.name.bytes()), method.desc.bytes()) % count
+    key_from(key_from(0, method.name.bytes()), front(method.desc.bytes())) % count
+}
+
+// How many bytes of a descriptor its key is made of: a longer one is not read whole for each method.
+const MOST_KEYED: usize = 1024;
+
+// The bytes at the front of a descriptor, which make its key.
+fn front(desc: &[u8]) -> &[u8]
+    ensures { result.now ≡ front desc.now }
+{
+    if desc.len() > MOST_KEYED {
+        &desc[..MOST_KEYED]
+    } else {
+        desc
+    }
 }
 
 // A key of bytes, which goes on from that of others.

@@ -25,6 +25,7 @@ mod laws_linked;
 mod laws_links;
 mod links;
 mod methods;
+mod named_descriptors;
 mod names;
 mod overriding;
 mod own;

@@ -19,6 +19,7 @@ pub mod FieldWork
 pub mod ArrayWork
 pub mod Numbering
 pub mod Unwinding
+pub mod InitialiserStarts
 pub mod Work
 pub mod Begun
 pub mod BegunAlone
@@ -37,3 +38,11 @@ pub mod Simulated
 pub mod ReplacedPrograms
 pub mod ClearedFlags
 pub mod FlatPrograms
+pub mod CaughtUp
+pub mod FirstAbove
+pub mod FirstBeginnings
+pub mod BothBegin
+pub mod Operations
+pub mod AloneTurn
+pub mod Moves
+pub mod LongerStacks

@@ -9,3 +9,4 @@ pub mod SameCompletions
 pub mod SameFrames
 pub mod SameWorlds
 pub mod Laws
+pub mod SameMoves

@@ -112,9 +112,13 @@ IsInBoth P Q (put_field r one) = SameBar P Q r one one
 IsInBoth P Q (call_special r from) = r.name ≡ init → IsSome (method_of P r)
 IsInBoth P Q op = Unit {0}
 
--- the same operation, or a store by a method that counts as another
+-- The same operation; a store by a method that counts as another; or a call of an instance initialiser, whose selection starts nowhere.
 pub data SameOp (P Q : Program) : Op → Op → Type 0 where
   same_op : {op : Op} → IsInBoth P Q op → SameOp P Q op op
   same_store : {r : Reference} {one other : Option Name}
       → SameBar P Q r one other
       → SameOp P Q (put_field r one) (put_field r other)
+  same_initialiser : {r : Reference} {from other : Name}
+      → r.name ≡ init
+      → IsSome (method_of P r)
+      → SameOp P Q (call_special r from) (call_special r other)

@@ -6,8 +6,6 @@ mod constant_tests;
 #[cfg(test)]
 mod event_tests;
 #[cfg(test)]
-mod flat_tests;
-#[cfg(test)]
 mod heap_tests;
 #[cfg(test)]
 mod object_tests;

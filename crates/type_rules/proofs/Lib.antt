@@ -30,3 +30,4 @@ pub mod ByPlace
 pub mod MethodOrder
 pub mod StatedFrames
 pub mod CallRows
+pub mod LeftLocals

@@ -4,6 +4,7 @@ pub mod Calls
 pub mod CodedScopes
 pub mod Forms
 pub mod Handlers
+pub mod Keeping
 pub mod Known
 pub mod Meanings
 pub mod NewClasses

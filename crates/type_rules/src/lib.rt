@@ -35,6 +35,7 @@ mod typed;
 pub use assignability::{assignable, frame_assignable};
 pub use code::{code_of, has_code};
 pub use fault::{RuleFault, TypeRule, VerifyFault};
+pub use keeping::leaves_locals;
 pub use laws::{
     a_failing_method_has_no_frames, a_method_has_one_typing, a_method_stands_in_order,
     a_typed_body_goes_to_stated_frames, a_typed_folder_types_each_method,

@@ -1,6 +1,6 @@
 -- The exception handlers in force, from one instruction to the next.
-use Rattle.std.proofs.Common.{◌≡◌, ◌+◌, ◌<◌, ◌≤◌, ℕ, zero, suc, Bool, true, false, List, [], ◌∷◌, ◌++◌, length, get_or, slice_get, Option, Some, None, Contains, IsPermutation, refl, sym, ap, subst, ◌∙◌, inl, inr, arith, le-leb, leb-true, lt-ltb, ltb-true, suc-le-suc, take}
-use Rattle.std.specs.Prelude.{nat_le, nat_lt, if◌then◌else◌}
+use Rattle.std.proofs.Common.{◌≡◌, ◌⊎◌, ◌+◌, ◌<◌, ◌≤◌, ℕ, zero, suc, Bool, true, false, List, [], ◌∷◌, ◌++◌, length, get_or, slice_get, Option, Some, None, Contains, IsPermutation, refl, sym, ap, subst, ◌∙◌, inl, inr, arith, le-leb, leb-true, lt-ltb, ltb-true, suc-le-suc, take}
+use Rattle.std.specs.Prelude.{nat_le, nat_lt, IsTrue, if◌then◌else◌}
 use Rattle.std.specs.List.Sorted.{IsNonDecreasingBy}
 use Rattle.std.proofs.lemmas.Bool.{and_from, and_parts, both_ways, cases_lt}
 use Rattle.std.proofs.lemmas.List.Elements.{Contains-push, Contains-push_cases, Contains-append_left}
@@ -20,7 +20,7 @@ use Rattle.type_rules.specs.MethodBodies.{body_of}
 use Rattle.type_rules.specs.Stated.{stated_at}
 use Rattle.type_rules.specs.declared.fault.TypeRule.{TypeRule}
 use Rattle.verify_folder.specs.declared.active.ActiveHandlers.{ActiveHandlers}
-use Rattle.verify_folder.specs.Inner.Active.{Activates, AreCheckedAt, AreInForce, AreStill, HasBegun, HasSkipped, IsChecked, IsCheckedAgain, IsLater, IsRestart, MayCatch, MayCatchLast, NoneBegins, OneFails, OneStops, StandsFor}
+use Rattle.verify_folder.specs.Inner.Active.{Activates, AreCheckedAt, AreInForce, AreStill, HasBegun, HasSkipped, IsChecked, IsCheckedAgain, IsLater, IsRestart, IsSame, MayCatch, MayCatchLast, NoneBegins, OneFails, OneStops, StandsFor}
 
 -- ---- the range of a handler
 
@@ -167,6 +167,17 @@ none_begun s a table by_start begun active = record {
   where
     none : (handler : Handler) → Contains [] handler → ⊥
     none handler found = omega (arith, found.1)
+
+-- whatever is known of the locals at hand
+pub in_force_anyway : (s : Scope) (a : ActiveHandlers) (same : Bool) → AreInForce s a → AreInForce s (record a { same = same })
+in_force_anyway s a same are = record {
+  table = are.table;
+  by_start = are.by_start;
+  begun = λ number handler below found goes_on.
+      let was = are.begun number handler below found goes_on in
+      record { stands = was.stands; may = was.may };
+  active = are.active;
+}
 
 pub restarted : (s : Scope) (old new : ActiveHandlers) → AreInForce s old → IsRestart old new → AreInForce s new
 restarted s old new are is =
@@ -378,3 +389,8 @@ module _ (s : Scope) (before : Frame) (at : ℕ) (a : ActiveHandlers) (are : Are
   checked_hold locals =
       all_hold s before at s.part.handlers
       (λ handler is_in covered. subst (λ (l : Option (List VType)). MayCatchLast s l handler) locals (has_begun handler is_in covered).may)
+
+  -- none is, or they were
+  pub idle_holds : IsSame a (Some before) → (a.active.items ≡ []) ⊎ IsTrue a.same → AllHold all_checks
+  idle_holds same (inl active) = none_holds active
+  idle_holds same (inr known) = checked_hold (same known)

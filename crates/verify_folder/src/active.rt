@@ -1,9 +1,10 @@
 //! The exception handlers in force along the code of a method (JVM Specification SE 8, 4.10.1.6).
-ghost use Rattle.std.specs.Prelude.{◌≡◌, ◌<◌, ◌≤◌, ◌++◌, ◌∷◌, [], length, slice_get, Some, IfOk, IfSome, IfNone, OnOk, IsTrue, IsPermutation};
+ghost use Rattle.std.specs.Prelude.{◌≡◌, ◌⊎◌, ◌<◌, ◌≤◌, ◌++◌, ◌∷◌, [], length, slice_get, Option, Some, IfOk, IfSome, IfNone, OnOk, IsTrue, IsPermutation};
 ghost use Rattle.std.specs.List.Sorted.{IsNonDecreasingBy};
 ghost use Rattle.class_model.specs.declared.class_file.Handler.{Handler as entry};
+ghost use Rattle.class_model.specs.declared.frame.Frame.{Frame};
 ghost use Rattle.member_link.specs.Scope.{Scope};
-ghost use Rattle.verify_folder.specs.Inner.Active.{Activates, AreInForce, HasBegun, HasSkipped, IsCheckedAgain, IsLater, IsOfTarget, IsRestart, NoneBegins};
+ghost use Rattle.verify_folder.specs.Inner.Active.{Activates, AreInForce, AreNew, HasBegun, HasSkipped, IsCheckedAgain, IsLater, IsOfTarget, IsRestart, IsSame, IsSameIf, NoneBegins};
 
 use class_model::{Handler, LocalTypeList, NoMemory};
 use std::alloc::Global;
@@ -18,6 +19,8 @@ pub(crate) struct ActiveHandlers {
     // The offset, in bytes, and the locals that the active handlers were last checked with.
     at: u32,
     locals: Option<LocalTypeList>,
+    /// Whether the locals at hand are known to be these.
+    pub(crate) same: bool,
     /// Of the handlers whose range has begun, for each target the one whose range ends last. A range that has ended may be
     /// among them.
     pub(crate) active: Vec<Handler>,
@@ -28,7 +31,7 @@ pub(crate) struct ActiveHandlers {
 impl ActiveHandlers {
     /// The handlers of a method, before any instruction.
     pub(crate) fn new(alloc: Global, rules: &MethodRules<'_>) -> Result<Self, NoMemory>
-        ensures { IfOk result (AreInForce rules.now) }
+        ensures { IfOk result (AreNew rules.now) }
     {
         let handlers = rules.part().handlers.as_slice();
         let table = by_start(alloc, handlers)?;
@@ -44,6 +47,7 @@ impl ActiveHandlers {
             active: Vec::new(alloc),
             hints: vec![in alloc; 0; targets]?,
             locals: None,
+            same: false,
         })
     }
 
@@ -51,6 +55,7 @@ impl ActiveHandlers {
     pub(crate) fn come_to(&mut self, at: u32)
         ensures later { self.new.at ≤ at }
         ensures kept { (s : Scope) → AreInForce s self.old → AreInForce s self.new }
+        ensures same { (flows : Option Frame) → IsSame self.old flows → IsSame self.new flows }
     {
         if at < self.at {
             self.restart();
@@ -65,14 +70,23 @@ impl ActiveHandlers {
         self.at = 0;
         self.active.clear();
         self.locals = None;
+        self.same = false;
     }
 
-    /// Whether none is active, and none begins at an offset or before it.
+    /// Whether nothing is to be checked at an offset: none begins there or before it, and none is active or the locals at
+    /// hand are known to be those that the active ones were last checked with.
     pub(crate) fn is_idle(&self, at: u32) -> bool
-        ensures active { IsTrue result → self.now.active.items ≡ [] }
+        ensures checked { IsTrue result → (self.now.active.items ≡ []) ⊎ IsTrue self.now.same }
         ensures none { IsTrue result → NoneBegins self.now at }
     {
-        self.active.is_empty() && self.next(at).is_none()
+        (self.same || self.active.is_empty()) && self.next(at).is_none()
+    }
+
+    /// The locals at hand are known to be the same where they were, and this holds.
+    pub(crate) fn same_if(&mut self, holds: bool)
+        ensures { IsSameIf self.old holds self.new }
+    {
+        self.same = self.same && holds;
     }
 
     /// The next handler whose range begins at an offset or before it.
@@ -87,10 +101,14 @@ impl ActiveHandlers {
         }
     }
 
-    /// Whether these are the locals that the active handlers were last checked with.
+    /// Whether these locals, those at hand, are the ones that the active handlers were last checked with.
     pub(crate) fn were_checked_with(&self, locals: &LocalTypeList) -> bool
+        requires { IsTrue self.now.same → self.now.locals ≡ Some locals.now }
         ensures { IsTrue result → self.now.locals ≡ Some locals.now }
     {
+        if self.same {
+            return true;
+        }
         match &self.locals {
             Some(last) => is_same(last, locals),
             None => false,
@@ -104,6 +122,7 @@ impl ActiveHandlers {
         self.active = active;
         self.locals = Some(locals);
         self.at = at;
+        self.same = true;
     }
 
     /// The active handlers were checked at an offset, with the same locals.
@@ -111,6 +130,7 @@ impl ActiveHandlers {
         ensures { IsLater self.old at self.new }
     {
         self.at = at;
+        self.same = true;
     }
 
     /// The next handler, whose range has ended already, has begun.

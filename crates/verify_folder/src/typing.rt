@@ -1,7 +1,8 @@
 //! The frames of a method's instructions, found in one pass by offset (JVM Specification SE 8, 4.10.1.6).
-ghost use Rattle.std.specs.Prelude.{◌≡◌, ◌↔◌, ◌≤◌, ◌+◌, [], ◌∷◌, map, slice_get, None, Some, IfOk, IfSome, IfNone, OnOk, IsTrue, IsFalse, if◌then◌else◌};
+ghost use Rattle.std.specs.Prelude.{◌≡◌, ◌↔◌, ◌≤◌, ◌+◌, [], ◌∷◌, map, slice_get, None, Some, Option, IfOk, IfSome, IfNone, OnOk, IsTrue, IsFalse, if◌then◌else◌};
 ghost use Rattle.std.specs.Option.{option_copied};
 ghost use Rattle.class_model.specs.Instructions.{targets};
+ghost use Rattle.class_model.specs.declared.frame.Frame.{Frame as frame};
 ghost use Rattle.class_tree.specs.Names.{throwable};
 ghost use Rattle.member_link.specs.Bodies.{falls_through};
 ghost use Rattle.member_link.specs.BodyTyping.{MayGoTo};
@@ -12,7 +13,7 @@ ghost use Rattle.type_rules.specs.MethodBodies.{body_of};
 ghost use Rattle.type_rules.specs.Rule.{FitsPool};
 ghost use Rattle.member_link.specs.Scope.{row_scope};
 ghost use Rattle.type_rules.specs.Stated.{stated_at};
-ghost use Rattle.verify_folder.specs.Inner.Active.{AreCheckedAt, AreInForce, AreStill, NoneBegins, OneFails, OneStops};
+ghost use Rattle.verify_folder.specs.Inner.Active.{AreCheckedAt, AreInForce, AreNew, AreStill, IsSame, IsSameAt, NoneBegins, OneFails, OneStops};
 ghost use Rattle.verify_folder.specs.Inner.Passing.{ArePassed, IsPassed, IsTypable};
 ghost use Rattle.verify_folder.specs.Inner.Steps.{BeforeAnswers, ChecksAnswer, RowAnswers, StepAnswers, TypingAnswers, WalkAnswers};
 
@@ -24,7 +25,9 @@ use class_model::{Frame, Handler, Instr, NoMemory, Pair, Placed, Text};
 use class_tree::THROWABLE;
 use std::alloc::Global;
 use std::marker::Model;
-use type_rules::{MethodRules, RuleFault, Ruled, TypeRule, TypedMethod, frame_assignable};
+use type_rules::{
+    MethodRules, RuleFault, Ruled, TypeRule, TypedMethod, frame_assignable, leaves_locals,
+};
 
 /// Finds the frames that type a method.
 pub(crate) fn type_method(alloc: Global, rules: &MethodRules<'_>) -> Result<TypedMethod, Stop>
@@ -106,7 +109,7 @@ impl<'a> Model for Typing<'a> {
 impl Typing<'_> {
     // The frames of all instructions.
     fn walk(&self, active: &mut ActiveHandlers) -> Result<TypedMethod, Stop>
-        requires { AreInForce self.now active.old }
+        requires { AreNew self.now active.old }
         ensures { WalkAnswers self.now result }
     {
         let rules = self.rules;
@@ -125,7 +128,7 @@ impl Typing<'_> {
 
     // Finds frames of all instructions, and keeps none of them.
     fn pass_all(&self, active: &mut ActiveHandlers) -> Result<(), Stop>
-        requires { AreInForce self.now active.old }
+        requires { AreNew self.now active.old }
         ensures { OnOk result (ArePassed self.now) }
     {
         let rules = self.rules;
@@ -141,7 +144,7 @@ impl Typing<'_> {
 
     // What flows into the instruction at an offset.
     fn flows_before(&self, active: &mut ActiveHandlers, offset: u32) -> Result<Option<Frame>, Stop>
-        requires { AreInForce self.now active.old }
+        requires { AreNew self.now active.old }
     {
         let rules = self.rules;
         let mut flows = Some(rules.entry().copy(self.alloc)?);
@@ -164,14 +167,29 @@ impl Typing<'_> {
     ) -> Result<(Frame, Option<Frame>), Stop>
         requires fits { FitsPool self.now placed.now.instr }
         requires in_force { AreInForce self.now active.old }
+        requires same { IsSame active.old flows }
         ensures told { StepAnswers self.now flows placed.now result }
         ensures in_force { OnOk result (AreInForce self.now active.new) }
+        ensures same { IfOk result (λ typed. IsSame active.new typed.1) }
     {
+        self.meet(active, placed.at);
         let before = self.before(flows, placed.at)?;
         self.check_handlers(active, placed.at, &before)?;
         let ruled = self.rule(placed, &before)?;
         self.check_targets(placed, ruled.next.as_ref())?;
+        active.same_if(leaves_locals(&placed.instr));
         Ok((before, flows_on(placed, ruled.next)))
+    }
+
+    // Comes to an offset. Where a frame is stated there, its locals are not known to be the same.
+    fn meet(&self, active: &mut ActiveHandlers, at: u32)
+        ensures kept { AreInForce self.now active.old → AreInForce self.now active.new }
+        ensures same { (flows : Option frame)
+            → IsSame active.old flows → IsSameAt self.now active.new flows at }
+    {
+        if active.same {
+            active.same_if(self.rules.stated_at(at).is_none());
+        }
     }
 
     // What flows into the next instruction behind what flows into this one, whose frame is not kept.
@@ -183,8 +201,10 @@ impl Typing<'_> {
     ) -> Result<Option<Frame>, Stop>
         requires fits { FitsPool self.now placed.now.instr }
         requires in_force { AreInForce self.now active.old }
+        requires same { IsSame active.old flows }
         ensures told { IfOk result (IsPassed self.now flows placed.now) }
         ensures in_force { OnOk result (AreInForce self.now active.new) }
+        ensures same { IfOk result (IsSame active.new) }
     {
         active.come_to(placed.at);
         if self.hands_on(active, flows.as_ref(), placed) {
@@ -194,11 +214,12 @@ impl Typing<'_> {
         Ok(next)
     }
 
-    // Whether an instruction is known to be typed by what flows into it, and to hand it on: a `nop` outside all handlers where
-    // no frame is stated.
+    // Whether an instruction is known to be typed by what flows into it, and to hand it on: a `nop` where no handler is to be
+    // checked and no frame is stated.
     fn hands_on(&self, active: &ActiveHandlers, flows: Option<&Frame>, placed: &Placed) -> bool
         requires in_force { AreInForce self.now active.now }
         requires later { active.now.at ≤ placed.now.at }
+        requires same { IsSame active.now (option_copied flows) }
         ensures { IsTrue result → IsPassed self.now
             (option_copied flows.entry) placed.now (option_copied flows.entry) }
     {
@@ -236,11 +257,13 @@ impl Typing<'_> {
         at: u32,
         before: &Frame,
     ) -> Result<(), Stop>
-        requires { AreInForce self.now active.old }
+        requires in_force { AreInForce self.now active.old }
+        requires same { IsSame active.old (Some before.now) }
         ensures told { ChecksAnswer at
             (handler_checks (body_of self.now) before.now
             (catches_at self.now at self.now.part.handlers)) result }
         ensures in_force { OnOk result (AreInForce self.now active.new) }
+        ensures same { OnOk result (IsSame active.new (Some before.now)) }
     {
         active.come_to(at);
         if active.is_idle(at) {
@@ -265,6 +288,7 @@ impl Typing<'_> {
     ) -> Result<bool, NoMemory>
         requires in_force { AreInForce self.now active.old }
         requires later { active.old.at ≤ at }
+        requires same { IsSame active.old (Some before.now) }
         ensures all { IfOk result (λ may.
             IsTrue may → AreCheckedAt self.now before.now.locals at active.new) }
         ensures one { IfOk result (λ may. IsFalse may → OneFails self.now before.now.locals at) }

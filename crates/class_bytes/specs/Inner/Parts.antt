@@ -1,8 +1,7 @@
 -- The parts of a class file behind its pool, and of what it is asked, each from its place on.
-use Rattle.std.specs.Prelude.{◌≡◌, ◌+◌, ◌*◌, ℕ, List, [], ◌∷◌, ◌++◌, length, IsTrue}
+use Rattle.std.specs.Prelude.{◌+◌, ◌*◌, ℕ, List, [], ◌∷◌, ◌++◌, length, IsTrue}
 use Rattle.std.specs.List.{flat_map}
 use Rattle.class_model.specs.Checks.{Check, check, Fault}
-use Rattle.class_model.specs.Descriptors.{SpellsDescriptor, parameter_units}
 use Rattle.class_model.specs.ClassOf.{fields_checks, methods_checks}
 use Rattle.class_model.specs.Members.{fits_class, class_name_checks, super_checks, interfaces_checks, attrs_checks}
 use Rattle.class_model.specs.Methods.{class_attr_checks, home_of}
@@ -12,7 +11,6 @@ use Rattle.class_model.specs.declared.class_file.Attr.{Attr}
 use Rattle.class_model.specs.declared.class_file.ClassFile.{ClassFile}
 use Rattle.class_model.specs.declared.class_file.Field.{Field}
 use Rattle.class_model.specs.declared.class_file.Method.{Method}
-use Rattle.class_model.specs.declared.descriptor.Descriptor.{Descriptor}
 use Rattle.class_model.specs.declared.fault.FileRule.TheVariants as rules
 
 -- the flags, the class, its superclass and its interfaces; the place is that of the flags
@@ -52,8 +50,3 @@ behind_checks at c =
     ++ (fields_checks c.pool c.flags [] (fields + 2) c.fields
     ++ (methods_checks (home_of c) [] (methods + 2) c.methods
     ++ attrs_checks (class_attr_checks c.pool) [] (attrs + 2) c.attrs))
-
--- a count is that of a method descriptor's parameters by units, and one more
-abbrev pub CountsUnits : List ℕ → ℕ → Type 0
-CountsUnits text count =
-    (d : Descriptor) → SpellsDescriptor text d → count ≡ parameter_units d.params + 1

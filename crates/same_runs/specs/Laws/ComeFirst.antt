@@ -18,7 +18,8 @@ use Rattle.same_runs.specs.Laws.Programs.{SameAt, SameNamed, at_both, at_number,
 
 -- ---- lists
 
-all_appended : {A : Type 0} (Holds : A → Type 0) (xs ys : List A) → AllByRecursion Holds xs → AllByRecursion Holds ys
+-- what holds of the elements of both lists holds of those of the two together
+pub all_appended : {A : Type 0} (Holds : A → Type 0) (xs ys : List A) → AllByRecursion Holds xs → AllByRecursion Holds ys
     → AllByRecursion Holds (xs ++ ys)
 all_appended Holds [] ys all also = also
 all_appended Holds (x ∷ xs) ys all also = (all.0, all_appended Holds xs ys all.1 also)

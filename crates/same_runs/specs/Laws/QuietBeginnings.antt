@@ -32,20 +32,26 @@ use Rattle.same_runs.specs.Laws.Begun.{marked, marked_itself, marked_still}
 use Rattle.same_runs.specs.Laws.BegunAlone.{second_has_begun, starts_begun}
 use Rattle.same_runs.specs.Laws.BegunClasses.{begun_is_there, folder_class}
 use Rattle.same_runs.specs.Laws.ComeFirst.{same_come_first}
+use Rattle.same_runs.specs.Laws.FirstAbove.{above_first}
 use Rattle.same_runs.specs.Laws.Methods.{place_is, same_code, same_no_place, same_place}
 use Rattle.same_runs.specs.Laws.Names.{more_and_more, names_themselves, references_more}
 use Rattle.same_runs.specs.Laws.Programs.{SameAt, at_none, at_both, at_number, same_name, same_number}
 
 -- ---- what is taken of both programs
 
--- Each class is below itself, and the same classes come first in both programs: that of a hierarchy, in which each superinterface is an
--- interface.
+-- Each class is below itself and below what is above the classes that come first, and the same classes come first in both programs: that of
+-- a hierarchy, in which each superinterface is an interface.
 pub record BeginAlike (P Q : Program) : Type 0 where
   pub itself : (name : Name) → IsTrue (P.links.below name name)
   pub first : (class : ℕ) (one also : RunClass)
       → slice_get P.classes class ≡ Some one
       → slice_get Q.classes class ≡ Some also
       → come_first Q also.header ≡ come_first P one.header
+  pub above : (class number : ℕ) (one : RunClass) (name high : Name)
+      → slice_get P.classes class ≡ Some one
+      → slice_get (come_first P one.header) number ≡ Some name
+      → IsTrue (P.links.below name high)
+      → IsTrue (P.links.below one.header.name high)
 
 -- a class is below itself where links are those of a hierarchy
 pub below_itself : {headers : Headers} (P : Program) → AreLinksOf headers P.links → (name : Name) → IsTrue (P.links.below name name)
@@ -54,7 +60,11 @@ below_itself P links name = (links.below name name).1 (itself name)
 -- what begins alike where the first is a hierarchy with its links
 pub hierarchies_begin_alike : (P Q : Program) → SamePrograms P Q → IsHierarchy (headers_in P) → AreLinksOf (headers_in P) P.links
     → BeginAlike P Q
-hierarchies_begin_alike P Q same tree links = record { itself = below_itself P links; first = same_come_first same tree }
+hierarchies_begin_alike P Q same tree links = record {
+  itself = below_itself P links;
+  first = same_come_first same tree;
+  above = above_first P tree links;
+}
 
 -- a class that the first has begun alone begins quietly
 pub alone_quietly :
@@ -102,11 +112,12 @@ module _ {P Q : Program} (same : SamePrograms P Q) where
 
 -- ---- classes that are still to begin
 
-abbrev unbegun : List ℕ → Memory → ℕ
+abbrev pub unbegun : List ℕ → Memory → ℕ
 unbegun [] memory = 0
 unbegun (class ∷ classes) memory = (if is_begun memory class then 0 else 1) + unbegun classes memory
 
-fewer : (classes : List ℕ) (before after : Memory) → ((at : ℕ) → IsTrue (is_begun before at) → IsTrue (is_begun after at))
+-- no more of them are left where more are begun
+pub fewer : (classes : List ℕ) (before after : Memory) → ((at : ℕ) → IsTrue (is_begun before at) → IsTrue (is_begun after at))
     → unbegun classes after ≤ unbegun classes before
 fewer [] before after more = let none : 0 ≤ 0 = omega arith in none
 fewer (class ∷ classes) before after more = by (is_begun before class) (is_begun after class) refl refl
@@ -118,7 +129,8 @@ fewer (class ∷ classes) before after more = by (is_begun before class) (is_beg
       by false true is is_also rest = omega (arith, rest)
       by false false is is_also rest = omega (arith, rest)
 
-one_fewer : (classes : List ℕ) (before after : Memory) (class : ℕ) → ((at : ℕ) → IsTrue (is_begun before at) → IsTrue (is_begun after at))
+-- and fewer where one of them was begun
+pub one_fewer : (classes : List ℕ) (before after : Memory) (class : ℕ) → ((at : ℕ) → IsTrue (is_begun before at) → IsTrue (is_begun after at))
     → list_any (λ (other : ℕ). other == class) classes ≡ true → IsFalse (is_begun before class) → IsTrue (is_begun after class)
     → unbegun classes after < unbegun classes before
 one_fewer [] before after class more is none begun = absurd (false≢true is)
@@ -142,11 +154,11 @@ one_fewer (first ∷ classes) before after class more is none begun = here (firs
         there false false here here_also later = rw (here, here_also) (omega (arith, later))
 
 -- a class that begins is begun, and so are those before it
-begins_more : (R : Program) (class : ℕ) (memory : Memory) (at : ℕ) → IsTrue (is_begun memory at)
+pub begins_more : (R : Program) (class : ℕ) (memory : Memory) (at : ℕ) → IsTrue (is_begun memory at)
     → IsTrue (is_begun (begun_memory R class memory) at)
 begins_more R class memory at is = starts_begun R class at (marked memory class) (starts_of R class) ∙ marked_still memory class at is
 
-begins_itself : (R : Program) (class : ℕ) (memory : Memory) → IsTrue (is_begun (begun_memory R class memory) class)
+pub begins_itself : (R : Program) (class : ℕ) (memory : Memory) → IsTrue (is_begun (begun_memory R class memory) class)
 begins_itself R class memory = starts_begun R class class (marked memory class) (starts_of R class) ∙ marked_itself memory class
 
 -- the first class that is not begun is one of the names, by its number
@@ -157,7 +169,7 @@ pub record IsUnbegun (R : Program) (memory : Memory) (names : List Name) (class 
   pub is_number : folder_number R name ≡ Some class
   pub none : IsFalse (is_begun memory class)
 
-unbegun_is : (R : Program) (memory : Memory) (names : List Name) (class : ℕ) → first_unbegun R memory names ≡ Some class
+pub unbegun_is : (R : Program) (memory : Memory) (names : List Name) (class : ℕ) → first_unbegun R memory names ≡ Some class
     → IsUnbegun R memory names class
 unbegun_is R memory [] class is = absurd (none-some class is)
 unbegun_is R memory (name ∷ names) class is = by (folder_number R name) refl (unbegun_is R memory names class) where
@@ -235,7 +247,8 @@ pub record GoesBy (P Q : Program) (Allocated Entered : ℕ → ℕ → Type 0) (
   pub memories : SameMemories P Allocated Entered more [] one after
   pub begun : (at : ℕ) → IsTrue (is_begun before at) → IsTrue (is_begun after at)
 
-also_there : {P Q : Program} → SamePrograms P Q → (class : ℕ) (found : RunClass) → slice_get P.classes class ≡ Some found
+-- a class of the first is one of the second
+pub also_there : {P Q : Program} → SamePrograms P Q → (class : ℕ) (found : RunClass) → slice_get P.classes class ≡ Some found
     → (also : RunClass) × (slice_get Q.classes class ≡ Some also)
 also_there {P = P} {Q = Q} same class found is = by (slice_get P.classes class) (slice_get Q.classes class) refl refl
     (at_number same class) where

@@ -16,11 +16,12 @@ use Rattle.member_link.specs.Rows.ArithmeticRows.{float_operations, operation_in
 use Rattle.same_runs.specs.Renamings.{Names, SameValues}
 use Rattle.same_runs.specs.SameCompletions.{SameCompletions, both_end}
 use Rattle.same_runs.specs.SameMemories.{IsComparison, SameMemories}
-use Rattle.same_runs.specs.SamePrograms.{IsInBoth, SameBar, SameOp, same_op, same_store, SamePrograms}
+use Rattle.same_runs.specs.SamePrograms.{IsInBoth, SameBar, SameOp, same_initialiser, same_op, same_store, SamePrograms}
 use Rattle.same_runs.specs.Laws.ArithmeticWork.{asks_same, computes, divides}
 use Rattle.same_runs.specs.Laws.ArrayWork.{lengths, loads, makes_array, makes_arrays, stores}
 use Rattle.same_runs.specs.Laws.CallWork.{calls_dynamic, calls_interface, calls_special, calls_static, calls_virtual}
 use Rattle.same_runs.specs.Laws.FieldWork.{gets_field, gets_static, makes_object, puts_field, puts_static}
+use Rattle.same_runs.specs.Laws.InitialiserStarts.{start_of_initialiser}
 use Rattle.same_runs.specs.Laws.OperandWork.{casts, enters, gives_value, itself, leaves, pushes_constant, tests, throws_same}
 
 module _ {P Q : Program} {Allocated Entered : ℕ → ℕ → Type 0} {names : Names} {one other : Memory}
@@ -96,3 +97,5 @@ module _ {P Q : Program} {Allocated Entered : ℕ → ℕ → Type 0} {names : N
       → Both (work P one op ones) (work Q other also others)
   work_same (same_op {op = op} in_both) are = works op in_both are
   work_same (same_store {r = r} {one = initialises} {other = initialises_also} bar) are = stores_field r initialises initialises_also bar are
+  work_same {ones = ones} {others = others} (same_initialiser {r = r} {from = from} {other = start} is there) are =
+      subst (Both (work P one (call_special r from) ones)) (sym (start_of_initialiser Q other r from start others is)) (calls_special same memories r from (λ name. there) are)

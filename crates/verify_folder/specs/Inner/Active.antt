@@ -1,11 +1,13 @@
 -- The exception handlers in force along the code of a method.
-use Rattle.std.specs.Prelude.{◌≡◌, ◌⊎◌, ◌+◌, ◌<◌, ◌≤◌, ℕ, true, List, [], slice_get, Option, Some, None, IsPermutation}
+use Rattle.std.specs.Prelude.{◌≡◌, ◌⊎◌, ◌+◌, ◌<◌, ◌≤◌, ℕ, Bool, true, false, List, [], slice_get, Option, Some, None, IsPermutation, IsTrue}
 use Rattle.std.specs.List.{Contains}
 use Rattle.std.specs.List.Sorted.{IsNonDecreasingBy}
 use Rattle.class_model.specs.declared.class_file.Handler.{Handler}
+use Rattle.class_model.specs.declared.frame.Frame.{Frame}
 use Rattle.class_model.specs.declared.frame.VType.{VType}
 use Rattle.member_link.specs.BodyTyping.{MayGoTo}
 use Rattle.member_link.specs.Scope.{Scope, row_scope}
+use Rattle.type_rules.specs.Checks.{frame_before}
 use Rattle.type_rules.specs.Handlers.{covers}
 use Rattle.type_rules.specs.Inner.Handlers.{caught_frame}
 use Rattle.type_rules.specs.Stated.{stated_at}
@@ -89,13 +91,36 @@ pub record AreInForce (s : Scope) (a : ActiveHandlers) : Type 0 where
       → Contains a.active.items handler
       → Contains s.part.handlers handler × (handler.start ≤ a.at)
 
+-- those of the method before any instruction
+pub record AreNew (s : Scope) (a : ActiveHandlers) : Type 0 where
+  pub in_force : AreInForce s a
+  pub not_same : a.same ≡ false
+
 -- they were checked with these locals at an offset
 pub record AreCheckedAt (s : Scope) (locals : List VType) (at : ℕ) (a : ActiveHandlers) : Type 0 where
   pub in_force : AreInForce s a
   pub locals_are : a.locals ≡ Some locals
   pub at_is : a.at ≡ at
 
+-- where the locals of a frame are known to be those that were checked last, they are
+abbrev pub IsSame : ActiveHandlers → Option Frame → Type 0
+IsSame a None = Unit {0}
+IsSame a (Some frame) = IsTrue a.same → a.locals ≡ Some frame.locals
+
+-- so it is with the frame before an instruction at an offset, behind what flows into it
+abbrev pub IsSameAt : Scope → ActiveHandlers → Option Frame → ℕ → Type 0
+IsSameAt s a flows at =
+    (before : Frame) → frame_before flows (stated_at s at) ≡ Some before → IsSame a (Some before)
+
 -- ---- changes
+
+-- the locals are known to be the same where they were, and a test holds
+pub record IsSameIf (old : ActiveHandlers) (test : Bool) (new : ActiveHandlers) : Type 0 where
+  pub kept : (s : Scope) → AreInForce s old → AreInForce s new
+  pub at_is : new.at ≡ old.at
+  pub locals_are : new.locals ≡ old.locals
+  pub was : IsTrue new.same → IsTrue old.same
+  pub holds : IsTrue new.same → IsTrue test
 
 -- the same table before any instruction
 pub record IsRestart (old new : ActiveHandlers) : Type 0 where
@@ -103,6 +128,7 @@ pub record IsRestart (old new : ActiveHandlers) : Type 0 where
   pub begun : new.begun ≡ 0
   pub at_is : new.at ≡ 0
   pub active : new.active.items ≡ []
+  pub not_same : new.same ≡ false
 
 -- the same at an offset
 pub record IsLater (old : ActiveHandlers) (at : ℕ) (new : ActiveHandlers) : Type 0 where

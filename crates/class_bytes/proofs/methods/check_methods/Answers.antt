@@ -10,5 +10,5 @@ returns-in_err-place c =
 pub loop-method-preserved : goal.loop-method-preserved
 loop-method-preserved c = one_behind _ _ _ _ _ _ _ c.loop-method.method-index _ c.loop-method-test.true c.method-item.is c.loop-method.invariant _ _ c.in_ok-is_again.ensures _ c.in_ok-place.ensures
 
-pub check_method-requires : goal.check_method-requires
-check_method-requires c = member_below _ _ _ _ _ _ _ c.loop-method.method-index _ c.loop-method-test.true c.method-item.is c.loop-method.invariant c.requires
+pub check_method-requires-clause-fits : goal.check_method-requires-clause-fits
+check_method-requires-clause-fits c = member_below _ _ _ _ _ _ _ c.loop-method.method-index _ c.loop-method-test.true c.method-item.is c.loop-method.invariant c.requires.fits

@@ -5,4 +5,4 @@ use Rattle.class_bytes.proofs.operands.check_operands.Given as goal
 
 abbrev pub invariant-loop-placed : goal.invariant-loop-placed
 invariant-loop-placed l =
-    Remain (operand_checks l.start l.pool l.major l.max_locals l.code) (operand_checks l.start l.pool l.major l.max_locals (drop l.placed-index l.code))
+    Remain (operand_checks l.start l.home.pool.now l.home.major l.max_locals l.code) (operand_checks l.start l.home.pool.now l.home.major l.max_locals (drop l.placed-index l.code))

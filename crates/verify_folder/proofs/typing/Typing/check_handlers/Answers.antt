@@ -1,19 +1,25 @@
-use Rattle.std.proofs.Common.{arith}
+use Rattle.std.proofs.Common.{Some, arith}
 use Rattle.verify_folder.specs.Inner.Active.{OneFails}
-use Rattle.verify_folder.proofs.InForce.{checked_hold, none_fails, none_holds}
+use Rattle.verify_folder.proofs.InForce.{checked_hold, idle_holds, none_fails}
 use Rattle.verify_folder.proofs.typing.Typing.check_handlers.Goals as goal
 use Rattle.verify_folder.proofs.typing.Typing.check_handlers.Goals.{else-branch-via-then-branch+in_ok-begin+else-branch-2, else-branch-via-else-branch}
 
 pub returns-then-is_idle-clause-told : goal.returns-then-is_idle-clause-told
 returns-then-is_idle-clause-told c =
-    none_holds c.args.self.now c.args.before.now c.args.at c.come_to.new.self (c.come_to.ensures.kept c.args.self.now c.requires) c.come_to.ensures.later
-    (c.is_idle.ensures.none c.if-is_idle.true) (c.is_idle.ensures.active c.if-is_idle.true)
+    idle_holds c.args.self.now c.args.before.now c.args.at c.come_to.new.self (c.come_to.ensures.kept c.args.self.now c.requires.in_force) c.come_to.ensures.later
+    (c.is_idle.ensures.none c.if-is_idle.true) (c.come_to.ensures.same (Some c.args.before.now) c.requires.same) (c.is_idle.ensures.checked c.if-is_idle.true)
 
 pub returns-then-is_idle-clause-in_force : goal.returns-then-is_idle-clause-in_force
-returns-then-is_idle-clause-in_force c = c.come_to.ensures.kept c.args.self.now c.requires
+returns-then-is_idle-clause-in_force c = c.come_to.ensures.kept c.args.self.now c.requires.in_force
+
+pub returns-then-is_idle-clause-same : goal.returns-then-is_idle-clause-same
+returns-then-is_idle-clause-same c = c.come_to.ensures.same (Some c.args.before.now) c.requires.same
 
 pub recheck-requires-clause-in_force : goal.recheck-requires-clause-in_force
-recheck-requires-clause-in_force c = c.come_to.ensures.kept c.args.self.now c.requires
+recheck-requires-clause-in_force c = c.come_to.ensures.kept c.args.self.now c.requires.in_force
+
+pub recheck-requires-clause-same : goal.recheck-requires-clause-same
+recheck-requires-clause-same c = c.come_to.ensures.same (Some c.args.before.now) c.requires.same
 
 pub returns-then-branch-2-clause-told : goal.returns-then-branch-2-clause-told
 returns-then-branch-2-clause-told c =

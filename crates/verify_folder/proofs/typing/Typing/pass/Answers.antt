@@ -8,3 +8,9 @@ step-requires-clause-in_force c = c.come_to.ensures.kept c.args.self.now c.requi
 
 pub returns-then-hands_on-clause-in_force : goal.returns-then-hands_on-clause-in_force
 returns-then-hands_on-clause-in_force c = c.come_to.ensures.kept c.args.self.now c.requires.in_force
+
+pub step-requires-clause-same : goal.step-requires-clause-same
+step-requires-clause-same c = c.come_to.ensures.same c.args.flows c.requires.same
+
+pub returns-then-hands_on-clause-same : goal.returns-then-hands_on-clause-same
+returns-then-hands_on-clause-same c = c.come_to.ensures.same c.args.flows c.requires.same

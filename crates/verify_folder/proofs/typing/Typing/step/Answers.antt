@@ -4,6 +4,7 @@ use Rattle.std.specs.Option.{option_copied}
 use Rattle.std.proofs.lemmas.Result.{err_from_is_err_and}
 use Rattle.member_link.specs.Bodies.{falls_through}
 use Rattle.type_rules.specs.declared.ruled.Ruled.{Ruled}
+use Rattle.verify_folder.proofs.SameLocals.{gone_on}
 use Rattle.verify_folder.proofs.Stepping.{handlers_fail, row_fails, targets_fail, is_typed}
 use Rattle.verify_folder.proofs.typing.Typing.step.Goals as goal
 
@@ -30,3 +31,15 @@ returns-clause-told c =
       is_typed c.args.self.now c.args.flows c.args.placed.now c.in_ok-before.before c.in_ok-before.ensures (option_copied c.as_ref.result) is c.in_ok-check_handlers.ensures.told c.in_ok-ruled.ensures.0 c.in_ok-check_targets.ensures,
       c.flows_on.ensures ∙ ap (λ frame. if falls_through c.args.placed.now.instr then frame else None) next,
     )
+
+pub check_handlers-requires-clause-same : goal.check_handlers-requires-clause-same
+check_handlers-requires-clause-same c = c.meet.ensures.same c.args.flows c.requires.same c.in_ok-before.before c.in_ok-before.ensures.0
+
+pub returns-clause-same : goal.returns-clause-same
+returns-clause-same c =
+    let next = ap (λ (ruled : Ruled). ruled.next) c.in_ok-ruled.ensures.1 in
+    let is = c.flows_on.ensures ∙ ap (λ frame. if falls_through c.args.placed.now.instr then frame else None) next in
+    gone_on c.check_handlers.new.active c.same_if.new.self c.leaves_locals.result c.same_if.ensures c.args.self.now c.args.placed.now c.in_ok-before.before c.in_ok-check_handlers.ensures.same c.leaves_locals.ensures c.flows_on.result is
+
+pub returns-clause-in_force : goal.returns-clause-in_force
+returns-clause-in_force c = c.same_if.ensures.kept c.args.self.now c.in_ok-check_handlers.ensures.in_force

@@ -2,7 +2,7 @@ use Rattle.std.proofs.Common.{Some, sym, ap, subst, ◌∙◌}
 use Rattle.class_model.specs.ModifiedUtf8.{IsText}
 use Rattle.class_bytes.specs.Inner.Shapes.{IsShape}
 use Rattle.class_bytes.proofs.Shapes.{shape_of}
-use Rattle.class_bytes.proofs.methods.shape_at.Goals as goal
+use Rattle.class_bytes.proofs.known_shapes.shape_at.Goals as goal
 
 pub returns : goal.returns
 returns c =
