@@ -73,8 +73,8 @@ changes 1 3000 - verified
 changes 30 3000 - verified
 calls 800000 2000 - verified
 references 65000 2000 - verified
-interface_calls 640000 2000 - verified
-same_descriptors 65000 2000 - verified
+interface-calls 640000 2000 - verified
+same-descriptors 65000 2000 - verified
 full 64 - 100 verified
 wide 65535 - 200 verified
 wide-handlers 65535 - 200 verified
