@@ -15,7 +15,7 @@ use Rattle.member_link.specs.Machine.Work.{arity}
 use Rattle.member_link.specs.Machine.Worlds.{World, going}
 use Rattle.same_runs.specs.Renamings.{Names, SameValue, SameValues, no_values, and_value}
 use Rattle.same_runs.specs.SameMemories.{SameMemories}
-use Rattle.same_runs.specs.SamePrograms.{SameOp, same_op, same_store}
+use Rattle.same_runs.specs.SamePrograms.{SameOp, same_initialiser, same_op, same_store}
 use Rattle.same_runs.specs.SameWorlds.{Comparison, Goes, SameSeen}
 use Rattle.same_runs.specs.Laws.CaughtUp.{AtOperation, less, operands_of}
 
@@ -88,11 +88,13 @@ step_works R f rest leave_monitor is w = refl
 pub both_work : {P Q : Program} {op also : Op} → SameOp P Q op also → WorksOnOperands op → WorksOnOperands also
 both_work (same_op in_both) is = is
 both_work (same_store bar) is = tt
+both_work (same_initialiser named declared) is = tt
 
 -- and takes as many
 pub same_arity : {P Q : Program} {op also : Op} → SameOp P Q op also → arity also ≡ arity op
 same_arity (same_op in_both) = refl
 same_arity (same_store bar) = refl
+same_arity (same_initialiser named declared) = refl
 
 -- ---- operands
 
