@@ -36,6 +36,7 @@ pub mod Acted
 pub mod Returned
 pub mod Simulated
 pub mod ReplacedPrograms
+pub mod ClearedFlags
 pub mod FlatPrograms
 pub mod CaughtUp
 pub mod FirstAbove
