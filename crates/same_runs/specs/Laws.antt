@@ -34,3 +34,5 @@ pub mod Handled
 pub mod Acted
 pub mod Moves
 pub mod LongerStacks
+pub mod Units
+pub mod Stored
