@@ -46,3 +46,5 @@ pub mod Operations
 pub mod AloneTurn
 pub mod Moves
 pub mod LongerStacks
+pub mod Units
+pub mod Stored
