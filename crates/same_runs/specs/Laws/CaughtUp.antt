@@ -1,6 +1,6 @@
 -- An operation that is in both, where the second has perhaps still to begin classes that the first has begun before: it begins them by
 -- turns that show nothing, and then both take the same turn.
-use Rattle.std.proofs.Common.{◌≡◌, ◌+◌, ◌<◌, ◌≤◌, nat_le, ℕ, zero, suc, Bool, true, false, List, [], ◌∷◌, drop, length, reverse, take, Option, Some, IsTrue, refl, ap, sym, subst, ◌∙◌, arith, inl, inr, ◌⊎◌}
+use Rattle.std.proofs.Common.{◌≡◌, ◌+◌, ◌<◌, nat_le, ℕ, zero, suc, true, false, List, [], ◌∷◌, drop, length, reverse, take, Option, Some, IsTrue, refl, ap, subst, ◌∙◌, arith, inl, inr, ◌⊎◌}
 use Rattle.machine_values.specs.Frames.{MethodState}
 use Rattle.machine_values.specs.declared.frame.RunFrame.{RunFrame}
 use Rattle.machine_values.specs.declared.frame.RunFrame.TheVariants.{Method}
@@ -10,7 +10,7 @@ use Rattle.member_link.specs.Machine.Programs.{Point, Program, point_at}
 use Rattle.member_link.specs.Machine.Runs.{Run, turn, turn_by}
 use Rattle.member_link.specs.Machine.Stepping.{frames_step, is_library_turn, op_step, point_step, work_step}
 use Rattle.member_link.specs.Machine.Work.{arity, work}
-use Rattle.member_link.specs.Machine.Worlds.{Memory, World, going, is_begun}
+use Rattle.member_link.specs.Machine.Worlds.{World, going, is_begun}
 use Rattle.same_runs.specs.Renamings.{Names, NamesMore, SameValues}
 use Rattle.same_runs.specs.SameMemories.{SameMemories}
 use Rattle.same_runs.specs.SamePrograms.{SameOp, SamePrograms}
