@@ -36,6 +36,7 @@ pub mod Acted
 pub mod Returned
 pub mod Simulated
 pub mod ReplacedPrograms
+pub mod ClearedFlags
 pub mod FlatPrograms
 pub mod CaughtUp
 pub mod FirstAbove
@@ -45,3 +46,5 @@ pub mod Operations
 pub mod AloneTurn
 pub mod Moves
 pub mod LongerStacks
+pub mod Units
+pub mod Stored

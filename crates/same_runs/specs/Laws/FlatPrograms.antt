@@ -1,9 +1,9 @@
 -- A program of a folder whose methods run flat code is the program of the folder but for these codes.
-use Rattle.std.proofs.Common.{◌≡◌, ℕ, suc, Bool, true, false, List, [], ◌∷◌, ◌++◌, map, slice_get, Option, Some, None, option_map, if◌then◌else◌, refl, sym, subst, ◌∙◌}
+use Rattle.std.proofs.Common.{◌≡◌, ℕ, suc, Bool, true, false, List, [], ◌∷◌, map, slice_get, Option, Some, None, option_map, refl, sym, subst, ◌∙◌}
 use Rattle.std.specs.List.{AllByRecursion}
 use Rattle.std.proofs.lemmas.Option.{none-some, same_Some, slice_get-map}
 use Rattle.class_model.specs.Header.{method_member}
-use Rattle.class_model.specs.Members.{has, STATIC, constant_value}
+use Rattle.class_model.specs.Members.{has, STATIC}
 use Rattle.class_model.specs.Pool.{Constants}
 use Rattle.class_model.specs.PoolChecks.{utf8_at}
 use Rattle.class_model.specs.declared.class_file.ClassFile.{ClassFile}
@@ -11,12 +11,14 @@ use Rattle.class_model.specs.declared.class_file.Field.{Field}
 use Rattle.class_model.specs.declared.class_file.Method.{Method}
 use Rattle.class_model.specs.declared.pool.Const.{Const}
 use Rattle.class_model.specs.declared.pool.Const.TheVariants as consts
-use Rattle.class_tree.specs.Headers.{Classes, Headers, headers_of}
+use Rattle.class_tree.specs.Headers.{Classes, Headers, Name, headers_of}
 use Rattle.member_link.specs.Machine.Classes.{constant_of, program_of, run_class_of, run_method_of, start_of, starts_from}
 use Rattle.member_link.specs.Machine.Links.{AreLinksOf}
-use Rattle.member_link.specs.Machine.Programs.{Links, RunClass, RunMethod, StartValue, start_value, start_string}
+use Rattle.member_link.specs.Machine.Programs.{Links, RunClass, RunMethod, StartValue, start_string}
+use Rattle.member_link.specs.References.{Reference}
 use Rattle.same_runs.specs.Flats.{Flats, flat_program, flats_for_codes}
-use Rattle.same_runs.specs.SamePrograms.{IsPlainStart, SamePrograms}
+use Rattle.same_runs.specs.SamePrograms.{IsPlainStart, SameBar, SamePrograms}
+use Rattle.same_runs.specs.Laws.ClearedFlags.{bar_as_before}
 use Rattle.same_runs.specs.Laws.NoInitLinks.{links_no_init}
 use Rattle.same_runs.specs.Laws.ReplacedPrograms.{ReplacesAlike, replaced_same}
 
@@ -105,3 +107,9 @@ flats_alike classes links flats are = record {
 pub flat_program_same : (classes : Classes) (links : Links) (flats : Flats) → AreLinksOf (headers_of classes) links
     → SamePrograms (program_of classes links) (flat_program classes links flats)
 flat_program_same classes links flats are = replaced_same (flats_alike classes links flats are)
+
+-- a store is barred in both or in none
+pub flat_bar_same : (classes : Classes) (links : Links) (flats : Flats) (r : Reference) (initialises : Option Name)
+    → SameBar (program_of classes links) (flat_program classes links flats) r initialises initialises
+flat_bar_same classes links flats r initialises =
+    bar_as_before (program_of classes links) (flats_for_codes classes links flats) r initialises (λ class number. refl)

@@ -50,14 +50,16 @@ has_bit flags other k same =
 
 pub static_stays : (flags cleared : ℕ) → has (without_flags flags cleared) STATIC ≡ has flags STATIC
 static_stays flags cleared =
-    has_bit flags (without_flags flags cleared) 3 (flag_stays flags cleared 3 (omega (arith, bit_at_and cleared (PRIVATE + FINAL) 3, other))) where
+    has_bit flags (without_flags flags cleared) 3
+    (flag_stays flags cleared 3 (omega (arith, bit_at_and cleared (PRIVATE + FINAL) 3, other))) where
       other : bit_at (PRIVATE + FINAL) 3 ≡ 0
       other = refl
 
 -- the final flag stays where it is not cleared
 pub final_stays : (flags cleared : ℕ) → has cleared FINAL ≡ false → has (without_flags flags cleared) FINAL ≡ has flags FINAL
 final_stays flags cleared kept =
-    has_bit flags (without_flags flags cleared) 4 (flag_stays flags cleared 4 (omega (arith, bit_at_and cleared (PRIVATE + FINAL) 4, uncleared))) where
+    has_bit flags (without_flags flags cleared) 4
+    (flag_stays flags cleared 4 (omega (arith, bit_at_and cleared (PRIVATE + FINAL) 4, uncleared))) where
       nothing : bit_and cleared (2 ^ 4) ≡ 0
       nothing = by (bit_and cleared (2 ^ 4) == 0) refl where
         by : (b : Bool) → (bit_and cleared (2 ^ 4) == 0) ≡ b → bit_and cleared (2 ^ 4) ≡ 0
