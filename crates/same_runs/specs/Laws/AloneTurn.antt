@@ -1,6 +1,6 @@
 -- Turns of the first run alone that begin classes with nothing to run: an operation begins its class, and a beginning that stands on top
 -- of the first alone goes on with a class that comes first, or is over.
-use Rattle.std.proofs.Common.{◌≡◌, ◌≢◌, ◌==◌, ◌<◌, ◌&&◌, ◌+◌, nat_le, ℕ, zero, suc, Bool, true, false, List, [], ◌∷◌, is_some, length, slice_get, Option, Some, None, IsTrue, IsFalse, refl, sym, ap, subst, ◌∙◌, arith}
+use Rattle.std.proofs.Common.{◌≡◌, ◌≢◌, ◌==◌, ◌<◌, ◌&&◌, nat_le, ℕ, zero, suc, Bool, true, false, List, [], ◌∷◌, is_some, length, slice_get, Option, Some, None, IsFalse, refl, sym, ap, ◌∙◌, arith}
 use Rattle.std.specs.List.{list_any}
 use Rattle.std.proofs.lemmas.Bool.{eq-eqb, false≢true}
 use Rattle.std.proofs.lemmas.Option.{same_Some, slice_get_within}
@@ -12,7 +12,7 @@ use Rattle.machine_values.specs.Values.{have_kinds}
 use Rattle.machine_values.specs.declared.value.Value.{Value}
 use Rattle.machine_values.specs.declared.frame.RunFrame.{RunFrame}
 use Rattle.machine_values.specs.declared.frame.RunFrame.TheVariants.{Beginning, Method}
-use Rattle.member_link.specs.Machine.Beginnings.{begun_memory, begun_on, come_first, first_unbegun, initialiser_of}
+use Rattle.member_link.specs.Machine.Beginnings.{begun_memory, begun_on, come_first, first_unbegun}
 use Rattle.member_link.specs.Machine.CallSteps.{as_asked, call_static_work, run_call}
 use Rattle.member_link.specs.Machine.Completions.{Completion, begins, ends}
 use Rattle.member_link.specs.Machine.FieldSteps.{begun_first}

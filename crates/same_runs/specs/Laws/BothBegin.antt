@@ -1,7 +1,6 @@
 -- A turn of a beginning that stands on top of both runs: the next class begins in both, perhaps after classes that the second has still to
 -- begin and the first has begun before; or the beginning is over in both, and the class initialiser takes its place, if there is one.
 use Rattle.std.proofs.Common.{◌≡◌, ◌+◌, ◌<◌, ℕ, zero, suc, Bool, true, false, List, [], ◌∷◌, codes, is_some, slice_get, Option, Some, None, option_and_then, if◌then◌else◌, IsTrue, IsFalse, refl, sym, ap, subst, ◌∙◌, arith}
-use Rattle.std.proofs.lemmas.Bool.{false≢true}
 use Rattle.std.proofs.lemmas.Option.{none-some, same_Some}
 use Rattle.class_model.specs.Names.{clinit}
 use Rattle.class_model.specs.declared.class_file.MethodAt.{MethodAt}
@@ -17,7 +16,7 @@ use Rattle.member_link.specs.References.{Reference}
 use Rattle.same_runs.specs.Renamings.{Names, NamesMore}
 use Rattle.same_runs.specs.SameMemories.{SameMemories}
 use Rattle.same_runs.specs.SamePrograms.{SamePrograms}
-use Rattle.same_runs.specs.SameWorlds.{Comparison, Compares, SameAfter, both_go, both_over, SameSeen}
+use Rattle.same_runs.specs.SameWorlds.{Comparison, both_go, both_over, SameSeen}
 use Rattle.same_runs.specs.Simulations.{Quietly, at_once}
 use Rattle.same_runs.specs.Laws.Begun.{begin_both}
 use Rattle.same_runs.specs.Laws.BegunClasses.{folder_class}

@@ -1,6 +1,6 @@
 -- An operation that is in both, where the second has perhaps still to begin classes that the first has begun before: it begins them by
 -- turns that show nothing, and then both take the same turn.
-use Rattle.std.proofs.Common.{◌≡◌, ◌+◌, ◌<◌, ◌≤◌, nat_le, ℕ, zero, suc, Bool, true, false, List, [], ◌∷◌, drop, length, reverse, take, Option, Some, IsTrue, refl, ap, sym, subst, ◌∙◌, arith, inl, inr, ◌⊎◌}
+use Rattle.std.proofs.Common.{◌≡◌, ◌+◌, ◌<◌, nat_le, ℕ, zero, suc, true, false, List, [], ◌∷◌, drop, length, reverse, take, Option, Some, IsTrue, refl, ap, sym, subst, ◌∙◌, arith, inl, inr, ◌⊎◌}
 use Rattle.machine_values.specs.Frames.{MethodState}
 use Rattle.machine_values.specs.declared.frame.RunFrame.{RunFrame}
 use Rattle.machine_values.specs.declared.frame.RunFrame.TheVariants.{Method}
@@ -10,12 +10,12 @@ use Rattle.member_link.specs.Machine.Programs.{Point, Program, point_at}
 use Rattle.member_link.specs.Machine.Runs.{Run, turn, turn_by}
 use Rattle.member_link.specs.Machine.Stepping.{frames_step, is_library_turn, op_step, point_step, work_step}
 use Rattle.member_link.specs.Machine.Work.{arity, work}
-use Rattle.member_link.specs.Machine.Worlds.{Memory, World, going, is_begun}
+use Rattle.member_link.specs.Machine.Worlds.{World, going, is_begun}
 use Rattle.same_runs.specs.Renamings.{Names, NamesMore, SameValues}
 use Rattle.same_runs.specs.SameMemories.{SameMemories}
 use Rattle.same_runs.specs.SamePrograms.{SameOp, SamePrograms}
 use Rattle.same_runs.specs.SameWorlds.{Comparison, Compares, Goes, SameAfter, both_go, both_landed, second_begins, both_over, SameSeen}
-use Rattle.same_runs.specs.Simulations.{Quietly, at_once}
+use Rattle.same_runs.specs.Simulations.{Keeps, Quietly, at_once}
 use Rattle.same_runs.specs.Laws.Names.{more_and_more, references_more, values_more}
 use Rattle.same_runs.specs.Laws.Performed.{MustBegin, operation_performed}
 use Rattle.same_runs.specs.Laws.QuietBeginnings.{BeginAlike, GoesBy, one_fewer, operation_goes_by, quietly_then, standing, unbegun}
@@ -59,6 +59,19 @@ pub record BothTurn (P Q : Program) (c : Comparison) (names : Names) (one other 
   pub turned : turn P one ≡ record one { world = first }
   pub turned_also : turn Q waits ≡ record other { world = second }
   pub after : SameAfter P c names first second
+
+-- A turn of both keeps a relation that holds of what it leads to.
+pub turn_keeps : {P Q : Program} {c : Comparison} {names : Names} {Relates : ℕ → Run → Run → Type 0} {one other : Run}
+    (measure later : ℕ) (both : BothTurn P Q c names one other)
+    → Relates later (record one { world = both.first }) (record other { world = both.second })
+    → Keeps P Q Relates measure one other
+turn_keeps {P = P} {Q = Q} {Relates = Relates} {one = one} measure later both related = record {
+  waits = both.waits;
+  quietly = both.quietly;
+  measure_then = later;
+  goes_on = inr (subst (λ (first : Run). Relates later first (turn Q both.waits)) (sym both.turned)
+      (subst (λ (second : Run). Relates later (record one { world = both.first }) second) (sym both.turned_also) related));
+}
 
 -- a run that goes on, where the library's frame is not on top
 pub turned_going : (R : Program) (r : Run) (frames : List RunFrame)

@@ -1,5 +1,5 @@
 -- Beginnings of the first run alone: what comes first begins alone as well, and where nothing is left that comes first, all of it is begun.
-use Rattle.std.proofs.Common.{◌≡◌, ◌==◌, ℕ, zero, suc, Bool, true, false, List, [], ◌∷◌, bytes_eq, slice_get, Option, Some, None, option_map, IsTrue, IsFalse, if◌then◌else◌, refl, sym, ap, subst, ◌∙◌}
+use Rattle.std.proofs.Common.{◌≡◌, ◌==◌, ℕ, zero, suc, Bool, true, false, List, [], ◌∷◌, bytes_eq, slice_get, Option, Some, None, option_map, IsTrue, if◌then◌else◌, refl, sym, ap, subst, ◌∙◌}
 use Rattle.std.proofs.lemmas.Bool.{false≢true, eq-eqb, eqb-true}
 use Rattle.std.proofs.lemmas.Option.{none-some, same_Some}
 use Rattle.std.proofs.lemmas.Slice.Eq.{bytes_eq-Decides}
