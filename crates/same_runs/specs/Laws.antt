@@ -36,3 +36,4 @@ pub mod Moves
 pub mod LongerStacks
 pub mod Units
 pub mod Stored
+pub mod ShiftedUnits
