@@ -48,3 +48,4 @@ pub mod Moves
 pub mod LongerStacks
 pub mod Units
 pub mod Stored
+pub mod ShiftedUnits

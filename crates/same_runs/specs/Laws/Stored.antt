@@ -1,6 +1,6 @@
 -- Where a value is stored among local units: what is there behind it.
 use Rattle.std.proofs.Common.{◌≡◌, ◌⊎◌, inl, inr, ◌==◌, ◌+◌, ◌≤◌, ◌<◌, nat_le, ℕ, zero, suc, Bool, true, false, List, [], ◌∷◌, length, slice_get, slice_set, Option, Some, None, if◌then◌else◌, refl, sym, ap, subst, ◌∙◌, arith}
-use Rattle.std.proofs.lemmas.Bool.{eqb-true, eqb-false, leb-true, leb-false}
+use Rattle.std.proofs.lemmas.Bool.{eqb-true, eqb-false, leb-true, leb-false, le-leb}
 use Rattle.std.proofs.lemmas.Option.{none-some, slice_get_within}
 use Rattle.machine_values.specs.Values.{is_wide_value}
 use Rattle.machine_values.specs.declared.value.Value.{Value}
@@ -54,7 +54,7 @@ set_count [] at x = refl
 set_count (y ∷ xs) zero x = refl
 set_count (y ∷ xs) (suc at) x = ap suc (set_count xs at x)
 
-equal_or : (n m : ℕ) → (n ≡ m) ⊎ (n ≡ m → ⊥)
+pub equal_or : (n m : ℕ) → (n ≡ m) ⊎ (n ≡ m → ⊥)
 equal_or n m = by (n == m) refl where
   by : (b : Bool) → (n == m) ≡ b → (n ≡ m) ⊎ (n ≡ m → ⊥)
   by true e = inl (eqb-true n m e)
@@ -134,3 +134,92 @@ cut_is (suc m) locals = by (slice_get locals m) refl where
         let found : Some (Some v) ≡ Some (Some value) = sym is_v ∙ e in
         let value_is : v ≡ value = cc found in
         ap is_wide_value value_is ∙ is)
+
+-- ---- the store
+
+module _ (at : ℕ) (value : Value) (locals : Units) (room : at + width_of value ≤ length locals) where
+  abbrev cut : Units
+  cut = cut_before at locals
+
+  before : IsCut at locals cut
+  before = cut_is at locals
+
+  abbrev first : Units
+  first = slice_set cut at (Some value)
+
+  low : at < length cut
+  low = let one = width_low value in let count = before.count in let fits = room in omega (arith, one, count, fits)
+
+  apart_first : (n : ℕ) (v : Value) → (n ≡ at → ⊥) → Has first n v → Has cut n v
+  apart_first n v differ is = sym (set_other cut at n (Some value) (λ same. differ (sym same))) ∙ is
+
+  cleared : (n : ℕ) (v : Value) → IsClear n v at (at + width_of value) → IsClear n v at at
+  cleared n v (inl below) = inl below
+  cleared n v (inr high) = inr (omega (arith, high))
+
+  clear_differs : (n : ℕ) (v : Value) → IsClear n v at (at + width_of value) → n ≡ at → ⊥
+  clear_differs n v (inl below) same = let one = width_low v in omega (arith, below, same, one)
+  clear_differs n v (inr high) same = let one = width_low value in omega (arith, high, same, one)
+
+  stays_first : (n : ℕ) (v : Value) → IsClear n v at (at + width_of value) → Has locals n v → Has first n v
+  stays_first n v clear is =
+      set_other cut at n (Some value) (λ same. clear_differs n v clear (sym same)) ∙ before.stays n v (cleared n v clear) is
+
+  narrow_is : is_wide_value value ≡ false → IsStored at value locals first
+  narrow_is narrow = record {
+    room = room;
+    count = set_count cut at (Some value) ∙ before.count;
+    here = set_in cut at (Some value) low;
+    was = λ n v differ is. before.was n v (apart_first n v differ is);
+    stays = stays_first;
+    apart = λ n v differ is. behind n v differ (before.apart n v (apart_first n v differ is));
+  } where
+    one : width_of value ≡ 1
+    one = rw narrow refl
+
+    behind : (n : ℕ) (v : Value) → (n ≡ at → ⊥) → IsClear n v at at → IsClear n v at (at + width_of value)
+    behind n v differ (inl below) = inl below
+    behind n v differ (inr high) = inr (let width = one in omega (arith, differ, high, width))
+
+  wide_is : is_wide_value value ≡ true → IsStored at value locals (slice_set first (at + 1) None)
+  wide_is wide = record {
+    room = room;
+    count = set_count first (at + 1) None ∙ set_count cut at (Some value) ∙ before.count;
+    here = set_other first (at + 1) at None (λ same. omega (arith, same)) ∙ set_in cut at (Some value) low;
+    was = λ n v differ is. before.was n v (apart_first n v differ (emptied_was first (at + 1) n v is));
+    stays = λ n v clear is. set_other first (at + 1) n None (λ same. not_second n v clear (sym same)) ∙ stays_first n v clear is;
+    apart = λ n v differ is.
+        behind n v differ (emptied_differs first (at + 1) n v is) (before.apart n v (apart_first n v differ (emptied_was first (at + 1) n v is)));
+  } where
+    two : width_of value ≡ 2
+    two = rw wide refl
+
+    not_second : (n : ℕ) (v : Value) → IsClear n v at (at + width_of value) → n ≡ at + 1 → ⊥
+    not_second n v (inl below) same = omega (arith, below, same)
+    not_second n v (inr high) same = let width = two in omega (arith, high, same, width)
+
+    behind : (n : ℕ) (v : Value) → (n ≡ at → ⊥) → (n ≡ at + 1 → ⊥) → IsClear n v at at → IsClear n v at (at + width_of value)
+    behind n v differ second (inl below) = inl below
+    behind n v differ second (inr high) = inr (let width = two in omega (arith, differ, second, high, width))
+
+  stored_wide : (b : Bool) → is_wide_value value ≡ b → IsStored at value locals (stored_by at b first)
+  stored_wide true e = wide_is e
+  stored_wide false e = narrow_is e
+
+-- what stands behind a store
+pub stored_is : (at : ℕ) (value : Value) (locals units : Units) → stored at value locals ≡ Some units → IsStored at value locals units
+stored_is at value locals units is = by (nat_le (at + width_of value) (length locals)) refl is where
+  by : (b : Bool) → nat_le (at + width_of value) (length locals) ≡ b
+      → (if b then Some (stored_by at (is_wide_value value) (slice_set (cut_before at locals) at (Some value))) else None) ≡ Some units
+      → IsStored at value locals units
+  by true e same =
+      subst (λ (made : Units). IsStored at value locals made) (cc same)
+      (stored_wide at value locals (leb-true (at + width_of value) (length locals) e) (is_wide_value value) refl)
+  by false e none = cc none
+
+-- a value that fits is stored
+pub stores : (at : ℕ) (value : Value) (locals : Units) → at + width_of value ≤ length locals
+    → (units : Units) × (stored at value locals ≡ Some units)
+stores at value locals room =
+    (stored_by at (is_wide_value value) (slice_set (cut_before at locals) at (Some value)),
+    rw (le-leb (at + width_of value) (length locals) room) refl)
