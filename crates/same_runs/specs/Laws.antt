@@ -37,3 +37,4 @@ pub mod LongerStacks
 pub mod Units
 pub mod Stored
 pub mod ShiftedUnits
+pub mod Moved
