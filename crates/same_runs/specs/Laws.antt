@@ -38,3 +38,4 @@ pub mod Units
 pub mod Stored
 pub mod ShiftedUnits
 pub mod Moved
+pub mod MovedAlike

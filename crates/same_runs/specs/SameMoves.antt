@@ -101,3 +101,19 @@ pub record Moves (P Q : Program) (c : Comparison) (names : Names) (base size : �
   pub unwinds : (more : Names)
       → NamesMore names more
       → Unwinds P Q c.frames c.lands more (Method f ∷ rest) (Method g ∷ rest_also)
+
+-- The top frames of both at the same operation, where stacks and units are the same.
+pub record MovesAlike (P Q : Program) (c : Comparison) (names : Names) (f g : MethodState)
+    (rest rest_also : List RunFrame)
+    : Type 0 where
+  pub place : g.place ≡ f.place
+  pub same : SameValues names f.stack g.stack
+  pub units : SameUnits names f.locals g.locals
+  pub goes : (place : ℕ) (ones others : List Value) (units units_also : List (Option Value))
+      → SameValues names ones others
+      → SameUnits names units units_also
+      → c.frames names (Method (record f { place = place; stack = ones; locals = units }) ∷ rest)
+      (Method (record g { place = place; stack = others; locals = units_also }) ∷ rest_also)
+  pub unwinds : (more : Names)
+      → NamesMore names more
+      → Unwinds P Q c.frames c.lands more (Method f ∷ rest) (Method g ∷ rest_also)
