@@ -1,15 +1,16 @@
 -- Local units that stand in the second run from a base on: what the first reads, the second reads there, and a store keeps them so. Units
 -- before the base stay.
-use Rattle.std.proofs.Common.{◌≡◌, ◌⊎◌, inl, inr, ◌+◌, ◌≤◌, ℕ, Bool, true, false, List, length, slice_get, Option, Some, None, if◌then◌else◌, refl, sym, ap, ◌∙◌, arith}
+use Rattle.std.proofs.Common.{◌≡◌, ◌⊎◌, inl, inr, ◌+◌, ◌≤◌, ℕ, zero, suc, Bool, true, false, List, ◌++◌, length, length-append, replicate, slice_get, Option, Some, None, if◌then◌else◌, refl, sym, ap, ◌∙◌, arith}
 use Rattle.std.proofs.lemmas.Option.{none-some}
 use Rattle.class_model.specs.declared.descriptor.Kind.{Kind}
 use Rattle.machine_values.specs.Values.{has_kind}
 use Rattle.machine_values.specs.declared.value.Value.{Value}
 use Rattle.member_link.specs.Machine.Locals.{local_value, stored, width_of}
-use Rattle.same_runs.specs.Renamings.{Names, NamesMore, SameValue}
+use Rattle.same_runs.specs.Renamings.{Names, NamesMore, SameUnit, no_value, has_value, SameUnits, no_units, and_unit, SameValue}
 use Rattle.same_runs.specs.SameMoves.{ShiftedUnits}
 use Rattle.same_runs.specs.Laws.Moves.{same_kind, same_width}
 use Rattle.same_runs.specs.Laws.Names.{value_more}
+use Rattle.same_runs.specs.Laws.Units.{same_size}
 use Rattle.same_runs.specs.Laws.Stored.{Has, IsClear, IsStored, Units, stored_is, stores, equal_or}
 
 -- the value of a kind in a local, if it is there
@@ -103,3 +104,47 @@ module _ {names : Names} {base size : ℕ} {ones others : Units} (units : Shifte
 
     clear : (n : ℕ) (v v_also : Value) → n + width_of v ≤ size → width_of v_also ≡ width_of v → IsClear (base + n) v_also at (at + width_of value)
     clear n v v_also fits width = inl (omega (arith, fits, width, past))
+
+-- ---- units with which a method begins
+
+none_replicated : (count at : ℕ) (value : Value) → Has (replicate count None) at value → ⊥
+none_replicated zero at value is = none-some (Some value) is
+none_replicated (suc count) zero value is = cc is
+none_replicated (suc count) (suc at) value is = none_replicated count at value is
+
+length_replicated : (count : ℕ) → length (replicate {A = Option Value} count None) ≡ count
+length_replicated zero = refl
+length_replicated (suc count) = ap suc (length_replicated count)
+
+module _ {names : Names} where
+  has_same : {ones others : Units} (less : ℕ) (more : Units) → SameUnits names ones others → (at : ℕ) (value : Value)
+      → Has (ones ++ replicate less None) at value
+      → (also : Value) × (Has (others ++ more) at also) × SameValue names value also
+  has_same less more no_units at value is = absurd (none_replicated less at value is)
+  has_same less more (and_unit no_value rest) zero value is = (let wrong : Some None ≡ Some (Some value) = is in cc wrong)
+  has_same less more (and_unit (has_value {one = one} {other = other} same) rest) zero value is =
+      let found : Some (Some one) ≡ Some (Some value) = is in
+      let value_is : value ≡ one = cc found in
+      (other, refl, rw value_is same)
+  has_same less more (and_unit one rest) (suc at) value is = has_same less more rest at value is
+
+  -- A method begins with the same units, and with others that hold nothing; in the second with no fewer of these.
+  pub shifted_begins : {ones others : Units} (less more : ℕ) → less ≤ more → SameUnits names ones others
+      → ShiftedUnits names 0 (length ones + less) (ones ++ replicate less None) (others ++ replicate more None)
+  shifted_begins {ones = ones} {others = others} less more low are = record {
+    holds = λ at value has fits. (
+    let found = has_same less (replicate more None) are at value has in
+    let from_none : 0 + at ≡ at = omega arith in
+    (found.0, ap (slice_get (others ++ replicate more None)) from_none ∙ found.1, found.2));
+    count = counted;
+    room = roomy;
+  } where
+    counted : length (ones ++ replicate less None) ≤ length ones + less
+    counted = (let sum = length-append ones (replicate less None) in let count = length_replicated less in omega (arith, sum, count))
+
+    roomy : 0 + (length ones + less) ≤ length (others ++ replicate more None)
+    roomy =
+        let sum = length-append others (replicate more None) in
+        let count = length_replicated more in
+        let same_count = same_size are in
+        omega (arith, sum, count, same_count, low)

@@ -1,10 +1,10 @@
 -- Local units that are the same in both runs: what is read is the same, and they stay so where the same is stored.
 use Rattle.std.proofs.Common.{◌≡◌, ◌+◌, nat_le, ℕ, zero, suc, ℤ, Bool, true, false, List, [], ◌∷◌, length, slice_get, slice_set, Option, Some, None, if◌then◌else◌, refl, sym, ap, ◌∙◌}
 use Rattle.class_model.specs.declared.descriptor.Kind.{Kind}
-use Rattle.machine_values.specs.Values.{has_kind, is_wide_value}
+use Rattle.machine_values.specs.Values.{has_kind, is_wide_value, units_of_values}
 use Rattle.machine_values.specs.declared.value.Value.{Value}
 use Rattle.member_link.specs.Machine.Locals.{cut_before, incremented, local_value, stored, width_of}
-use Rattle.same_runs.specs.Renamings.{Names, SameUnit, no_value, has_value, SameUnits, no_units, and_unit, SameValue, same_int, same_long, same_float, same_double, same_null, same_reference}
+use Rattle.same_runs.specs.Renamings.{Names, SameUnit, no_value, has_value, SameUnits, no_units, and_unit, SameValue, same_int, same_long, same_float, same_double, same_null, same_reference, SameValues, no_values, and_value}
 use Rattle.same_runs.specs.SameMoves.{SameStores, no_store, have_store}
 use Rattle.same_runs.specs.Laws.Moves.{same_kind, same_wide, same_width}
 
@@ -91,3 +91,13 @@ module _ {names : Names} where
   same_incremented by same_double = same_double
   same_incremented by same_null = same_null
   same_incremented by (same_reference is) = same_reference is
+
+  -- arguments in units
+  pub same_arguments : {ones others : List Value} → SameValues names ones others → SameUnits names (units_of_values ones) (units_of_values others)
+  same_arguments no_values = no_units
+  same_arguments (and_value same_int rest) = and_unit (has_value same_int) (same_arguments rest)
+  same_arguments (and_value same_long rest) = and_unit (has_value same_long) (and_unit no_value (same_arguments rest))
+  same_arguments (and_value same_float rest) = and_unit (has_value same_float) (same_arguments rest)
+  same_arguments (and_value same_double rest) = and_unit (has_value same_double) (and_unit no_value (same_arguments rest))
+  same_arguments (and_value same_null rest) = and_unit (has_value same_null) (same_arguments rest)
+  same_arguments (and_value (same_reference is) rest) = and_unit (has_value (same_reference is)) (same_arguments rest)
