@@ -1,12 +1,11 @@
 -- Instructions that take the topmost values do the same over a longer stack: what is below stays.
-use Rattle.std.proofs.Common.{◌≡◌, ◌==◌, ◌+◌, ◌≤◌, ◌<◌, ◌&&◌, nat_le, ℕ, zero, suc, Bool, true, false, List, [], ◌∷◌, ◌++◌, length, not, take, drop, reverse, Option, Some, None, option_map, if◌then◌else◌, refl, sym, ap, subst, ◌∙◌, arith}
+use Rattle.std.proofs.Common.{◌≡◌, ◌==◌, ◌+◌, ◌≤◌, ℕ, zero, suc, Bool, true, false, List, [], ◌∷◌, ◌++◌, length, not, take, drop, reverse, Option, Some, None, option_map, if◌then◌else◌, refl, sym, ap, subst, ◌∙◌, arith}
 use Rattle.std.proofs.lemmas.Bool.{false≢true}
 use Rattle.std.proofs.lemmas.List.{append_assoc, drop-append-le, length-append, length-reverse, reverse-append, take-append-drop, take-append-le}
 use Rattle.class_model.specs.declared.opcodes.TheConstants.{POP, POP2, DUP, DUP_X1, DUP_X2, DUP2, DUP2_X1, DUP2_X2, SWAP}
 use Rattle.machine_values.specs.declared.value.Value.{Value}
 use Rattle.machine_values.specs.declared.value.Value.TheVariants.{Int, Long, Float, Double, Null, Ref}
-use Rattle.machine_values.specs.Values.{is_wide_value}
-use Rattle.member_link.specs.Machine.Locals.{Jump, chosen_values, fit_widths, fits_width, form_for, jump_of_int, jump_of_ints, jump_of_null, jump_of_references, shuffled, topmost, with_rest}
+use Rattle.member_link.specs.Machine.Locals.{chosen_values, fit_widths, fits_width, form_for, jump_of_int, jump_of_ints, jump_of_null, jump_of_references, shuffled, topmost, with_rest}
 use Rattle.member_link.specs.Rows.ShuffleRows.{Form, Width, forms_of}
 use Rattle.member_link.specs.Rows.ShuffleRows as widths
 use Rattle.same_runs.specs.Laws.Moves.{shuffled_by}
@@ -48,7 +47,8 @@ jump_of_ints_over opcode (Int other ∷ Double bits ∷ rest) below jump is = cc
 jump_of_ints_over opcode (Int other ∷ Null ∷ rest) below jump is = cc is
 jump_of_ints_over opcode (Int other ∷ Ref reference ∷ rest) below jump is = cc is
 
-pub jump_of_references_over : (opcode : ℕ) (stack below : List Value) (jump : Bool × List Value) → jump_of_references opcode stack ≡ Some jump
+pub jump_of_references_over : (opcode : ℕ) (stack below : List Value) (jump : Bool × List Value)
+    → jump_of_references opcode stack ≡ Some jump
     → jump_of_references opcode (stack ++ below) ≡ Some (jump_over below jump)
 jump_of_references_over opcode [] below jump is = cc is
 jump_of_references_over opcode (other ∷ []) below jump is = cc is
@@ -82,7 +82,8 @@ take_less : (less count : ℕ) (values : List Value) → less ≤ count → take
 take_less zero count values low = refl
 take_less (suc less) zero values low = absurd (omega (arith, low))
 take_less (suc less) (suc count) [] low = refl
-take_less (suc less) (suc count) (value ∷ values) low = ap (λ (xs : List Value). value ∷ xs) (take_less less count values (omega (arith, low)))
+take_less (suc less) (suc count) (value ∷ values) low =
+    ap (λ (xs : List Value). value ∷ xs) (take_less less count values (omega (arith, low)))
 
 topmost_over : (count : ℕ) (stack below : List Value) → count ≤ length stack → topmost count (stack ++ below) ≡ topmost count stack
 topmost_over count stack below low = ap reverse (take-append-le count stack below low)
@@ -92,7 +93,8 @@ fits_enough all stack fits =
     take_enough (length all) stack (sym (length-reverse (take (length all) stack)) ∙ fits_length all (topmost (length all) stack) fits)
 
 -- what is fit at the end of more
-fits_end : (extra all : List Width) (more values : List Value) → length values ≡ length all → fit_widths (extra ++ all) (more ++ values) ≡ true
+fits_end : (extra all : List Width) (more values : List Value) → length values ≡ length all
+    → fit_widths (extra ++ all) (more ++ values) ≡ true
     → fit_widths all values ≡ true
 fits_end [] all [] values count fits = fits
 fits_end [] all (value ∷ more) values count fits =
@@ -131,7 +133,8 @@ record Apart (earlier later : List Width) : Type 0 where
   pub count : length end ≡ length later
   pub differ : end ≡ later → ⊥
 
-clash : (earlier later : List Width) (stack below : List Value) → Apart earlier later → fit_widths later (topmost (length later) stack) ≡ true
+clash : (earlier later : List Width) (stack below : List Value) → Apart earlier later
+    → fit_widths later (topmost (length later) stack) ≡ true
     → fit_widths earlier (topmost (length earlier) (stack ++ below)) ≡ true
     → ⊥
 clash earlier later stack below apart fits fits_earlier =
@@ -179,10 +182,12 @@ form_fits : (forms : List Form) (stack : List Value) (form : Form) → form_for 
 form_fits [] stack form is = cc is
 form_fits (first ∷ forms) stack form is =
     by (fit_widths first.takes (topmost (length first.takes) stack)) refl is (form_fits forms stack form) where
-  by : (b : Bool) → fit_widths first.takes (topmost (length first.takes) stack) ≡ b → (if b then Some first else form_for forms stack) ≡ Some form
+  by : (b : Bool) → fit_widths first.takes (topmost (length first.takes) stack) ≡ b
+      → (if b then Some first else form_for forms stack) ≡ Some form
       → (form_for forms stack ≡ Some form → fit_widths form.takes (topmost (length form.takes) stack) ≡ true)
       → fit_widths form.takes (topmost (length form.takes) stack) ≡ true
-  by true e same rest = subst (λ (f : Form). fit_widths f.takes (topmost (length f.takes) stack) ≡ true) (let found : first ≡ form = cc same in found) e
+  by true e same rest =
+      subst (λ (f : Form). fit_widths f.takes (topmost (length f.takes) stack) ≡ true) (let found : first ≡ form = cc same in found) e
   by false e found rest = rest found
 
 found_behind : (earlier : List Width) (forms : List Form) (stack : List Value) (form : Form) → AllBehind earlier forms
@@ -213,7 +218,8 @@ form_over (first ∷ forms) stack below form (and_form behind apart) is =
           absurd (clash first.takes form.takes stack below (found_behind first.takes forms stack form behind short) (form_fits forms stack form short) e)
       later false e short long = long
 
-      by : (b : Bool) → fit_widths first.takes (topmost (length first.takes) stack) ≡ b → (if b then Some first else form_for forms stack) ≡ Some form
+      by : (b : Bool) → fit_widths first.takes (topmost (length first.takes) stack) ≡ b
+          → (if b then Some first else form_for forms stack) ≡ Some form
           → (form_for forms stack ≡ Some form → form_for forms (stack ++ below) ≡ Some form)
           → form_for (first ∷ forms) (stack ++ below) ≡ Some form
       by true e same rest = rw (fits_over first.takes stack below e) same

@@ -1,5 +1,5 @@
 -- A step of both runs at an operation of the frame alone, which is moved in the second.
-use Rattle.std.proofs.Common.{◌≡◌, ◌≢◌, ◌+◌, ◌≤◌, ℕ, ℤ, Bool, true, false, List, [], ◌∷◌, ◌++◌, length, map, slice_get, Option, Some, None, if◌then◌else◌, refl, sym, ap, subst, ◌∙◌, arith}
+use Rattle.std.proofs.Common.{◌≡◌, ◌≢◌, ◌+◌, ◌≤◌, ℕ, ℤ, Bool, true, false, List, [], ◌∷◌, ◌++◌, map, slice_get, Option, Some, None, if◌then◌else◌, refl, sym, ap, ◌∙◌, arith}
 use Rattle.std.proofs.lemmas.Option.{slice_get_within}
 use Rattle.class_model.specs.declared.descriptor.Kind.{Kind}
 use Rattle.class_model.specs.declared.descriptor.Kind.TheVariants as kinds
@@ -7,16 +7,15 @@ use Rattle.class_model.specs.declared.instr.Pair.{Pair}
 use Rattle.machine_values.specs.Frames.{MethodState}
 use Rattle.machine_values.specs.Values.{has_kind}
 use Rattle.machine_values.specs.declared.frame.RunFrame.{RunFrame}
-use Rattle.machine_values.specs.declared.frame.RunFrame.TheVariants.{Method}
 use Rattle.machine_values.specs.declared.value.Value.{Value}
 use Rattle.machine_values.specs.declared.value.Value.TheVariants as values
 use Rattle.member_link.specs.Machine.Locals.{Jump, incremented, jump_of_int, jump_of_ints, jump_of_null, jump_of_references, local_value, lookup_target, shuffled, stored, table_target, width_of}
-use Rattle.member_link.specs.Machine.Ops.{Op, no_operation, load_local, store_local, increment_local, test_local, shuffle_stack, jump_by_int, jump_by_ints, jump_by_references, jump_by_null, jump_to, table_switch, lookup_switch}
+use Rattle.member_link.specs.Machine.Ops.{Op}
 use Rattle.member_link.specs.Machine.Programs.{Program}
 use Rattle.member_link.specs.Machine.Stepping.{ends_stuck, increment_step, jump_step, load_step, next_with, op_step, shuffle_step, store_step, store_units, switch_step, test_step, with_top}
 use Rattle.member_link.specs.Machine.Throwables.{null_pointer}
 use Rattle.member_link.specs.Machine.Worlds.{World, going, stuck}
-use Rattle.same_runs.specs.Renamings.{Names, SameUnits, SameValue, same_int, same_long, same_float, same_double, same_null, same_reference, SameValues, no_values, and_value}
+use Rattle.same_runs.specs.Renamings.{Names, SameValue, same_int, same_long, same_float, same_double, same_null, same_reference, SameValues, no_values, and_value}
 use Rattle.same_runs.specs.SameMemories.{SameMemories}
 use Rattle.same_runs.specs.SameMoves.{IsMove, is_no_operation, is_load, is_store, is_increment, is_test, is_shuffle, is_jump_by_int, is_jump_by_ints, is_jump_by_references, is_jump_by_null, is_jump, is_table_switch, is_lookup_switch, LoadFits, moved, Moves, SameJumps, no_jump, have_jump, SameStacks, no_stack, have_stack, ShiftedUnits}
 use Rattle.same_runs.specs.SamePrograms.{SamePrograms}
@@ -75,7 +74,8 @@ module _ {P Q : Program} {c : Comparison} {names : Names} {first second : World}
 
   shuffles : (opcode : ℕ) → (shuffle_step first f rest (shuffled opcode f.stack)).halt ≢ stuck
       → After (shuffle_step first f rest (shuffled opcode f.stack)) (shuffle_step second g rest_also (shuffled opcode g.stack))
-  shuffles opcode goes_on = rw moves.stack (by (shuffled opcode f.stack) (shuffled opcode moves.top) refl goes_on (same_shuffled opcode moves.same)) where
+  shuffles opcode goes_on =
+      rw moves.stack (by (shuffled opcode f.stack) (shuffled opcode moves.top) refl goes_on (same_shuffled opcode moves.same)) where
     by : (one other : Option (List Value)) → shuffled opcode moves.top ≡ other → (shuffle_step first f rest one).halt ≢ stuck
         → SameStacks names one other
         → After (shuffle_step first f rest one) (shuffle_step second g rest_also (shuffled opcode (moves.top ++ below)))

@@ -1,18 +1,18 @@
 -- A step of both runs at the same operation of the frame alone, where stacks and units are the same.
-use Rattle.std.proofs.Common.{◌≡◌, ◌≢◌, ◌+◌, ℕ, ℤ, Bool, true, false, List, [], ◌∷◌, Option, Some, None, if◌then◌else◌, refl, sym, ap, ◌∙◌}
+use Rattle.std.proofs.Common.{◌≡◌, ◌+◌, ℕ, ℤ, Bool, true, false, List, [], Option, if◌then◌else◌, refl, ap}
 use Rattle.class_model.specs.declared.descriptor.Kind.{Kind}
 use Rattle.class_model.specs.declared.descriptor.Kind.TheVariants as kinds
 use Rattle.machine_values.specs.Frames.{MethodState}
 use Rattle.machine_values.specs.Values.{has_kind}
 use Rattle.machine_values.specs.declared.frame.RunFrame.{RunFrame}
 use Rattle.machine_values.specs.declared.value.Value.{Value}
-use Rattle.member_link.specs.Machine.Locals.{Jump, incremented, jump_of_int, jump_of_ints, jump_of_null, jump_of_references, local_value, lookup_target, shuffled, stored, table_target}
+use Rattle.member_link.specs.Machine.Locals.{Jump, lookup_target, stored, table_target}
 use Rattle.member_link.specs.Machine.Ops.{Op}
 use Rattle.member_link.specs.Machine.Programs.{Program}
 use Rattle.member_link.specs.Machine.Stepping.{ends_stuck, increment_step, jump_step, load_step, next_with, op_step, shuffle_step, store_step, store_units, switch_step, test_step, with_top}
 use Rattle.member_link.specs.Machine.Throwables.{null_pointer}
 use Rattle.member_link.specs.Machine.Worlds.{World, going}
-use Rattle.same_runs.specs.Renamings.{Names, SameUnit, no_value, has_value, SameUnits, SameValue, same_int, same_long, same_float, same_double, same_null, same_reference, SameValues, no_values, and_value}
+use Rattle.same_runs.specs.Renamings.{Names, SameUnit, no_value, has_value, SameUnits, same_int, same_long, same_float, same_double, same_null, same_reference, SameValues, no_values, and_value}
 use Rattle.same_runs.specs.SameMemories.{SameMemories}
 use Rattle.same_runs.specs.SameMoves.{IsMove, is_no_operation, is_load, is_store, is_increment, is_test, is_shuffle, is_jump_by_int, is_jump_by_ints, is_jump_by_references, is_jump_by_null, is_jump, is_table_switch, is_lookup_switch, MovesAlike, SameJumps, no_jump, have_jump, SameStacks, no_stack, have_stack, SameStores, no_store, have_store}
 use Rattle.same_runs.specs.SamePrograms.{SamePrograms}
@@ -49,14 +49,16 @@ module _ {P Q : Program} {c : Comparison} {names : Names} {first second : World}
 
   goes_next : {ones others : List Value} → SameValues names ones others
       → After (with_top first rest (next_with f ones)) (with_top second rest_also (next_with g others))
-  goes_next {ones = ones} {others = others} are = goes_at (f.place + 1) (g.place + 1) ones others f.locals g.locals next_place are moves.units
+  goes_next {ones = ones} {others = others} are =
+      goes_at (f.place + 1) (g.place + 1) ones others f.locals g.locals next_place are moves.units
 
   shuffles : {one other : Option (List Value)} → SameStacks names one other
       → After (shuffle_step first f rest one) (shuffle_step second g rest_also other)
   shuffles no_stack = ends_both
   shuffles (have_stack are) = goes_next are
 
-  jumps : (to : ℕ) {one other : Jump} → SameJumps names one other → After (jump_step first f rest to one) (jump_step second g rest_also to other)
+  jumps : (to : ℕ) {one other : Jump} → SameJumps names one other
+      → After (jump_step first f rest to one) (jump_step second g rest_also to other)
   jumps to no_jump = ends_both
   jumps to (have_jump {taken = taken} {ones = ones} {others = others} are) = by taken where
     by : (b : Bool)
@@ -80,7 +82,8 @@ module _ {P Q : Program} {c : Comparison} {names : Names} {first second : World}
   loads no_value = ends_both
   loads (has_value is) = goes_next (and_value is moves.same)
 
-  stores_units : {ones others : List Value} {one other : Option (List (Option Value))} → SameValues names ones others → SameStores names one other
+  stores_units : {ones others : List Value} {one other : Option (List (Option Value))} → SameValues names ones others
+      → SameStores names one other
       → After (store_units first f rest ones one) (store_units second g rest_also others other)
   stores_units are no_store = ends_both
   stores_units {ones = ones} {others = others} are (have_store {ones = units} {others = units_also} alike) =

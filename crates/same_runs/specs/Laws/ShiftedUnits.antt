@@ -1,12 +1,12 @@
 -- Local units that stand in the second run from a base on: what the first reads, the second reads there, and a store keeps them so. Units
 -- before the base stay.
-use Rattle.std.proofs.Common.{◌≡◌, ◌⊎◌, inl, inr, ◌+◌, ◌≤◌, ℕ, zero, suc, Bool, true, false, List, ◌++◌, length, length-append, replicate, slice_get, Option, Some, None, if◌then◌else◌, refl, sym, ap, ◌∙◌, arith}
+use Rattle.std.proofs.Common.{◌≡◌, ◌⊎◌, inl, inr, ◌+◌, ◌≤◌, ℕ, zero, suc, Bool, true, false, ◌++◌, length, length-append, replicate, slice_get, Option, Some, None, if◌then◌else◌, refl, sym, ap, ◌∙◌, arith}
 use Rattle.std.proofs.lemmas.Option.{none-some}
 use Rattle.class_model.specs.declared.descriptor.Kind.{Kind}
 use Rattle.machine_values.specs.Values.{has_kind}
 use Rattle.machine_values.specs.declared.value.Value.{Value}
 use Rattle.member_link.specs.Machine.Locals.{local_value, stored, width_of}
-use Rattle.same_runs.specs.Renamings.{Names, NamesMore, SameUnit, no_value, has_value, SameUnits, no_units, and_unit, SameValue}
+use Rattle.same_runs.specs.Renamings.{Names, NamesMore, no_value, has_value, SameUnits, no_units, and_unit, SameValue}
 use Rattle.same_runs.specs.SameMoves.{ShiftedUnits}
 use Rattle.same_runs.specs.Laws.Moves.{same_kind, same_width}
 use Rattle.same_runs.specs.Laws.Names.{value_more}
@@ -28,8 +28,10 @@ local_is kind at value locals is = by (slice_get locals at) refl is where
   by None e none = cc none
   by (Some None) e none = cc none
   by (Some (Some there)) e same = of (has_kind kind there) refl same where
-    of : (b : Bool) → has_kind kind there ≡ b → (if b then Some there else None) ≡ Some value → Has locals at value × (has_kind kind value ≡ true)
-    of true k some = let found : there ≡ value = cc some in (e ∙ ap (λ (v : Value). Some (Some v)) found, sym (ap (has_kind kind) found) ∙ k)
+    of : (b : Bool) → has_kind kind there ≡ b → (if b then Some there else None) ≡ Some value
+        → Has locals at value × (has_kind kind value ≡ true)
+    of true k some =
+        let found : there ≡ value = cc some in (e ∙ ap (λ (v : Value). Some (Some v)) found, sym (ap (has_kind kind) found) ∙ k)
     of false k none = cc none
 
 pub local_has : (kind : Kind) (at : ℕ) (value : Value) (locals : Units) → Has locals at value → has_kind kind value ≡ true
@@ -95,14 +97,16 @@ module _ {names : Names} {base size : ℕ} {ones others : Units} (units : Shifte
   pub shifted_stays : (at : ℕ) (value : Value) (behind : Units) → base + size ≤ at → stored at value others ≡ Some behind
       → ShiftedUnits names base size ones behind
   shifted_stays at value behind past is = record {
-    holds = λ n v has fits. (let found = units.holds n v has fits in (found.0, other.stays (base + n) found.0 (clear n v found.0 fits (same_width found.2)) found.1, found.2));
+    holds =
+        λ n v has fits. (let found = units.holds n v has fits in (found.0, other.stays (base + n) found.0 (clear n v found.0 fits (same_width found.2)) found.1, found.2));
     count = units.count;
     room = let old = units.room in let counts = other.count in omega (arith, old, counts);
   } where
     other : IsStored at value others behind
     other = stored_is at value others behind is
 
-    clear : (n : ℕ) (v v_also : Value) → n + width_of v ≤ size → width_of v_also ≡ width_of v → IsClear (base + n) v_also at (at + width_of value)
+    clear : (n : ℕ) (v v_also : Value) → n + width_of v ≤ size → width_of v_also ≡ width_of v
+        → IsClear (base + n) v_also at (at + width_of value)
     clear n v v_also fits width = inl (omega (arith, fits, width, past))
 
 -- ---- units with which a method begins
