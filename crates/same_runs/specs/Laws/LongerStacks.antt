@@ -215,7 +215,9 @@ form_over (first ∷ forms) stack below form (and_form behind apart) is =
           → form_for forms (stack ++ below) ≡ Some form
           → (if b then Some first else form_for forms (stack ++ below)) ≡ Some form
       later true e short long =
-          absurd (clash first.takes form.takes stack below (found_behind first.takes forms stack form behind short) (form_fits forms stack form short) e)
+          absurd
+          (clash first.takes form.takes stack below (found_behind first.takes forms stack form behind short)
+          (form_fits forms stack form short) e)
       later false e short long = long
 
       by : (b : Bool) → fit_widths first.takes (topmost (length first.takes) stack) ≡ b
@@ -228,6 +230,9 @@ form_over (first ∷ forms) stack below form (and_form behind apart) is =
 -- the forms of each opcode
 one_form : {form : Form} → AreApart (form ∷ [])
 one_form = and_form none_behind no_forms
+
+apart : (extra end : List Width) {later : List Width} → length end ≡ length later → (end ≡ later → ⊥) → Apart (extra ++ end) later
+apart extra end count differ = record { extra = extra; end = end; is = refl; count = count; differ = differ }
 
 two_widths : Apart (widths.one ∷ widths.one ∷ []) (widths.two ∷ [])
 two_widths = record { extra = widths.one ∷ []; end = widths.one ∷ []; is = refl; count = refl; differ = λ same. cc same }
@@ -273,20 +278,20 @@ forms_apart opcode =
       by false false false true dup_x2 dup2 dup2_x1 dup2_x2 swap =
           one_form
       by false false false false true dup2 dup2_x1 dup2_x2 swap =
-          and_form (one_behind (record { extra = widths.one ∷ []; end = widths.one ∷ widths.one ∷ []; is = refl; count = refl; differ = λ same. cc same }) none_behind) one_form
+          and_form (one_behind (apart (widths.one ∷ []) (widths.one ∷ widths.one ∷ []) refl (λ same. cc same)) none_behind) one_form
       by false false false false false true dup2_x1 dup2_x2 swap =
           and_form (one_behind two_widths none_behind) one_form
       by false false false false false false true dup2_x2 swap =
-          and_form (one_behind (record { extra = widths.one ∷ []; end = widths.one ∷ widths.one ∷ []; is = refl; count = refl; differ = λ same. cc same }) none_behind) one_form
+          and_form (one_behind (apart (widths.one ∷ []) (widths.one ∷ widths.one ∷ []) refl (λ same. cc same)) none_behind) one_form
       by false false false false false false false true swap =
           and_form
-          (one_behind (record { extra = widths.one ∷ []; end = widths.one ∷ widths.one ∷ widths.one ∷ []; is = refl; count = refl; differ = λ same. cc same })
-          (one_behind (record { extra = widths.one ∷ []; end = widths.one ∷ widths.one ∷ widths.one ∷ []; is = refl; count = refl; differ = λ same. cc same })
-          (one_behind (record { extra = widths.one ∷ widths.one ∷ []; end = widths.one ∷ widths.one ∷ []; is = refl; count = refl; differ = λ same. cc same }) none_behind)))
+          (one_behind (apart (widths.one ∷ []) (widths.one ∷ widths.one ∷ widths.one ∷ []) refl (λ same. cc same))
+          (one_behind (apart (widths.one ∷ []) (widths.one ∷ widths.one ∷ widths.one ∷ []) refl (λ same. cc same))
+          (one_behind (apart (widths.one ∷ widths.one ∷ []) (widths.one ∷ widths.one ∷ []) refl (λ same. cc same)) none_behind)))
           (and_form
-          (one_behind (record { extra = []; end = widths.one ∷ widths.one ∷ widths.two ∷ []; is = refl; count = refl; differ = λ same. cc same })
-          (one_behind (record { extra = widths.one ∷ []; end = widths.one ∷ widths.two ∷ []; is = refl; count = refl; differ = λ same. cc same }) none_behind))
-          (and_form (one_behind (record { extra = widths.two ∷ []; end = widths.one ∷ widths.one ∷ []; is = refl; count = refl; differ = λ same. cc same }) none_behind) one_form))
+          (one_behind (apart [] (widths.one ∷ widths.one ∷ widths.two ∷ []) refl (λ same. cc same))
+          (one_behind (apart (widths.one ∷ []) (widths.one ∷ widths.two ∷ []) refl (λ same. cc same)) none_behind))
+          (and_form (one_behind (apart (widths.two ∷ []) (widths.one ∷ widths.one ∷ []) refl (λ same. cc same)) none_behind) one_form))
       by false false false false false false false false true =
           one_form
       by false false false false false false false false false =

@@ -145,7 +145,8 @@ module _ {names : Names} where
   equal_references renaming (same_reference is) same_float = refl
   equal_references renaming (same_reference is) same_double = refl
   equal_references renaming (same_reference is) same_null = refl
-  equal_references renaming (same_reference {reference = one} {named = named} is) (same_reference {reference = other} {named = also} is_other) =
+  equal_references renaming (same_reference {reference = one} {named = named} is)
+      (same_reference {reference = other} {named = also} is_other) =
       ap Some (same_equal renaming one named other also is is_other)
 
   -- if_acmpeq and if_acmpne
@@ -153,7 +154,8 @@ module _ {names : Names} where
       → SameJumps names (jump_of_references opcode ones) (jump_of_references opcode others)
   same_jump_of_references renaming opcode no_values = no_jump
   same_jump_of_references renaming opcode (and_value one no_values) = no_jump
-  same_jump_of_references renaming opcode (and_value {one = other} {other = other_also} is_other (and_value {one = one} {other = one_also} is rest)) =
+  same_jump_of_references renaming opcode
+      (and_value {one = other} {other = other_also} is_other (and_value {one = one} {other = one_also} is rest)) =
       rw (equal_references renaming is is_other)
       (with_rest_same (option_map (λ same. if opcode == IF_ACMPEQ then same else not same) (same_references one other)) rest)
 
@@ -211,7 +213,8 @@ module _ {names : Names} where
     by : (found : Option Form) → SameStacks names (option_map (shuffled_by ones) found) (option_map (shuffled_by others) found)
     by None = no_stack
     by (Some form) =
-        have_stack (same_joined (same_reversed (same_chosen form.gives (same_topmost (length form.takes) are))) (same_dropped (length form.takes) are))
+        have_stack
+        (same_joined (same_reversed (same_chosen form.gives (same_topmost (length form.takes) are))) (same_dropped (length form.takes) are))
 
 -- ---- switches
 
@@ -225,17 +228,20 @@ pub renumbered_table : (start : ℕ → ℕ) (low : ℤ) (other : ℕ) (targets 
 renumbered_table start low other targets key =
     rw (slice_get-map start targets (int_gap low key)) (by (int_lt key low) (slice_get targets (int_gap low key))) where
       by : (b : Bool) (found : Option ℕ)
-          → (if b then start other else target_or (start other) (option_map start found)) ≡ start (if b then other else target_or other found)
+          → (if b then start other else target_or (start other) (option_map start found))
+          ≡ start (if b then other else target_or other found)
       by true found = refl
       by false None = refl
       by false (Some to) = refl
 
 pub renumbered_lookup : (start : ℕ → ℕ) (other : ℕ) (pairs : List Pair) (key : ℤ)
-    → lookup_target (start other) (map (λ (pair : Pair). record pair { to = start pair.to }) pairs) key ≡ start (lookup_target other pairs key)
+    → lookup_target (start other) (map (λ (pair : Pair). record pair { to = start pair.to }) pairs) key
+    ≡ start (lookup_target other pairs key)
 renumbered_lookup start other [] key = refl
 renumbered_lookup start other (pair ∷ pairs) key =
     rw (renumbered_lookup start other pairs key) (by (if int_lt key pair.key then false else not (int_lt pair.key key))) where
       by : (b : Bool)
-          → (if b then start pair.to else start (lookup_target other pairs key)) ≡ start (if b then pair.to else lookup_target other pairs key)
+          → (if b then start pair.to else start (lookup_target other pairs key))
+          ≡ start (if b then pair.to else lookup_target other pairs key)
       by true = refl
       by false = refl
