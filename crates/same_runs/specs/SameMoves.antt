@@ -82,8 +82,8 @@ LoadFits size locals (load_local kind at) =
     (value : Value) → local_value kind locals at ≡ Some value → at + width_of value ≤ size
 LoadFits size locals op = Unit {0}
 
--- The top frames of both at an operation that is in both, moved in the second: what their stacks and units are, and which frames go together
--- behind it. The second's stack may go on below.
+-- The top frames of both at an operation that is in both, moved in the second: what their stacks and units are, and which frames go
+-- together behind it. The second's stack may go on below.
 pub record Moves (P Q : Program) (c : Comparison) (names : Names) (base size : ℕ) (start : ℕ → ℕ)
     (below : List Value) (f g : MethodState) (rest rest_also : List RunFrame)
     : Type 0 where

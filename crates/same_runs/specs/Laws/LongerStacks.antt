@@ -21,6 +21,7 @@ rest_over (Some taken) rest below jump is =
     let same : (taken, rest) ≡ jump = cc is in
     ap (λ (p : Bool × List Value). Some (jump_over below p)) same
 
+-- ifeq and the like
 pub jump_of_int_over : (opcode : ℕ) (stack below : List Value) (jump : Bool × List Value) → jump_of_int opcode stack ≡ Some jump
     → jump_of_int opcode (stack ++ below) ≡ Some (jump_over below jump)
 jump_of_int_over opcode [] below jump is = cc is
@@ -31,6 +32,7 @@ jump_of_int_over opcode (Double bits ∷ rest) below jump is = cc is
 jump_of_int_over opcode (Null ∷ rest) below jump is = cc is
 jump_of_int_over opcode (Ref reference ∷ rest) below jump is = cc is
 
+-- if_icmpeq and the like
 pub jump_of_ints_over : (opcode : ℕ) (stack below : List Value) (jump : Bool × List Value) → jump_of_ints opcode stack ≡ Some jump
     → jump_of_ints opcode (stack ++ below) ≡ Some (jump_over below jump)
 jump_of_ints_over opcode [] below jump is = cc is
@@ -47,6 +49,7 @@ jump_of_ints_over opcode (Int other ∷ Double bits ∷ rest) below jump is = cc
 jump_of_ints_over opcode (Int other ∷ Null ∷ rest) below jump is = cc is
 jump_of_ints_over opcode (Int other ∷ Ref reference ∷ rest) below jump is = cc is
 
+-- if_acmpeq and if_acmpne
 pub jump_of_references_over : (opcode : ℕ) (stack below : List Value) (jump : Bool × List Value)
     → jump_of_references opcode stack ≡ Some jump
     → jump_of_references opcode (stack ++ below) ≡ Some (jump_over below jump)
@@ -54,6 +57,7 @@ jump_of_references_over opcode [] below jump is = cc is
 jump_of_references_over opcode (other ∷ []) below jump is = cc is
 jump_of_references_over opcode (other ∷ one ∷ rest) below jump is = rest_over _ rest below jump is
 
+-- ifnull and ifnonnull
 pub jump_of_null_over : (opcode : ℕ) (stack below : List Value) (jump : Bool × List Value) → jump_of_null opcode stack ≡ Some jump
     → jump_of_null opcode (stack ++ below) ≡ Some (jump_over below jump)
 jump_of_null_over opcode [] below jump is = cc is
@@ -182,13 +186,13 @@ form_fits : (forms : List Form) (stack : List Value) (form : Form) → form_for 
 form_fits [] stack form is = cc is
 form_fits (first ∷ forms) stack form is =
     by (fit_widths first.takes (topmost (length first.takes) stack)) refl is (form_fits forms stack form) where
-  by : (b : Bool) → fit_widths first.takes (topmost (length first.takes) stack) ≡ b
-      → (if b then Some first else form_for forms stack) ≡ Some form
-      → (form_for forms stack ≡ Some form → fit_widths form.takes (topmost (length form.takes) stack) ≡ true)
-      → fit_widths form.takes (topmost (length form.takes) stack) ≡ true
-  by true e same rest =
-      subst (λ (f : Form). fit_widths f.takes (topmost (length f.takes) stack) ≡ true) (let found : first ≡ form = cc same in found) e
-  by false e found rest = rest found
+      by : (b : Bool) → fit_widths first.takes (topmost (length first.takes) stack) ≡ b
+          → (if b then Some first else form_for forms stack) ≡ Some form
+          → (form_for forms stack ≡ Some form → fit_widths form.takes (topmost (length form.takes) stack) ≡ true)
+          → fit_widths form.takes (topmost (length form.takes) stack) ≡ true
+      by true e same rest =
+          subst (λ (f : Form). fit_widths f.takes (topmost (length f.takes) stack) ≡ true) (let found : first ≡ form = cc same in found) e
+      by false e found rest = rest found
 
 found_behind : (earlier : List Width) (forms : List Form) (stack : List Value) (form : Form) → AllBehind earlier forms
     → form_for forms stack ≡ Some form

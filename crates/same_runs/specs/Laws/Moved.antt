@@ -76,15 +76,15 @@ module _ {P Q : Program} {c : Comparison} {names : Names} {first second : World}
       → After (shuffle_step first f rest (shuffled opcode f.stack)) (shuffle_step second g rest_also (shuffled opcode g.stack))
   shuffles opcode goes_on =
       rw moves.stack (by (shuffled opcode f.stack) (shuffled opcode moves.top) refl goes_on (same_shuffled opcode moves.same)) where
-    by : (one other : Option (List Value)) → shuffled opcode moves.top ≡ other → (shuffle_step first f rest one).halt ≢ stuck
-        → SameStacks names one other
-        → After (shuffle_step first f rest one) (shuffle_step second g rest_also (shuffled opcode (moves.top ++ below)))
-    by None None is goes_on no_stack = absurd (goes_on refl)
-    by None (Some others) is goes_on none = elim none [ ]
-    by (Some ones) None is goes_on none = elim none [ ]
-    by (Some ones) (Some others) is goes_on (have_stack are) =
-        rw (shuffled_over opcode moves.top below others is)
-        (goes_at (f.place + 1) (g.place + 1) ones others f.locals g.locals next_place are moves.units)
+        by : (one other : Option (List Value)) → shuffled opcode moves.top ≡ other → (shuffle_step first f rest one).halt ≢ stuck
+            → SameStacks names one other
+            → After (shuffle_step first f rest one) (shuffle_step second g rest_also (shuffled opcode (moves.top ++ below)))
+        by None None is goes_on no_stack = absurd (goes_on refl)
+        by None (Some others) is goes_on none = elim none [ ]
+        by (Some ones) None is goes_on none = elim none [ ]
+        by (Some ones) (Some others) is goes_on (have_stack are) =
+            rw (shuffled_over opcode moves.top below others is)
+            (goes_at (f.place + 1) (g.place + 1) ones others f.locals g.locals next_place are moves.units)
 
   jumps : (to : ℕ) (one other over : Jump)
       → ((jump : Bool × List Value) → other ≡ Some jump → over ≡ Some (jump_over below jump))
@@ -233,7 +233,9 @@ module _ {P Q : Program} {c : Comparison} {names : Names} {first second : World}
   moved_same op (is_jump {to = to}) fits goes_on =
       rw moves.stack (goes_at to (start to) f.stack moves.top f.locals g.locals refl moves.same moves.units)
   moved_same op (is_table_switch {low = low} {other = other} {targets = targets}) fits goes_on =
-      switches (table_target low other targets) (table_target low (start other) (map start targets)) (renumbered_table start low other targets) goes_on
+      switches (table_target low other targets) (table_target low (start other) (map start targets))
+      (renumbered_table start low other targets) goes_on
   moved_same op (is_lookup_switch {other = other} {pairs = pairs}) fits goes_on =
       switches (lookup_target other pairs)
-      (lookup_target (start other) (map (λ (pair : Pair). record pair { to = start pair.to }) pairs)) (renumbered_lookup start other pairs) goes_on
+      (lookup_target (start other) (map (λ (pair : Pair). record pair { to = start pair.to }) pairs))
+      (renumbered_lookup start other pairs) goes_on

@@ -38,6 +38,7 @@ module _ {names : Names} where
   same_wide same_null = refl
   same_wide (same_reference is) = refl
 
+  -- in numbers
   pub same_width : {value also : Value} → SameValue names value also → width_of also ≡ width_of value
   same_width is = rw (same_wide is) refl
 
@@ -52,27 +53,32 @@ module _ {names : Names} where
 
   -- ---- lists of values
 
+  -- the first so many
   pub same_taken : (count : ℕ) {ones others : List Value} → SameValues names ones others
       → SameValues names (take count ones) (take count others)
   same_taken zero are = no_values
   same_taken (suc count) no_values = no_values
   same_taken (suc count) (and_value one rest) = and_value one (same_taken count rest)
 
+  -- and the ones below
   pub same_dropped : (count : ℕ) {ones others : List Value} → SameValues names ones others
       → SameValues names (drop count ones) (drop count others)
   same_dropped zero are = are
   same_dropped (suc count) no_values = no_values
   same_dropped (suc count) (and_value one rest) = same_dropped count rest
 
+  -- one list behind another
   pub same_joined : {ones others more more_also : List Value} → SameValues names ones others → SameValues names more more_also
       → SameValues names (ones ++ more) (others ++ more_also)
   same_joined no_values more = more
   same_joined (and_value one rest) more = and_value one (same_joined rest more)
 
+  -- they are as many
   pub same_count : {ones others : List Value} → SameValues names ones others → length others ≡ length ones
   same_count no_values = refl
   same_count (and_value one rest) = ap suc (same_count rest)
 
+  -- the other way round
   pub same_reversed : {ones others : List Value} → SameValues names ones others → SameValues names (reverse ones) (reverse others)
   same_reversed no_values = no_values
   same_reversed (and_value {one = one} {other = other} {ones = ones} {others = others} is rest) =
@@ -127,6 +133,7 @@ module _ {names : Names} where
         ne_eqb named also (λ same. false≢true (sym e ∙ eq-eqb one other (renaming.once one other named is (is_other ∙ ap Some (sym same)))))
         ∙ sym e
 
+  -- whether two operands are the same reference
   pub equal_references : IsRenaming names → {one other one_also other_also : Value} → SameValue names one one_also
       → SameValue names other other_also
       → same_references one_also other_also ≡ same_references one other
@@ -210,11 +217,11 @@ module _ {names : Names} where
       → SameStacks names (shuffled opcode ones) (shuffled opcode others)
   same_shuffled opcode {ones = ones} {others = others} are =
       rw (same_form (forms_of opcode) are) (by (form_for (forms_of opcode) ones)) where
-    by : (found : Option Form) → SameStacks names (option_map (shuffled_by ones) found) (option_map (shuffled_by others) found)
-    by None = no_stack
-    by (Some form) =
-        have_stack
-        (same_joined (same_reversed (same_chosen form.gives (same_topmost (length form.takes) are))) (same_dropped (length form.takes) are))
+        by : (found : Option Form) → SameStacks names (option_map (shuffled_by ones) found) (option_map (shuffled_by others) found)
+        by None = no_stack
+        by (Some form) =
+            have_stack
+            (same_joined (same_reversed (same_chosen form.gives (same_topmost (length form.takes) are))) (same_dropped (length form.takes) are))
 
 -- ---- switches
 
@@ -222,7 +229,7 @@ abbrev target_or : ℕ → Option ℕ → ℕ
 target_or other None = other
 target_or other (Some to) = to
 
--- targets that are renumbered
+-- the targets of a tableswitch that are renumbered
 pub renumbered_table : (start : ℕ → ℕ) (low : ℤ) (other : ℕ) (targets : List ℕ) (key : ℤ)
     → table_target low (start other) (map start targets) key ≡ start (table_target low other targets key)
 renumbered_table start low other targets key =
@@ -234,6 +241,7 @@ renumbered_table start low other targets key =
       by false None = refl
       by false (Some to) = refl
 
+-- and those of a lookupswitch
 pub renumbered_lookup : (start : ℕ → ℕ) (other : ℕ) (pairs : List Pair) (key : ℤ)
     → lookup_target (start other) (map (λ (pair : Pair). record pair { to = start pair.to }) pairs) key
     ≡ start (lookup_target other pairs key)

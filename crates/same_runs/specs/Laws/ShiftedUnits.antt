@@ -34,6 +34,7 @@ local_is kind at value locals is = by (slice_get locals at) refl is where
         let found : there ≡ value = cc some in (e ∙ ap (λ (v : Value). Some (Some v)) found, sym (ap (has_kind kind) found) ∙ k)
     of false k none = cc none
 
+-- and a value of a kind that is there is that of the local
 pub local_has : (kind : Kind) (at : ℕ) (value : Value) (locals : Units) → Has locals at value → has_kind kind value ≡ true
     → local_value kind locals at ≡ Some value
 local_has kind at value locals has is = rw (has, is) refl
@@ -58,47 +59,55 @@ module _ {names : Names} {base size : ℕ} {ones others : Units} (units : Shifte
   -- a value that the first stores, the second stores from the base on
   pub shifted_stored : (at : ℕ) (value also : Value) (behind : Units) → SameValue names value also → stored at value ones ≡ Some behind
       → (behind_also : Units) × (stored (base + at) also others ≡ Some behind_also) × ShiftedUnits names base size behind behind_also
-  shifted_stored at value also behind same is =
-      (made.0, made.1, record {
-        holds = λ n v has fits. holds n v has fits (equal_or n at);
-        count = let old = units.count in let counts = one.count in omega (arith, old, counts);
-        room = let old = units.room in let counts = other.count in omega (arith, old, counts);
-      }) where
-        one : IsStored at value ones behind
-        one = stored_is at value ones behind is
+  shifted_stored at value also behind same is = (
+    made.0,
+    made.1,
+    record {
+      holds = λ n v has fits. holds n v has fits (equal_or n at);
+      count = let old = units.count in let counts = one.count in omega (arith, old, counts);
+      room = let old = units.room in let counts = other.count in omega (arith, old, counts);
+    },
+  ) where
+    one : IsStored at value ones behind
+    one = stored_is at value ones behind is
 
-        wide : width_of also ≡ width_of value
-        wide = same_width same
+    wide : width_of also ≡ width_of value
+    wide = same_width same
 
-        made : (behind_also : Units) × (stored (base + at) also others ≡ Some behind_also)
-        made =
-            stores (base + at) also others
-            (let low = one.room in let count = units.count in let room = units.room in let width = wide in omega (arith, low, count, room, width))
+    made : (behind_also : Units) × (stored (base + at) also others ≡ Some behind_also)
+    made =
+        stores (base + at) also others
+        (let low = one.room in
+        let count = units.count in
+        let room = units.room in
+        let width = wide in omega (arith, low, count, room, width))
 
-        other : IsStored (base + at) also others made.0
-        other = stored_is (base + at) also others made.0 made.1
+    other : IsStored (base + at) also others made.0
+    other = stored_is (base + at) also others made.0 made.1
 
-        cleared : (n : ℕ) (v v_also : Value) → width_of v_also ≡ width_of v → IsClear n v at (at + width_of value)
-            → IsClear (base + n) v_also (base + at) (base + at + width_of also)
-        cleared n v v_also width (inl below) = inl (omega (arith, below, width))
-        cleared n v v_also width (inr high) = inr (let same_wide = wide in omega (arith, high, same_wide))
+    cleared : (n : ℕ) (v v_also : Value) → width_of v_also ≡ width_of v → IsClear n v at (at + width_of value)
+        → IsClear (base + n) v_also (base + at) (base + at + width_of also)
+    cleared n v v_also width (inl below) = inl (omega (arith, below, width))
+    cleared n v v_also width (inr high) = inr (let same_wide = wide in omega (arith, high, same_wide))
 
-        holds : (n : ℕ) (v : Value) → Has behind n v → n + width_of v ≤ size → (n ≡ at) ⊎ (n ≡ at → ⊥)
-            → (v_also : Value) × (Has made.0 (base + n) v_also) × SameValue names v v_also
-        holds n v has fits (inl here) =
-            let found : Some (Some v) ≡ Some (Some value) = sym has ∙ ap (slice_get behind) here ∙ one.here in
-            let value_is : v ≡ value = cc found in
-            (also, ap (λ (k : ℕ). slice_get made.0 (base + k)) here ∙ other.here, rw value_is same)
-        holds n v has fits (inr differ) =
-            let found = units.holds n v (one.was n v differ has) fits in
-            (found.0, other.stays (base + n) found.0 (cleared n v found.0 (same_width found.2) (one.apart n v differ has)) found.1, found.2)
+    holds : (n : ℕ) (v : Value) → Has behind n v → n + width_of v ≤ size → (n ≡ at) ⊎ (n ≡ at → ⊥)
+        → (v_also : Value) × (Has made.0 (base + n) v_also) × SameValue names v v_also
+    holds n v has fits (inl here) =
+        let found : Some (Some v) ≡ Some (Some value) = sym has ∙ ap (slice_get behind) here ∙ one.here in
+        let value_is : v ≡ value = cc found in
+        (also, ap (λ (k : ℕ). slice_get made.0 (base + k)) here ∙ other.here, rw value_is same)
+    holds n v has fits (inr differ) =
+        let found = units.holds n v (one.was n v differ has) fits in
+        (found.0, other.stays (base + n) found.0 (cleared n v found.0 (same_width found.2) (one.apart n v differ has)) found.1, found.2)
 
   -- a store from the end of the units on leaves them
   pub shifted_stays : (at : ℕ) (value : Value) (behind : Units) → base + size ≤ at → stored at value others ≡ Some behind
       → ShiftedUnits names base size ones behind
   shifted_stays at value behind past is = record {
     holds =
-        λ n v has fits. (let found = units.holds n v has fits in (found.0, other.stays (base + n) found.0 (clear n v found.0 fits (same_width found.2)) found.1, found.2));
+        λ n v has fits. (
+        let found = units.holds n v has fits in
+        (found.0, other.stays (base + n) found.0 (clear n v found.0 fits (same_width found.2)) found.1, found.2));
     count = units.count;
     room = let old = units.room in let counts = other.count in omega (arith, old, counts);
   } where
@@ -137,9 +146,9 @@ module _ {names : Names} where
       → ShiftedUnits names 0 (length ones + less) (ones ++ replicate less None) (others ++ replicate more None)
   shifted_begins {ones = ones} {others = others} less more low are = record {
     holds = λ at value has fits. (
-    let found = has_same less (replicate more None) are at value has in
-    let from_none : 0 + at ≡ at = omega arith in
-    (found.0, ap (slice_get (others ++ replicate more None)) from_none ∙ found.1, found.2));
+        let found = has_same less (replicate more None) are at value has in
+        let from_none : 0 + at ≡ at = omega arith in
+        (found.0, ap (slice_get (others ++ replicate more None)) from_none ∙ found.1, found.2));
     count = counted;
     room = roomy;
   } where

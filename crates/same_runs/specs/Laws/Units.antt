@@ -39,6 +39,7 @@ module _ {names : Names} where
   same_local kind zero (and_unit (has_value is) rest) = if_kind kind is
   same_local kind (suc at) (and_unit one rest) = same_local kind at rest
 
+  -- a unit that is set to the same in both
   pub same_set : (at : ℕ) {ones others : List (Option Value)} {one other : Option Value} → SameUnits names ones others
       → SameUnit names one other
       → SameUnits names (slice_set ones at one) (slice_set others at other)
@@ -46,6 +47,7 @@ module _ {names : Names} where
   same_set zero (and_unit first rest) is = and_unit is rest
   same_set (suc at) (and_unit first rest) is = and_unit first (same_set at rest is)
 
+  -- units that are the same are as many
   pub same_size : {ones others : List (Option Value)} → SameUnits names ones others → length others ≡ length ones
   same_size no_units = refl
   same_size (and_unit one rest) = ap suc (same_size rest)
@@ -83,7 +85,8 @@ module _ {names : Names} where
   same_stored at {value = value} {also = also} {ones = ones} {others = others} is are =
       rw (same_wide is, same_size are) (by (nat_le (at + width_of value) (length ones))) where
         by : (b : Bool)
-            → SameStores names (if b then Some (stored_by at (is_wide_value value) (slice_set (cut_before at ones) at (Some value))) else None)
+            → SameStores names
+            (if b then Some (stored_by at (is_wide_value value) (slice_set (cut_before at ones) at (Some value))) else None)
             (if b then Some (stored_by at (is_wide_value value) (slice_set (cut_before at others) at (Some also))) else None)
         by true = have_store (same_second at (is_wide_value value) (same_set at (same_cut at are) (has_value is)))
         by false = no_store
