@@ -18,7 +18,7 @@ use Rattle.member_link.specs.Machine.Worlds.{World, going, stuck}
 use Rattle.same_runs.specs.Renamings.{Names, SameValue, same_int, same_long, same_float, same_double, same_null, same_reference, SameValues, no_values, and_value}
 use Rattle.same_runs.specs.SameMemories.{SameMemories}
 use Rattle.same_runs.specs.SameMoves.{IsMove, is_no_operation, is_load, is_store, is_increment, is_test, is_shuffle, is_jump_by_int, is_jump_by_ints, is_jump_by_references, is_jump_by_null, is_jump, is_table_switch, is_lookup_switch, LoadFits, moved, Moves, SameJumps, no_jump, have_jump, SameStacks, no_stack, have_stack, ShiftedUnits}
-use Rattle.same_runs.specs.SamePrograms.{SamePrograms}
+use Rattle.same_runs.specs.SamePrograms.{SameOp, same_op, SamePrograms}
 use Rattle.same_runs.specs.SameWorlds.{Comparison, Compares, SameAfter, both_go, SameSeen}
 use Rattle.same_runs.specs.Laws.LongerStacks.{jump_over, jump_of_int_over, jump_of_ints_over, jump_of_null_over, jump_of_references_over, shuffled_over}
 use Rattle.same_runs.specs.Laws.Moves.{renumbered_lookup, renumbered_table, same_jump_of_int, same_jump_of_ints, same_jump_of_null, same_jump_of_references, same_kind, same_shuffled}
@@ -42,6 +42,23 @@ reference_width (values.Float bits) is = refl
 reference_width (values.Double bits) is = cc is
 reference_width values.Null is = refl
 reference_width (values.Ref reference) is = refl
+
+-- what is the same in the second as an operation of the frame alone that is moved
+pub moved_is : {P Q : Program} (base : ℕ) (start : ℕ → ℕ) {op also : Op} → IsMove op → SameOp P Q (moved base start op) also
+    → also ≡ moved base start op
+moved_is base start is_no_operation (same_op both) = refl
+moved_is base start is_load (same_op both) = refl
+moved_is base start is_store (same_op both) = refl
+moved_is base start is_increment (same_op both) = refl
+moved_is base start is_test (same_op both) = refl
+moved_is base start is_shuffle (same_op both) = refl
+moved_is base start is_jump_by_int (same_op both) = refl
+moved_is base start is_jump_by_ints (same_op both) = refl
+moved_is base start is_jump_by_references (same_op both) = refl
+moved_is base start is_jump_by_null (same_op both) = refl
+moved_is base start is_jump (same_op both) = refl
+moved_is base start is_table_switch (same_op both) = refl
+moved_is base start is_lookup_switch (same_op both) = refl
 
 module _ {P Q : Program} {c : Comparison} {names : Names} {first second : World} {base size : ℕ} {start : ℕ → ℕ} {below : List Value}
     {f g : MethodState} {rest rest_also : List RunFrame}

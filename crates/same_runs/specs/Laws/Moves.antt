@@ -221,7 +221,8 @@ module _ {names : Names} where
         by None = no_stack
         by (Some form) =
             have_stack
-            (same_joined (same_reversed (same_chosen form.gives (same_topmost (length form.takes) are))) (same_dropped (length form.takes) are))
+            (same_joined (same_reversed (same_chosen form.gives (same_topmost (length form.takes) are)))
+            (same_dropped (length form.takes) are))
 
 -- ---- switches
 
