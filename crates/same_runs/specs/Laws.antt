@@ -49,3 +49,5 @@ pub mod LongerStacks
 pub mod Units
 pub mod Stored
 pub mod ShiftedUnits
+pub mod Moved
+pub mod MovedAlike

@@ -1,12 +1,11 @@
 -- Instructions that take the topmost values do the same over a longer stack: what is below stays.
-use Rattle.std.proofs.Common.{◌≡◌, ◌==◌, ◌+◌, ◌≤◌, ◌<◌, ◌&&◌, nat_le, ℕ, zero, suc, Bool, true, false, List, [], ◌∷◌, ◌++◌, length, not, take, drop, reverse, Option, Some, None, option_map, if◌then◌else◌, refl, sym, ap, subst, ◌∙◌, arith}
+use Rattle.std.proofs.Common.{◌≡◌, ◌==◌, ◌+◌, ◌≤◌, ℕ, zero, suc, Bool, true, false, List, [], ◌∷◌, ◌++◌, length, not, take, drop, reverse, Option, Some, None, option_map, if◌then◌else◌, refl, sym, ap, subst, ◌∙◌, arith}
 use Rattle.std.proofs.lemmas.Bool.{false≢true}
 use Rattle.std.proofs.lemmas.List.{append_assoc, drop-append-le, length-append, length-reverse, reverse-append, take-append-drop, take-append-le}
 use Rattle.class_model.specs.declared.opcodes.TheConstants.{POP, POP2, DUP, DUP_X1, DUP_X2, DUP2, DUP2_X1, DUP2_X2, SWAP}
 use Rattle.machine_values.specs.declared.value.Value.{Value}
 use Rattle.machine_values.specs.declared.value.Value.TheVariants.{Int, Long, Float, Double, Null, Ref}
-use Rattle.machine_values.specs.Values.{is_wide_value}
-use Rattle.member_link.specs.Machine.Locals.{Jump, chosen_values, fit_widths, fits_width, form_for, jump_of_int, jump_of_ints, jump_of_null, jump_of_references, shuffled, topmost, with_rest}
+use Rattle.member_link.specs.Machine.Locals.{chosen_values, fit_widths, fits_width, form_for, jump_of_int, jump_of_ints, jump_of_null, jump_of_references, shuffled, topmost, with_rest}
 use Rattle.member_link.specs.Rows.ShuffleRows.{Form, Width, forms_of}
 use Rattle.member_link.specs.Rows.ShuffleRows as widths
 use Rattle.same_runs.specs.Laws.Moves.{shuffled_by}
@@ -22,6 +21,7 @@ rest_over (Some taken) rest below jump is =
     let same : (taken, rest) ≡ jump = cc is in
     ap (λ (p : Bool × List Value). Some (jump_over below p)) same
 
+-- ifeq and the like
 pub jump_of_int_over : (opcode : ℕ) (stack below : List Value) (jump : Bool × List Value) → jump_of_int opcode stack ≡ Some jump
     → jump_of_int opcode (stack ++ below) ≡ Some (jump_over below jump)
 jump_of_int_over opcode [] below jump is = cc is
@@ -32,6 +32,7 @@ jump_of_int_over opcode (Double bits ∷ rest) below jump is = cc is
 jump_of_int_over opcode (Null ∷ rest) below jump is = cc is
 jump_of_int_over opcode (Ref reference ∷ rest) below jump is = cc is
 
+-- if_icmpeq and the like
 pub jump_of_ints_over : (opcode : ℕ) (stack below : List Value) (jump : Bool × List Value) → jump_of_ints opcode stack ≡ Some jump
     → jump_of_ints opcode (stack ++ below) ≡ Some (jump_over below jump)
 jump_of_ints_over opcode [] below jump is = cc is
@@ -48,12 +49,15 @@ jump_of_ints_over opcode (Int other ∷ Double bits ∷ rest) below jump is = cc
 jump_of_ints_over opcode (Int other ∷ Null ∷ rest) below jump is = cc is
 jump_of_ints_over opcode (Int other ∷ Ref reference ∷ rest) below jump is = cc is
 
-pub jump_of_references_over : (opcode : ℕ) (stack below : List Value) (jump : Bool × List Value) → jump_of_references opcode stack ≡ Some jump
+-- if_acmpeq and if_acmpne
+pub jump_of_references_over : (opcode : ℕ) (stack below : List Value) (jump : Bool × List Value)
+    → jump_of_references opcode stack ≡ Some jump
     → jump_of_references opcode (stack ++ below) ≡ Some (jump_over below jump)
 jump_of_references_over opcode [] below jump is = cc is
 jump_of_references_over opcode (other ∷ []) below jump is = cc is
 jump_of_references_over opcode (other ∷ one ∷ rest) below jump is = rest_over _ rest below jump is
 
+-- ifnull and ifnonnull
 pub jump_of_null_over : (opcode : ℕ) (stack below : List Value) (jump : Bool × List Value) → jump_of_null opcode stack ≡ Some jump
     → jump_of_null opcode (stack ++ below) ≡ Some (jump_over below jump)
 jump_of_null_over opcode [] below jump is = cc is
@@ -82,7 +86,8 @@ take_less : (less count : ℕ) (values : List Value) → less ≤ count → take
 take_less zero count values low = refl
 take_less (suc less) zero values low = absurd (omega (arith, low))
 take_less (suc less) (suc count) [] low = refl
-take_less (suc less) (suc count) (value ∷ values) low = ap (λ (xs : List Value). value ∷ xs) (take_less less count values (omega (arith, low)))
+take_less (suc less) (suc count) (value ∷ values) low =
+    ap (λ (xs : List Value). value ∷ xs) (take_less less count values (omega (arith, low)))
 
 topmost_over : (count : ℕ) (stack below : List Value) → count ≤ length stack → topmost count (stack ++ below) ≡ topmost count stack
 topmost_over count stack below low = ap reverse (take-append-le count stack below low)
@@ -92,7 +97,8 @@ fits_enough all stack fits =
     take_enough (length all) stack (sym (length-reverse (take (length all) stack)) ∙ fits_length all (topmost (length all) stack) fits)
 
 -- what is fit at the end of more
-fits_end : (extra all : List Width) (more values : List Value) → length values ≡ length all → fit_widths (extra ++ all) (more ++ values) ≡ true
+fits_end : (extra all : List Width) (more values : List Value) → length values ≡ length all
+    → fit_widths (extra ++ all) (more ++ values) ≡ true
     → fit_widths all values ≡ true
 fits_end [] all [] values count fits = fits
 fits_end [] all (value ∷ more) values count fits =
@@ -131,7 +137,8 @@ record Apart (earlier later : List Width) : Type 0 where
   pub count : length end ≡ length later
   pub differ : end ≡ later → ⊥
 
-clash : (earlier later : List Width) (stack below : List Value) → Apart earlier later → fit_widths later (topmost (length later) stack) ≡ true
+clash : (earlier later : List Width) (stack below : List Value) → Apart earlier later
+    → fit_widths later (topmost (length later) stack) ≡ true
     → fit_widths earlier (topmost (length earlier) (stack ++ below)) ≡ true
     → ⊥
 clash earlier later stack below apart fits fits_earlier =
@@ -179,11 +186,13 @@ form_fits : (forms : List Form) (stack : List Value) (form : Form) → form_for 
 form_fits [] stack form is = cc is
 form_fits (first ∷ forms) stack form is =
     by (fit_widths first.takes (topmost (length first.takes) stack)) refl is (form_fits forms stack form) where
-  by : (b : Bool) → fit_widths first.takes (topmost (length first.takes) stack) ≡ b → (if b then Some first else form_for forms stack) ≡ Some form
-      → (form_for forms stack ≡ Some form → fit_widths form.takes (topmost (length form.takes) stack) ≡ true)
-      → fit_widths form.takes (topmost (length form.takes) stack) ≡ true
-  by true e same rest = subst (λ (f : Form). fit_widths f.takes (topmost (length f.takes) stack) ≡ true) (let found : first ≡ form = cc same in found) e
-  by false e found rest = rest found
+      by : (b : Bool) → fit_widths first.takes (topmost (length first.takes) stack) ≡ b
+          → (if b then Some first else form_for forms stack) ≡ Some form
+          → (form_for forms stack ≡ Some form → fit_widths form.takes (topmost (length form.takes) stack) ≡ true)
+          → fit_widths form.takes (topmost (length form.takes) stack) ≡ true
+      by true e same rest =
+          subst (λ (f : Form). fit_widths f.takes (topmost (length f.takes) stack) ≡ true) (let found : first ≡ form = cc same in found) e
+      by false e found rest = rest found
 
 found_behind : (earlier : List Width) (forms : List Form) (stack : List Value) (form : Form) → AllBehind earlier forms
     → form_for forms stack ≡ Some form
@@ -210,10 +219,13 @@ form_over (first ∷ forms) stack below form (and_form behind apart) is =
           → form_for forms (stack ++ below) ≡ Some form
           → (if b then Some first else form_for forms (stack ++ below)) ≡ Some form
       later true e short long =
-          absurd (clash first.takes form.takes stack below (found_behind first.takes forms stack form behind short) (form_fits forms stack form short) e)
+          absurd
+          (clash first.takes form.takes stack below (found_behind first.takes forms stack form behind short)
+          (form_fits forms stack form short) e)
       later false e short long = long
 
-      by : (b : Bool) → fit_widths first.takes (topmost (length first.takes) stack) ≡ b → (if b then Some first else form_for forms stack) ≡ Some form
+      by : (b : Bool) → fit_widths first.takes (topmost (length first.takes) stack) ≡ b
+          → (if b then Some first else form_for forms stack) ≡ Some form
           → (form_for forms stack ≡ Some form → form_for forms (stack ++ below) ≡ Some form)
           → form_for (first ∷ forms) (stack ++ below) ≡ Some form
       by true e same rest = rw (fits_over first.takes stack below e) same
@@ -222,6 +234,9 @@ form_over (first ∷ forms) stack below form (and_form behind apart) is =
 -- the forms of each opcode
 one_form : {form : Form} → AreApart (form ∷ [])
 one_form = and_form none_behind no_forms
+
+apart : (extra end : List Width) {later : List Width} → length end ≡ length later → (end ≡ later → ⊥) → Apart (extra ++ end) later
+apart extra end count differ = record { extra = extra; end = end; is = refl; count = count; differ = differ }
 
 two_widths : Apart (widths.one ∷ widths.one ∷ []) (widths.two ∷ [])
 two_widths = record { extra = widths.one ∷ []; end = widths.one ∷ []; is = refl; count = refl; differ = λ same. cc same }
@@ -267,20 +282,20 @@ forms_apart opcode =
       by false false false true dup_x2 dup2 dup2_x1 dup2_x2 swap =
           one_form
       by false false false false true dup2 dup2_x1 dup2_x2 swap =
-          and_form (one_behind (record { extra = widths.one ∷ []; end = widths.one ∷ widths.one ∷ []; is = refl; count = refl; differ = λ same. cc same }) none_behind) one_form
+          and_form (one_behind (apart (widths.one ∷ []) (widths.one ∷ widths.one ∷ []) refl (λ same. cc same)) none_behind) one_form
       by false false false false false true dup2_x1 dup2_x2 swap =
           and_form (one_behind two_widths none_behind) one_form
       by false false false false false false true dup2_x2 swap =
-          and_form (one_behind (record { extra = widths.one ∷ []; end = widths.one ∷ widths.one ∷ []; is = refl; count = refl; differ = λ same. cc same }) none_behind) one_form
+          and_form (one_behind (apart (widths.one ∷ []) (widths.one ∷ widths.one ∷ []) refl (λ same. cc same)) none_behind) one_form
       by false false false false false false false true swap =
           and_form
-          (one_behind (record { extra = widths.one ∷ []; end = widths.one ∷ widths.one ∷ widths.one ∷ []; is = refl; count = refl; differ = λ same. cc same })
-          (one_behind (record { extra = widths.one ∷ []; end = widths.one ∷ widths.one ∷ widths.one ∷ []; is = refl; count = refl; differ = λ same. cc same })
-          (one_behind (record { extra = widths.one ∷ widths.one ∷ []; end = widths.one ∷ widths.one ∷ []; is = refl; count = refl; differ = λ same. cc same }) none_behind)))
+          (one_behind (apart (widths.one ∷ []) (widths.one ∷ widths.one ∷ widths.one ∷ []) refl (λ same. cc same))
+          (one_behind (apart (widths.one ∷ []) (widths.one ∷ widths.one ∷ widths.one ∷ []) refl (λ same. cc same))
+          (one_behind (apart (widths.one ∷ widths.one ∷ []) (widths.one ∷ widths.one ∷ []) refl (λ same. cc same)) none_behind)))
           (and_form
-          (one_behind (record { extra = []; end = widths.one ∷ widths.one ∷ widths.two ∷ []; is = refl; count = refl; differ = λ same. cc same })
-          (one_behind (record { extra = widths.one ∷ []; end = widths.one ∷ widths.two ∷ []; is = refl; count = refl; differ = λ same. cc same }) none_behind))
-          (and_form (one_behind (record { extra = widths.two ∷ []; end = widths.one ∷ widths.one ∷ []; is = refl; count = refl; differ = λ same. cc same }) none_behind) one_form))
+          (one_behind (apart [] (widths.one ∷ widths.one ∷ widths.two ∷ []) refl (λ same. cc same))
+          (one_behind (apart (widths.one ∷ []) (widths.one ∷ widths.two ∷ []) refl (λ same. cc same)) none_behind))
+          (and_form (one_behind (apart (widths.two ∷ []) (widths.one ∷ widths.one ∷ []) refl (λ same. cc same)) none_behind) one_form))
       by false false false false false false false false true =
           one_form
       by false false false false false false false false false =

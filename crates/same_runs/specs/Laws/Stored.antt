@@ -1,7 +1,7 @@
 -- Where a value is stored among local units: what is there behind it.
 use Rattle.std.proofs.Common.{◌≡◌, ◌⊎◌, inl, inr, ◌==◌, ◌+◌, ◌≤◌, ◌<◌, nat_le, ℕ, zero, suc, Bool, true, false, List, [], ◌∷◌, length, slice_get, slice_set, Option, Some, None, if◌then◌else◌, refl, sym, ap, subst, ◌∙◌, arith}
 use Rattle.std.proofs.lemmas.Bool.{eqb-true, eqb-false, leb-true, leb-false, le-leb}
-use Rattle.std.proofs.lemmas.Option.{none-some, slice_get_within}
+use Rattle.std.proofs.lemmas.Option.{none-some}
 use Rattle.machine_values.specs.Values.{is_wide_value}
 use Rattle.machine_values.specs.declared.value.Value.{Value}
 use Rattle.member_link.specs.Machine.Locals.{cut_before, stored, width_of}
@@ -30,6 +30,7 @@ pub record IsStored (at : ℕ) (value : Value) (locals units : Units) : Type 0 w
 
 -- ---- widths
 
+-- a value takes one unit or two
 pub width_low : (v : Value) → 1 ≤ width_of v
 width_low v = by (is_wide_value v) where
   by : (b : Bool) → 1 ≤ (if b then 2 else 1)
@@ -44,16 +45,19 @@ width_high v = by (is_wide_value v) where
 
 -- ---- lists
 
+-- what is set in a list is there
 pub set_in : {A : Type 0} (xs : List A) (at : ℕ) (x : A) → at < length xs → slice_get (slice_set xs at x) at ≡ Some x
 set_in [] at x low = absurd (omega (arith, low))
 set_in (y ∷ xs) zero x low = refl
 set_in (y ∷ xs) (suc at) x low = set_in xs at x (omega (arith, low))
 
+-- and the list is as long as before
 pub set_count : {A : Type 0} (xs : List A) (at : ℕ) (x : A) → length (slice_set xs at x) ≡ length xs
 set_count [] at x = refl
 set_count (y ∷ xs) zero x = refl
 set_count (y ∷ xs) (suc at) x = ap suc (set_count xs at x)
 
+-- numbers are equal or not
 pub equal_or : (n m : ℕ) → (n ≡ m) ⊎ (n ≡ m → ⊥)
 equal_or n m = by (n == m) refl where
   by : (b : Bool) → (n == m) ≡ b → (n ≡ m) ⊎ (n ≡ m → ⊥)
@@ -189,7 +193,8 @@ module _ (at : ℕ) (value : Value) (locals : Units) (room : at + width_of value
     was = λ n v differ is. before.was n v (apart_first n v differ (emptied_was first (at + 1) n v is));
     stays = λ n v clear is. set_other first (at + 1) n None (λ same. not_second n v clear (sym same)) ∙ stays_first n v clear is;
     apart = λ n v differ is.
-        behind n v differ (emptied_differs first (at + 1) n v is) (before.apart n v (apart_first n v differ (emptied_was first (at + 1) n v is)));
+        behind n v differ (emptied_differs first (at + 1) n v is)
+        (before.apart n v (apart_first n v differ (emptied_was first (at + 1) n v is)));
   } where
     two : width_of value ≡ 2
     two = rw wide refl
@@ -220,6 +225,7 @@ stored_is at value locals units is = by (nat_le (at + width_of value) (length lo
 -- a value that fits is stored
 pub stores : (at : ℕ) (value : Value) (locals : Units) → at + width_of value ≤ length locals
     → (units : Units) × (stored at value locals ≡ Some units)
-stores at value locals room =
-    (stored_by at (is_wide_value value) (slice_set (cut_before at locals) at (Some value)),
-    rw (le-leb (at + width_of value) (length locals) room) refl)
+stores at value locals room = (
+  stored_by at (is_wide_value value) (slice_set (cut_before at locals) at (Some value)),
+  rw (le-leb (at + width_of value) (length locals) room) refl,
+)

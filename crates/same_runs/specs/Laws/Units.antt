@@ -1,12 +1,12 @@
 -- Local units that are the same in both runs: what is read is the same, and they stay so where the same is stored.
-use Rattle.std.proofs.Common.{◌≡◌, ◌+◌, nat_le, ℕ, zero, suc, ℤ, Bool, true, false, List, [], ◌∷◌, length, slice_get, slice_set, Option, Some, None, if◌then◌else◌, refl, sym, ap, ◌∙◌}
+use Rattle.std.proofs.Common.{◌≡◌, ◌+◌, nat_le, ℕ, zero, suc, ℤ, Bool, true, false, List, length, slice_get, slice_set, Option, Some, None, if◌then◌else◌, refl, ap}
 use Rattle.class_model.specs.declared.descriptor.Kind.{Kind}
-use Rattle.machine_values.specs.Values.{has_kind, is_wide_value}
+use Rattle.machine_values.specs.Values.{has_kind, is_wide_value, units_of_values}
 use Rattle.machine_values.specs.declared.value.Value.{Value}
 use Rattle.member_link.specs.Machine.Locals.{cut_before, incremented, local_value, stored, width_of}
-use Rattle.same_runs.specs.Renamings.{Names, SameUnit, no_value, has_value, SameUnits, no_units, and_unit, SameValue, same_int, same_long, same_float, same_double, same_null, same_reference}
+use Rattle.same_runs.specs.Renamings.{Names, SameUnit, no_value, has_value, SameUnits, no_units, and_unit, SameValue, same_int, same_long, same_float, same_double, same_null, same_reference, SameValues, no_values, and_value}
 use Rattle.same_runs.specs.SameMoves.{SameStores, no_store, have_store}
-use Rattle.same_runs.specs.Laws.Moves.{same_kind, same_wide, same_width}
+use Rattle.same_runs.specs.Laws.Moves.{same_kind, same_wide}
 
 -- units before a store, by what is in the one before it
 abbrev pub cut_by : List (Option Value) → ℕ → Option (Option Value) → List (Option Value)
@@ -39,22 +39,27 @@ module _ {names : Names} where
   same_local kind zero (and_unit (has_value is) rest) = if_kind kind is
   same_local kind (suc at) (and_unit one rest) = same_local kind at rest
 
-  pub same_set : (at : ℕ) {ones others : List (Option Value)} {one other : Option Value} → SameUnits names ones others → SameUnit names one other
+  -- a unit that is set to the same in both
+  pub same_set : (at : ℕ) {ones others : List (Option Value)} {one other : Option Value} → SameUnits names ones others
+      → SameUnit names one other
       → SameUnits names (slice_set ones at one) (slice_set others at other)
   same_set at no_units is = no_units
   same_set zero (and_unit first rest) is = and_unit is rest
   same_set (suc at) (and_unit first rest) is = and_unit first (same_set at rest is)
 
+  -- units that are the same are as many
   pub same_size : {ones others : List (Option Value)} → SameUnits names ones others → length others ≡ length ones
   same_size no_units = refl
   same_size (and_unit one rest) = ap suc (same_size rest)
 
-  same_slot : (at : ℕ) {ones others : List (Option Value)} → SameUnits names ones others → SameSlot names (slice_get ones at) (slice_get others at)
+  same_slot : (at : ℕ) {ones others : List (Option Value)} → SameUnits names ones others
+      → SameSlot names (slice_get ones at) (slice_get others at)
   same_slot at no_units = no_slot
   same_slot zero (and_unit one rest) = a_slot one
   same_slot (suc at) (and_unit one rest) = same_slot at rest
 
-  same_cut_by : (at : ℕ) {ones others : List (Option Value)} {one other : Option (Option Value)} → SameUnits names ones others → SameSlot names one other
+  same_cut_by : (at : ℕ) {ones others : List (Option Value)} {one other : Option (Option Value)} → SameUnits names ones others
+      → SameSlot names one other
       → SameUnits names (cut_by ones at one) (cut_by others at other)
   same_cut_by at are no_slot = are
   same_cut_by at are (a_slot no_value) = are
@@ -63,7 +68,8 @@ module _ {names : Names} where
     by true = same_set at are no_value
     by false = are
 
-  same_cut : (at : ℕ) {ones others : List (Option Value)} → SameUnits names ones others → SameUnits names (cut_before at ones) (cut_before at others)
+  same_cut : (at : ℕ) {ones others : List (Option Value)} → SameUnits names ones others
+      → SameUnits names (cut_before at ones) (cut_before at others)
   same_cut zero are = are
   same_cut (suc at) {ones = ones} {others = others} are = same_cut_by at are (same_slot at are)
 
@@ -73,21 +79,35 @@ module _ {names : Names} where
   same_second at false are = are
 
   -- a value is stored in both, or in neither
-  pub same_stored : (at : ℕ) {value also : Value} {ones others : List (Option Value)} → SameValue names value also → SameUnits names ones others
+  pub same_stored : (at : ℕ) {value also : Value} {ones others : List (Option Value)} → SameValue names value also
+      → SameUnits names ones others
       → SameStores names (stored at value ones) (stored at also others)
   same_stored at {value = value} {also = also} {ones = ones} {others = others} is are =
       rw (same_wide is, same_size are) (by (nat_le (at + width_of value) (length ones))) where
         by : (b : Bool)
-            → SameStores names (if b then Some (stored_by at (is_wide_value value) (slice_set (cut_before at ones) at (Some value))) else None)
+            → SameStores names
+            (if b then Some (stored_by at (is_wide_value value) (slice_set (cut_before at ones) at (Some value))) else None)
             (if b then Some (stored_by at (is_wide_value value) (slice_set (cut_before at others) at (Some also))) else None)
         by true = have_store (same_second at (is_wide_value value) (same_set at (same_cut at are) (has_value is)))
         by false = no_store
 
   -- an int that is incremented
-  pub same_incremented : (by : ℤ) {value also : Value} → SameValue names value also → SameValue names (incremented by value) (incremented by also)
+  pub same_incremented : (by : ℤ) {value also : Value} → SameValue names value also
+      → SameValue names (incremented by value) (incremented by also)
   same_incremented by same_int = same_int
   same_incremented by same_long = same_long
   same_incremented by same_float = same_float
   same_incremented by same_double = same_double
   same_incremented by same_null = same_null
   same_incremented by (same_reference is) = same_reference is
+
+  -- arguments in units
+  pub same_arguments : {ones others : List Value} → SameValues names ones others
+      → SameUnits names (units_of_values ones) (units_of_values others)
+  same_arguments no_values = no_units
+  same_arguments (and_value same_int rest) = and_unit (has_value same_int) (same_arguments rest)
+  same_arguments (and_value same_long rest) = and_unit (has_value same_long) (and_unit no_value (same_arguments rest))
+  same_arguments (and_value same_float rest) = and_unit (has_value same_float) (same_arguments rest)
+  same_arguments (and_value same_double rest) = and_unit (has_value same_double) (and_unit no_value (same_arguments rest))
+  same_arguments (and_value same_null rest) = and_unit (has_value same_null) (same_arguments rest)
+  same_arguments (and_value (same_reference is) rest) = and_unit (has_value (same_reference is)) (same_arguments rest)
