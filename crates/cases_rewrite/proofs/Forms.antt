@@ -1,5 +1,5 @@
 -- Forms of instructions.
-use Rattle.std.proofs.Common.{◌≡◌, ◌<◌, ◌≤◌, ◌&&◌, int_lt, ℕ, Bool, true, List, [], ◌∷◌, length, map, IsTrue, refl, sym, ap, subst, ◌∙◌, arith}
+use Rattle.std.proofs.Common.{◌≡◌, ◌<◌, ◌≤◌, ◌&&◌, int_lt, ℕ, Bool, true, List, [], ◌∷◌, length, map, refl, sym, ap, subst, ◌∙◌, arith}
 use Rattle.std.proofs.lemmas.List.{length-map}
 use Rattle.class_model.specs.Instructions.{keys_increase}
 use Rattle.class_model.specs.declared.instr.Instr.TheVariants.{IfNull, Lookup}

@@ -1,9 +1,9 @@
 -- The frame that a method's code begins with lists what its locals begin with.
-use Rattle.std.proofs.Common.{◌≡◌, ℕ, zero, suc, ◌+◌, ◌-◌, List, [], ◌∷◌, ◌++◌, length, replicate, map, Some, refl, sym, ap, ◌∙◌, append_assoc}
+use Rattle.std.proofs.Common.{◌≡◌, ℕ, zero, suc, ◌-◌, List, [], ◌∷◌, ◌++◌, length, replicate, map, Some, refl, sym, ap, ◌∙◌, append_assoc}
 use Rattle.std.proofs.lemmas.List.{append-nil, reverse-append}
 use Rattle.class_model.specs.Code.{verification_type}
 use Rattle.class_model.specs.Descriptors.{parameters_of}
-use Rattle.class_model.specs.Frames.{units, units_of_entries, listed}
+use Rattle.class_model.specs.Frames.{units_of_entries, listed}
 use Rattle.class_model.specs.Methods.{Home, entry_of}
 use Rattle.class_model.specs.PoolChecks.{utf8_at}
 use Rattle.class_model.specs.declared.class_file.CodePart.{CodePart}

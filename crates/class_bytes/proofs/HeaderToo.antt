@@ -15,7 +15,6 @@ use Rattle.class_model.specs.Spelling.{constant_bytes, field_bytes, method_bytes
 use Rattle.class_model.specs.declared.class_file.ClassFile.{ClassFile}
 use Rattle.class_model.specs.declared.class_file.Field.{Field}
 use Rattle.class_model.specs.declared.class_file.Method.{Method}
-use Rattle.class_model.specs.declared.fault.FileRule.TheVariants as rules
 use Rattle.class_model.specs.declared.header.Member.{Member}
 use Rattle.class_model.specs.declared.pool.Const.TheVariants.{Utf8}
 use Rattle.class_bytes.specs.Inner.HeaderParts.{method_head, member_in}

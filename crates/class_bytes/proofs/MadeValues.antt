@@ -1,13 +1,11 @@
 -- The bytes of a class file value that was made are a class file, and it is theirs.
-use Rattle.std.proofs.Common.{◌≡◌, ℕ, List, [], ◌∷◌, map, Some, Ok, refl, sym, ap, subst, ◌∙◌}
+use Rattle.std.proofs.Common.{◌≡◌, List, [], ◌∷◌, map, Ok, refl, sym, ap, subst, ◌∙◌}
 use Rattle.std.specs.List.{AllByRecursion}
 use Rattle.class_model.specs.Checks.{AllHold}
-use Rattle.class_model.specs.ClassOf.{ClassOf, class_file_checks, entered, entered_attr, entered_method}
-use Rattle.class_model.specs.Cutting.{class_file_at}
+use Rattle.class_model.specs.ClassOf.{ClassOf, entered, entered_attr, entered_method}
 use Rattle.class_model.specs.Laws.AlikeAttrs.{Alike, AllAlike, MethodAlike, class_alike}
-use Rattle.class_model.specs.Laws.CutBack.{rest_of}
 use Rattle.class_model.specs.Pool.{Constants}
-use Rattle.class_model.specs.Spelling.{class_bytes, code_part_bytes}
+use Rattle.class_model.specs.Spelling.{class_bytes}
 use Rattle.class_model.specs.Values.{IsRaw, IsParted, FieldIsRaw, MethodIsParted, IsValue}
 use Rattle.class_model.specs.declared.class_file.Attr.{Attr}
 use Rattle.class_model.specs.declared.class_file.Attr.TheVariants.{Raw, Code}

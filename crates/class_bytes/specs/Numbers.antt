@@ -1,8 +1,7 @@
 -- Class files whose numbers fit the items of two bytes that spell them (JVM Specification SE 8, 4.1 and 4.4 to 4.7), as those of
 -- each value that a program holds do.
-use Rattle.std.specs.Prelude.{ℕ}
 use Rattle.std.specs.List.{AllByRecursion}
-use Rattle.class_model.specs.Pool.{Constants, IsPool}
+use Rattle.class_model.specs.Pool.{IsPool}
 use Rattle.class_model.specs.declared.class_file.Attr.{Attr}
 use Rattle.class_model.specs.declared.class_file.Attr.TheVariants.{Raw, Code}
 use Rattle.class_model.specs.declared.class_file.ClassFile.{ClassFile}

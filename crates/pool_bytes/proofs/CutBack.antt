@@ -1,18 +1,17 @@
 -- What spells a constant, or a pool, is cut as that constant or pool, wherever it stands, in a class file of a version that has
 -- its tags.
-use Rattle.std.proofs.Common.{◌≡◌, ℕ, zero, suc, ◌+◌, ◌^◌, ◌<◌, ◌≤◌, Bool, true, false, ℤ, FitsSigned, cond, not, ◌&&◌, ◌||◌, ◌==◌, List, [], ◌∷◌, ◌++◌, length, drop, Option, Some, None, Ok, refl, sym, ap, subst, ◌∙◌, append_assoc, length-append, zero-add, arith}
-use Rattle.std.specs.Int.{Width, w16, w32, w64, byte_len, to_be_bytes, from_be_bytes, cast_unsigned, cast_signed}
+use Rattle.std.proofs.Common.{◌≡◌, ℕ, zero, suc, ◌+◌, ◌^◌, ◌<◌, ◌≤◌, true, ℤ, FitsSigned, not, ◌&&◌, ◌||◌, ◌==◌, List, [], ◌∷◌, ◌++◌, length, drop, Option, Some, None, Ok, refl, sym, ap, subst, ◌∙◌, append_assoc, length-append, zero-add, arith}
+use Rattle.std.specs.Int.{w32, w64, to_be_bytes, cast_unsigned, cast_signed}
 use Rattle.std.specs.List.{flat_map}
 use Rattle.std.proofs.Math.Facts.{Fits-of_z}
-use Rattle.std.proofs.Math.Seq.{take-append_seam, drop-append_seam, drop-length}
-use Rattle.std.proofs.lemmas.Bool.{le-ltb, lt-leb, le-leb, ne_eqb}
+use Rattle.std.proofs.Math.Seq.{drop-length}
+use Rattle.std.proofs.lemmas.Bool.{lt-leb, le-leb, ne_eqb}
 use Rattle.std.proofs.lemmas.Bool.Decides.{nat_tests}
 use Rattle.std.proofs.lemmas.Int.{to_z-of_z}
 use Rattle.std.proofs.lemmas.List.{append-nil}
 use Rattle.std.proofs.lemmas.List.Concat.{flat_map-append}
-use Rattle.std.proofs.lemmas.Nat.{from_be_bytes-to_be_bytes_2, from_be_bytes-to_be_bytes_4, from_be_bytes-to_be_bytes_8}
-use Rattle.class_model.specs.Checks.{Fault, fault, ◌>>=◌}
-use Rattle.class_model.specs.Cutting.{Rest, Cut, bytes_at, number_at, u1_at, u2_at, u4_at, u2_pair_at, is_tag, fields_at, entries_at, pool_at}
+use Rattle.class_model.specs.Checks.{◌>>=◌}
+use Rattle.class_model.specs.Cutting.{bytes_at, u2_at, is_tag, fields_at, entries_at, pool_at}
 use Rattle.class_model.specs.Laws.CutBack.{rest_of, CutsAs, next, on_true, on_false, then_cut, made_cut, bytes_cut, u1_cut, u2_cut, u4_cut, u8_cut, u2_pair_cut}
 use Rattle.class_model.specs.Laws.Pools.{entry_spelled}
 use Rattle.class_model.specs.Pool.{Constants, entries_of, IsPool}

@@ -5,7 +5,6 @@ use Rattle.class_model.specs.Checks.{Fault}
 use Rattle.class_model.specs.Code.{IsCalled, OperandFits}
 use Rattle.class_model.specs.Instructions.{decoded}
 use Rattle.class_model.specs.Pool.{Constants}
-use Rattle.class_model.specs.declared.class_file.Attr.TheVariants as attrs
 use Rattle.class_model.specs.declared.instr.Instr.{Instr}
 use Rattle.class_model.specs.declared.instr.Instr.TheVariants.{Nop, Const, Ldc, Ldc2, Load, Store, Iinc, ArrayLoad, ArrayStore, Shuffle, Pure, Divide, FloatAsk, If, If2, IfSame, IfNull, Goto, Table, Lookup, Return, GetStatic, PutStatic, GetField, PutField, Invoke, Dynamic, New, NewArray, NewRefArray, NewMulti, Length, Throw, Cast, InstanceOf, Enter, Leave}
 use Rattle.class_model.specs.declared.instr.Placed.{Placed}

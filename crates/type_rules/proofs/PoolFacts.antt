@@ -7,7 +7,6 @@ use Rattle.class_model.specs.Pool.{Constants, constant_at}
 use Rattle.class_model.specs.PoolChecks.{IsMethodDescriptor, class_at, constant_checks, descriptor_at, entries_checks, methodref_checks, name_and_type_of, name_at, utf8_at}
 use Rattle.class_model.specs.Spelling.{constant_bytes}
 use Rattle.class_model.specs.declared.class_file.ClassFile.{ClassFile}
-use Rattle.class_model.specs.declared.fault.FileRule.TheVariants as rules
 use Rattle.class_model.specs.declared.pool.Const.{Const}
 use Rattle.class_model.specs.declared.pool.Const.TheVariants as consts
 use Rattle.class_tree.specs.Headers.{IsClassFile}

@@ -1,5 +1,5 @@
 -- The body of a method with code.
-use Rattle.std.specs.Prelude.{◌+◌, ℕ, true, List, length, map}
+use Rattle.std.specs.Prelude.{◌+◌, true, length, map}
 use Rattle.class_model.specs.declared.instr.Placed.{Placed}
 use Rattle.member_link.specs.Bodies.{Body, BodyPoint, item_instr}
 use Rattle.type_rules.specs.Handlers.{catches_at, caught_in}

@@ -7,7 +7,6 @@ use Rattle.class_model.specs.Frames.{depth}
 use Rattle.class_model.specs.Pool.{Constants, constant_at}
 use Rattle.class_model.specs.PoolChecks.{IsClassAt, IsInterfaceConstant, IsMethodConstant}
 use Rattle.class_model.specs.declared.frame.Frame.{Frame}
-use Rattle.class_model.specs.declared.frame.VType.{VType}
 use Rattle.class_model.specs.declared.instr.Instr.{Instr}
 use Rattle.class_model.specs.declared.instr.Instr.TheVariants.{Load, Store, Iinc, Invoke, NewMulti}
 use Rattle.class_model.specs.declared.instr.Placed.{Placed}

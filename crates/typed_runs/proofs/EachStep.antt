@@ -1,14 +1,14 @@
 -- Each step of a typed world, by the family of its operation.
-use Rattle.std.specs.Prelude.{◌≡◌, refl, List, [], ◌∷◌, true, IfSome, if◌then◌else◌}
+use Rattle.std.specs.Prelude.{◌≡◌, refl, List, [], ◌∷◌, true, IfSome}
 use Rattle.std.proofs.Common.{sym, subst}
 use Rattle.machine_values.specs.declared.frame.RunFrame.{RunFrame}
 use Rattle.machine_values.specs.declared.frame.RunFrame.TheVariants as frames
 use Rattle.member_link.specs.Machine.Ops.{Op, no_operation, meaningless, push_value, push_constant, load_local, store_local, increment_local, test_local, shuffle_stack, pure_arithmetic, division, float_arithmetic, jump_by_int, jump_by_ints, jump_by_references, jump_by_null, jump_to, table_switch, lookup_switch, return_nothing, return_value, throw_reference, get_static, put_static, get_field, put_field, call_static, call_virtual, call_interface, call_special, call_dynamic, new_object, new_array, new_arrays, load_element, store_element, array_length, check_cast, instance_of, enter_monitor, leave_monitor}
 use Rattle.member_link.specs.Machine.Programs.{Program, Point}
-use Rattle.member_link.specs.Machine.Stepping.{step, frames_step, is_library_turn}
+use Rattle.member_link.specs.Machine.Stepping.{step, is_library_turn}
 use Rattle.member_link.specs.Machine.Worlds.{World}
 use Rattle.typed_runs.specs.Families.{BeginsClass, Calls, EndsMethod, MakesObject, NamesField, NextIs, ThrowsReference, WorksOnArrays, WorksOnOperands}
-use Rattle.typed_runs.specs.TypedFrames.{nothing_awaited, Does, FramesConform, lowest, upon}
+use Rattle.typed_runs.specs.TypedFrames.{nothing_awaited, FramesConform, upon}
 use Rattle.typed_runs.specs.TypedPoints.{IsLinkedOp}
 use Rattle.typed_runs.specs.TypedPrograms.{Typings}
 use Rattle.typed_runs.specs.TypedWorlds.{TypedWorld, StaysTyped}

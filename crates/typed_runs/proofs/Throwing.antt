@@ -1,5 +1,5 @@
-use Rattle.std.specs.Prelude.{◌≡◌, ◌⊎◌, refl, ℕ, Bool, true, false, List, [], ◌∷◌, take, drop, reverse, get_or, IsFalse}
-use Rattle.std.proofs.Common.{arith, inl, inr, ap, sym, ◌∙◌, subst}
+use Rattle.std.specs.Prelude.{◌≡◌, refl, ℕ, Bool, true, List, [], ◌∷◌, take, drop, reverse, get_or}
+use Rattle.std.proofs.Common.{arith, ap, sym, subst}
 use Rattle.class_model.specs.Characters.{left_bracket}
 use Rattle.class_model.specs.declared.frame.Frame.{Frame}
 use Rattle.class_model.specs.declared.frame.VType.TheVariants as types

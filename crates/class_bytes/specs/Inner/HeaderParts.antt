@@ -1,6 +1,6 @@
 -- What a reader of headers holds of a class file behind its pool, and what that is asked (JVM Specification SE 8, 4.1 to
 -- 4.6). Attributes are cut and not kept: of those of a member the length is.
-use Rattle.std.specs.Prelude.{◌==◌, ◌+◌, ◌*◌, ℕ, List, [], ◌∷◌, ◌++◌, length, map, Option, Some, None, Result, Ok, Err, IfSome, IsSome, if◌then◌else◌}
+use Rattle.std.specs.Prelude.{◌==◌, ◌+◌, ◌*◌, ℕ, List, [], ◌∷◌, ◌++◌, length, map, Result, Ok, Err, IfSome, IsSome, if◌then◌else◌}
 use Rattle.class_model.specs.Checks.{Check, check, Fault, fault, ◌>>=◌}
 use Rattle.class_model.specs.Cutting.{Rest, Cut, u2_at, counted_at, attr_at}
 use Rattle.class_model.specs.Members.{class_name_checks, super_checks, interfaces_checks}

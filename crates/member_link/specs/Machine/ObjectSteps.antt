@@ -1,5 +1,5 @@
 -- Objects (JVM Specification SE 8, 6.5: new, checkcast, instanceof, monitorenter, monitorexit, athrow). A monitor can always be entered.
-use Rattle.std.specs.Prelude.{◌==◌, ◌+◌, ℕ, pos, Bool, false, List, [], ◌∷◌, Option, Some, None, if◌then◌else◌}
+use Rattle.std.specs.Prelude.{◌==◌, ◌+◌, ℕ, pos, List, [], ◌∷◌, Option, Some, None, if◌then◌else◌}
 use Rattle.class_tree.specs.Headers.{Name}
 use Rattle.class_tree.specs.Layouts.{instance_fields}
 use Rattle.class_tree.specs.Names.{throwable}

@@ -1,5 +1,5 @@
 -- Instructions on arrays (JVM Specification SE 8, 6.5).
-use Rattle.std.specs.Prelude.{◌==◌, ◌-◌, nat_lt, ℕ, List, [], ◌∷◌, length, take, replicate, codes, Option, Some, None, if◌then◌else◌}
+use Rattle.std.specs.Prelude.{◌==◌, ◌-◌, nat_lt, ℕ, List, [], ◌∷◌, replicate, codes, Option, Some, None, if◌then◌else◌}
 use Rattle.class_model.specs.ArrayTypes.{component_of}
 use Rattle.class_model.specs.Characters.{left_bracket}
 use Rattle.class_model.specs.Descriptors.{named_text}

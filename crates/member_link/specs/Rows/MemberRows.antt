@@ -1,11 +1,10 @@
 -- Fields, calls and returns (JVM Specification SE 8, 4.10.1.8, 4.10.1.9 and 6.5).
-use Rattle.std.specs.Prelude.{◌≡◌, ◌≢◌, ◌⊎◌, ◌==◌, ◌+◌, ℕ, List, [], ◌∷◌, length, drop, map, bytes_eq, codes, Option, Some, None, IsTrue, if◌then◌else◌}
-use Rattle.std.specs.List.{flat_map, list_any, AllByRecursion}
+use Rattle.std.specs.Prelude.{◌≡◌, ◌≢◌, ◌⊎◌, ◌==◌, ◌+◌, ℕ, List, [], ◌∷◌, length, map, bytes_eq, codes, Option, Some, None, IsTrue, if◌then◌else◌}
+use Rattle.std.specs.List.{list_any, AllByRecursion}
 use Rattle.class_model.specs.Code.{verification_type}
-use Rattle.class_model.specs.Descriptors.{field_type_text, kind_of, parameters_of, type_of}
+use Rattle.class_model.specs.Descriptors.{kind_of, parameters_of}
 use Rattle.class_model.specs.Members.{has, PROTECTED}
 use Rattle.class_model.specs.Names.{init}
-use Rattle.class_model.specs.Pool.{Constants}
 use Rattle.class_model.specs.PoolChecks.{descriptor_at}
 use Rattle.class_model.specs.declared.descriptor.FieldType.{FieldType}
 use Rattle.class_model.specs.declared.descriptor.Kind.{Kind}
@@ -29,7 +28,7 @@ use Rattle.member_link.specs.RowScope.{RowScope}
 use Rattle.member_link.specs.Rows.Assigning.{IsAssignableIn}
 use Rattle.member_link.specs.Rows.Operands.{Need, of_kind, uninitialised, assignable_to, assignable_or_this, lowest_of}
 use Rattle.member_link.specs.Rows.Row.{Row, plain, conditional, ending, no_row, either}
-use Rattle.member_link.specs.Signatures.{field_type, reference_of, result_of}
+use Rattle.member_link.specs.Signatures.{field_type, result_of}
 
 -- ---- arguments and results
 

@@ -1,6 +1,6 @@
 -- Operations that work on their operands, and not on the frame alone: a step of such a one performs what it comes to. Those that are the
 -- same take as many operands.
-use Rattle.std.proofs.Common.{◌≡◌, ◌+◌, ◌≤◌, nat_le, ℕ, zero, suc, true, List, [], ◌∷◌, ◌++◌, length, reverse, take, Some, refl, ap, sym, subst, ◌∙◌, arith}
+use Rattle.std.proofs.Common.{◌≡◌, ◌≤◌, nat_le, ℕ, zero, suc, true, List, [], ◌∷◌, ◌++◌, length, reverse, take, Some, refl, ap, sym, subst, ◌∙◌, arith}
 use Rattle.std.proofs.lemmas.Bool.{le-leb, leb-true}
 use Rattle.machine_values.specs.Frames.{MethodState}
 use Rattle.machine_values.specs.declared.frame.RunFrame.{RunFrame}

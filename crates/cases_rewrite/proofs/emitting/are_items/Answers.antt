@@ -1,5 +1,5 @@
-use Rattle.std.proofs.Common.{rules, ◌≡◌, ◌<◌, ℕ, Some, length, slice_get, refl, sym, subst, ap, ◌∙◌, inl, inr, arith}
-use Rattle.std.proofs.lemmas.Bool.{cases_Bool, cases_order, true≢false, false≢true}
+use Rattle.std.proofs.Common.{rules, ◌≡◌, ℕ, Some, length, slice_get, refl, sym, subst, ap, ◌∙◌, inl, inr, arith}
+use Rattle.std.proofs.lemmas.Bool.{cases_order}
 use Rattle.std.proofs.lemmas.Option.{same_Some, slice_get_read, slice_get_within}
 use Rattle.code_layout.specs.Emitting.{IsItem}
 use Rattle.code_layout.specs.declared.emitted.EmitItem.{EmitItem}

@@ -1,6 +1,5 @@
-use Rattle.std.proofs.Common.{List, subst}
+use Rattle.std.proofs.Common.{subst}
 use Rattle.code_layout.specs.Emitting.{IsEmitted}
-use Rattle.code_layout.specs.declared.emitted.EmitItem.{EmitItem}
 use Rattle.cases_rewrite.proofs.emitting.emitted_of.Goals as goal
 
 pub of-requires : goal.of-requires

@@ -1,7 +1,6 @@
 use Rattle.std.proofs.Common.{List, length, sym, subst, ◌≡◌, true, ◌≤◌}
 use Rattle.std.proofs.lemmas.Bool.{eqb-true}
 use Rattle.class_model.specs.Instructions.{keys_increase}
-use Rattle.class_model.specs.declared.instr.Instr.{Instr}
 use Rattle.class_model.specs.declared.instr.Pair.{Pair}
 use Rattle.code_layout.specs.Emitting.{HasForm}
 use Rattle.cases_rewrite.proofs.Forms.{lookup_form, null_form}

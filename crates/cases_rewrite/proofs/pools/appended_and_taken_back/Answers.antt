@@ -1,4 +1,4 @@
-use Rattle.std.proofs.Common.{◌≡◌, ℕ, subst}
+use Rattle.std.proofs.Common.{ℕ, subst}
 use Rattle.pool_edit.specs.Edits.{TakesBack}
 use Rattle.cases_rewrite.proofs.pools.appended_and_taken_back.Goals as goal
 

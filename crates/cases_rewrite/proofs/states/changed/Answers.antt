@@ -1,4 +1,4 @@
-use Rattle.std.proofs.Common.{ℕ, List, [], length, subst}
+use Rattle.std.proofs.Common.{ℕ, List, length, subst}
 use Rattle.std.specs.List.{AllByRecursion}
 use Rattle.virtual_state.specs.declared.slot.Slot.{Slot}
 use Rattle.cases_rewrite.specs.Inner.Numbering.{AreNumberedFrom, IsThere}

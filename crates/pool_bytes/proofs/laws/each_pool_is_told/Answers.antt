@@ -1,5 +1,5 @@
-use Rattle.std.proofs.Common.{◌≡◌, ◌⊎◌, inl, inr, ◌+◌, ℕ, Ok, Err, refl, sym, subst}
-use Rattle.class_model.specs.Checks.{Fault, AllHold, IsFirstFault, asked_of}
+use Rattle.std.proofs.Common.{◌≡◌, ◌⊎◌, inl, inr, ◌+◌, ℕ, Ok, Err, refl}
+use Rattle.class_model.specs.Checks.{Fault, AllHold, IsFirstFault}
 use Rattle.class_model.specs.Cutting.{Rest, Cut, pool_at}
 use Rattle.class_model.specs.Pool.{Constants}
 use Rattle.class_model.specs.PoolChecks.{entries_checks}

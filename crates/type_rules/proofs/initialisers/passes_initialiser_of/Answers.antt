@@ -1,4 +1,4 @@
-use Rattle.std.proofs.Common.{◌≡◌, Some, subst}
+use Rattle.std.proofs.Common.{subst}
 use Rattle.member_link.specs.Found.{IsMethodOf, methods_of}
 use Rattle.member_link.specs.Methods.{FindsMethod}
 use Rattle.type_rules.proofs.ProtectedMembers.{own_package}

@@ -1,6 +1,5 @@
-use Rattle.std.proofs.Common.{◌≡◌, ◌∙◌, map, ap}
+use Rattle.std.proofs.Common.{◌∙◌, map, ap}
 use Rattle.class_tree.specs.Inner.Nodes.{place_at}
-use Rattle.class_tree.specs.Inner.Parts.{part_of}
 use Rattle.class_tree.proofs.Parts.{mapped_lists}
 use Rattle.class_tree.proofs.lists.Lists+usize.into_places.Goals as goal
 
