@@ -209,6 +209,15 @@ def wide_handlers(count, folder):
     made.write(folder, "M.class")
 
 
+def wide_stores(count, folder):
+    """A method of 65,535 bytes that stores again and again inside a handler, behind a frame of so many locals."""
+    made, body = ClassFile(), (ICONST_0 + ISTORE_0) * (MOST // 2 - 1)
+    end = len(body) + 2
+    frames = [full_frame(1, [INT] * count)] + caught_frames(made, end - 2, 1)
+    made.method("m", "()V", RETURN + body + RETURN + ATHROW, 1, count, [(1, end, end, 0)], frames)
+    made.write(folder, "M.class")
+
+
 def field_types(count):
     """So many field descriptors, no two of which are equal."""
     return ["[" * (number // 8) + "BCDFIJSZ"[number % 8] for number in range(count)]
@@ -293,8 +302,8 @@ def deep(count, folder):
 SHAPES = {
     made.__name__.replace("_", "-"): made
     for made in (
-        nops, handlers, targets, changes, calls, references, interface_calls, same_descriptors, full, wide, wide_handlers, fields,
-        methods, constants, texts, tiny, tables, lookups, names, deep,
+        nops, handlers, targets, changes, calls, references, interface_calls, same_descriptors, full, wide, wide_handlers, wide_stores,
+        fields, methods, constants, texts, tiny, tables, lookups, names, deep,
     )
 }
 

@@ -78,6 +78,7 @@ same-descriptors 65000 2000 - verified
 full 64 - 100 verified
 wide 65535 - 200 verified
 wide-handlers 65535 - 200 verified
+wide-stores 65535 - 200 verified
 fields 65535 - - verified
 methods 65535 - - verified
 constants 65534 - - verified
