@@ -9,7 +9,6 @@ mod head;
 mod input;
 mod library;
 mod lines;
-mod mnemonics;
 mod notation;
 mod pool;
 mod questions;

@@ -1,4 +1,4 @@
-//! Mnemonics of instructions (JVM Specification SE 8, 6.5).
+//! The mnemonics of opcodes (JVM Specification SE 8, 6.5), for texts that people read and for the notation of tests.
 
 // In the order of their opcodes, from 0 on.
 const MNEMONICS: &str =
@@ -15,11 +15,16 @@ d2f i2b i2c i2s lcmp fcmpl fcmpg dcmpl dcmpg ifeq ifne iflt ifge ifgt ifle if_ic
 if_icmpge if_icmpgt if_icmple if_acmpeq if_acmpne goto jsr ret tableswitch lookupswitch ireturn lreturn freturn \
 dreturn areturn return getstatic putstatic getfield putfield invokevirtual invokespecial invokestatic \
 invokeinterface invokedynamic new newarray anewarray arraylength athrow checkcast instanceof monitorenter \
-monitorexit wide multianewarray ifnull ifnonnull goto_w";
+monitorexit wide multianewarray ifnull ifnonnull goto_w jsr_w";
 
-/// The opcode of a mnemonic.
-pub(crate) fn opcode(mnemonic: &str) -> Option<u8> {
-    for (opcode, name) in (0..=200u8).zip(MNEMONICS.split(' ')) {
+/// The mnemonic of an opcode, if it has one.
+pub fn mnemonic(opcode: u8) -> Option<&'static str> {
+    MNEMONICS.split(' ').nth(usize::from(opcode))
+}
+
+/// The opcode of a mnemonic, if there is one.
+pub fn opcode_of(mnemonic: &str) -> Option<u8> {
+    for (opcode, name) in (0..=201u8).zip(MNEMONICS.split(' ')) {
         if name == mnemonic {
             return Some(opcode);
         }
