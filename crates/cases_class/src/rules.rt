@@ -5,8 +5,7 @@ ghost use Rattle.type_rules.specs.Rule.{FitsPool};
 ghost use Rattle.member_link.specs.Scope.{scope_at};
 
 use crate::frame_text::{frame_of, text_of, type_of};
-use crate::setting::Setting;
-use cases_notation::last_method;
+use cases_notation::{Setting, last_method};
 use class_model::{Frame, MethodAt, Placed, Text, VType};
 use class_tree::Tree;
 use member_link::check_links;

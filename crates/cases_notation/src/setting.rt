@@ -1,11 +1,12 @@
 //! What the cases of a file are asked over.
-use cases_notation::{Input, word_and_rest};
+use crate::input::Input;
+use crate::lines::word_and_rest;
 use class_tree::Tree;
 use std::alloc::Global;
 
 /// The classes that cases are asked over, in their notation.
 #[derive(Clone, Copy)]
-pub(crate) struct Setting<'a> {
+pub struct Setting<'a> {
     /// The classes of the folder.
     pub folder: &'a str,
     /// What the library has beside the usual classes.
@@ -18,7 +19,7 @@ pub(crate) struct Setting<'a> {
 
 impl<'a> Setting<'a> {
     /// No class but the usual ones of the library.
-    pub(crate) fn empty() -> Self {
+    pub fn empty() -> Self {
         Setting {
             folder: "",
             library: "",
@@ -28,7 +29,7 @@ impl<'a> Setting<'a> {
     }
 
     /// Sets what a statement says. False where it is no setting.
-    pub(crate) fn take(&mut self, statement: &'a str) -> bool {
+    pub fn take(&mut self, statement: &'a str) -> bool {
         let (word, said) = word_and_rest(statement);
         match word {
             "folder" => self.folder = said,
@@ -41,7 +42,7 @@ impl<'a> Setting<'a> {
     }
 
     /// A folder of these classes, and the library. None where they are not in the notation or memory runs out.
-    pub(crate) fn input_with(&self, alloc: Global, folder: &str) -> Option<Input> {
+    pub fn input_with(&self, alloc: Global, folder: &str) -> Option<Input> {
         let mut input = usual(alloc, self.without)?;
         input.add_headers(alloc, self.library).ok()?;
         input.add_classes(alloc, folder).ok()?;
@@ -49,13 +50,13 @@ impl<'a> Setting<'a> {
     }
 
     /// The hierarchy of a folder of these classes and of the library. None where there is none.
-    pub(crate) fn tree_with(&self, alloc: Global, folder: &str) -> Option<Tree> {
+    pub fn tree_with(&self, alloc: Global, folder: &str) -> Option<Tree> {
         self.input_with(alloc, folder)?.build(alloc).ok()
     }
 
     /// The hierarchy of the folder and the library, the last method of the folder with these uses besides. None where there is
     /// none.
-    pub(crate) fn tree_using(&self, alloc: Global, uses: &str) -> Option<Tree> {
+    pub fn tree_using(&self, alloc: Global, uses: &str) -> Option<Tree> {
         self.tree_with(alloc, &with_uses(alloc, self.folder, uses)?)
     }
 }
