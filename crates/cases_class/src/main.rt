@@ -22,7 +22,6 @@
 #![tactic(auto)]
 
 mod answers;
-mod frame_text;
 mod hierarchies;
 mod linking;
 mod rules;

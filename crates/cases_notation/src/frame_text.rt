@@ -5,7 +5,7 @@ use class_model::{Frame, ListOf, LocalTypeList, Text, VType};
 use std::alloc::Global;
 
 /// The type that a word says. None where memory runs out, as in what follows.
-pub(crate) fn type_of(alloc: Global, word: &str) -> Option<VType> {
+pub fn type_of(alloc: Global, word: &str) -> Option<VType> {
     if let Some(at) = word.strip_prefix("new@") {
         return Some(VType::Uninit(at.parse::<u32>().unwrap_or(u32::MAX)));
     }
@@ -22,7 +22,7 @@ pub(crate) fn type_of(alloc: Global, word: &str) -> Option<VType> {
 }
 
 /// The frame that a text says.
-pub(crate) fn frame_of(alloc: Global, text: &str) -> Option<Frame> {
+pub fn frame_of(alloc: Global, text: &str) -> Option<Frame> {
     let mut locals = LocalTypeList::new(alloc);
     let mut stack = ListOf::new(alloc);
     let mut is_stack = false;
@@ -39,7 +39,7 @@ pub(crate) fn frame_of(alloc: Global, text: &str) -> Option<Frame> {
 }
 
 /// The text of a frame.
-pub(crate) fn text_of(alloc: Global, frame: &Frame) -> Option<String> {
+pub fn text_of_frame(alloc: Global, frame: &Frame) -> Option<String> {
     let mut text = String::new(alloc);
     for at in 0..frame.locals.len() {
         if let Some(local) = frame.locals.get(at) {
