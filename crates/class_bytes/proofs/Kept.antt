@@ -146,8 +146,7 @@ module _ (pool : Constants) (member : Signature) (all : Numbers) (name desc : �
   same_number text other n m is_n is_m =
       let numbers = Decides-eqb m n in
       let texts = bytes_eq-Decides text other in
-      same_from_decides (m == n) (bytes_eq text other)
-      (
+      same_from_decides (m == n) (bytes_eq text other) (
         λ e. same_some text other (sym (own.indices text n is_n) ∙ subst (λ (k : ℕ). utf8_at all.pool k ≡ Some other) (numbers.0 e) (own.indices other m is_m)),
         λ (e : text ≡ other). numbers.1 (same_some m n (sym is_m ∙ sym (ap (number_of all) e) ∙ is_n)),
       ) texts
@@ -188,11 +187,11 @@ module _ (pool : Constants) (member : Signature) (all : Numbers) (name desc : �
     given = λ n d has.
         one_of {P = IsGiven all n × IsGiven all d} ((name == n) && (desc == d)) (has_pair pairs (Some n) (Some d)) (subst IsTrue (added.others (n, d)) has)
         (
-          λ same.
-              let equal = both (name == n) (desc == d) same in (
-                record { text = own.name_text; is = own.name_is ∙ ap (λ (k : ℕ). Some k) ((Decides-eqb name n).0 equal.0) },
-                record { text = own.desc_text; is = own.desc_is ∙ ap (λ (k : ℕ). Some k) ((Decides-eqb desc d).0 equal.1) },
-              )
+        λ same.
+        let equal = both (name == n) (desc == d) same in (
+          record { text = own.name_text; is = own.name_is ∙ ap (λ (k : ℕ). Some k) ((Decides-eqb name n).0 equal.0) },
+          record { text = own.desc_text; is = own.desc_is ∙ ap (λ (k : ℕ). Some k) ((Decides-eqb desc d).0 equal.1) },
+        )
         )
         (known.given n d);
   }

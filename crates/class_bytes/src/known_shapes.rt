@@ -5,9 +5,7 @@ ghost use Rattle.class_model.specs.PoolChecks.{descriptor_at, utf8_at, IsFieldDe
 ghost use Rattle.class_bytes.specs.Inner.KnownShapes.{IsShapeAt};
 ghost use Rattle.class_bytes.specs.Inner.Shapes.{IsShape};
 
-use class_model::{
-    MethodShape, Pool, a_descriptor_of_a_text, is_field_descriptor, method_shape,
-};
+use class_model::{MethodShape, Pool, a_descriptor_of_a_text, is_field_descriptor, method_shape};
 use std::alloc::Global;
 use std::marker::Model;
 

@@ -1,5 +1,5 @@
 -- The members whose names and descriptors are kept.
-use Rattle.std.specs.Prelude.{◌≡◌, ◌==◌, ◌&&◌, Bool, false, ℕ, List, Option, Some, None, IsTrue}
+use Rattle.std.specs.Prelude.{◌≡◌, ◌==◌, ◌&&◌, Bool, false, ℕ, List, Option, Some, IsTrue}
 use Rattle.std.specs.List.{list_any}
 use Rattle.class_model.specs.Members.{Signature, is_text}
 use Rattle.class_model.specs.Pool.{Constants}
