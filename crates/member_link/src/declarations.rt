@@ -1,10 +1,11 @@
 //! What the declarations of a folder's classes are asked to be linked.
-ghost use Rattle.std.specs.Prelude.{◌≡◌, ◌↔◌, Some, IfSome, IsTrue};
+ghost use Rattle.std.specs.Prelude.{◌≡◌, ◌↔◌, Some, IfOk, IfSome, IsTrue};
 ghost use Rattle.std.specs.List.{AllByRecursion};
+ghost use Rattle.std.specs.Option.{option_copied};
 ghost use Rattle.class_model.specs.Checks.{asked_each};
 ghost use Rattle.class_model.specs.declared.header.Header.{Header};
 ghost use Rattle.class_tree.specs.Answers.{Answers};
-ghost use Rattle.class_tree.specs.Headers.{headers_of};
+ghost use Rattle.class_tree.specs.Headers.{headers_of, IsThere};
 ghost use Rattle.class_tree.specs.Hierarchy.{StandsAt};
 ghost use Rattle.class_tree.specs.Order.{header_at};
 ghost use Rattle.class_tree.specs.Steps.{supers};
@@ -14,6 +15,7 @@ ghost use Rattle.member_link.specs.DeclaredMembers.{Declared, declared_by};
 ghost use Rattle.member_link.specs.Inner.FinalMarks.{AreFinalMarks};
 ghost use Rattle.member_link.specs.Inner.FinalMethods.{IsFolderPlace, IsOverriddenFinal};
 ghost use Rattle.member_link.specs.Found.{IsMethodFound};
+ghost use Rattle.member_link.specs.References.{FieldTypeNames};
 
 use crate::access::is_class_accessible;
 use crate::ask::ask_at;
@@ -23,7 +25,7 @@ use crate::found::Found;
 use crate::named_descriptors::NamedDescriptors;
 use crate::names::is_field_type_there;
 use crate::overriding::{Method, any_above, method_at, overrides_method};
-use class_model::{ACC_FINAL, Header, has};
+use class_model::{ACC_FINAL, Header, NoMemory, Text, has};
 use class_tree::{LinkFault, LinkRule, Place, Tree, a_tree_is_a_hierarchy, ask};
 use std::alloc::Global;
 
@@ -100,11 +102,41 @@ fn check_fields(alloc: Global, tree: &Tree, header: &Header) -> Result<(), LinkF
     ensures { Answers (asked_each
         (declared_field_checks (headers_of tree.now) header.now) header.now.fields) result }
 {
+    let mut before = None;
     for field in header.fields.as_slice() {
-        let is_there = is_field_type_there(alloc, tree, &field.desc)?;
+        let is_there = is_type_there(alloc, tree, before, &field.desc)?;
         ask_at(alloc, is_there, &header.name, field, LinkRule::Missing)?;
+        before = Some(&field.desc);
     }
     Ok(())
+}
+
+// Whether the class that a field's descriptor names is there, behind a field with this descriptor, whose class is there: one
+// that equals the one before it is not parsed again.
+fn is_type_there(
+    alloc: Global,
+    tree: &Tree,
+    before: Option<&Text>,
+    desc: &Text,
+) -> Result<bool, NoMemory>
+    requires { IfSome (option_copied before) (FieldTypeNames (IsThere (headers_of tree.now))) }
+    ensures { IfOk result
+        (λ there. IsTrue there ↔ FieldTypeNames (IsThere (headers_of tree.now)) desc.now) }
+{
+    if is_text(before, desc) {
+        return Ok(true);
+    }
+    is_field_type_there(alloc, tree, desc)
+}
+
+// Whether a text is there and equals another.
+fn is_text(one: Option<&Text>, other: &Text) -> bool
+    ensures { IsTrue result → option_copied one.entry ≡ Some other.now }
+{
+    match one {
+        Some(one) => one.bytes() == other.bytes(),
+        None => false,
+    }
 }
 
 // Asks that the classes in the descriptors of the methods of the class at a place are there, and that its methods override
