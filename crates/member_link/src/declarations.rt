@@ -136,7 +136,7 @@ fn check_methods<'a>(
         };
         ask_at(
             alloc,
-            index < known || overrides_no_final(tree, method),
+            overrides_no_final(tree, index < known, method),
             &header.name,
             member,
             LinkRule::FinalOverridden,
@@ -146,14 +146,18 @@ fn check_methods<'a>(
     Ok(())
 }
 
-// Whether a method overrides no final method of the folder.
-fn overrides_no_final(tree: &Tree, low: Method<'_>) -> bool
-    requires { StandsAt (headers_of tree.now) low.header.now.name low.place low.header.now }
+// Whether a method overrides no final method of the folder, where that may be known.
+fn overrides_no_final(tree: &Tree, is_known: bool, low: Method<'_>) -> bool
+    requires known { IsTrue is_known
+        → OverridesNoFinal (headers_of tree.now)
+        (declared_by low.header.now.name low.member.now) }
+    requires place { StandsAt (headers_of tree.now) low.header.now.name low.place low.header.now }
     ensures { IsTrue result
         ↔ OverridesNoFinal (headers_of tree.now)
         (declared_by low.entry.header.now.name low.entry.member.now) }
 {
-    !is_inherited(low.member.flags)
+    is_known
+        || !is_inherited(low.member.flags)
         || !any_above(tree, low, |high| overrides_final(tree, low, high))
 }
 

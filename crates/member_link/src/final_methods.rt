@@ -6,6 +6,7 @@ ghost use Rattle.class_model.specs.declared.header.Header.{Header};
 ghost use Rattle.class_model.specs.declared.header.Member.{Member};
 ghost use Rattle.class_tree.specs.Headers.{headers_of};
 ghost use Rattle.class_tree.specs.Order.{header_at};
+ghost use Rattle.class_tree.specs.Trees.{IsTree};
 ghost use Rattle.class_tree.specs.declared.place.Place.TheVariants.{Folder};
 ghost use Rattle.member_link.specs.DeclaredMembers as declared;
 ghost use Rattle.member_link.specs.Inner.FinalEnds.{front, signature_key, package_key, key_in, AreKnown, AreRaised, AreSweptBelow, Grows, IsFree, IsRaised, IsSweptFrom, Reaches};
@@ -15,7 +16,7 @@ use crate::flags::{is_inherited, is_open};
 use crate::packages::package_of;
 use crate::spans::{Span, Spans, are_spans, guess_spans};
 use class_model::{ACC_FINAL, ACC_INTERFACE, Header, Member, NoMemory, has};
-use class_tree::{Place, Tree};
+use class_tree::{Place, Tree, a_tree_is_a_hierarchy};
 use indexmap::IndexMap;
 use std::alloc::Global;
 use std::hash::{FoldHasher, Hasher};
@@ -42,6 +43,7 @@ fn sweep(
     spans: &Spans,
     known: &mut [usize],
 ) -> Result<(), NoMemory>
+    requires tree { IsTree tree.now }
     requires spans { AreSpans (headers_of tree.now) spans.now }
     requires raised { AreRaised (headers_of tree.now) ends.old.entries (length spans.now.indices.items) }
     requires known { AreKnown (headers_of tree.now) known.old }
@@ -61,6 +63,7 @@ fn sweep_number(
     known: &mut [usize],
     number: usize,
 ) -> Result<(), NoMemory>
+    requires tree { IsTree tree.now }
     requires spans { AreSpans (headers_of tree.now) spans.now }
     requires number { number < length spans.now.indices.items }
     requires swept { AreSweptBelow (headers_of tree.now) spans.now ends.old.entries number }
@@ -68,6 +71,7 @@ fn sweep_number(
     ensures swept { OnOk result (AreSweptBelow (headers_of tree.now) spans.now ends.new.entries (number + 1)) }
     ensures known { OnOk result (AreKnown (headers_of tree.now) known.new) }
 {
+    a_tree_is_a_hierarchy(tree);
     let index = spans.indices[number];
     let Some(header) = tree.header(Place::Folder(index)) else {
         return Ok(());
@@ -97,11 +101,11 @@ fn sweep_class(
         (All (IsSweptFrom ends.old.entries ends.new.entries (package_key header.now.name) span)
         header.now.methods) }
 {
-    let package = package_key(header.name.bytes());
+    let home = package_key(header.name.bytes());
     let mut known = 0;
     for index in 0..header.methods.as_slice().len() {
         let method = &header.methods.as_slice()[index];
-        let is_known = sweep_method(ends, package, span, method)?;
+        let is_known = sweep_method(ends, home, span, method)?;
         if is_known && known == index {
             known = index + 1;
         }
@@ -113,28 +117,28 @@ fn sweep_class(
 // it is final, and the ones above that it overrides.
 fn sweep_method(
     ends: &mut IndexMap<u64, usize>,
-    package: u64,
+    home: u64,
     span: Span,
     method: &Member,
 ) -> Result<bool, NoMemory>
     ensures grows { OnOk result (Grows ends.old.entries ends.new.entries) }
     ensures known { IfOk result (λ known. IsTrue known
         → IsTrue (declared.is_inherited method.now)
-        → IsFree ends.old.entries package span method.now) }
+        → IsFree ends.old.entries home span method.now) }
     ensures swept { OnOk result
-        (IsSweptFrom ends.old.entries ends.new.entries package span method.now) }
+        (IsSweptFrom ends.old.entries ends.new.entries home span method.now) }
 {
     if !is_inherited(method.flags) {
         return Ok(true);
     }
-    let is_known = is_free(ends, package, span, method);
+    let is_known = is_free(ends, home, span, method);
     let is_final = has(method.flags, ACC_FINAL);
     if is_open(method.flags) {
         if is_final || !is_known {
             raise(ends, signature_key(method), span.last)?;
         }
     } else if is_final {
-        raise(ends, key_in(package, method), span.last)?;
+        raise(ends, key_in(home, method), span.last)?;
     }
     Ok(is_known)
 }
@@ -175,11 +179,11 @@ fn raise_methods(
 }
 
 // Whether no end reaches a class of this package and span that has the name and descriptor of a method.
-fn is_free(ends: &IndexMap<u64, usize>, package: u64, span: Span, method: &Member) -> bool
-    ensures { IsTrue result ↔ IsFree ends.now.entries package span method.now }
+fn is_free(ends: &IndexMap<u64, usize>, home: u64, span: Span, method: &Member) -> bool
+    ensures { IsTrue result ↔ IsFree ends.now.entries home span method.now }
 {
     !reaches(ends, signature_key(method), span.first)
-        && !reaches(ends, key_in(package, method), span.first)
+        && !reaches(ends, key_in(home, method), span.first)
 }
 
 // Whether the end of a key is at a number or behind it.
@@ -204,6 +208,7 @@ fn raise(ends: &mut IndexMap<u64, usize>, key: u64, end: usize) -> Result<(), No
 }
 
 // The key of the name and descriptor of a method.
+#[tactic(auto, unfolding(crate::specs::Inner::FinalEnds::texts_key))]
 fn signature_key(method: &Member) -> u64
     ensures { result ≡ signature_key method.now }
 {
@@ -214,13 +219,14 @@ fn signature_key(method: &Member) -> u64
 }
 
 // The key of the name and descriptor of a method, and of a package.
-fn key_in(package: u64, method: &Member) -> u64
-    ensures { result ≡ key_in package method.now }
+fn key_in(home: u64, method: &Member) -> u64
+    ensures { result ≡ key_in home method.now }
 {
-    signature_key(method) ^ package
+    signature_key(method) ^ home
 }
 
 // The key of the package of a class.
+#[tactic(auto, unfolding(crate::specs::Inner::FinalEnds::text_key))]
 fn package_key(class: &[u8]) -> u64
     ensures { result ≡ package_key class.now }
 {

@@ -21,17 +21,25 @@ use Rattle.member_link.specs.declared.spans.Spans.{Spans}
 abbrev pub front : List ℕ → List ℕ
 front text = take 1024 text
 
+-- a key of a name and a descriptor
+unfoldable pub texts_key : List ℕ → List ℕ → ℕ
+texts_key name desc = finish (write (write initial (front name)) (front desc))
+
+-- a key of a text
+unfoldable pub text_key : List ℕ → ℕ
+text_key text = finish (write initial text)
+
 -- the key of the name and descriptor of a method
-unfoldable pub signature_key : Member → ℕ
-signature_key member = finish (write (write initial (front member.name)) (front member.desc))
+abbrev pub signature_key : Member → ℕ
+signature_key member = texts_key member.name member.desc
 
 -- the key of the package of a class
-unfoldable pub package_key : Name → ℕ
-package_key class = finish (write initial (package_of class))
+abbrev pub package_key : Name → ℕ
+package_key class = text_key (package_of class)
 
 -- the key of both
-unfoldable pub key_in : ℕ → Member → ℕ
-key_in package member = bit_xor (signature_key member) package
+abbrev pub key_in : ℕ → Member → ℕ
+key_in home member = bit_xor (signature_key member) home
 
 -- the end of a key is at a number or behind it
 pub record Reaches (ends : List (ℕ × ℕ)) (key number : ℕ) : Type 0 where
@@ -44,13 +52,13 @@ pub record Grows (before after : List (ℕ × ℕ)) : Type 0 where
   pub kept : (key number : ℕ) → Reaches before key number → Reaches after key number
 
 -- no end reaches a class of this package and span that has the name and descriptor of a method
-pub record IsFree (ends : List (ℕ × ℕ)) (package : ℕ) (span : Span) (member : Member) : Type 0 where
+pub record IsFree (ends : List (ℕ × ℕ)) (home : ℕ) (span : Span) (member : Member) : Type 0 where
   pub of_all : ¬ Reaches ends (signature_key member) span.first
-  pub of_package : ¬ Reaches ends (key_in package member) span.first
+  pub of_package : ¬ Reaches ends (key_in home member) span.first
 
 -- what the ends say of a method of a class: where it is final they reach its span's end, and where it is public or protected
 -- they do too unless none before reached it
-pub record IsSweptFrom (before after : List (ℕ × ℕ)) (package : ℕ) (span : Span)
+pub record IsSweptFrom (before after : List (ℕ × ℕ)) (home : ℕ) (span : Span)
     (member : Member) : Type 0 where
   pub open_ : IsTrue (is_inherited member)
       → IsTrue (has member.flags FINAL)
@@ -59,10 +67,10 @@ pub record IsSweptFrom (before after : List (ℕ × ℕ)) (package : ℕ) (span 
   pub closed : IsTrue (is_inherited member)
       → IsTrue (has member.flags FINAL)
       → IsFalse (is_open member)
-      → Reaches after (key_in package member) span.last
+      → Reaches after (key_in home member) span.last
   pub through : IsTrue (is_inherited member)
       → IsTrue (is_open member)
-      → IsFree before package span member ⊎ Reaches after (signature_key member) span.last
+      → IsFree before home span member ⊎ Reaches after (signature_key member) span.last
 
 -- the same, where a method that no end reaches overrides no final method
 pub record IsSwept (headers : Headers) (ends : List (ℕ × ℕ)) (class : Name) (span : Span)
