@@ -40,12 +40,12 @@ pub reaches_less : {ends : List (ℕ × ℕ)} {key other number less : ℕ} → 
 reaches_less {ends} {less = less} same fewer far =
     subst (λ key. Reaches ends key less) same (record { end = far.end; is = far.is; far = omega (arith, far.far, fewer) })
 
-same_signature : {one other : Member} → one.name ≡ other.name → one.desc ≡ other.desc → signature_key one ≡ signature_key other
-same_signature {one} {other} name desc = ap (λ name. texts_key name one.desc) name ∙ ap (texts_key other.name) desc
+same_signature : (one other : Member) → one.name ≡ other.name → one.desc ≡ other.desc → signature_key one ≡ signature_key other
+same_signature one other name desc = ap (λ name. texts_key name one.desc) name ∙ ap (texts_key other.name) desc
 
-same_key : {class home : Name} {one other : Member} → package_of class ≡ package_of home → one.name ≡ other.name → one.desc ≡ other.desc → key_in (package_key class) one ≡ key_in (package_key home) other
-same_key {class} {one = one} {other = other} packages name desc =
-    ap (λ key. bit_xor key (package_key class)) (same_signature {one} {other} name desc) ∙ ap (λ home. bit_xor (signature_key other) (text_key home)) packages
+same_key : (class home : Name) (one other : Member) → package_of class ≡ package_of home → one.name ≡ other.name → one.desc ≡ other.desc → key_in (package_key class) one ≡ key_in (package_key home) other
+same_key class home one other packages name desc =
+    ap (λ key. bit_xor key (package_key class)) (same_signature one other name desc) ∙ ap (λ text. bit_xor (signature_key other) (text_key text)) packages
 
 -- what is free was before
 pub free_before : {before after : List (ℕ × ℕ)} {home : ℕ} {span : Span} {member : Member} → Grows before after → IsFree after home span member → IsFree before home span member
@@ -118,7 +118,7 @@ module _ (headers : Headers) (apart : StandsApart headers) (hierarchy : IsHierar
       ]
 
   module _ (spans : Spans) (are : AreSpans headers spans) (ends : List (ℕ × ℕ)) (number : ℕ) (swept : AreSweptBelow headers spans ends number) (index : ℕ) (header : Header) (at : header_at headers (Folder index) ≡ Some header) (span : Span) (span_is : slice_get spans.of_classes.items index ≡ Some span) (first : span.first ≡ number) (member : Member) where
-    low : Declared
+    abbrev low : Declared
     low = declared_by header.name member
 
     -- what is said of a method of a class above
@@ -142,8 +142,8 @@ module _ (headers : Headers) (apart : StandsApart headers) (hierarchy : IsHierar
           is = all_declared (IsSwept headers ends folder.header.name own.span) high.member.name high.member.desc folder.header.methods high.member folder.declares all;
         }
 
-    reached : {high : Declared} {end : ℕ} → high.member.name ≡ member.name → high.member.desc ≡ member.desc → span.first ≤ end → Reaches ends (signature_key high.member) end → Reaches ends (signature_key member) span.first
-    reached {high} name desc less far = reaches_less (same_signature {high.member} {member} name desc) less far
+    reached : (high : Declared) {end : ℕ} → high.member.name ≡ member.name → high.member.desc ≡ member.desc → span.first ≤ end → Reaches ends (signature_key high.member) end → Reaches ends (signature_key member) span.first
+    reached high name desc less far = reaches_less (same_signature high.member member name desc) less far
 
     own_span : IsSpan headers spans index
     own_span = are.each index header at
@@ -161,19 +161,19 @@ module _ (headers : Headers) (apart : StandsApart headers) (hierarchy : IsHierar
         let end = length spans.indices.items in
         let raised = swept.raised.each place.index folder.header place.at kind in
         let far = all_declared (IsRaised ends end) high.member.name high.member.desc folder.header.methods high.member folder.declares raised final in
-        reached {high} (sym may.same_name) (sym may.same_desc) (omega (arith, within)) far
+        reached high (sym may.same_name) (sym may.same_desc) (omega (arith, within)) far
 
     -- a public or protected final method of a class
     open_reaches : {high : Declared} (folder : IsFolderMethod headers high) → IsFalse (is_interface folder.header) → IsTrue (has high.member.flags FINAL) → MayOverride headers low high → IsTrue (is_open high.member) → Reaches ends (signature_key member) span.first
     open_reaches {high} folder kind final may opens =
         let met = meet folder kind may.below in
-        reached {high} (sym may.same_name) (sym may.same_desc) (omega (arith, ordered, met.inside.last)) (met.is.open_ may.high_inherited final opens)
+        reached high (sym may.same_name) (sym may.same_desc) (omega (arith, ordered, met.inside.last)) (met.is.open_ may.high_inherited final opens)
 
     -- one of package access of the same package
     closed_reaches : {high : Declared} (folder : IsFolderMethod headers high) → IsFalse (is_interface folder.header) → IsTrue (has high.member.flags FINAL) → MayOverride headers low high → package_of header.name ≡ package_of high.class → IsFalse (is_open high.member) → Reaches ends (key_in (package_key header.name) member) span.first
     closed_reaches {high} folder kind final may packages closed =
         let met = meet folder kind may.below in
-        reaches_less (same_key {folder.header.name} {header.name} {high.member} {member} (ap package_of met.own_name ∙ sym packages) (sym may.same_name) (sym may.same_desc)) (omega (arith, ordered, met.inside.last)) (met.is.closed may.high_inherited final closed)
+        reaches_less (same_key folder.header.name header.name high.member member (ap package_of met.own_name ∙ sym packages) (sym may.same_name) (sym may.same_desc)) (omega (arith, ordered, met.inside.last)) (met.is.closed may.high_inherited final closed)
 
     -- one that a method between overrides
     through_reaches : {middle high : Declared} (folder : IsFolderMethod headers high) → IsFalse (is_interface folder.header) → IsTrue (has high.member.flags FINAL) → IsAbove headers low middle → OpensPackage headers middle high → Reaches ends (signature_key member) span.first
@@ -189,7 +189,7 @@ module _ (headers : Headers) (apart : StandsApart headers) (hierarchy : IsHierar
         elim (met.is.through opens.may.low_inherited opens.is_open) [
           | inl none ↦
               absurd (none high folder final (subst (λ class. Overrides headers (declared_by class middle.member) high) (sym met.own_name) (overriding_decided.1 (opens.may, inr (inl opens.same_package)))))
-          | inr far ↦ reached {middle} above.same_name above.same_desc (omega (arith, ordered, met.inside.last)) far
+          | inr far ↦ reached middle above.same_name above.same_desc (omega (arith, ordered, met.inside.last)) far
         ]
 
     -- a method that no end reaches overrides no final method
@@ -230,8 +230,8 @@ pub raised_more : {start before after : List (ℕ × ℕ)} {end : ℕ} → (meth
 raised_more {after = after} {end = end} methods i method within is start grows all raised =
     (grows_then start grows, All-more (IsRaised after end) methods i method within (still_raised grows (take i methods) all) (subst (IsRaised after end) is raised))
 
-pub interfaces_more : {headers : Headers} {before after : List (ℕ × ℕ)} {end : ℕ} → (number : ℕ) → Grows before after → ((index : ℕ) → index < number → (header : Header) → header_at headers (Folder index) ≡ Some header → IsTrue (is_interface header) → All (IsRaised before end) header.methods) → ((header : Header) → header_at headers (Folder number) ≡ Some header → IsTrue (is_interface header) → All (IsRaised after end) header.methods) → (index : ℕ) → index < number + 1 → (header : Header) → header_at headers (Folder index) ≡ Some header → IsTrue (is_interface header) → All (IsRaised after end) header.methods
-interfaces_more {headers} {after = after} {end = end} number grows below here =
+pub interfaces_more : (headers : Headers) {before after : List (ℕ × ℕ)} {end : ℕ} → (number : ℕ) → Grows before after → ((index : ℕ) → index < number → (header : Header) → header_at headers (Folder index) ≡ Some header → IsTrue (is_interface header) → All (IsRaised before end) header.methods) → ((header : Header) → header_at headers (Folder number) ≡ Some header → IsTrue (is_interface header) → All (IsRaised after end) header.methods) → (index : ℕ) → index < number + 1 → (header : Header) → header_at headers (Folder index) ≡ Some header → IsTrue (is_interface header) → All (IsRaised after end) header.methods
+interfaces_more headers {after = after} {end = end} number grows below here =
     one_more (λ index. (header : Header) → header_at headers (Folder index) ≡ Some header → IsTrue (is_interface header) → All (IsRaised after end) header.methods) number (λ index less header at kind. still_raised grows header.methods (below index less header at kind)) here
 
 pub next_swept : {headers : Headers} {spans : Spans} {before after : List (ℕ × ℕ)} {number : ℕ} → AreSpans headers spans → AreSweptBelow headers spans before number → Grows before after → (index : ℕ) → slice_get spans.indices.items number ≡ Some index → ((header : Header) (span : Span) → header_at headers (Folder index) ≡ Some header → slice_get spans.of_classes.items index ≡ Some span → span.first ≡ number → All (IsSwept headers after header.name span) header.methods) → AreSweptBelow headers spans after (number + 1)

@@ -76,13 +76,12 @@ fn sweep_number(
     let Some(header) = tree.header(Place::Folder(index)) else {
         return Ok(());
     };
-    match spans.of_classes.get(index) {
-        Some(span) if span.first == number => {
-            known[index] = sweep_class(ends, header, *span)?;
-            Ok(())
-        }
-        _ => Ok(()),
+    let span = spans.of_classes[index];
+    if span.first != number {
+        return Ok(());
     }
+    known[index] = sweep_class(ends, header, span)?;
+    Ok(())
 }
 
 // Goes over the methods of a class, and counts those at the front that are known.
