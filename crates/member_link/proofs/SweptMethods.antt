@@ -1,8 +1,8 @@
 -- Methods that no end of a final method reaches override no final method.
-use Rattle.std.proofs.Common.{◌≡◌, ◌⊎◌, ◌+◌, ◌<◌, ◌≤◌, ℕ, Bool, true, false, cond, List, [], ◌∷◌, length, take, set, get_or, slice_get, bit_xor, bytes_eq, Option, Some, None, IsTrue, IsFalse, refl, sym, ap, subst, ◌∙◌, inl, inr, arith}
+use Rattle.std.proofs.Common.{◌≡◌, ◌⊎◌, ◌+◌, ◌<◌, ◌≤◌, ℕ, Bool, true, false, cond, List, [], ◌∷◌, ◌++◌, length, replicate, take, set, get_or, slice_get, bit_xor, bytes_eq, Option, Some, None, IsTrue, IsFalse, refl, sym, ap, subst, ◌∙◌, inl, inr, arith}
 use Rattle.std.specs.List.{All}
 use Rattle.std.proofs.lemmas.Bool.{cases_Bool, cases_eq, cases_lt}
-use Rattle.std.proofs.lemmas.List.{length-set, get_or-set_same, get_or-set_other}
+use Rattle.std.proofs.lemmas.List.{length-set, length-replicate, get_or-set_same, get_or-set_other, get_or-replicate}
 use Rattle.std.proofs.lemmas.List.Elements.{All-head, All-tail, All-more}
 use Rattle.std.proofs.lemmas.Option.{same_Some, none-some, slice_get_within}
 use Rattle.class_model.specs.Members.{has, FINAL}
@@ -266,3 +266,22 @@ known_set {headers} {known} are index header count at of = record { len = length
           subst (AreKnownOf headers class) (sym value) (subst (λ h. AreKnownOf headers h count) one of)
       | inr differs ↦ subst (AreKnownOf headers class) (sym (get_or-set_other known index i count 0 differs)) (are.each i class class_at)
     ]
+
+-- where nothing is known
+pub none_known : {headers : Headers} {known : List ℕ} (count : ℕ) → count ≡ length headers.folder → known ≡ replicate count 0 → AreKnown headers known
+none_known {headers} {known} count len zeros = record {
+  len = ap length zeros ∙ length-replicate count 0 ∙ len;
+  each = λ index header at. record {
+    each = λ k member is less.
+        let none : get_or known index 0 ≡ 0 = ap (λ list. get_or list index 0) zeros ∙ get_or-replicate count index 0 0 (omega (arith, len, slice_get_within headers.folder index header at)) in
+        absurd (omega (arith, less, none));
+  };
+}
+
+-- what stands in front of others
+pub front_is : {X : Type 0} (xs ys : List X) (n : ℕ) → length xs ≡ n → take n (xs ++ ys) ≡ xs
+front_is {X} xs ys n same = subst (λ n. take n (xs ++ ys) ≡ xs) same (by xs)
+  where
+    by : (xs : List X) → take (length xs) (xs ++ ys) ≡ xs
+    by [] = refl
+    by (x ∷ xs) = ap (λ rest. x ∷ rest) (by xs)

@@ -1,4 +1,5 @@
-use Rattle.std.proofs.Common.{◌+◌, refl, sym, ap, subst, ◌∙◌, arith}
+use Rattle.std.proofs.Common.{◌+◌, slice_get, refl, sym, ap, ◌∙◌, arith}
+use Rattle.std.proofs.lemmas.Bool.{ltb-true}
 use Rattle.std.proofs.lemmas.Option.{slice_get_read}
 use Rattle.std.proofs.lemmas.Result.{err_from_is_err_and}
 use Rattle.class_model.specs.Laws.Checks.{asked_at, passes}
@@ -27,4 +28,4 @@ loop-member-preserved c =
 pub overrides_no_final-requires-clause-known : goal.overrides_no_final-requires-clause-known
 overrides_no_final-requires-clause-known c = λ known.
     let methods = c.as_slice-member-items.result.now in
-    c.requires.known.each c.loop-member.member-index c.member-item.result (slice_get_read methods _ c.loop-member.member-index c.member-item.result refl c.loop-member-test.true c.member-item.is) (omega (arith, known, c.loop-member.invariant.1))
+    c.requires.known.each c.loop-member.member-index c.member-item.result (ap (λ list. slice_get list c.loop-member.member-index) (sym c.as_slice-member-items.ensures) ∙ slice_get_read methods _ c.loop-member.member-index c.member-item.result refl c.loop-member-test.true c.member-item.is) (omega (arith, ltb-true c.loop-member.index c.args.known known, c.loop-member.invariant.1))

@@ -22,7 +22,7 @@ returns-in_default-clause-swept c =
 pub index-span-requires : goal.index-span-requires
 index-span-requires c =
     let own = c.requires.spans.each c.index-index.result.now c.in-Some.header.now (sym c.in-Some.ensures) in
-    slice_get_within c.args.spans.now.of_classes.items c.index-index.result.now own.span own.is
+    omega (arith, slice_get_within c.args.spans.now.of_classes.items c.index-index.result.now own.span own.is, c.args.spans.now.of_classes.ok.0)
 
 -- the span is that of the class
 span_is : (headers : Headers) (spans : Spans) → AreSpans headers spans → (index : ℕ) (header : Header) (span : Span) → header_at headers (Folder index) ≡ Some header → span ≡ get_or spans.of_classes.items index span → slice_get spans.of_classes.items index ≡ Some span
