@@ -21,13 +21,13 @@ loop-index-preserved c =
     elim c.match-header.branch [
       | in-Some+then-has+in_ok-raise_methods w ↦
           rw w.ends-is (interfaces_more headers c.loop-index.index w.in_ok-raise_methods.ensures.grows c.loop-index.invariant (λ header at kind.
-              let same = same_Some w.in-Some.header.now header (w.in-Some.ensures ∙ at) in
-              subst (λ (h : Header). All (IsRaised w.raise_methods.new.ends.entries c.args.end) h.methods) same
-              (subst (All (IsRaised w.raise_methods.new.ends.entries c.args.end)) w.as_slice.ensures w.in_ok-raise_methods.ensures.raised)))
+          let same = same_Some w.in-Some.header.now header (w.in-Some.ensures ∙ at) in
+          subst (λ (h : Header). All (IsRaised w.raise_methods.new.ends.entries c.args.end) h.methods) same
+          (subst (All (IsRaised w.raise_methods.new.ends.entries c.args.end)) w.as_slice.ensures w.in_ok-raise_methods.ensures.raised)))
       | in-Some+else-has w ↦
           rw w.ends-is (interfaces_more headers c.loop-index.index (grows_same c.loop-index.ends.entries) c.loop-index.invariant (λ header at kind.
-              let same = same_Some w.in-Some.header.now header (w.in-Some.ensures ∙ at) in
-              absurd (both_ways _ w.if-has.false (w.has.ensures ∙ subst (λ (h : Header). is_interface h ≡ true) (sym same) kind))))
+          let same = same_Some w.in-Some.header.now header (w.in-Some.ensures ∙ at) in
+          absurd (both_ways _ w.if-has.false (w.has.ensures ∙ subst (λ (h : Header). is_interface h ≡ true) (sym same) kind))))
       | in_default w ↦
           rw w.ends-is (interfaces_more headers c.loop-index.index (grows_same c.loop-index.ends.entries) c.loop-index.invariant (λ header at kind. absurd (none-some header (w.in_default.ensures ∙ at))))
     ]

@@ -35,8 +35,8 @@ loop-index-preserved c =
           one_more (λ index. (member : Member) → slice_get methods index ≡ Some member → IsTrue (is_inherited member) → IsFree start home span member) at
           (λ index less member is inherited. c.loop-index.invariant.2 index member is (omega (arith, less, w.if-known-index.true)) inherited)
           (λ member is inherited.
-              subst (λ home. IsFree start home span member) home_is (free_before c.loop-index.invariant.0
-              (subst (IsFree before c.package_key-home.result span) (same member is) (c.in_ok-is_known.ensures.known w.if-is_known.true (subst (λ m. IsTrue (is_inherited m)) (sym (same member is)) inherited))))) in
+          subst (λ home. IsFree start home span member) home_is (free_before c.loop-index.invariant.0
+          (subst (IsFree before c.package_key-home.result span) (same member is) (c.in_ok-is_known.ensures.known w.if-is_known.true (subst (λ m. IsTrue (is_inherited m)) (sym (same member is)) inherited))))) in
           rw w.known-is (grows, omega arith, λ index member is less. free index less member is, swept)
       | else-is_known w ↦ rw w.known-is (grows, omega (arith, c.loop-index.invariant.1), c.loop-index.invariant.2, swept)
     ]

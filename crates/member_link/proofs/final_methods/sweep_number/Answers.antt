@@ -34,8 +34,8 @@ pub returns-then-span-number-clause-swept : goal.returns-then-span-number-clause
 returns-then-span-number-clause-swept c =
     let numbered = slice_get_read c.args.spans.now.indices.items _ c.args.number c.index-index.result.now refl c.requires.number c.index-index.ensures in
     next_swept c.requires.spans c.requires.swept (grows_same c.args.ends.now.entries) c.index-index.result.now numbered (λ header span at is first.
-        let same : c.index-span.result.now ≡ span = same_Some c.index-span.result.now span (sym (span_is (headers_of c.args.tree.now) c.args.spans.now c.requires.spans c.index-index.result.now c.in-Some.header.now c.index-span.result.now (sym c.in-Some.ensures) c.index-span.ensures) ∙ is) in
-        absurd (c.if-span-number.true (ap (λ (s : Span). s.first) same ∙ first)))
+    let same : c.index-span.result.now ≡ span = same_Some c.index-span.result.now span (sym (span_is (headers_of c.args.tree.now) c.args.spans.now c.requires.spans c.index-index.result.now c.in-Some.header.now c.index-span.result.now (sym c.in-Some.ensures) c.index-span.ensures) ∙ is) in
+    absurd (c.if-span-number.true (ap (λ (s : Span). s.first) same ∙ first)))
 
 pub bounds-known-index : goal.bounds-known-index
 bounds-known-index c =
@@ -50,11 +50,11 @@ returns-clause-swept c =
     let after = c.sweep_class.new.ends.entries in
     let numbered = slice_get_read c.args.spans.now.indices.items _ c.args.number index refl c.requires.number c.index-index.ensures in
     next_swept c.requires.spans c.requires.swept c.in_ok-known.ensures.grows index numbered (λ header span at is first.
-        let same : own ≡ span = same_Some own span (sym (span_is (headers_of c.args.tree.now) c.args.spans.now c.requires.spans c.index-index.result.now c.in-Some.header.now c.index-span.result.now (sym c.in-Some.ensures) c.index-span.ensures) ∙ is) in
-        let class : one ≡ header = same_Some one header (c.in-Some.ensures ∙ at) in
-        subst (λ (h : Header). All (IsSwept headers after h.name span) h.methods) class
-        (subst (λ (s : Span). All (IsSwept headers after one.name s) one.methods) same (λ k d within.
-            is_swept headers (stands_apart c.args.tree.now c.requires.tree) c.a_tree_is_a_hierarchy.ensures c.args.spans.now c.requires.spans c.args.ends.now.entries c.args.number c.requires.swept index one (sym c.in-Some.ensures) own (span_is (headers_of c.args.tree.now) c.args.spans.now c.requires.spans c.index-index.result.now c.in-Some.header.now c.index-span.result.now (sym c.in-Some.ensures) c.index-span.ensures) c.if-span-number.false (get_or one.methods k d) {before = c.args.ends.now.entries} refl (c.in_ok-known.ensures.swept k d within))))
+    let same : own ≡ span = same_Some own span (sym (span_is (headers_of c.args.tree.now) c.args.spans.now c.requires.spans c.index-index.result.now c.in-Some.header.now c.index-span.result.now (sym c.in-Some.ensures) c.index-span.ensures) ∙ is) in
+    let class : one ≡ header = same_Some one header (c.in-Some.ensures ∙ at) in
+    subst (λ (h : Header). All (IsSwept headers after h.name span) h.methods) class
+    (subst (λ (s : Span). All (IsSwept headers after one.name s) one.methods) same (λ k d within.
+    is_swept headers (stands_apart c.args.tree.now c.requires.tree) c.a_tree_is_a_hierarchy.ensures c.args.spans.now c.requires.spans c.args.ends.now.entries c.args.number c.requires.swept index one (sym c.in-Some.ensures) own (span_is (headers_of c.args.tree.now) c.args.spans.now c.requires.spans c.index-index.result.now c.in-Some.header.now c.index-span.result.now (sym c.in-Some.ensures) c.index-span.ensures) c.if-span-number.false (get_or one.methods k d) {before = c.args.ends.now.entries} refl (c.in_ok-known.ensures.swept k d within))))
 
 pub returns-clause-known : goal.returns-clause-known
 returns-clause-known c =
