@@ -9,17 +9,18 @@ ghost use Rattle.class_tree.specs.Headers.{headers_of, IsThere};
 ghost use Rattle.class_tree.specs.Hierarchy.{StandsAt};
 ghost use Rattle.class_tree.specs.Order.{header_at};
 ghost use Rattle.class_tree.specs.Steps.{supers};
+ghost use Rattle.class_tree.specs.declared.place.Place.TheVariants.{Folder};
 ghost use Rattle.member_link.specs.Access.{IsClassAccessible};
 ghost use Rattle.member_link.specs.Declarations.{declaration_checks, declared_field_checks, declared_method_checks, OverridesNoFinal};
 ghost use Rattle.member_link.specs.DeclaredMembers.{Declared, declared_by};
-ghost use Rattle.member_link.specs.Inner.FinalMarks.{AreFinalMarks};
+ghost use Rattle.member_link.specs.Inner.FinalEnds.{AreKnown, AreKnownOf};
 ghost use Rattle.member_link.specs.Inner.FinalMethods.{IsFolderPlace, IsOverriddenFinal};
 ghost use Rattle.member_link.specs.Found.{IsMethodFound};
 ghost use Rattle.member_link.specs.References.{FieldTypeNames};
 
 use crate::access::is_class_accessible;
 use crate::ask::ask_at;
-use crate::final_methods::{final_marks, may_be_final};
+use crate::final_methods::known_methods;
 use crate::flags::is_inherited;
 use crate::found::Found;
 use crate::named_descriptors::NamedDescriptors;
@@ -35,21 +36,22 @@ pub(crate) fn check_declarations(alloc: Global, tree: &Tree) -> Result<(), LinkF
     ensures { Answers (asked_each (declaration_checks (headers_of tree.now))
         (headers_of tree.now).folder) result }
 {
-    let finals = final_marks(alloc, tree)?;
+    let known = known_methods(alloc, tree)?;
     for index in 0..tree.folder().len() {
-        check_class(alloc, tree, finals.as_slice(), Place::Folder(index))?;
+        check_class(alloc, tree, known.as_slice(), index)?;
     }
     Ok(())
 }
 
 // Asks the class at a place.
-fn check_class(alloc: Global, tree: &Tree, finals: &[bool], place: Place) -> Result<(), LinkFault>
-    requires { AreFinalMarks (headers_of tree.now) finals.now }
+fn check_class(alloc: Global, tree: &Tree, known: &[usize], index: usize) -> Result<(), LinkFault>
+    requires { AreKnown (headers_of tree.now) known.now }
     ensures { (header : Header)
-        → header_at (headers_of tree.now) place ≡ Some header
+        → header_at (headers_of tree.now) (Folder index) ≡ Some header
         → Answers (declaration_checks (headers_of tree.now) header) result }
 {
     a_tree_is_a_hierarchy(tree);
+    let place = Place::Folder(index);
     let Some(header) = tree.header(place) else {
         return Ok(());
     };
@@ -60,7 +62,7 @@ fn check_class(alloc: Global, tree: &Tree, finals: &[bool], place: Place) -> Res
         LinkRule::NoAccess,
     )?;
     check_fields(alloc, tree, header)?;
-    check_methods(alloc, tree, finals, place, header)
+    check_methods(alloc, tree, known[index], place, header)
 }
 
 // Whether the superclass and the interfaces of a class are accessible from it.
@@ -144,17 +146,18 @@ fn is_text(one: Option<&Text>, other: &Text) -> bool
 fn check_methods<'a>(
     alloc: Global,
     tree: &'a Tree,
-    finals: &[bool],
+    known: usize,
     place: Place,
     header: &'a Header,
 ) -> Result<(), LinkFault>
-    requires finals { AreFinalMarks (headers_of tree.now) finals.now }
+    requires known { AreKnownOf (headers_of tree.now) header.now known }
     requires place { StandsAt (headers_of tree.now) header.now.name place header.now }
     ensures { Answers
         (asked_each (declared_method_checks (headers_of tree.now) header.now) header.now.methods)
         result }
 {
     let mut descriptors = NamedDescriptors::new(tree);
+    let mut index = 0;
     for member in header.methods.as_slice() {
         let is_there = descriptors.are_there(alloc, &member.desc)?;
         ask_at(alloc, is_there, &header.name, member, LinkRule::Missing)?;
@@ -165,25 +168,28 @@ fn check_methods<'a>(
         };
         ask_at(
             alloc,
-            overrides_no_final(tree, finals, method),
+            overrides_no_final(tree, index < known, method),
             &header.name,
             member,
             LinkRule::FinalOverridden,
         )?;
+        index += 1;
     }
     Ok(())
 }
 
-// Whether a method overrides no final method of the folder.
-fn overrides_no_final(tree: &Tree, finals: &[bool], low: Method<'_>) -> bool
-    requires finals { AreFinalMarks (headers_of tree.now) finals.now }
+// Whether a method overrides no final method of the folder, where that may be known.
+fn overrides_no_final(tree: &Tree, is_known: bool, low: Method<'_>) -> bool
+    requires known { IsTrue is_known
+        → OverridesNoFinal (headers_of tree.now)
+        (declared_by low.header.now.name low.member.now) }
     requires place { StandsAt (headers_of tree.now) low.header.now.name low.place low.header.now }
     ensures { IsTrue result
         ↔ OverridesNoFinal (headers_of tree.now)
         (declared_by low.entry.header.now.name low.entry.member.now) }
 {
-    !is_inherited(low.member.flags)
-        || !may_be_final(tree, finals, low.member)
+    is_known
+        || !is_inherited(low.member.flags)
         || !any_above(tree, low, |high| overrides_final(tree, low, high))
 }
 
