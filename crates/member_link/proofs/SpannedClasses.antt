@@ -6,7 +6,7 @@ use Rattle.std.proofs.lemmas.Option.{same_Some, none-some}
 use Rattle.class_model.specs.Checks.{Check, AllHold, asked_each}
 use Rattle.class_model.specs.Laws.Checks.{first_holds, others_hold}
 use Rattle.class_model.specs.declared.header.Header.{Header}
-use Rattle.class_tree.specs.Headers.{Name, Classes, Headers, headers_of, named, class_named}
+use Rattle.class_tree.specs.Headers.{Name, Classes, Headers, headers_of, named}
 use Rattle.class_tree.specs.Hierarchy.{IsHierarchy}
 use Rattle.class_tree.specs.Laws.Above.{class_is_climbed, hierarchy_is_sound, hierarchy_is_rooted}
 use Rattle.class_tree.specs.Laws.Headers.{own_name}
@@ -19,7 +19,7 @@ use Rattle.class_tree.specs.Subtype.{IsDirectlyBelow, superclass, interface, IsB
 use Rattle.class_tree.specs.Trees.{IsTree}
 use Rattle.class_tree.specs.declared.place.Place.{Place}
 use Rattle.class_tree.specs.declared.place.Place.TheVariants.{Folder, Library}
-use Rattle.member_link.specs.Inner.Spans.{AreSpans, IsSpan}
+use Rattle.member_link.specs.Inner.Spans.{AreSpans}
 use Rattle.member_link.specs.declared.spans.Span.{Span}
 use Rattle.member_link.specs.declared.spans.Spans.{Spans}
 use Rattle.member_link.proofs.Climbed.{superclass_at}

@@ -1,5 +1,5 @@
 -- Methods that no end of a final method reaches override no final method.
-use Rattle.std.proofs.Common.{◌≡◌, ◌⊎◌, ◌+◌, ◌<◌, ◌≤◌, ℕ, Bool, true, false, cond, List, [], ◌∷◌, ◌++◌, length, replicate, take, set, get_or, slice_get, bit_xor, bytes_eq, Option, Some, None, IsTrue, IsFalse, refl, sym, ap, subst, ◌∙◌, inl, inr, arith}
+use Rattle.std.proofs.Common.{◌≡◌, ◌+◌, ◌<◌, ◌≤◌, ℕ, Bool, true, false, cond, List, [], ◌∷◌, ◌++◌, length, replicate, take, set, get_or, slice_get, bit_xor, Option, Some, None, IsTrue, IsFalse, refl, sym, ap, subst, ◌∙◌, inl, inr, arith}
 use Rattle.std.specs.List.{All}
 use Rattle.std.proofs.lemmas.Bool.{cases_Bool, cases_eq, cases_lt}
 use Rattle.std.proofs.lemmas.List.{length-set, length-replicate, get_or-set_same, get_or-set_other, get_or-replicate}
@@ -8,17 +8,17 @@ use Rattle.std.proofs.lemmas.Option.{same_Some, none-some, slice_get_within}
 use Rattle.class_model.specs.Members.{has, FINAL}
 use Rattle.class_model.specs.declared.header.Header.{Header}
 use Rattle.class_model.specs.declared.header.Member.{Member}
-use Rattle.class_tree.specs.Headers.{Name, Headers, named, class_named}
+use Rattle.class_tree.specs.Headers.{Name, Headers, named}
 use Rattle.class_tree.specs.Hierarchy.{IsHierarchy}
 use Rattle.class_tree.specs.Laws.Above.{class_is_climbed, above_interface, hierarchy_is_sound, hierarchy_is_rooted}
 use Rattle.class_tree.specs.Laws.Headers.{own_name}
-use Rattle.class_tree.specs.Names.{object, is_interface, is_member}
+use Rattle.class_tree.specs.Names.{is_interface, is_member}
 use Rattle.class_tree.specs.Order.{header_at}
 use Rattle.class_tree.specs.Subtype.{IsBelow}
 use Rattle.class_tree.specs.declared.place.Place.TheVariants.{Folder}
 use Rattle.member_link.specs.Declarations.{IsFolderMethod, OverridesNoFinal}
 use Rattle.member_link.specs.DeclaredMembers.{Declared, IsMethod, declared_by, declared, is_inherited, is_open}
-use Rattle.member_link.specs.Inner.FinalEnds.{texts_key, text_key, signature_key, package_key, key_in, Reaches, Grows, IsFree, IsSweptFrom, IsSwept, IsRaised, AreRaised, AreSweptBelow, AreKnown, AreKnownOf}
+use Rattle.member_link.specs.Inner.FinalEnds.{texts_key, text_key, signature_key, package_key, key_in, Reaches, Grows, IsFree, IsSweptFrom, IsSwept, IsRaised, AreSweptBelow, AreKnown, AreKnownOf}
 use Rattle.member_link.specs.Inner.OpenMethods.{IsAbove, OpensPackage}
 use Rattle.member_link.specs.Inner.Spans.{AreSpans, IsSpan}
 use Rattle.member_link.specs.Overriding.{MayOverride, Overrides, package_of}
