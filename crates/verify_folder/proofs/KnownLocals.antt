@@ -1,21 +1,26 @@
 -- What is known of the locals since the handlers were checked, from one instruction to the next.
-use Rattle.std.proofs.Common.{◌≡◌, ℕ, Bool, true, false, List, Option, Some, None, refl, sym, ap, subst, ◌∙◌}
+use Rattle.std.proofs.Common.{◌≡◌, ℕ, Bool, true, false, List, [], Option, Some, None, refl, sym, ap, subst, ◌∙◌}
 use Rattle.std.specs.Prelude.{if◌then◌else◌}
+use Rattle.class_model.specs.declared.class_file.Handler.{Handler}
 use Rattle.class_model.specs.declared.frame.Frame.{Frame}
 use Rattle.class_model.specs.declared.frame.VType.{VType}
 use Rattle.class_model.specs.declared.instr.Placed.{Placed}
+use Rattle.class_tree.specs.Headers.{Headers}
 use Rattle.member_link.specs.Bodies.{falls_through}
+use Rattle.member_link.specs.BodyTyping.{MayGoTo}
 use Rattle.member_link.specs.RowScope.{RowScope}
+use Rattle.member_link.specs.Rows.FrameAssignability.{IsFrameAssignable}
 use Rattle.member_link.specs.Rows.Row.{Row, row_frame, stack_behind}
 use Rattle.member_link.specs.Rows.Table.{row_of}
 use Rattle.member_link.specs.Scope.{Scope, row_scope}
 use Rattle.type_rules.specs.Changes.{AreBehind, AreSameBut}
 use Rattle.type_rules.specs.Checks.{frame_before}
+use Rattle.type_rules.specs.Inner.Handlers.{caught_frame}
 use Rattle.type_rules.specs.Stated.{stated_at}
 use Rattle.type_rules.specs.declared.keeping.LocalChanges.{LocalChanges}
 use Rattle.type_rules.specs.declared.keeping.LocalChanges.TheVariants.{Nowhere, Within, Anywhere}
 use Rattle.verify_folder.specs.declared.active.ActiveHandlers.{ActiveHandlers}
-use Rattle.verify_folder.specs.Inner.Active.{AreKnown, AreKnownAt, AreNew, AreReached, HasChanged, both_changes}
+use Rattle.verify_folder.specs.Inner.Active.{AreKnown, AreKnownAt, AreNew, AreReached, HasChanged, MayCatch, MightCatch, both_changes}
 
 -- ---- changes
 
@@ -91,3 +96,35 @@ module _ (old new : ActiveHandlers) (changes : LocalChanges) (noted : HasChanged
         (flowed (falls_through placed.instr) (row_frame before row)
         (framed row.goes_on (record { locals = row.locals; stack = stack_behind before row })
         (behind before.locals row.locals known (goes (row_scope s) before placed.at))))
+
+-- ---- locals that changed within bounds
+
+pub reached_within : (changes : LocalChanges) (last : Option (List VType)) (one locals : List VType) (from end : ℕ) → changes ≡ Within from end → last ≡ Some one → AreReached changes last locals → AreSameBut from end one locals
+reached_within changes last one locals from end is some reached =
+    subst (λ (o : Option (List VType)). AreReached (Within from end) o locals) some
+    (subst (λ (c : LocalChanges). AreReached c last locals) is reached)
+
+pub reached_nowhere : (changes : LocalChanges) (last : Option (List VType)) (locals : List VType) → changes ≡ Nowhere → AreReached changes last locals → last ≡ Some locals
+reached_nowhere changes last locals is reached = subst (λ (c : LocalChanges). AreReached c last locals) is reached
+
+-- a handler accepts the units that changed
+module _ (s : Scope) (headers : Headers) (same : headers ≡ s.headers) (handler : Handler) (stated : Frame) (found : stated_at s handler.at ≡ Some stated) where
+  abbrev begins : List VType → Frame
+  begins locals = caught_frame s (record { locals = locals; stack = [] }) handler
+
+  from_catch : (locals : List VType) → MayCatch s locals handler → IsFrameAssignable headers (begins locals) stated
+  from_catch locals may =
+      subst (λ (h : Headers). IsFrameAssignable h (begins locals) stated) (sym same)
+      (subst (MayGoTo (row_scope s) (Some (begins locals))) found may)
+
+  to_catch : (locals : List VType) → IsFrameAssignable headers (begins locals) stated → MayCatch s locals handler
+  to_catch locals may =
+      subst (MayGoTo (row_scope s) (Some (begins locals))) (sym found)
+      (subst (λ (h : Headers). IsFrameAssignable h (begins locals) stated) same may)
+
+  pub accepted : (changes : LocalChanges) (from end : ℕ) → changes ≡ Within from end → (locals : List VType)
+      → ((before stack : List VType) → AreSameBut from end before locals → IsFrameAssignable headers (record { locals = before; stack = stack }) stated → IsFrameAssignable headers (record { locals = locals; stack = stack }) stated)
+      → MightCatch s changes locals handler → MayCatch s locals handler
+  accepted changes from end is locals test might =
+      let was : MightCatch s (Within from end) locals handler = subst (λ (c : LocalChanges). MightCatch s c locals handler) is might in
+      to_catch locals (test was.0 (begins was.0).stack was.1 (from_catch was.0 was.2))

@@ -7,4 +7,5 @@ pub mod ClassWalk
 pub mod HandlerWalk
 pub mod InForce
 pub mod KnownLocals
+pub mod SameUnits
 pub mod Passing
