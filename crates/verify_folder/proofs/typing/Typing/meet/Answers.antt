@@ -1,4 +1,3 @@
+use Rattle.std.proofs.Common.{None, ap, sym, subst, ◌∙◌}
+use Rattle.verify_folder.proofs.KnownLocals.{met, met_other}
 use Rattle.verify_folder.proofs.typing.Typing.meet.Goals as goal
-
-pub returns-then-active-clause-kept : goal.returns-then-active-clause-kept
-returns-then-active-clause-kept c = c.same_if.ensures.kept c.args.self.now
