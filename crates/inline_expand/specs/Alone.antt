@@ -44,21 +44,28 @@ numbered_frame number frame = record {
 
 -- ---- handlers
 
--- a handler catches what its catch type names, and everything where that is 0
-abbrev pub handler_of : Scope → Handler → List FlatHandler
-handler_of s handler =
+-- A handler catches what its catch type names, and everything where that is 0. It begins at the number of its offset.
+abbrev pub handler_by : Scope → (ℕ → ℕ) → Handler → List FlatHandler
+handler_by s number handler =
     if handler.catch_type == 0
-    then record { to = number_at s handler.at; catch_class = None } ∷ []
+    then record { to = number handler.at; catch_class = None } ∷ []
     else of_class (class_at s.class.pool handler.catch_type) where
       of_class : Option (List ℕ) → List FlatHandler
       of_class None = []
       of_class (Some name) =
-          record { to = number_at s handler.at; catch_class = Some name } ∷ []
+          record { to = number handler.at; catch_class = Some name } ∷ []
+
+abbrev pub handler_of : Scope → Handler → List FlatHandler
+handler_of s handler = handler_by s (number_at s) handler
 
 -- the handlers whose range has an offset, in table order
+abbrev pub handlers_by : Scope → (ℕ → ℕ) → ℕ → List FlatHandler
+handlers_by s number at =
+    flat_map (λ handler. if covers handler at then handler_by s number handler else [])
+    s.part.handlers
+
 abbrev pub handlers_at : Scope → ℕ → List FlatHandler
-handlers_at s at =
-    flat_map (λ handler. if covers handler at then handler_of s handler else []) s.part.handlers
+handlers_at s at = handlers_by s (number_at s) at
 
 -- ---- points
 
