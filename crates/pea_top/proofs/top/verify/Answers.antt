@@ -12,13 +12,13 @@ returns-in-Ok-clause-stop g c = λ command words spelled tells found.
     let typed = kept_types c.args.tree.now c.args.work.now _ c.in-Ok.ensures in
     let same = c.show_verifying.ensures.files tells in
     let ready = said_of_same (λ (files : Files). AreReady command files c.args.files.now c.args.tree.now c.args.work.now) same
-        (record {
-          classes = found.classes;
-          headers = found.headers;
-          prepared = found.prepared;
-          arranged = found.arranged;
-          verified = record { tree = found.is_tree; linked = c.requires; typed = typed.0; types = typed.1 };
-        }) in
+    (record {
+      classes = found.classes;
+      headers = found.headers;
+      prepared = found.prepared;
+      arranged = found.arranged;
+      verified = record { tree = found.is_tree; linked = c.requires; typed = typed.0; types = typed.1 };
+    }) in
     stop_behind words _ _ _ _ _ _ _ same (c.show_verifying.ensures.printed tells) (c.carry_out.ensures.stop command words spelled tells ready)
 
 pub returns-in-Ok-clause-write_count : goal.returns-in-Ok-clause-write_count
