@@ -13,7 +13,7 @@ returns-in-Within-Some c = λ yes might.
     let stated = c.in-Within-Some.stated.now in
     let same : headers_of c.tree.result.now ≡ s.headers = c.tree.ensures ∙ ap (λ (of : Scope). of.headers) c.self.view_is in
     let found : stated_at s handler.at ≡ Some stated =
-        subst (λ (at : ℕ). stated_at s at ≡ Some stated) c.from.ensures
-        (subst (λ (of : Scope). stated_at of c.from.result ≡ Some stated) c.self.view_is (sym c.stated_at-stated.ensures ∙ ap option_copied c.in-Within-Some.is-1))
+    subst (λ (at : ℕ). stated_at s at ≡ Some stated) c.from.ensures
+    (subst (λ (of : Scope). stated_at of c.from.result ≡ Some stated) c.self.view_is (sym c.stated_at-stated.ensures ∙ ap option_copied c.in-Within-Some.is-1))
     in
     accepted s (headers_of c.tree.result.now) same handler stated found c.args.changes c.in-Within-Some.from c.in-Within-Some.end c.in-Within-Some.is-0 c.args.before.now.locals (c.are_changed_locals_assignable.ensures yes) might
