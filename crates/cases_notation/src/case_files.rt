@@ -11,6 +11,7 @@ use std::{env, fs};
 pub fn compare_files<A>(rt: &HostRuntime, answer: A) -> ExitCode
 where
     A: Fn(Global, &Setting<'_>, &str) -> Option<String>,
+    requires callable { A.IsAlwaysCallable answer }
 {
     let Ok(args) = env::args(rt) else {
         return ExitCode::FAILURE;
@@ -30,6 +31,7 @@ where
 fn compare_file<A>(rt: &HostRuntime, name: &str, answer: &A) -> Option<()>
 where
     A: Fn(Global, &Setting<'_>, &str) -> Option<String>,
+    requires callable { A.IsAlwaysCallable answer.now }
 {
     let text = fs::read_to_string(rt, name).ok()?;
     let lines = lines_of(rt.alloc(), &text)?;
@@ -38,11 +40,10 @@ where
     for line in lines.as_slice() {
         if !setting.take(&line.text) {
             let place = format!(in rt.alloc(); "{name}:{}", line.number).ok()?;
-            let came = question_of(&line.text).and_then(|question| answer(
-                rt.alloc(),
-                &setting,
-                question,
-            ));
+            let came = match question_of(&line.text) {
+                Some(question) => answer(rt.alloc(), &setting, question),
+                None => None,
+            };
             print_difference(rt, &place, &line.text, came)?;
             count = count.wrapping_add(1);
         }

@@ -1,6 +1,6 @@
 -- The exception handlers in force, from one instruction to the next.
 use Rattle.std.proofs.Common.{◌≡◌, ◌⊎◌, ◌+◌, ◌<◌, ◌≤◌, ℕ, zero, suc, Bool, true, false, List, [], ◌∷◌, ◌++◌, length, get_or, slice_get, Option, Some, None, Contains, IsPermutation, refl, sym, ap, subst, ◌∙◌, inl, inr, arith, le-leb, leb-true, lt-ltb, ltb-true, suc-le-suc, take}
-use Rattle.std.specs.Prelude.{nat_le, nat_lt, IsTrue, if◌then◌else◌}
+use Rattle.std.specs.Prelude.{nat_le, nat_lt, if◌then◌else◌}
 use Rattle.std.specs.List.Sorted.{IsNonDecreasingBy}
 use Rattle.std.proofs.lemmas.Bool.{and_from, and_parts, both_ways, cases_lt}
 use Rattle.std.proofs.lemmas.List.Elements.{Contains-push, Contains-push_cases, Contains-append_left}

@@ -52,13 +52,6 @@ none_known a is (Some frame) = subst (λ (changes : LocalChanges). AreReached ch
 pub new_known : (s : Scope) (a : ActiveHandlers) → AreNew s a → (flows : Option Frame) → AreKnown a flows
 new_known s a are flows = none_known a are.none_known flows
 
--- what is known of one frame is known of the other
-pub known_of : (a b : ActiveHandlers) → b.changes ≡ a.changes → b.locals ≡ a.locals → (flows : Option Frame) → AreKnown a flows → AreKnown b flows
-known_of a b changes locals None known = tt
-known_of a b changes locals (Some frame) known =
-    subst (λ (c : LocalChanges). AreReached c b.locals frame.locals) (sym changes)
-    (subst (λ (o : Option (List VType)). AreReached a.changes o frame.locals) (sym locals) known)
-
 -- no frame is stated at an offset
 pub met : (s : Scope) (a : ActiveHandlers) (at : ℕ) → stated_at s at ≡ None → (flows : Option Frame) → AreKnown a flows → AreKnownAt s a flows at
 met s a at none flows known before is =
@@ -97,15 +90,7 @@ module _ (old new : ActiveHandlers) (changes : LocalChanges) (noted : HasChanged
         (framed row.goes_on (record { locals = row.locals; stack = stack_behind before row })
         (behind before.locals row.locals known (goes (row_scope s) before placed.at))))
 
--- ---- locals that changed within bounds
-
-pub reached_within : (changes : LocalChanges) (last : Option (List VType)) (one locals : List VType) (from end : ℕ) → changes ≡ Within from end → last ≡ Some one → AreReached changes last locals → AreSameBut from end one locals
-reached_within changes last one locals from end is some reached =
-    subst (λ (o : Option (List VType)). AreReached (Within from end) o locals) some
-    (subst (λ (c : LocalChanges). AreReached c last locals) is reached)
-
-pub reached_nowhere : (changes : LocalChanges) (last : Option (List VType)) (locals : List VType) → changes ≡ Nowhere → AreReached changes last locals → last ≡ Some locals
-reached_nowhere changes last locals is reached = subst (λ (c : LocalChanges). AreReached c last locals) is reached
+-- ---- a handler
 
 -- a handler accepts the units that changed
 module _ (s : Scope) (headers : Headers) (same : headers ≡ s.headers) (handler : Handler) (stated : Frame) (found : stated_at s handler.at ≡ Some stated) where

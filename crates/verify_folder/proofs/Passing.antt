@@ -1,6 +1,6 @@
 -- Frames are found one after the other, and not kept.
 use Rattle.std.proofs.Common.{◌≡◌, ◌⊎◌, ◌+◌, ◌<◌, ◌≤◌, ℕ, List, [], ◌∷◌, ◌++◌, length, drop, get_or, Option, Some, None, Ok, refl, sym, ap, subst, ◌∙◌}
-use Rattle.std.specs.Prelude.{IsTrue, if◌then◌else◌}
+use Rattle.std.specs.Prelude.{if◌then◌else◌}
 use Rattle.class_model.specs.Checks.{AllHold}
 use Rattle.class_model.specs.Instructions.{targets}
 use Rattle.class_model.specs.declared.frame.Frame.{Frame}

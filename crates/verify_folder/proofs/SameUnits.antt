@@ -1,6 +1,8 @@
 -- Locals that have the same units.
-use Rattle.std.proofs.Common.{◌≡◌, ◌<◌, ◌≤◌, ◌+◌, ◌∙◌, subst, ℕ, zero, suc, List, [], ◌∷◌, Some, slice_get, refl, sym, ap, arith, inl, inr}
-use Rattle.std.proofs.lemmas.Bool.{cases_lt}
+use Rattle.std.proofs.Common.{◌≡◌, ◌<◌, ◌≤◌, ◌+◌, ◌∙◌, subst, ℕ, zero, suc, Bool, true, false, not, List, [], ◌∷◌, Option, Some, None, Bor, slice_get, refl, sym, ap, arith, inl, inr}
+use Rattle.std.specs.Bool.{Decides}
+use Rattle.std.specs.Option.{option_copied, option_eq}
+use Rattle.std.proofs.lemmas.Bool.{cases_lt, false≢true}
 use Rattle.std.proofs.lemmas.Option.{same_Some}
 use Rattle.class_model.specs.declared.frame.VType.{VType}
 use Rattle.type_rules.specs.Changes.{AreSameBut}
@@ -36,3 +38,16 @@ one_compared last locals from at compared here unit low below =
           let is : at ≡ unit = omega (arith, more, below) in
           subst (λ (n : ℕ). slice_get last n ≡ slice_get locals n) is here
     ]
+
+-- ---- one unit
+
+-- a test of answers about references
+pub same_options : (E : VType → VType → Bool) (o p : Option (Bor VType)) → false ≡ not (option_eq (λ x y. E x.now y.now) o p) → ((x y : VType) → Decides (E x y) (x ≡ y)) → option_copied o ≡ option_copied p
+same_options E None None is each = refl
+same_options E None (Some y) is each = absurd (false≢true is)
+same_options E (Some x) None is each = absurd (false≢true is)
+same_options E (Some x) (Some y) is each = ap Some ((each x.now y.now).0 (not_false (E x.now y.now) is))
+  where
+    not_false : (test : Bool) → false ≡ not test → test ≡ true
+    not_false true e = refl
+    not_false false e = e

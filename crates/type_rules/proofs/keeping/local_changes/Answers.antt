@@ -1,7 +1,5 @@
-use Rattle.std.proofs.Common.{◌≡◌, ◌-◌, ◌+◌, ◌∙◌, ℕ, List, sym, ap, subst, arith}
-use Rattle.class_model.specs.declared.frame.VType.{VType}
+use Rattle.std.proofs.Common.{◌≡◌, ◌-◌, ◌+◌, ◌∙◌, ℕ, sym, subst, arith}
 use Rattle.class_model.specs.declared.instr.Instr.{Instr}
-use Rattle.member_link.specs.Rows.LocalRows.{stored}
 use Rattle.member_link.specs.Rows.Operands.{lowest_of}
 use Rattle.member_link.specs.Rows.Table.{row_of}
 use Rattle.type_rules.specs.Changes.{AreSameBut}

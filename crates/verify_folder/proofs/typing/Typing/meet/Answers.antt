@@ -1,3 +1,4 @@
-use Rattle.std.proofs.Common.{None, ap, sym, subst, ◌∙◌}
-use Rattle.verify_folder.proofs.KnownLocals.{met, met_other}
 use Rattle.verify_folder.proofs.typing.Typing.meet.Goals as goal
+
+pub returns-then-is_some-clause-kept : goal.returns-then-is_some-clause-kept
+returns-then-is_some-clause-kept c = c.forget.ensures.kept c.args.self.now
