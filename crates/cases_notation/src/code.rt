@@ -30,6 +30,7 @@ struct Code {
 /// Any other instruction has its operand bytes in decimal, as `iinc 1 255`. `limits 3 4` are the greatest depth of the stack
 /// and the number of locals, which are else 9. With `open` the code has no `return` at its end, and with `exact` in front it has
 /// neither that nor the `nop`. `dynamic get (LP;)LF;` is a dynamic call of this name and descriptor, and without a name of `run`.
+/// `handle new A <init> ()V` adds this method handle to the constants, and no instruction.
 ///
 /// `handler 0 4 7 A` is an entry of the exception table: the start, the end and the handler as offsets in decimal, and the
 /// class, which is `any` for none. `catch A` is `handler 0 1 0 A`. `full 5 int A : long` states a full frame with this
@@ -120,6 +121,10 @@ fn push_use(
         ),
         ["frame", name] => push_frame(&mut code.frames, pool, name),
         ["full", delta, types @ ..] => push_full(alloc, &mut code.frames, pool, delta, types),
+        ["handle", kind, class, name, desc] => {
+            handle_constant(pool, kind, class, name, desc)?;
+            Ok(())
+        }
         ["ldc", constant @ ..] => push_load(&mut code.instructions, pool, constant),
         ["dynamic", desc] => push_dynamic(&mut code.instructions, pool, "run", desc),
         ["dynamic", name, desc] => push_dynamic(&mut code.instructions, pool, name, desc),
@@ -170,14 +175,26 @@ fn push_load(out: &mut Vec<u8>, pool: &mut PoolBytes, constant: &[&str]) -> Resu
         ["string", text] => (LDC_W, pool.string(text.as_bytes())?),
         ["class", name] => (LDC_W, pool.class(name.as_bytes())?),
         ["type", desc] => (LDC_W, pool.method_type(desc.as_bytes())?),
-        ["handle", kind, class, name, desc] => {
-            let (kind, tag) = handle_kind(kind);
-            let member = pool.member(tag, class.as_bytes(), name.as_bytes(), desc.as_bytes())?;
-            (LDC_W, pool.handle(kind, member)?)
-        }
+        ["handle", kind, class, name, desc] => (
+            LDC_W,
+            handle_constant(pool, kind, class, name, desc)?,
+        ),
         _ => return Ok(()),
     };
     push_instruction(out, opcode, index)
+}
+
+// Adds the handle of a member to the pool, and gives its index.
+fn handle_constant(
+    pool: &mut PoolBytes,
+    kind: &str,
+    class: &str,
+    name: &str,
+    desc: &str,
+) -> Result<u16, NoMemory> {
+    let (kind, tag) = handle_kind(kind);
+    let member = pool.member(tag, class.as_bytes(), name.as_bytes(), desc.as_bytes())?;
+    pool.handle(kind, member)
 }
 
 fn push_instruction(out: &mut Vec<u8>, opcode: u8, index: u16) -> Result<(), NoMemory> {
