@@ -1,10 +1,8 @@
 //! What is answered to a question, as a text.
-use crate::flats::{flat_answer, handlers_answer, typed_answer};
 use cases_notation::{Setting, word_and_rest};
 use class_model::{MethodAt, Text};
 use class_tree::{Place, Tree};
-use flow_code::{Flat, KeptFault};
-use inline_expand::{callee, candidate, expand};
+use inline_expand::{callee, candidate};
 use member_link::check_links;
 use std::alloc::Global;
 use type_rules::TypedFolder;
@@ -25,25 +23,6 @@ pub(crate) fn answer(alloc: Global, setting: &Setting<'_>, question: &str) -> Op
             let host = class_number(alloc, &tree, host)?;
             let from = method_at(alloc, &tree, class, method)?;
             callee_answer(alloc, &tree, &typed, host, from, at.parse::<u32>().ok()?)
-        }
-        ("expand", [class, method]) => {
-            let flat = expand(
-                alloc,
-                &tree,
-                &typed,
-                method_at(alloc, &tree, class, method)?,
-            );
-            expand_answer(alloc, &tree, &flat)
-        }
-        (_, [class, method, point]) => {
-            let flat = expand(
-                alloc,
-                &tree,
-                &typed,
-                method_at(alloc, &tree, class, method)?,
-            )
-            .ok()?;
-            point_answer(alloc, &flat, call, point.parse::<usize>().ok()?)
         }
         _ => None,
     }
@@ -66,22 +45,6 @@ fn callee_answer(
     match callee(alloc, tree, typed, host, from, at).ok()? {
         Some(found) => method_text(alloc, tree, found),
         None => String::from_str(alloc, "-").ok(),
-    }
-}
-
-fn expand_answer(alloc: Global, tree: &Tree, flat: &Result<Flat, KeptFault>) -> Option<String> {
-    match flat {
-        Ok(flat) => flat_answer(alloc, tree, flat),
-        Err(KeptFault::Kept(reason)) => format!(in alloc; "{:?}", reason).ok(),
-        Err(KeptFault::NoMemory) => None,
-    }
-}
-
-fn point_answer(alloc: Global, flat: &Flat, call: &str, point: usize) -> Option<String> {
-    match call {
-        "typed" => typed_answer(alloc, flat, point),
-        "handlers" => handlers_answer(alloc, flat, point),
-        _ => None,
     }
 }
 
