@@ -1,5 +1,5 @@
 //! Methods that no method of the folder overrides (JVM Specification SE 8, 5.4.5).
-ghost use Rattle.std.specs.Prelude.{◌≡◌, ◌↔◌, Some, IsTrue, slice_get};
+ghost use Rattle.std.specs.Prelude.{◌≡◌, ◌↔◌, ◌<◌, Some, IsTrue, length, slice_get};
 ghost use Rattle.class_model.specs.declared.header.Header.{Header};
 ghost use Rattle.class_tree.specs.Headers.{headers_of};
 ghost use Rattle.inline_expand.specs.Callees.{IsOverriddenByNone};
@@ -34,7 +34,8 @@ pub(crate) fn is_overridden_by_none(tree: &Tree, high: Found) -> bool
 // Whether the method of a class of the folder that has the name and descriptor of one that is found
 // overrides that.
 fn overrides_from(tree: &Tree, class: usize, member: &Member, high: Found) -> bool
-    requires { (method : Declared) × IsMethodFound (headers_of tree.now) high method }
+    requires class { class < length tree.now.folder }
+    requires high { (method : Declared) × IsMethodFound (headers_of tree.now) high method }
     ensures { (header : Header) (method : Declared)
         → slice_get (headers_of tree.now).folder class ≡ Some header
         → IsMethodFound (headers_of tree.now) high method

@@ -1,5 +1,5 @@
 //! Which callees may stand in a host's code, in place of their calls.
-ghost use Rattle.std.specs.Prelude.{◌≡◌, ◌↔◌, Some, IfOk, IfSome, IsTrue, drop};
+ghost use Rattle.std.specs.Prelude.{◌≡◌, ◌↔◌, ◌≤◌, Some, IfOk, IfSome, IsTrue, drop};
 ghost use Rattle.std.specs.Option.{option_copied};
 ghost use Rattle.class_model.specs.Code.{verification_type};
 ghost use Rattle.class_model.specs.Descriptors.{SpellsDescriptor, parameters_of};
@@ -53,7 +53,7 @@ pub(crate) fn may_stand_in(
         return Ok(false);
     }
     let own = name_of(alloc, host)?;
-    if !are_open(callee, &own) {
+    if !are_open(callee, &own, callee.instrs()) {
         return Ok(false);
     }
     if !takes_declared(alloc, tree, callee, frames)? {
@@ -122,14 +122,15 @@ fn has_form(host: &ClassFile, callee: &Host<'_>) -> bool
 fn has_plain_code(callee: &Host<'_>, frames: &[Frame]) -> bool
     ensures { IsTrue result ↔ HasPlainCode callee.now frames.now }
 {
-    are_plain(callee) && name_initialisers(callee) && return_alone(callee.instrs(), frames)
+    let instrs = callee.instrs();
+    are_plain(callee, instrs) && name_initialisers(callee, instrs) && return_alone(instrs, frames)
 }
 
 // Whether each instruction is plain.
-fn are_plain(callee: &Host<'_>) -> bool
-    ensures { IsTrue result ↔ ArePlain callee.now (instructions callee.now) }
+fn are_plain(callee: &Host<'_>, instrs: &[Placed]) -> bool
+    ensures { IsTrue result ↔ ArePlain callee.now instrs.now }
 {
-    for placed in callee.instrs() {
+    for placed in instrs {
         if !is_plain(callee, &placed.instr) {
             return false;
         }
@@ -160,10 +161,10 @@ fn is_no_handle(constant: Option<&Const>) -> bool
 }
 
 // Whether each special call names an initialiser.
-fn name_initialisers(callee: &Host<'_>) -> bool
-    ensures { IsTrue result ↔ NameInitialisers callee.now (instructions callee.now) }
+fn name_initialisers(callee: &Host<'_>, instrs: &[Placed]) -> bool
+    ensures { IsTrue result ↔ NameInitialisers callee.now instrs.now }
 {
-    for placed in callee.instrs() {
+    for placed in instrs {
         if !names_initialiser(callee, &placed.instr) {
             return false;
         }
@@ -228,10 +229,10 @@ fn leaves_result(instr: &Instr, frame: &Frame) -> bool
 }
 
 // Whether each class, field and method that a method names is accessible from a host's class.
-fn are_open(callee: &Host<'_>, host: &Text) -> bool
-    ensures { IsTrue result ↔ AreOpen callee.now host.now (instructions callee.now) }
+fn are_open(callee: &Host<'_>, host: &Text, instrs: &[Placed]) -> bool
+    ensures { IsTrue result ↔ AreOpen callee.now host.now instrs.now }
 {
-    for placed in callee.instrs() {
+    for placed in instrs {
         if !names_open(callee, host, &placed.instr) {
             return false;
         }
@@ -260,13 +261,15 @@ fn takes_declared(
 
 // How many units the receiver takes.
 fn this_units(flags: u16) -> usize
-    ensures { result ≡ this_units flags }
+    ensures units { result ≡ this_units flags }
+    ensures few { result ≤ 1 }
 {
     if has(flags, ACC_STATIC) { 0 } else { 1 }
 }
 
 // Whether local units from one on say of parameters no more than these types, or classes.
 fn say_at_most(tree: &Tree, types: &[FieldType], locals: &LocalTypeList, from: usize) -> bool
+    requires { from ≤ 1 }
     ensures { IsTrue result
         ↔ SayAtMost (headers_of tree.now) types.now (drop from locals.now) }
 {
@@ -278,7 +281,7 @@ fn say_at_most(tree: &Tree, types: &[FieldType], locals: &LocalTypeList, from: u
         if !says_at_most(tree, type_, said) {
             return false;
         }
-        unit = unit.saturating_add(usize::from(type_.kind().units()));
+        unit += usize::from(type_.kind().units());
     }
     true
 }
