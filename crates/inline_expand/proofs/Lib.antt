@@ -11,6 +11,7 @@ mod HostCodes
 mod NumberedLocals
 mod OpenMembers
 mod OverridingMethods
+mod ReadMethods
 mod RenumberedArithmetic
 mod RenumberedArrays
 mod RenumberedEntry
@@ -21,6 +22,7 @@ mod RenumberedShuffles
 mod RenumberedTable
 mod RenumberedTargets
 mod RenumberedTypes
+mod ResultTexts
 mod StackRoom
 mod StandingParts
 mod TypedAloneBody
