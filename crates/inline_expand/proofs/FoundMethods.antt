@@ -1,6 +1,8 @@
 -- Methods that are found, and their numbers in the folder.
-use Rattle.std.proofs.Common.{◌≡◌, ℕ, List, slice_get, Option, Some, None, option_map, refl, sym, ap, subst, ◌∙◌}
-use Rattle.std.proofs.lemmas.Option.{none-some, same_Some}
+use Rattle.std.proofs.Common.{◌≡◌, ◌<◌, ◌≤◌, ℕ, List, length, slice_get, Option, Some, None, option_map, refl, sym, ap, subst, ◌∙◌, inl, inr, arith}
+use Rattle.std.proofs.lemmas.List.{length-map}
+use Rattle.std.proofs.lemmas.Option.{none-some, same_Some, slice_get_cases}
+use Rattle.class_model.specs.Header.{header_of}
 use Rattle.class_model.specs.declared.class_file.MethodAt.{MethodAt}
 use Rattle.class_model.specs.declared.header.Header.{Header}
 use Rattle.class_model.specs.declared.header.Member.{Member}
@@ -36,6 +38,17 @@ own_found headers place header name desc number member at is stands =
 pub own_missing : (headers : Headers) (header : Header) (name desc : List ℕ) → member_place name desc header.methods ≡ None → AreSame (IsMethodFound headers) None (option_map (declared_by header.name) (declared name desc header.methods))
 own_missing headers header name desc none =
     subst (λ (o : Option Member). AreSame (IsMethodFound headers) None (option_map (declared_by header.name) o)) (sym (none_own name desc header.methods none)) tt
+
+-- the class file of a number in the folder has a header
+pub class_at : (classes : Classes) (class : ℕ) → class < length classes.folder → (header : Header) × (slice_get (headers_of classes).folder class ≡ Some header)
+class_at classes class within = elim (slice_get_cases (headers_of classes).folder class).1 [
+  | inl found ↦ (found.0, found.2)
+  | inr past ↦ absurd (omega (arith, within, past.0, length-map classes.folder header_of))
+]
+
+pub method_found : {headers : Headers} {found : Found} {own : Option Declared} → AreSame (IsMethodFound headers) (Some found) own → (method : Declared) × IsMethodFound headers found method
+method_found {own = Some method} is = (method, is)
+method_found {own = None} is = absurd is
 
 -- ---- places
 

@@ -17,8 +17,8 @@ use Rattle.member_link.specs.Overriding.{MayOverride, Overrides, overrides_in_pa
 use Rattle.member_link.specs.declared.found.Found.{Found}
 
 pub may_of : {headers : Headers} {low high : Declared} → Overrides headers low high → MayOverride headers low high
-may_of (overrides_open low high may open_) = may
-may_of (overrides_in_package low high may package same) = may
+may_of (overrides_open low high may is_open) = may
+may_of (overrides_in_package low high may access same) = may
 may_of (overrides_through low middle high may is to from) = may
 
 -- none of the first so many classes of the folder declares a method that overrides it
@@ -51,6 +51,12 @@ module _ (headers : Headers) (header : Header) (high : Declared) where
   pub own_overrides : (low : Found) → AreSame (IsMethodFound headers) (Some low) (option_map (declared_by header.name) (declared high.member.name high.member.desc header.methods)) → (result : Bool) → ((method : Declared) → IsMethodFound headers low method → IsTrue result ↔ Overrides headers method high) → IsTrue result ↔ OverridesFrom headers header high
   own_overrides low same result tells = by (declared high.member.name high.member.desc header.methods) refl same
     where
+      the_same : (member : Member) → declared high.member.name high.member.desc header.methods ≡ Some member → (from : OverridesFrom headers header high) → from.low ≡ declared_by header.name member
+      the_same member is from =
+          let may = may_of from.overrides in
+          let own : from.low.member ≡ member = same_Some from.low.member member (sym from.declares ∙ (ap (λ (name : List ℕ). declared name from.low.member.desc header.methods) may.same_name ∙ ap (λ (desc : List ℕ). declared high.member.name desc header.methods) may.same_desc ∙ is)) in
+          λ i. record { class = from.own_class i; member = own i }
+
       by : (own : Option Member) → declared high.member.name high.member.desc header.methods ≡ own → AreSame (IsMethodFound headers) (Some low) (option_map (declared_by header.name) own) → IsTrue result ↔ OverridesFrom headers header high
       by None none same = absurd same
       by (Some member) is found =
@@ -64,12 +70,6 @@ module _ (headers : Headers) (header : Header) (high : Declared) where
             },
             λ from. told.1 (subst (λ (d : Declared). Overrides headers d high) (the_same member is from) from.overrides),
           )
-
-      the_same : (member : Member) → declared high.member.name high.member.desc header.methods ≡ Some member → (from : OverridesFrom headers header high) → from.low ≡ declared_by header.name member
-      the_same member is from =
-          let may = may_of from.overrides in
-          let own : from.low.member ≡ member = same_Some from.low.member member (sym from.declares ∙ (ap (λ (name : List ℕ). declared name from.low.member.desc header.methods) may.same_name ∙ ap (λ (desc : List ℕ). declared high.member.name desc header.methods) may.same_desc ∙ is)) in
-          λ i. record { class = from.own_class i; member = own i }
 
   pub none_overrides : AreSame (IsMethodFound headers) None (option_map (declared_by header.name) (declared high.member.name high.member.desc header.methods)) → ¬ OverridesFrom headers header high
   none_overrides same from =
