@@ -46,9 +46,9 @@ class_at classes class within = elim (slice_get_cases (headers_of classes).folde
   | inr past ↦ absurd (omega (arith, within, past.0, length-map classes.folder header_of))
 ]
 
-pub method_found : {headers : Headers} {found : Found} {own : Option Declared} → AreSame (IsMethodFound headers) (Some found) own → (method : Declared) × IsMethodFound headers found method
-method_found {own = Some method} is = (method, is)
-method_found {own = None} is = absurd is
+pub method_found : (headers : Headers) (found : Found) (own : Option Declared) → AreSame (IsMethodFound headers) (Some found) own → (method : Declared) × IsMethodFound headers found method
+method_found headers found (Some method) is = (method, is)
+method_found headers found None is = absurd is
 
 -- ---- places
 

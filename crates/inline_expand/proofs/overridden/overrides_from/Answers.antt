@@ -10,7 +10,7 @@ use Rattle.member_link.specs.Found.{AreSame, IsMethodFound}
 pub overrides-requires-clause-low : goal.overrides-requires-clause-low
 overrides-requires-clause-low c =
     let class = class_at c.args.tree.now c.args.class c.requires.class in
-    method_found (c.in-Some.ensures class.0 class.1)
+    method_found (headers_of c.args.tree.now) c.in-Some.low (option_map (declared_by class.0.name) (declared c.args.member.now.name c.args.member.now.desc class.0.methods)) (c.in-Some.ensures class.0 class.1)
 
 pub returns-in-Some : goal.returns-in-Some
 returns-in-Some c = λ header method at is same.
