@@ -5,9 +5,12 @@ use Rattle.std.proofs.lemmas.Option.{none-some, same_Some}
 use Rattle.class_model.specs.Members.{has, STATIC}
 use Rattle.class_model.specs.Names.{init}
 use Rattle.class_model.specs.declared.class_file.MethodAt.{MethodAt}
+use Rattle.class_model.specs.declared.header.Header.{Header}
 use Rattle.class_model.specs.declared.opcodes.TheConstants.{INVOKESPECIAL, INVOKESTATIC, INVOKEVIRTUAL}
-use Rattle.class_tree.specs.Headers.{Name, Classes, Headers, headers_of}
+use Rattle.class_tree.specs.Headers.{Name, Classes, Headers, class_named, headers_of}
 use Rattle.class_tree.specs.Hierarchy.{IsHierarchy}
+use Rattle.class_tree.specs.Laws.Headers.{same_class}
+use Rattle.class_tree.specs.Names.{is_interface}
 use Rattle.inline_expand.specs.Callees.{Finds, IsClass, IsOverriddenByNone, Runs, StandsAt, runs_special, runs_static, runs_virtual}
 use Rattle.inline_expand.specs.Inner.Calls.{Decides, RunsAt}
 use Rattle.inline_expand.specs.Inner.Found.{folder_method}
@@ -158,3 +161,9 @@ nothing_chosen headers method (selected.Found found) not is = not found refl
 nothing_chosen headers method selected.Abstract not is = is
 nothing_chosen headers method selected.Twice not is = is
 nothing_chosen headers method selected.NotPublic not is = is
+
+-- ---- classes
+
+-- the class of a name is no interface
+pub no_interface : (headers : Headers) (name : Name) (header : Header) → class_named headers name ≡ Some header → IsClass headers name → IsFalse (is_interface header)
+no_interface headers name header found class = ap (λ (h : Header). is_interface h) (same_class headers name header class.header found class.found) ∙ class.no_interface

@@ -1,0 +1,65 @@
+use Rattle.std.proofs.Common.{◌≡◌, false, refl, sym, ap, subst, ◌∙◌, Option, None}
+use Rattle.std.proofs.lemmas.Bool.{both_ways, false≢true}
+use Rattle.class_model.specs.declared.class_file.MethodAt.{MethodAt}
+use Rattle.class_model.specs.declared.header.Header.{Header}
+use Rattle.class_model.specs.declared.opcodes.TheConstants.{INVOKEVIRTUAL}
+use Rattle.class_tree.specs.Headers.{Name, class_named, headers_of}
+use Rattle.inline_expand.specs.Callees.{IsClass, IsOverriddenByNone, Runs, runs_virtual}
+use Rattle.inline_expand.specs.Inner.Calls.{Decides}
+use Rattle.inline_expand.specs.Inner.References.{reference_meant}
+use Rattle.inline_expand.proofs.DecidedRuns.{finds_nothing, finds_once, looked_up, looked_up_none, no_interface, of_virtual, outside, undecided}
+use Rattle.inline_expand.proofs.FoundMethods.{found_class, numbers_stand}
+use Rattle.inline_expand.proofs.calls.virtual_callee.Goals as goal
+use Rattle.inline_expand.proofs.calls.virtual_callee.Goals.{else-is_class_at-via-then-is_class_at+else-is_overridden_by_none, else-is_class_at-via-else-is_class_at}
+use Rattle.member_link.specs.DeclaredMembers.{Declared}
+
+pub returns-in_err-found : goal.returns-in_err-found
+returns-in_err-found c = λ own.
+    let classes = c.args.tree.now in
+    let IsRun = λ (method : Declared). Runs (headers_of classes) own (reference_meant c.args.reference.now) INVOKEVIRTUAL method in
+    subst (λ (callee : Option MethodAt). Decides classes IsRun callee) (sym c.from_residual.ensures)
+    (undecided classes IsRun (λ method runs. finds_nothing c.a_look_up_finds_one_method.ensures (looked_up_none c.in_err-found.ensures) (of_virtual runs refl).finds))
+
+pub returns-in_err-callee : goal.returns-in_err-callee
+returns-in_err-callee c = λ own.
+    let classes = c.args.tree.now in
+    let found = looked_up c.in_ok-found.ensures in
+    let IsRun = λ (method : Declared). Runs (headers_of classes) own (reference_meant c.args.reference.now) INVOKEVIRTUAL method in
+    subst (λ (callee : Option MethodAt). Decides classes IsRun callee) (sym c.from_residual-in_err-callee.ensures)
+    (outside classes c.a_tree_is_a_hierarchy.ensures IsRun c.in_ok-found.found found.0 found.2 (sym c.in_err-callee.ensures)
+    (λ other runs. finds_once c.a_look_up_finds_one_method.ensures (of_virtual runs refl).finds found.1))
+
+pub returns-then-is_overridden_by_none : goal.returns-then-is_overridden_by_none
+returns-then-is_overridden_by_none c = λ own.
+    let classes = c.args.tree.now in
+    let headers = headers_of classes in
+    let found = looked_up c.in_ok-found.ensures in
+    let is = found.2 in
+    let class : IsClass headers found.0.class = record {
+      header = is.header;
+      found = found_class headers c.a_tree_is_a_hierarchy.ensures is;
+      no_interface = (c.is_class_at.ensures is.header is.at).0 c.if-is_class_at.true;
+    } in
+    record {
+      method = found.0;
+      runs = runs_virtual found.0 found.1 class ((c.is_overridden_by_none.ensures found.0 is).0 c.if-is_overridden_by_none.true);
+      stands = numbers_stand classes c.a_tree_is_a_hierarchy.ensures c.in_ok-callee.callee is (sym c.in_ok-callee.ensures);
+    }
+
+pub returns-else-is_class_at : goal.returns-else-is_class_at
+returns-else-is_class_at c = λ own.
+    let classes = c.args.tree.now in
+    let headers = headers_of classes in
+    let found = looked_up c.in_ok-found.ensures in
+    let is = found.2 in
+    let IsRun = λ (method : Declared). Runs headers own (reference_meant c.args.reference.now) INVOKEVIRTUAL method in
+    undecided classes IsRun (λ method runs.
+    let run = of_virtual runs refl in
+    let same : method ≡ found.0 = finds_once c.a_look_up_finds_one_method.ensures run.finds found.1 in
+    elim c.else-is_class_at.branch [
+      | else-is_class_at-via-then-is_class_at+else-is_overridden_by_none w ↦
+          false≢true (sym w.if-is_overridden_by_none.false ∙ (w.is_overridden_by_none.ensures found.0 is).1 (subst (λ (d : Declared). IsOverriddenByNone headers d) same run.alone))
+      | else-is_class_at-via-else-is_class_at w ↦
+          let class = subst (λ (d : Declared). IsClass headers d.class) same run.of_class in
+          false≢true (sym w.if-is_class_at.false ∙ (c.is_class_at.ensures is.header is.at).1 (no_interface headers found.0.class is.header (found_class headers c.a_tree_is_a_hierarchy.ensures is) class))
+    ])
