@@ -8,6 +8,7 @@ mod FlatPlaces
 mod FolderPlaces
 mod FoundMethods
 mod HostCodes
+mod MethodBuckets
 mod NumberedLocals
 mod OpenMembers
 mod OverridingMethods

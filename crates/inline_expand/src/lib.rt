@@ -4,6 +4,7 @@
 mod alone;
 mod calls;
 mod classes;
+mod folder_methods;
 mod found;
 mod handlers;
 mod host;
