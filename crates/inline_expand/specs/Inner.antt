@@ -5,6 +5,5 @@ pub mod FolderMethods
 pub mod Found
 pub mod Hosts
 pub mod Open
-pub mod Overridden
 pub mod References
 pub mod Standing

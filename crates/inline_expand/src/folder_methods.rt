@@ -12,8 +12,8 @@ use member_link::Found;
 use std::alloc::Global;
 use std::marker::Model;
 
-// Methods whose names and descriptors have one slot.
-type FoundList = ListOf<Found>;
+/// A list of methods that are found.
+pub(crate) type FoundList = ListOf<Found>;
 
 // How many slots there are.
 const SLOTS: usize = 65_536;
@@ -57,11 +57,11 @@ impl<'t> FolderMethods<'t> {
     }
 
     /// Methods of the folder, among them each that has the name and descriptor of a method.
-    pub(crate) fn alike(&self, method: &Member) -> &[Found]
+    pub(crate) fn alike(&self, method: &Member) -> &FoundList
         ensures { AreAlike (headers_of self.now) method.now result.now }
     {
         let slot = slot_of(self.buckets.len(), method);
-        self.buckets[slot].as_slice()
+        &self.buckets[slot]
     }
 }
 

@@ -13,5 +13,5 @@ returns c =
     let s = c.args.from.now in
     let call = call_meant c.in-Some.call in
     let own : c.in_ok-own.own ≡ own_name s = c.in_ok-own.ensures ∙ ap (λ (class : ClassFile). (header_of class).name) c.class.ensures in
-    let run = subst (λ (name : Name). DecidesRun c.args.tree.now name call.reference call.opcode c.callee_of.result) own c.callee_of.ensures in
-    decides_call c.args.tree.now s c.args.at call (sym c.in-Some.ensures) c.callee_of.result run
+    let run = subst (λ (name : Name). DecidesRun c.args.methods.now name call.reference call.opcode c.callee_of.result) own c.callee_of.ensures in
+    decides_call c.args.methods.now s c.args.at call (sym c.in-Some.ensures) c.callee_of.result run

@@ -1,48 +1,60 @@
-use Rattle.std.proofs.Common.{◌≡◌, ◌<◌, length, refl, sym, ap, subst, ◌∙◌, arith}
+use Rattle.std.proofs.Common.{◌≡◌, ◌≤◌, length, refl, sym, ap, subst, ◌∙◌, arith}
 use Rattle.std.proofs.lemmas.Bool.{false≢true}
-use Rattle.std.proofs.lemmas.List.{length-map}
-use Rattle.std.proofs.lemmas.Option.{none-some, same_Some, slice_get_within}
+use Rattle.std.proofs.lemmas.Option.{none-some, same_Some}
 use Rattle.std.specs.Option.{option_copied}
-use Rattle.class_model.specs.Header.{header_of}
-use Rattle.class_tree.specs.Headers.{headers_of}
-use Rattle.inline_expand.proofs.FoundMethods.{class_at}
-use Rattle.inline_expand.proofs.OverridingMethods.{none_at_all, none_more, one_overrides}
+use Rattle.class_tree.specs.Headers.{Classes, headers_of}
+use Rattle.inline_expand.proofs.OverridingMethods.{found_at, none_at_all, none_more, one_overrides}
 use Rattle.inline_expand.proofs.overridden.is_overridden_by_none.Goals as goal
+use Rattle.member_link.specs.DeclaredMembers.{Declared}
+use Rattle.member_link.specs.Found.{IsMethodFound}
+use Rattle.member_link.specs.Overriding.{Overrides}
+use Rattle.member_link.specs.declared.found.Found.{Found}
 
 pub unreachable-requires : goal.unreachable-requires
-unreachable-requires c = none-some c.requires.0.member (sym (ap option_copied c.in_default.is) ∙ c.method_of.ensures c.requires.0 c.requires.1)
+unreachable-requires c =
+    let is = subst (λ (classes : Classes). IsMethodFound (headers_of classes) c.args.high c.requires.0) (sym c.tree-tree.ensures) c.requires.1 in
+    none-some c.requires.0.member (sym (ap option_copied c.in_default.is) ∙ c.method_of.ensures c.requires.0 is)
 
-pub returns-then-overrides_from : goal.returns-then-overrides_from
-returns-then-overrides_from c = λ method is.
-    let classes = c.args.tree.now in
-    let class = c.loop-class.class in
-    let within : class < length classes.folder = omega (arith, c.loop-class-test.true, c.len-class-end.ensures, ap length c.folder.ensures.same) in
-    let header = class_at classes class within in
-    let same = same_Some c.in-Some.member.now method.member (c.in-Some.ensures method is) in
-    let told = c.overrides_from.ensures header.0 method header.1 is (sym same) in (
+pub overrides_at-requires-clause-low : goal.overrides_at-requires-clause-low
+overrides_at-requires-clause-low c = λ found at.
+    let folder = c.alike-lows.ensures.found c.loop-index.index found at in
+    (folder.method, subst (λ (classes : Classes). IsMethodFound (headers_of classes) found folder.method) (sym c.tree-tree.ensures) folder.is)
+
+pub returns-then-overrides_at : goal.returns-then-overrides_at
+returns-then-overrides_at c = λ method is.
+    let headers = headers_of c.args.methods.now in
+    let lows = c.alike-lows.result.now in
+    let index = c.loop-index.index in
+    let item = found_at lows index (omega (arith, c.loop-index-test.true, c.len-index-end.ensures)) in
+    let high = subst (λ (classes : Classes). IsMethodFound (headers_of classes) c.args.high method) (sym c.tree-tree.ensures) is in
+    let same = same_Some c.in-Some.member.now method.member (c.in-Some.ensures method high) in (
       λ passed. absurd (false≢true passed),
-      λ none. absurd (one_overrides (headers_of classes) c.a_tree_is_a_hierarchy.ensures method class header.0 header.1 (told.0 c.if-overrides_from.true) none),
+      λ none. absurd (one_overrides headers method lows c.in-Some.member.now c.alike-lows.ensures same index item.0 item.1
+      (λ low low_is.
+      let own = subst (λ (classes : Classes). IsMethodFound (headers_of classes) item.0 low) (sym c.tree-tree.ensures) low_is in
+      subst (λ (classes : Classes). Overrides (headers_of classes) low method) c.tree-tree.ensures ((c.overrides_at.ensures item.0 low method item.1 own high).0 c.if-overrides_at.true)) none),
     )
 
-pub loop-class-preserved : goal.loop-class-preserved
-loop-class-preserved c = λ method is.
-    let classes = c.args.tree.now in
-    let class = c.loop-class.class in
-    let within : class < length classes.folder = omega (arith, c.loop-class-test.true, c.len-class-end.ensures, ap length c.folder.ensures.same) in
-    let header = class_at classes class within in
-    let same = same_Some c.in-Some.member.now method.member (c.in-Some.ensures method is) in
-    let told = c.overrides_from.ensures header.0 method header.1 is (sym same) in
-    none_more (headers_of classes) c.a_tree_is_a_hierarchy.ensures method class header.0 header.1
-    (λ from. false≢true (sym c.if-overrides_from.false ∙ told.1 from)) (c.loop-class.invariant method is)
+pub loop-index-preserved : goal.loop-index-preserved
+loop-index-preserved c = λ method is.
+    let headers = headers_of c.args.methods.now in
+    let lows = c.alike-lows.result.now in
+    let index = c.loop-index.index in
+    let item = found_at lows index (omega (arith, c.loop-index-test.true, c.len-index-end.ensures)) in
+    let high = subst (λ (classes : Classes). IsMethodFound (headers_of classes) c.args.high method) (sym c.tree-tree.ensures) is in
+    none_more headers method lows index item.0 item.1
+    (λ low low_is overrides.
+    let own = subst (λ (classes : Classes). IsMethodFound (headers_of classes) item.0 low) (sym c.tree-tree.ensures) low_is in
+    let over = subst (λ (classes : Classes). Overrides (headers_of classes) low method) (sym c.tree-tree.ensures) overrides in
+    false≢true (sym c.if-overrides_at.false ∙ (c.overrides_at.ensures item.0 low method item.1 own high).1 over)) (c.loop-index.invariant method is)
 
 pub returns : goal.returns
 returns c = λ method is.
-    let classes = c.args.tree.now in
-    let headers = headers_of classes in (
-      λ passed. none_at_all headers c.a_tree_is_a_hierarchy.ensures method c.loop-class.class
-      (λ index header at.
-      let within = slice_get_within headers.folder index header at in
-      omega (arith, within, c.loop-class-test.false, c.len-class-end.ensures, ap length c.folder.ensures.same, length-map classes.folder header_of))
-      (c.loop-class.invariant method is),
+    let headers = headers_of c.args.methods.now in
+    let lows = c.alike-lows.result.now in
+    let high = subst (λ (classes : Classes). IsMethodFound (headers_of classes) c.args.high method) (sym c.tree-tree.ensures) is in
+    let same = same_Some c.in-Some.member.now method.member (c.in-Some.ensures method high) in
+    let past : length lows ≤ c.loop-index.index = omega (arith, c.loop-index-test.false, c.len-index-end.ensures) in (
+      λ passed. none_at_all headers method lows c.in-Some.member.now c.alike-lows.ensures same c.loop-index.index past (c.loop-index.invariant method is),
       λ none. refl,
     )
