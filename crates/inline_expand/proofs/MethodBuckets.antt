@@ -158,12 +158,12 @@ module _ (headers : Headers) (class : ℕ) where
       found = put_found buckets slot within found headers (folder_found hierarchy header at found (declared member.name member.desc header.methods) refl (answers header at));
       own = λ other other_at. (
         λ low own_class declares.
-        let own = subst (λ (o : Option Member). AreSame (IsMethodFound headers) (Some found) (option_map (declared_by other.name) o)) declares (answers other other_at) in
-        let low_is : declared_by other.name low.member ≡ low = λ i. record { class = sym own_class i; member = low.member } in
-        let among = put_among buckets slot within found headers low (subst (λ (d : Declared). IsMethodFound headers found d) low_is own) in
-        let after = set buckets slot (bucket_at buckets slot ++ found ∷ []) in
-        let same : slot ≡ slot_of (length after) member = is ∙ ap (λ (count : ℕ). slot_of count member) (sym (length-set buckets slot (bucket_at buckets slot ++ found ∷ []))) in
-        subst (λ (n : ℕ). IsAmong headers (bucket_at after n) low) same among,
+            let own = subst (λ (o : Option Member). AreSame (IsMethodFound headers) (Some found) (option_map (declared_by other.name) o)) declares (answers other other_at) in
+            let low_is : declared_by other.name low.member ≡ low = λ i. record { class = sym own_class i; member = low.member } in
+            let among = put_among buckets slot within found headers low (subst (λ (d : Declared). IsMethodFound headers found d) low_is own) in
+            let after = set buckets slot (bucket_at buckets slot ++ found ∷ []) in
+            let same : slot ≡ slot_of (length after) member = is ∙ ap (λ (count : ℕ). slot_of count member) (sym (length-set buckets slot (bucket_at buckets slot ++ found ∷ []))) in
+            subst (λ (n : ℕ). IsAmong headers (bucket_at after n) low) same among,
         tt,
       );
     }

@@ -96,10 +96,11 @@ fn callee_of(methods: &FolderMethods<'_>, own: &Text, call: &Call<'_>) -> Option
     ensures { DecidesRun methods.now own.now (reference_meant call.now.reference) call.now.opcode
         result }
 {
+    let tree = methods.tree();
     if call.opcode == INVOKESTATIC {
-        static_callee(methods.tree(), &call.reference)
+        static_callee(tree, &call.reference)
     } else if call.opcode == INVOKESPECIAL {
-        special_callee(methods.tree(), own, &call.reference)
+        special_callee(tree, own, &call.reference)
     } else if call.opcode == INVOKEVIRTUAL {
         virtual_callee(methods, &call.reference)
     } else {

@@ -30,9 +30,9 @@ returns-then-overrides_at c = λ method is.
     let same = same_Some c.in-Some.member.now method.member (c.in-Some.ensures method high) in (
       λ passed. absurd (false≢true passed),
       λ none. absurd (one_overrides headers method lows c.in-Some.member.now c.alike-lows.ensures same index item.0 item.1
-      (λ low low_is.
-      let own = subst (λ (classes : Classes). IsMethodFound (headers_of classes) item.0 low) (sym c.tree-tree.ensures) low_is in
-      subst (λ (classes : Classes). Overrides (headers_of classes) low method) c.tree-tree.ensures ((c.overrides_at.ensures item.0 low method item.1 own high).0 c.if-overrides_at.true)) none),
+          (λ low low_is.
+          let own = subst (λ (classes : Classes). IsMethodFound (headers_of classes) item.0 low) (sym c.tree-tree.ensures) low_is in
+          subst (λ (classes : Classes). Overrides (headers_of classes) low method) c.tree-tree.ensures ((c.overrides_at.ensures item.0 low method item.1 own high).0 c.if-overrides_at.true)) none),
     )
 
 pub loop-index-preserved : goal.loop-index-preserved

@@ -31,7 +31,7 @@ returns-then-not-says_at_most c =
     let held : slice_get locals unit ≡ Some c.in-Some.said.now = sym c.in-Some.ensures in (
       λ yes. absurd (false≢true yes),
       λ all. absurd (said_too_much headers types locals c.args.from index unit c.loop-type_.invariant.0 c.type_-item.result at c.in-Some.said.now held
-      (λ says. false≢true (sym c.if-not-says_at_most.true ∙ c.says_at_most.ensures.1 says)) all),
+          (λ says. false≢true (sym c.if-not-says_at_most.true ∙ c.says_at_most.ensures.1 says)) all),
     )
 
 pub loop-type_-preserved : goal.loop-type_-preserved
