@@ -8,7 +8,7 @@ use Rattle.class_model.specs.declared.instr.Instr.TheVariants.{Invoke}
 use Rattle.class_model.specs.declared.instr.Placed.{Placed}
 use Rattle.class_tree.specs.Headers.{Classes, headers_of}
 use Rattle.class_tree.specs.Hierarchy.{IsHierarchy}
-use Rattle.inline_expand.specs.Alone.{number_at, number_in}
+use Rattle.inline_expand.specs.Alone.{number_at}
 use Rattle.inline_expand.specs.Callees.{Calls, IsCall, Runs, StandsAt, instr_at, own_name}
 use Rattle.inline_expand.specs.Inner.Calls.{Called, DecidesCall, DecidesRun, call_at, called_as, called_by}
 use Rattle.inline_expand.proofs.AloneCode.{found-instr, or_behind}

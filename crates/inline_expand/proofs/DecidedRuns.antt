@@ -1,6 +1,5 @@
 -- Which method of the folder a call by a reference runs.
-use Rattle.std.proofs.Common.{◌≡◌, ◌≢◌, ◌⊎◌, ℕ, List, Option, Some, None, IsTrue, IsFalse, refl, sym, ap, subst, ◌∙◌, inl, inr, arith}
-use Rattle.std.proofs.lemmas.Bool.{both_ways}
+use Rattle.std.proofs.Common.{◌≡◌, ◌≢◌, ◌⊎◌, ℕ, List, Option, Some, None, IsFalse, refl, sym, ap, subst, ◌∙◌, arith}
 use Rattle.std.proofs.lemmas.Option.{none-some, same_Some}
 use Rattle.class_model.specs.Members.{has, STATIC}
 use Rattle.class_model.specs.Names.{init}
@@ -12,9 +11,9 @@ use Rattle.class_tree.specs.Hierarchy.{IsHierarchy}
 use Rattle.class_tree.specs.Laws.Headers.{same_class}
 use Rattle.class_tree.specs.Names.{is_interface}
 use Rattle.inline_expand.specs.Callees.{Finds, IsClass, IsOverriddenByNone, Runs, StandsAt, runs_special, runs_static, runs_virtual}
-use Rattle.inline_expand.specs.Inner.Calls.{Decides, RunsAt}
+use Rattle.inline_expand.specs.Inner.Calls.{Decides}
 use Rattle.inline_expand.specs.Inner.Found.{folder_method}
-use Rattle.inline_expand.proofs.FoundMethods.{found_alike, numbers_stand, standing_numbers, stands_once}
+use Rattle.inline_expand.proofs.FoundMethods.{numbers_stand, standing_numbers}
 use Rattle.member_link.specs.DeclaredMembers.{Declared}
 use Rattle.member_link.specs.Found.{AreSame, IsChoice, IsMethodFound, IsMethodOf}
 use Rattle.member_link.specs.Methods.{FindsMethod}

@@ -1,5 +1,5 @@
 -- Classes of the folder by their names and places, and the members that a class declares.
-use Rattle.std.proofs.Common.{◌≡◌, ◌+◌, ℕ, Bool, true, false, cond, List, [], ◌∷◌, ◌++◌, slice_get, bytes_eq, Option, Some, None, option_map, option_and_then, refl, sym, ap, ◌∙◌}
+use Rattle.std.proofs.Common.{◌≡◌, ℕ, Bool, true, false, cond, List, [], ◌∷◌, ◌++◌, slice_get, bytes_eq, Option, Some, None, option_map, option_and_then, refl, sym, ap, ◌∙◌}
 use Rattle.std.proofs.lemmas.Bool.{and_parts}
 use Rattle.std.proofs.lemmas.Option.{same_Some}
 use Rattle.std.proofs.lemmas.Slice.Eq.{bytes_eq-Decides}
@@ -9,7 +9,7 @@ use Rattle.class_tree.specs.Headers.{Name, Headers, named, class_named}
 use Rattle.class_tree.specs.Hierarchy.{IsHierarchy}
 use Rattle.class_tree.specs.Laws.FirstPlaces.{first_at, first_passes}
 use Rattle.class_tree.specs.Names.{is_member}
-use Rattle.class_tree.specs.Order.{first_place, header_at, member_place, place_of}
+use Rattle.class_tree.specs.Order.{first_place, member_place, place_of}
 use Rattle.class_tree.specs.declared.place.Place.TheVariants.{Folder, Library}
 use Rattle.member_link.specs.DeclaredMembers.{declared}
 

@@ -1,8 +1,8 @@
 -- The buckets of a folder's methods.
-use Rattle.std.proofs.Common.{◌≡◌, ◌≢◌, ◌⊎◌, ◌+◌, ◌%◌, ◌<◌, ◌≤◌, ℕ, zero, suc, List, [], ◌∷◌, ◌++◌, length, set, get_or, slice_get, Option, Some, None, Result, Ok, Err, OnOk, option_map, refl, sym, ap, subst, ◌∙◌, inl, inr, arith}
+use Rattle.std.proofs.Common.{◌≡◌, ◌⊎◌, ◌+◌, ◌%◌, ◌<◌, ◌≤◌, ℕ, zero, suc, List, [], ◌∷◌, ◌++◌, length, set, get_or, slice_get, Option, Some, None, Result, Ok, Err, OnOk, option_map, refl, sym, ap, subst, ◌∙◌, inl, inr, arith}
 use Rattle.std.specs.List.{AllByRecursion}
 use Rattle.std.proofs.lemmas.Bool.{cases_eq}
-use Rattle.std.proofs.lemmas.List.{get_or-set_other, get_or-set_same, length-map, length-set}
+use Rattle.std.proofs.lemmas.List.{get_or-set_other, get_or-set_same, length-set}
 use Rattle.std.proofs.lemmas.Option.{none-some, same_Some, slice_get_within}
 use Rattle.class_model.specs.Laws.Lists.{AllByRecursion-weaker, at_index}
 use Rattle.class_model.specs.declared.header.Header.{Header}
@@ -12,7 +12,6 @@ use Rattle.class_tree.specs.Hierarchy.{IsHierarchy}
 use Rattle.class_tree.specs.Laws.Headers.{own_name}
 use Rattle.inline_expand.specs.Inner.FolderMethods.{AreAlike, AreBuckets, AreFolderMethods, AreKept, Grows, HasOwn, IsAmong, IsFolderFound, bucket_at, bucket_of}
 use Rattle.inline_expand.proofs.FolderPlaces.{class_of_folder, folder_index, found_in_folder, own_of_declared}
-use Rattle.member_link.specs.Declarations.{IsFolderMethod}
 use Rattle.member_link.specs.DeclaredMembers.{Declared, declared, declared_by}
 use Rattle.member_link.specs.Found.{AreSame, IsMethodFound}
 use Rattle.member_link.specs.Inner.FinalMarks.{front, key, slot_of}

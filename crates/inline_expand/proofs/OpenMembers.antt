@@ -1,10 +1,9 @@
 -- Members that are accessible from a host's class.
-use Rattle.std.proofs.Common.{◌≡◌, ◌↔◌, ◌⊎◌, ◌||◌, not, ◌&&◌, ℕ, Bool, true, false, List, Option, Some, None, IsSome, IsTrue, IsFalse, is_some, slice_get, codes, refl, sym, ap, subst, ◌∙◌, inl, inr}
-use Rattle.std.proofs.lemmas.Bool.{both_ways, false≢true}
-use Rattle.std.proofs.lemmas.Option.{none-some, same_Some}
+use Rattle.std.proofs.Common.{◌≡◌, ◌↔◌, ◌⊎◌, ◌||◌, ℕ, Bool, Option, Some, None, IsSome, IsTrue, IsFalse, is_some, codes, refl, sym, ap, subst, ◌∙◌, inl, inr}
+use Rattle.std.proofs.lemmas.Bool.{false≢true}
+use Rattle.std.proofs.lemmas.Option.{same_Some}
 use Rattle.class_model.specs.Members.{has, PRIVATE, PROTECTED, PUBLIC, STATIC}
 use Rattle.class_model.specs.Pool.{Constants, constant_at}
-use Rattle.class_model.specs.declared.header.Header.{Header}
 use Rattle.class_model.specs.declared.instr.Instr.{Instr}
 use Rattle.class_model.specs.declared.instr.Instr.TheVariants.{GetField, GetStatic, PutField, PutStatic}
 use Rattle.class_tree.specs.Headers.{Name, Headers, named}

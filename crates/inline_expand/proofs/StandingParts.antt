@@ -1,14 +1,11 @@
 -- The conditions of a callee, part by part.
-use Rattle.std.proofs.Common.{◌≡◌, ◌↔◌, ◌⊎◌, ◌+◌, ◌-◌, ◌<◌, ◌≤◌, ℕ, zero, suc, Bool, true, false, List, [], ◌∷◌, drop, length, slice_get, Option, Some, None, Result, Ok, Err, IfOk, IfSome, IsTrue, IsFalse, refl, sym, ap, subst, ◌∙◌, inl, inr, arith}
+use Rattle.std.proofs.Common.{◌≡◌, ◌+◌, ◌-◌, ◌<◌, ◌≤◌, ℕ, List, ◌∷◌, drop, length, slice_get, Option, Some, None, Result, Ok, Err, IfOk, IfSome, sym, ap, subst, ◌∙◌, inl, inr, arith}
 use Rattle.std.proofs.lemmas.Bool.{cases_eq}
 use Rattle.std.proofs.lemmas.List.{drop-drop, drop_all}
-use Rattle.std.proofs.lemmas.Option.{none-some, same_Some}
+use Rattle.std.proofs.lemmas.Option.{same_Some}
 use Rattle.std.specs.List.{AllByRecursion}
-use Rattle.class_model.specs.Code.{verification_type}
 use Rattle.class_model.specs.Descriptors.{SpellsDescriptor, kind_of, parameters_of, units_of}
-use Rattle.class_model.specs.Laws.Lists.{at_index, drop_item, none_behind}
-use Rattle.class_model.specs.Members.{has, STATIC}
-use Rattle.class_model.specs.Methods.{this_units}
+use Rattle.class_model.specs.Laws.Lists.{drop_item, none_behind}
 use Rattle.class_model.specs.declared.class_file.ClassFile.{ClassFile}
 use Rattle.class_model.specs.declared.descriptor.Descriptor.{Descriptor}
 use Rattle.class_model.specs.declared.descriptor.FieldType.{FieldType}
@@ -17,13 +14,12 @@ use Rattle.class_model.specs.declared.frame.Frame.{Frame}
 use Rattle.class_model.specs.declared.frame.VType.{VType}
 use Rattle.class_model.specs.declared.instr.Placed.{Placed}
 use Rattle.class_model.specs.declared.memory.NoMemory.{NoMemory}
-use Rattle.class_tree.specs.Headers.{Name, Classes, Headers, headers_of}
+use Rattle.class_tree.specs.Headers.{Classes, Headers, headers_of}
 use Rattle.class_model.specs.Header.{header_of}
-use Rattle.inline_expand.specs.Callees.{LeavesResult, MayStandIn, NamesOpen, SayAtMost, SaysAtMost, own_name}
-use Rattle.inline_expand.specs.Inner.Standing.{AreOpen, ArePlain, HasForm, HasPlainCode, IsQuietIfStatic, NameInitialisers, ReturnAlone, TakesDeclared}
-use Rattle.inline_expand.specs.Quiet.{IsQuiet}
+use Rattle.inline_expand.specs.Callees.{LeavesResult, MayStandIn, SayAtMost, SaysAtMost}
+use Rattle.inline_expand.specs.Inner.Standing.{AreOpen, HasForm, HasPlainCode, IsQuietIfStatic, TakesDeclared}
 use Rattle.inline_expand.proofs.ResultTexts.{result_spelled}
-use Rattle.member_link.specs.Scope.{Scope, instructions, own_descriptor}
+use Rattle.member_link.specs.Scope.{Scope, instructions}
 use Rattle.member_link.specs.Signatures.{result_of}
 
 -- ---- loops

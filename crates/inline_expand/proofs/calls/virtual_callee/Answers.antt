@@ -1,7 +1,6 @@
-use Rattle.std.proofs.Common.{◌≡◌, false, refl, sym, ap, subst, ◌∙◌, Option, None, Some}
-use Rattle.std.proofs.lemmas.Bool.{both_ways, false≢true}
+use Rattle.std.proofs.Common.{◌≡◌, refl, sym, subst, ◌∙◌, Option, None, Some}
+use Rattle.std.proofs.lemmas.Bool.{false≢true}
 use Rattle.class_model.specs.declared.class_file.MethodAt.{MethodAt}
-use Rattle.class_model.specs.declared.header.Header.{Header}
 use Rattle.class_model.specs.declared.opcodes.TheConstants.{INVOKEVIRTUAL}
 use Rattle.class_tree.specs.Headers.{Classes, headers_of}
 use Rattle.inline_expand.specs.Callees.{IsClass, IsOverriddenByNone, Runs, runs_virtual}

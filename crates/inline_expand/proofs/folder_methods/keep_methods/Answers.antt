@@ -1,4 +1,4 @@
-use Rattle.std.proofs.Common.{◌≡◌, List, length, take, refl, sym, subst}
+use Rattle.std.proofs.Common.{List, length, take, refl, sym, subst}
 use Rattle.std.proofs.lemmas.Option.{slice_get_read}
 use Rattle.class_model.specs.Laws.Lists.{take_item}
 use Rattle.class_model.specs.declared.header.Member.{Member}

@@ -1,4 +1,4 @@
-use Rattle.std.proofs.Common.{◌≡◌, ◌↔◌, ◌⊎◌, IsTrue, sym, subst, inl, inr}
+use Rattle.std.proofs.Common.{◌↔◌, IsTrue, sym, subst}
 use Rattle.class_model.specs.declared.instr.Instr.{Instr}
 use Rattle.inline_expand.specs.Callees.{NamesOpen}
 use Rattle.inline_expand.proofs.OpenMembers.{names_field}

@@ -1,14 +1,12 @@
-use Rattle.std.proofs.Common.{◌≡◌, ◌≤◌, length, refl, sym, ap, subst, ◌∙◌, arith}
+use Rattle.std.proofs.Common.{◌≤◌, length, refl, sym, ap, subst, ◌∙◌, arith}
 use Rattle.std.proofs.lemmas.Bool.{false≢true}
 use Rattle.std.proofs.lemmas.Option.{none-some, same_Some}
 use Rattle.std.specs.Option.{option_copied}
 use Rattle.class_tree.specs.Headers.{Classes, headers_of}
 use Rattle.inline_expand.proofs.OverridingMethods.{found_at, none_at_all, none_more, one_overrides}
 use Rattle.inline_expand.proofs.overridden.is_overridden_by_none.Goals as goal
-use Rattle.member_link.specs.DeclaredMembers.{Declared}
 use Rattle.member_link.specs.Found.{IsMethodFound}
 use Rattle.member_link.specs.Overriding.{Overrides}
-use Rattle.member_link.specs.declared.found.Found.{Found}
 
 pub unreachable-requires : goal.unreachable-requires
 unreachable-requires c =

@@ -1,8 +1,7 @@
-use Rattle.std.proofs.Common.{◌≡◌, ◌+◌, ◌≤◌, ℕ, List, length, slice_get, Some, None, IsTrue, refl, sym, ap, subst, ◌∙◌, arith}
-use Rattle.std.proofs.lemmas.Bool.{both_ways, false≢true}
+use Rattle.std.proofs.Common.{◌≡◌, ◌+◌, ℕ, length, slice_get, Some, None, refl, sym, ap, subst, ◌∙◌, arith}
+use Rattle.std.proofs.lemmas.Bool.{false≢true}
 use Rattle.std.proofs.lemmas.Option.{slice_get_read}
 use Rattle.class_model.specs.Descriptors.{kind_of, units_of}
-use Rattle.class_model.specs.declared.descriptor.Kind.{Kind}
 use Rattle.class_tree.specs.Headers.{headers_of}
 use Rattle.inline_expand.proofs.StandingParts.{IsSaidOfRest, few_units, said_more, said_of_none, said_too_much}
 use Rattle.inline_expand.proofs.standing.say_at_most.Goals as goal
