@@ -79,9 +79,6 @@ module _ (classes : Classes) (s : Scope) (at : ℕ) where
       let at_call = called_at call read calls in
       none callee (record { method = at_call.0; runs = at_call.1; stands = at_call.2 })
 
-  pub no_call : call_at s at ≡ None → DecidesCall classes s at None
-  no_call none = λ callee calls. none-some (called_as calls.opcode calls.reference) (sym none ∙ read_call s at calls.is_call)
-
   pub calls_once : HasLaws → IsHierarchy (headers_of classes) → (one other : MethodAt) → Calls classes s at one → Calls classes s at other → one ≡ other
   calls_once laws hierarchy one other calls also =
       let call = called_as calls.opcode calls.reference in

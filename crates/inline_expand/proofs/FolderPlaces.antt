@@ -15,9 +15,6 @@ use Rattle.member_link.specs.DeclaredMembers.{declared}
 
 -- ---- classes
 
-abbrev has_name : Name → Header → Bool
-has_name name header = bytes_eq name header.name
-
 -- the class of a name in a list is the one at the first place of it
 pub named_at : (name : Name) (headers : List Header) → named name headers ≡ option_and_then (slice_get headers) (first_place (λ (header : Header). bytes_eq name header.name) headers)
 named_at name headers = first_at (λ (header : Header). bytes_eq name header.name) (named name) refl (λ header rest. refl) headers

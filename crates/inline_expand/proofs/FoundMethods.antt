@@ -67,14 +67,6 @@ module _ (headers : Headers) (hierarchy : IsHierarchy headers) where
       let header : is.header ≡ also.header = same_Some is.header also.header (sym is.at ∙ ap (header_at headers) place ∙ also.at) in
       (place, same_Some found.member other.member (sym is.first ∙ ap (λ (h : Header). member_place method.member.name method.member.desc h.methods) header ∙ also.first))
 
-  -- two methods at one place are the same
-  pub found_alike : {found : Found} {method other : Declared} → IsMethodFound headers found method → IsMethodFound headers found other → method ≡ other
-  found_alike {found} {method} {other} is also =
-      let header : is.header ≡ also.header = same_Some is.header also.header (sym is.at ∙ also.at) in
-      let class : method.class ≡ other.class = sym is.own_class ∙ ap (λ (h : Header). h.name) header ∙ also.own_class in
-      let member : method.member ≡ other.member = same_Some method.member other.member (sym is.stands ∙ ap (λ (h : Header). slice_get h.methods found.member) header ∙ also.stands) in
-      λ i. record { class = class i; member = member i }
-
 -- ---- numbers in the folder
 
 module _ (classes : Classes) (hierarchy : IsHierarchy (headers_of classes)) where

@@ -91,9 +91,6 @@ module _ (buckets : List (List Found)) (slot : ℕ) (within : slot < length buck
 
 -- ---- changes
 
-grows_same : (buckets : List (List Found)) → Grows buckets buckets
-grows_same buckets = record { len = refl; kept = λ slot index found at. at }
-
 grows_then : {one other third : List (List Found)} → Grows one other → Grows other third → Grows one third
 grows_then first more = record { len = more.len ∙ first.len; kept = λ slot index found at. more.kept slot index found (first.kept slot index found at) }
 
@@ -111,9 +108,6 @@ still_own headers header {before} {after} grows members all =
     (λ member own low class declares. still_among headers grows member low (own low class declares)) members all
 
 module _ (headers : Headers) (class : ℕ) where
-  pub kept_first : (buckets : List (List Found)) → AreKept headers class [] buckets buckets
-  kept_first buckets = record { grows = grows_same buckets; found = λ all. all; own = λ header at. tt }
-
   pub kept_more : {before between after : List (List Found)} (members : List Member) (member : Member) → AreKept headers class members before between → AreKept headers class (member ∷ []) between after → AreKept headers class (members ++ member ∷ []) before after
   kept_more {before} {between} {after} members member first more = record {
     grows = grows_then first.grows more.grows;
@@ -124,16 +118,6 @@ module _ (headers : Headers) (class : ℕ) where
   module _ (member : Member) (buckets : List (List Found)) where
     abbrev Answers : Option Found → Type 0
     Answers found = (header : Header) → slice_get headers.folder class ≡ Some header → AreSame (IsMethodFound headers) found (option_map (declared_by header.name) (declared member.name member.desc header.methods))
-
-    pub kept_none : Answers None → AreKept headers class (member ∷ []) buckets buckets
-    kept_none none = record {
-      grows = grows_same buckets;
-      found = λ all. all;
-      own = λ header at. (
-        λ low own_class declares. absurd (subst (λ (own : Option Member). AreSame (IsMethodFound headers) None (option_map (declared_by header.name) own)) declares (none header at)),
-        tt,
-      );
-    }
 
     -- what is found of the class is a method of the folder
     folder_found : IsHierarchy headers → (header : Header) → slice_get headers.folder class ≡ Some header → (found : Found) (own : Option Member) → declared member.name member.desc header.methods ≡ own → AreSame (IsMethodFound headers) (Some found) (option_map (declared_by header.name) own) → IsFolderFound headers found
@@ -174,13 +158,6 @@ pub record KeptBefore (headers : Headers) (count : ℕ) (buckets : List (List Fo
   pub some : 0 < length buckets
   pub found : AreFolderMethods headers buckets
   pub each : (index : ℕ) (header : Header) → index < count → slice_get headers.folder index ≡ Some header → AllByRecursion (HasOwn headers header buckets) header.methods
-
-pub nothing_kept : (headers : Headers) (buckets : List (List Found)) → 0 < length buckets → ((slot : ℕ) → get_or buckets slot [] ≡ []) → KeptBefore headers 0 buckets
-nothing_kept headers buckets some empty = record {
-  some = some;
-  found = λ slot index found at. absurd (none-some found (subst (λ (bucket : List Found). slice_get bucket index ≡ Some found) (empty slot) at));
-  each = λ index header below. absurd (omega (arith, below));
-}
 
 pub class_kept : (headers : Headers) (count : ℕ) {before after : List (List Found)} (header : Header) → slice_get headers.folder count ≡ Some header → KeptBefore headers count before → AreKept headers count header.methods before after → KeptBefore headers (count + 1) after
 class_kept headers count {before} {after} header at kept more = record {

@@ -28,9 +28,6 @@ pub record NoneAmong (headers : Headers) (high : Declared) (lows : List Found) (
   pub none : (index : ℕ) (found : Found) (low : Declared) → index < count → slice_get lows index ≡ Some found → IsMethodFound headers found low → ¬ Overrides headers low high
 
 module _ (headers : Headers) (high : Declared) (lows : List Found) where
-  pub none_first : NoneAmong headers high lows 0
-  none_first = record { none = λ index found low below. absurd (omega (arith, below)) }
-
   -- one more
   pub none_more : (count : ℕ) (found : Found) → slice_get lows count ≡ Some found → ((low : Declared) → IsMethodFound headers found low → ¬ Overrides headers low high) → NoneAmong headers high lows count → NoneAmong headers high lows (count + 1)
   none_more count found at not before = record {
