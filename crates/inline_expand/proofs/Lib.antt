@@ -2,9 +2,17 @@ mod AloneCode
 mod AloneFlat
 mod AlonePoints
 mod AloneProgram
+mod CalledMethods
+mod DecidedRuns
 mod FlatPlaces
+mod FolderPlaces
+mod FoundMethods
 mod HostCodes
+mod MethodBuckets
 mod NumberedLocals
+mod OpenMembers
+mod OverridingMethods
+mod ReadMethods
 mod RenumberedArithmetic
 mod RenumberedArrays
 mod RenumberedEntry
@@ -15,7 +23,9 @@ mod RenumberedShuffles
 mod RenumberedTable
 mod RenumberedTargets
 mod RenumberedTypes
+mod ResultTexts
 mod StackRoom
+mod StandingParts
 mod TypedAloneBody
 mod TypedAloneEdges
 mod TypedAloneHandlers
