@@ -128,6 +128,13 @@ impl<'a> Host<'a> {
         &self.class.pool
     }
 
+    /// The method itself.
+    pub(crate) fn method(&self) -> &'a Method
+        ensures { result.now ≡ self.now.method }
+    {
+        self.method
+    }
+
     /// Its exception table.
     pub(crate) fn handlers(&self) -> &'a [Handler]
         ensures { result.now ≡ self.now.part.handlers }

@@ -2,10 +2,13 @@
 #![tactic(auto)]
 
 mod alone;
+mod expanded;
+mod expansions;
 mod handlers;
 mod host;
 mod laws;
 mod numbered;
+mod numbers;
 mod renumbered;
 
 pub use alone::flat_alone;
