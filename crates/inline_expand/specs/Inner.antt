@@ -4,3 +4,4 @@ pub mod Hosts
 pub mod Numbers
 pub mod Steps
 pub mod Layouts
+pub mod Settings
