@@ -99,6 +99,7 @@ pub data Runs (headers : Headers) (own : Name) (reference : Reference) : ℕ →
   runs_special : (found method : Declared) (start : Name)
       → IsClass headers own ⊎ (reference.name ≡ init)
       → Finds headers reference found
+      → IsFalse (has found.member.flags STATIC)
       → StartsSpecial headers own reference.class start
       → Selects headers start found Special (chosen_method method)
       → Runs headers own reference INVOKESPECIAL method
