@@ -2,9 +2,11 @@ mod AloneCode
 mod AloneFlat
 mod AlonePoints
 mod AloneProgram
+mod DescriptorTexts
 mod FlatPlaces
 mod HostCodes
 mod NumberedLocals
+mod Overlays
 mod RenumberedArithmetic
 mod RenumberedArrays
 mod RenumberedEntry
@@ -15,6 +17,7 @@ mod RenumberedShuffles
 mod RenumberedTable
 mod RenumberedTargets
 mod RenumberedTypes
+mod ShapeParts
 mod StackRoom
 mod TypedAloneBody
 mod TypedAloneEdges

@@ -5,3 +5,4 @@ pub mod Numbers
 pub mod Steps
 pub mod Layouts
 pub mod Settings
+pub mod Frames

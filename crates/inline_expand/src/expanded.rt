@@ -1,3 +1,7 @@
 //! Flat code in which callees stand in place of their calls.
+pub(crate) mod entries;
+pub(crate) mod frames;
 pub(crate) mod layouts;
+pub(crate) mod returns;
+pub(crate) mod settings;
 pub(crate) mod shapes;

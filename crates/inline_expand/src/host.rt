@@ -128,6 +128,27 @@ impl<'a> Host<'a> {
         &self.class.pool
     }
 
+    /// Its exception table.
+    pub(crate) fn handlers(&self) -> &'a [Handler]
+        ensures { result.now ≡ self.now.part.handlers }
+    {
+        self.part.handlers.as_slice()
+    }
+
+    /// The classes around it.
+    pub(crate) fn tree(&self) -> &'a Tree
+        ensures { headers_of result.now ≡ self.now.headers }
+    {
+        self.tree
+    }
+
+    /// Its class file.
+    pub(crate) fn class(&self) -> &'a ClassFile
+        ensures { result.now ≡ self.now.class }
+    {
+        self.class
+    }
+
     /// The method itself.
     pub(crate) fn method(&self) -> &'a Method
         ensures { result.now ≡ self.now.method }
@@ -135,11 +156,11 @@ impl<'a> Host<'a> {
         self.method
     }
 
-    /// Its exception table.
-    pub(crate) fn handlers(&self) -> &'a [Handler]
-        ensures { result.now ≡ self.now.part.handlers }
+    /// The content of its Code attribute.
+    pub(crate) fn part(&self) -> &'a CodePart
+        ensures { result.now ≡ self.now.part }
     {
-        self.part.handlers.as_slice()
+        self.part
     }
 
     /// How many local units it has.

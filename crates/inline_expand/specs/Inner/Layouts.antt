@@ -1,5 +1,7 @@
 -- Words of how methods stand in flat code.
-use Rattle.std.specs.Prelude.{◌≡◌, ◌+◌, min, ℕ, Bool, true, false, List, [], ◌∷◌, length, map, slice_get, Option, Some, None}
+use Rattle.std.specs.Prelude.{◌≡◌, ◌+◌, ◌≤◌, min, pos, ℕ, Bool, true, false, List, [], ◌∷◌, length, map, slice_get, Option, Some, None, if◌then◌else◌}
+use Rattle.std.specs.List.{AllByRecursion}
+use Rattle.class_model.specs.Descriptors.{parameter_units, units_of}
 use Rattle.class_model.specs.declared.descriptor.FieldType.{FieldType}
 use Rattle.class_model.specs.declared.descriptor.Kind.TheVariants as kinds
 use Rattle.class_model.specs.declared.frame.VType.TheVariants.{Int}
@@ -38,9 +40,17 @@ narrowing_of ToByte = narrows (Pure I2B)
 narrowing_of ToShort = narrows (Pure I2S)
 narrowing_of ToChar = narrows (Pure I2C)
 narrowing_of ToBool =
-    record { instr = Const (imms.Int 1); above = [] }
+    record { instr = Const (imms.Int (pos 1)); above = [] }
     ∷ record { instr = Pure IAND; above = Int ∷ [] }
     ∷ []
+
+-- a parameter's units end by one
+abbrev pub EndsBy : ℕ → Parameter → Type 0
+EndsBy end parameter = parameter.unit + units_of parameter.kind ≤ end
+
+-- where the units of a callee begin at one, those of its parameters are numbers of two bytes
+abbrev pub AreWithin : ℕ → List Parameter → Type 0
+AreWithin unit parameters = AllByRecursion (λ parameter. unit + parameter.unit ≤ 65535) parameters
 
 -- these stand for parameters of these types, behind a receiver or none
 abbrev pub arguments_behind : Bool → ℕ → List FieldType → List Argument
@@ -52,12 +62,15 @@ pub record AreParameters (receiver : Bool) (types : List FieldType) (parameters 
     : Type 0 where
   pub each : (unit : ℕ)
       → map (argument_from unit) parameters ≡ arguments_behind receiver unit types
+  pub inside : AllByRecursion
+      (EndsBy (parameter_units types + (if receiver then 1 else 0))) parameters
 
 -- how a method is called and returns
 pub record IsShape (s : Scope) (shape : Shape) : Type 0 where
   pub arguments : (unit : ℕ) → arguments s unit ≡ arguments_of shape unit
   pub tests : shape.tests_receiver ≡ tests_receiver s
   pub narrowing : own_narrowing s ≡ narrowing_of shape.narrowed
+  pub inside : AllByRecursion (EndsBy s.part.max_locals) shape.parameters.items
 
 -- ---- numbers
 

@@ -1,13 +1,18 @@
 -- Words of a method in its place.
-use Rattle.std.specs.Prelude.{◌≡◌, ◌+◌, ◌≤◌, ℕ, List, [], ◌∷◌, Option, Some, None, option_map}
+use Rattle.std.specs.Prelude.{◌≡◌, ◌+◌, ◌<◌, ◌≤◌, ℕ, List, [], ◌∷◌, ◌++◌, map, Option, Some, None, option_map}
 use Rattle.flow_code.specs.declared.handlers.FlatHandler.{FlatHandler}
 use Rattle.inline_expand.specs.Alone.{handlers_by, number_at}
-use Rattle.inline_expand.specs.Expanded.{Setting, class_of}
+use Rattle.class_model.specs.declared.frame.Frame.{Frame}
+use Rattle.flow_code.specs.declared.point.Point.{Point}
+use Rattle.inline_expand.specs.Expanded.{Setting, class_of, point_in}
+use Rattle.inline_expand.specs.Inner.Layouts.{narrowing_of}
+use Rattle.inline_expand.specs.declared.expanded.shapes.Narrowed.{Narrowed}
 use Rattle.inline_expand.specs.Inner.Numbers.{placed_by}
 use Rattle.inline_expand.specs.Inner.Steps.{coded_of}
 use Rattle.inline_expand.specs.declared.expanded.settings.Call.{Call}
 use Rattle.inline_expand.specs.declared.expanded.settings.Setting.{Setting as Placing}
 use Rattle.inline_expand.specs.declared.expanded.settings.Spot.{Spot}
+use Rattle.inline_expand.specs.declared.handlers.Around.{Around}
 
 -- a callee has the handlers of its call
 abbrev pub caught_by : Option Call → (ℕ → List FlatHandler) → ℕ → List FlatHandler
@@ -32,3 +37,17 @@ setting_of s = record {
 pub record IsSpot (t : Setting) (at : ℕ) (spot : Spot) : Type 0 where
   pub class : spot.class ≡ class_of t
   pub handlers : spot.handlers.now ≡ t.handlers at
+
+-- those of its instructions
+abbrev pub AreCaught : Placing → Around → Type 0
+AreCaught s around =
+    (at : ℕ)
+    → around.from ≤ at
+    → at < around.until
+    → (setting_of s).handlers at ≡ around.handlers
+
+-- what narrows a result behind a frame
+abbrev pub narrowed_points : Setting → ℕ → Frame → Narrowed → List Point
+narrowed_points t at typed narrowed =
+    map (λ n. point_in t at (record typed { stack = typed.stack ++ n.above }) n.instr)
+    (narrowing_of narrowed)

@@ -1,7 +1,7 @@
 -- Words of the tree of callees, as it is kept: bodies in one list, each behind those of its callees.
 use Rattle.std.specs.Prelude.{◌≡◌, ◌≤◌, ℕ, List, [], ◌∷◌, ◌++◌, length, slice_get, Option, Some, None}
-use Rattle.class_model.specs.Methods.{IsDescriptorOf, units_at_call}
-use Rattle.class_model.specs.PoolChecks.{utf8_at}
+use Rattle.class_model.specs.Methods.{units_at_call}
+use Rattle.code_bytes.specs.Codes.{IsReadMethod}
 use Rattle.inline_expand.specs.Expansions.{Coded, Expansion, no_more, replaced, site, stays}
 use Rattle.inline_expand.specs.Inner.Hosts.{HasUnits}
 use Rattle.inline_expand.specs.declared.expansions.Body.{Body}
@@ -49,15 +49,12 @@ callees_of bodies = callees_behind [] bodies
 
 -- ---- what is known of a body
 
--- the descriptor of a method is there and is one of its flags, and its local units hold the arguments
+-- the method was read, and its local units hold its arguments
 pub record IsCallable (s : Scope) : Type 0 where
-  pub text : List ℕ
-  pub there : utf8_at s.class.pool s.method.desc ≡ Some text
-  pub descriptor : IsDescriptorOf s.method.flags text
-  pub fits : units_at_call s.method.flags text ≤ s.part.max_locals
+  pub read : IsReadMethod s.class.pool s.method
+  pub fits : units_at_call s.method.flags (own_descriptor s) ≤ s.part.max_locals
 
--- Frames type its code; it has a step for each instruction; its instructions name local units that it has; and its descriptor
--- is there, with arguments that its local units hold.
+-- Frames type its code; it has a step for each instruction; its instructions name local units that it has; and it may be called.
 pub record IsBody (body : Body) : Type 0 where
   pub typed : Typed body.host body.frames.now
   pub steps : length body.steps ≡ length (instructions body.host)

@@ -1,9 +1,11 @@
 //! Frames of methods in their places.
-ghost use Rattle.std.specs.Prelude.{◌≡◌, ◌≤◌, length, map, take, IfOk, OnOk};
+ghost use Rattle.std.specs.Prelude.{◌≡◌, ◌≤◌, ◌++◌, length, map, take, slice_set, IfOk, OnOk};
+ghost use Rattle.class_model.specs.Frames.{is_wide};
 ghost use Rattle.class_model.specs.declared.frame.VType.{VType};
-ghost use Rattle.inline_expand.specs.Expanded.{overlaid, set_frame, set_type};
+ghost use Rattle.inline_expand.specs.Expanded.{Argument, frame_stored, overlaid, set_frame, set_type};
 ghost use Rattle.inline_expand.specs.Inner.Frames.{put_at};
 ghost use Rattle.inline_expand.specs.Inner.Settings.{setting_of};
+ghost use Rattle.member_link.specs.Rows.LocalRows.{cut_before, stored};
 
 use crate::expanded::settings::Setting;
 use class_model::{Frame, LocalTypeList, NoMemory, VType, VTypeList};
@@ -109,18 +111,47 @@ pub(crate) fn stored(frame: Frame, at: usize) -> Result<Frame, NoMemory>
     })
 }
 
-// Locals behind a store.
+// Locals behind a store. The long or double that it cuts is none any more.
 fn stored_in(locals: LocalTypeList, at: usize, value: VType) -> Result<LocalTypeList, NoMemory>
     ensures { IfOk result (λ after. after ≡ stored at value locals) }
 {
     let mut after = locals;
-    if let Some(first) = at.checked_sub(1) && is_wide_at(&after, first) {
-        set(&mut after, first, VType::Top)?;
-    }
+    cut_before(&mut after, at)?;
     let is_wide = is_wide(&value);
     set(&mut after, at, value)?;
     if is_wide {
-        set(&mut after, at + 1, VType::Top)?;
+        set(&mut after, at.saturating_add(1), VType::Top)?;
     }
     Ok(after)
+}
+
+// The long or double whose second unit is written is none any more.
+fn cut_before(locals: &mut LocalTypeList, at: usize) -> Result<(), NoMemory>
+    ensures { OnOk result (locals.new ≡ cut_before at locals.old) }
+{
+    let Some(first) = at.checked_sub(1) else {
+        return Ok(());
+    };
+    match locals.get(first) {
+        Some(unit) if is_wide(unit) => locals.set(first, VType::Top),
+        _ => Ok(()),
+    }
+}
+
+// Gives a unit another type, if it is there.
+fn set(locals: &mut LocalTypeList, at: usize, unit: VType) -> Result<(), NoMemory>
+    ensures { OnOk result (locals.new ≡ slice_set locals.old at unit) }
+{
+    if at < locals.len() {
+        locals.set(at, unit)
+    } else {
+        Ok(())
+    }
+}
+
+// Whether a type takes two units.
+fn is_wide(type_: &VType) -> bool
+    ensures { result ≡ is_wide type_.now }
+{
+    matches!(type_, VType::Long | VType::Double)
 }

@@ -1,11 +1,10 @@
 //! A method in its place in flat code.
 ghost use Rattle.std.specs.Prelude.{◌≡◌, ◌+◌, ◌≤◌, IfOk};
-ghost use Rattle.class_model.specs.declared.frame.VType.{VType};
 ghost use Rattle.flow_code.specs.FlatCode.{HasLocal};
-ghost use Rattle.flow_code.specs.declared.point.FlatInstr.TheVariants.{Of};
+ghost use Rattle.flow_code.specs.declared.point.FlatInstr.TheVariants.{NullTest, Of};
 ghost use Rattle.inline_expand.specs.Expanded.{set_instr, set_type};
-ghost use Rattle.inline_expand.specs.Inner.Numbers.{AreAround, number_by};
-ghost use Rattle.inline_expand.specs.Inner.Settings.{number_in, setting_of};
+ghost use Rattle.inline_expand.specs.Inner.Numbers.{number_by};
+ghost use Rattle.inline_expand.specs.Inner.Settings.{AreCaught, number_in, setting_of};
 
 use crate::expanded::shapes::Narrowed;
 use crate::expansions::Body;
@@ -127,6 +126,24 @@ impl Spot<'_> {
                 class: self.class,
                 instr,
             },
+            typed,
+            handlers: self.handlers.copy()?,
+        })
+    }
+
+    /// A test of the reference in a local unit for null.
+    ///
+    /// # Errors
+    /// `NoMemory`, where memory runs out.
+    pub(crate) fn null_test(&self, unit: u16, typed: Frame) -> Result<Point, NoMemory>
+        ensures { IfOk result (λ point. point ≡ record {
+          instr = NullTest unit;
+          typed = typed;
+          handlers = self.now.handlers.now;
+        }) }
+    {
+        Ok(Point {
+            instr: FlatInstr::NullTest(unit),
             typed,
             handlers: self.handlers.copy()?,
         })

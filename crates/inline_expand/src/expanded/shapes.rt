@@ -1,12 +1,17 @@
 //! How a method that stands in place of its calls is called, and how it returns.
-ghost use Rattle.std.specs.Prelude.{◌≡◌, ◌+◌, ◌≤◌, ◌++◌, ℕ, length, map, IfOk, OnOk};
-ghost use Rattle.class_model.specs.Descriptors.{parameter_units};
-ghost use Rattle.inline_expand.specs.Expanded.{arguments_from, narrowing};
-ghost use Rattle.inline_expand.specs.Inner.Layouts.{AreParameters, IsShape, argument_from, narrowing_of};
+ghost use Rattle.std.specs.Prelude.{◌≡◌, ◌+◌, ◌≤◌, ◌++◌, not, ℕ, length, map, Some, IfOk, OnOk};
+ghost use Rattle.std.specs.List.{AllByRecursion};
+ghost use Rattle.class_model.specs.Descriptors.{SpellsDescriptor, parameter_units, parameters_of};
+ghost use Rattle.class_model.specs.Members.{STATIC, has};
+ghost use Rattle.code_bytes.specs.Codes.{IsReadMethod};
+ghost use Rattle.inline_expand.specs.Expanded.{arguments_from, narrowing, tests_receiver};
+ghost use Rattle.inline_expand.specs.Inner.Layouts.{AreParameters, EndsBy, IsShape, argument_from, narrowing_of};
 ghost use Rattle.inline_expand.specs.Inner.Steps.{IsCallable};
+ghost use Rattle.member_link.specs.Scope.{own_descriptor};
+ghost use Rattle.member_link.specs.Signatures.{result_of};
 
 use crate::host::Host;
-use class_model::{ACC_STATIC, FieldType, INIT, Kind, NoMemory, has};
+use class_model::{ACC_STATIC, Descriptor, FieldType, INIT, Kind, NoMemory, has};
 use code_bytes::{is_text, method_descriptor};
 use std::alloc::Global;
 
@@ -56,17 +61,43 @@ pub(crate) fn shape_of(alloc: Global, host: &Host<'_>) -> Result<Shape, NoMemory
     requires { IsCallable host.now }
     ensures { IfOk result (IsShape host.now) }
 {
-    let method = host.method();
-    let Some(text) = host.pool().utf8(method.desc) else {
-        unreachable!()
-    };
-    let descriptor = method_descriptor(alloc, text, method.flags)?;
-    let has_receiver = !has(method.flags, ACC_STATIC);
+    let descriptor = descriptor_of(alloc, host)?;
+    let parameters = parameters_of(alloc, has_receiver(host), descriptor.params.as_slice())?;
     Ok(Shape {
-        parameters: parameters_of(alloc, has_receiver, descriptor.params.as_slice())?,
-        tests_receiver: has_receiver && !is_text(host.pool(), INIT, method.name),
+        parameters,
+        tests_receiver: tests_receiver(host),
         narrowed: narrowed_by(&descriptor.result),
     })
+}
+
+// The descriptor of a method that was read.
+fn descriptor_of(alloc: Global, host: &Host<'_>) -> Result<Descriptor, NoMemory>
+    requires { IsReadMethod host.now.class.pool host.now.method }
+    ensures spelled { IfOk result (SpellsDescriptor (own_descriptor host.now)) }
+    ensures params { IfOk result
+        (λ descriptor. parameters_of (own_descriptor host.now) ≡ descriptor.params) }
+    ensures given { IfOk result
+        (λ descriptor. result_of (own_descriptor host.now) ≡ descriptor.result) }
+{
+    let method = host.method();
+    match host.pool().utf8(method.desc) {
+        Some(text) => method_descriptor(alloc, text, method.flags),
+        None => unreachable!(),
+    }
+}
+
+// Whether a method is called on an object.
+fn has_receiver(host: &Host<'_>) -> bool
+    ensures { result ≡ not (has host.now.method.flags STATIC) }
+{
+    !has(host.method().flags, ACC_STATIC)
+}
+
+// Whether the object is tested for null.
+fn tests_receiver(host: &Host<'_>) -> bool
+    ensures { result ≡ tests_receiver host.now }
+{
+    has_receiver(host) && !is_text(host.pool(), INIT, host.method().name)
 }
 
 // The parameters of these types, behind a receiver or none.
@@ -98,10 +129,14 @@ fn push_parameters(
     first: u16,
 ) -> Result<(), NoMemory>
     requires { first + parameter_units types.now ≤ 256 }
-    ensures { OnOk result ((from : ℕ)
+    ensures each { OnOk result ((from : ℕ)
         → map (argument_from from) parameters.new.items
         ≡ map (argument_from from) parameters.old.items
         ++ arguments_from (from + first) types.now) }
+    ensures inside { OnOk result ((end : ℕ)
+        → first + parameter_units types.now ≤ end
+        → AllByRecursion (EndsBy end) parameters.old.items
+        → AllByRecursion (EndsBy end) parameters.new.items) }
 {
     let mut unit = first;
     for field_type in types {
@@ -117,10 +152,24 @@ fn narrowed_by(result_type: &Option<FieldType>) -> Narrowed
     ensures { narrowing_of result ≡ narrowing result_type.now }
 {
     match result_type {
-        Some(FieldType::Byte) => Narrowed::ToByte,
-        Some(FieldType::Short) => Narrowed::ToShort,
-        Some(FieldType::Char) => Narrowed::ToChar,
-        Some(FieldType::Bool) => Narrowed::ToBool,
-        _ => Narrowed::Same,
+        Some(field_type) => narrowed_to(field_type),
+        None => Narrowed::Same,
+    }
+}
+
+// How a value is narrowed to a field type.
+fn narrowed_to(field_type: &FieldType) -> Narrowed
+    ensures { narrowing_of result ≡ narrowing (Some field_type.now) }
+{
+    match field_type {
+        FieldType::Byte => Narrowed::ToByte,
+        FieldType::Short => Narrowed::ToShort,
+        FieldType::Char => Narrowed::ToChar,
+        FieldType::Bool => Narrowed::ToBool,
+        FieldType::Int
+        | FieldType::Long
+        | FieldType::Float
+        | FieldType::Double
+        | FieldType::Named(_) => Narrowed::Same,
     }
 }

@@ -1,0 +1,68 @@
+//! What stands in place of a call before the callee's own instructions.
+ghost use Rattle.std.specs.Prelude.{◌≡◌, ◌+◌, ◌≤◌, ◌++◌, ℕ, map, reverse, IfOk, OnOk};
+ghost use Rattle.inline_expand.specs.Expanded.{Setting, frame_behind_stores, points_of_entry, store_points};
+ghost use Rattle.inline_expand.specs.Inner.Layouts.{AreWithin, IsShape, argument_from};
+ghost use Rattle.inline_expand.specs.Inner.Settings.{IsSpot};
+ghost use Rattle.member_link.specs.Scope.{Scope};
+
+use crate::expanded::frames::stored;
+use crate::expanded::settings::Spot;
+use crate::expanded::shapes::{Parameter, Shape};
+use class_model::{Frame, Instr, NoMemory};
+use flow_code::Point;
+use std::alloc::Global;
+
+/// Appends the stores of a callee's arguments, the last first, and the test of its receiver. Its units begin at one.
+///
+/// # Errors
+/// `NoMemory`, where memory runs out.
+pub(crate) fn push_entry(
+    alloc: Global,
+    points: &mut Vec<Point>,
+    spot: Spot<'_>,
+    frame: Frame,
+    shape: &Shape,
+    unit: u16,
+) -> Result<(), NoMemory>
+    requires { AreWithin unit shape.now.parameters.items }
+    ensures { OnOk result ((t : Setting) (at : ℕ) (s : Scope)
+        → IsSpot t at spot
+        → IsShape s shape.now
+        → points.new.items ≡ points.old.items ++ points_of_entry t at frame s unit) }
+{
+    let behind = push_stores(alloc, points, spot, frame, &shape.parameters, unit)?;
+    if shape.tests_receiver {
+        points.push(spot.null_test(unit, behind)?)?;
+    }
+    Ok(())
+}
+
+// Appends the stores of arguments, the last first, and gives the frame behind them.
+fn push_stores(
+    alloc: Global,
+    points: &mut Vec<Point>,
+    spot: Spot<'_>,
+    frame: Frame,
+    parameters: &[Parameter],
+    unit: u16,
+) -> Result<Frame, NoMemory>
+    requires { AreWithin unit parameters.now }
+    ensures points { OnOk result ((t : Setting) (at : ℕ)
+        → IsSpot t at spot
+        → points.new.items
+        ≡ points.old.items
+        ++ store_points t at frame (reverse (map (argument_from unit) parameters.now))) }
+    ensures behind { IfOk result (λ behind. behind
+        ≡ frame_behind_stores frame (reverse (map (argument_from unit) parameters.now))) }
+{
+    let mut frame = frame;
+    let mut left = parameters.len();
+    while left > 0 {
+        left -= 1;
+        let parameter = parameters[left];
+        let local = unit + parameter.unit;
+        points.push(spot.point(Instr::Store(parameter.kind, local), frame.copy(alloc)?)?)?;
+        frame = stored(frame, usize::from(local))?;
+    }
+    Ok(frame)
+}
