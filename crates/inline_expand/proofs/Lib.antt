@@ -5,6 +5,7 @@ mod AloneProgram
 mod DescriptorTexts
 mod FlatPlaces
 mod HostCodes
+mod LayoutParts
 mod NumberedLocals
 mod Overlays
 mod RenumberedArithmetic

@@ -80,7 +80,9 @@ pub(crate) fn starts_of(
     returns: Option<u16>,
 ) -> Result<Vec<u16>, NoMemory>
     requires { length body.now.steps ≡ length (instructions body.now.host) }
-    ensures { IfOk result (λ starts. (callees : List Callee) (callee : Option Scope)
+    ensures len { IfOk result
+        (λ starts. length starts.items ≡ length (instructions body.now.host) + 1) }
+    ensures numbers { IfOk result (λ starts. (callees : List Callee) (callee : Option Scope)
         → AreLayouts callees layouts.now
         → returns ≡ option_map return_width callee
         → starts.items
