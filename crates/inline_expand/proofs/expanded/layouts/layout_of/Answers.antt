@@ -20,9 +20,9 @@ returns c = λ callees are.
     let long : length starts ≡ length (instructions s) + 1 = c.in_ok-starts.ensures.len in
     let as-many : length instrs ≡ length (instructions s) = ap (λ (all : List Placed). length all) c.instrs.ensures in
     let inside : length instrs < length starts = omega arith in
-    let own = get_or_read starts (length instrs) c.index-own.result inside c.index-own.is 0 ∙ ap (λ (n : ℕ). get_or starts n 0) as-many in
+    let own = get_or_read starts (length instrs) c.index-own.result.now inside c.index-own.ensures 0 ∙ ap (λ (n : ℕ). get_or starts n 0) as-many in
     layout-is (callee_by callees body) (record { shape = c.in_ok-shape.shape; starts = c.in_ok-starts.starts; points = c.saturating_add-points.result; units = c.saturating_add-units.result })
-    c.points_before.result c.index-own.result c.units_of-inner.result
+    c.points_before.result c.index-own.result.now c.units_of-inner.result
     shape
     (c.in_ok-starts.ensures.numbers callees (Some s) are (ap Some width))
     (as-long callees (instructions s) body.steps c.requires.steps)
