@@ -18,6 +18,7 @@ mod RenumberedShuffles
 mod RenumberedTable
 mod RenumberedTargets
 mod RenumberedTypes
+mod SettingParts
 mod ShapeParts
 mod StackRoom
 mod TypedAloneBody

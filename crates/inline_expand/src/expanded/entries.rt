@@ -62,7 +62,7 @@ fn push_stores(
         let parameter = parameters[left];
         let local = unit + parameter.unit;
         points.push(spot.point(Instr::Store(parameter.kind, local), frame.copy(alloc)?)?)?;
-        frame = stored(frame, usize::from(local))?;
+        frame = stored(frame, local)?;
     }
     Ok(frame)
 }

@@ -1,5 +1,5 @@
 //! Frames of methods in their places.
-ghost use Rattle.std.specs.Prelude.{◌≡◌, ◌≤◌, ◌++◌, length, map, take, slice_set, IfOk, OnOk};
+ghost use Rattle.std.specs.Prelude.{◌≡◌, ◌≤◌, ◌+◌, ◌++◌, length, map, take, slice_set, IfOk, OnOk};
 ghost use Rattle.class_model.specs.Frames.{is_wide};
 ghost use Rattle.class_model.specs.declared.frame.VType.{VType};
 ghost use Rattle.inline_expand.specs.Expanded.{Argument, frame_stored, overlaid, set_frame, set_type};
@@ -44,7 +44,7 @@ fn set_locals(
         let Some(type_) = own.get(at) else {
             unreachable!()
         };
-        put(&mut list, unit.saturating_add(at), setting.type_of(type_)?)?;
+        put(&mut list, unit, at, setting.type_of(type_)?)?;
     }
     Ok(list)
 }
@@ -65,14 +65,14 @@ fn written_units(own: &LocalTypeList, below: &LocalTypeList, unit: usize) -> usi
     }
 }
 
-// Gives a unit another type, or appends one where there is none.
-fn put(list: &mut LocalTypeList, at: usize, unit: VType) -> Result<(), NoMemory>
-    ensures { OnOk result (list.new ≡ put_at list.old at unit) }
+// Gives a unit behind another a type, or appends one where there is none.
+fn put(list: &mut LocalTypeList, unit: usize, at: usize, type_: VType) -> Result<(), NoMemory>
+    ensures { OnOk result (list.new ≡ put_at list.old (unit + at) type_) }
 {
-    if at < list.len() {
-        list.set(at, unit)
+    if at < list.len().saturating_sub(unit) {
+        list.set(unit + at, type_)
     } else {
-        list.push(unit)
+        list.push(type_)
     }
 }
 
@@ -85,7 +85,7 @@ fn set_stack(
     ensures { IfOk result (λ stack. stack
         ≡ setting.now.below.stack ++ map (set_type (setting_of setting.now)) own.now) }
 {
-    let mut stack = Vec::with_capacity(alloc, setting.below.stack.len() + own.len())?;
+    let mut stack = Vec::with_capacity(alloc, setting.below.stack.len().saturating_add(own.len()))?;
     for type_ in setting.below.stack.as_slice() {
         stack.push(type_.copy()?)?;
     }
@@ -99,8 +99,10 @@ fn set_stack(
 ///
 /// # Errors
 /// `NoMemory`, where memory runs out.
-pub(crate) fn stored(frame: Frame, at: usize) -> Result<Frame, NoMemory>
-    ensures { IfOk result (λ behind. (argument : Argument) → argument.unit ≡ at → behind ≡ frame_stored frame argument) }
+pub(crate) fn stored(frame: Frame, at: u16) -> Result<Frame, NoMemory>
+    ensures { IfOk result (λ behind. (argument : Argument)
+        → argument.unit ≡ at
+        → behind ≡ frame_stored frame argument) }
 {
     let Frame { locals, stack } = frame;
     let mut stack = stack.into_vec();
@@ -112,15 +114,16 @@ pub(crate) fn stored(frame: Frame, at: usize) -> Result<Frame, NoMemory>
 }
 
 // Locals behind a store. The long or double that it cuts is none any more.
-fn stored_in(locals: LocalTypeList, at: usize, value: VType) -> Result<LocalTypeList, NoMemory>
+fn stored_in(locals: LocalTypeList, at: u16, value: VType) -> Result<LocalTypeList, NoMemory>
     ensures { IfOk result (λ after. after ≡ stored at value locals) }
 {
+    let at = usize::from(at);
     let mut after = locals;
     cut_before(&mut after, at)?;
     let is_wide = is_wide(&value);
     set(&mut after, at, value)?;
     if is_wide {
-        set(&mut after, at.saturating_add(1), VType::Top)?;
+        set(&mut after, at + 1, VType::Top)?;
     }
     Ok(after)
 }
