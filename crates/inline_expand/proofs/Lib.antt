@@ -4,6 +4,7 @@ mod AlonePoints
 mod AloneProgram
 mod DescriptorTexts
 mod FlatPlaces
+mod FrameParts
 mod HostCodes
 mod LayoutParts
 mod NumberedLocals
