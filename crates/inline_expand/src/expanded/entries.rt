@@ -26,7 +26,7 @@ pub(crate) fn push_entry(
 ) -> Result<(), NoMemory>
     requires { AreWithin unit shape.now.parameters.items }
     ensures { OnOk result ((t : Setting) (at : ℕ) (s : Scope)
-        → IsSpot t at spot
+        → IsSpot t at spot.entry
         → IsShape s shape.now
         → points.new.items ≡ points.old.items ++ points_of_entry t at frame s unit) }
 {
@@ -48,7 +48,7 @@ fn push_stores(
 ) -> Result<Frame, NoMemory>
     requires { AreWithin unit parameters.now }
     ensures points { OnOk result ((t : Setting) (at : ℕ)
-        → IsSpot t at spot
+        → IsSpot t at spot.entry
         → points.new.items
         ≡ points.old.items
         ++ store_points t at frame (reverse (map (argument_from unit) parameters.now))) }
@@ -59,7 +59,7 @@ fn push_stores(
     let mut left = parameters.len();
     while left > 0 {
         left -= 1;
-        let parameter = parameters[left];
+        let parameter = &parameters[left];
         let local = unit + parameter.unit;
         points.push(spot.point(Instr::Store(parameter.kind, local), frame.copy(alloc)?)?)?;
         frame = stored(frame, local)?;

@@ -1,6 +1,6 @@
 //! What stands in place of a callee's return.
-ghost use Rattle.std.specs.Prelude.{◌≡◌, ◌++◌, ◌∷◌, [], ℕ, map, OnOk};
-ghost use Rattle.class_model.specs.declared.instr.Instr.TheVariants.{Goto};
+ghost use Rattle.std.specs.Prelude.{◌≡◌, ◌++◌, ◌∷◌, [], ℕ, OnOk};
+ghost use Rattle.class_model.specs.declared.instr.Instr.TheVariants.{Goto, Pure};
 ghost use Rattle.inline_expand.specs.Expanded.{Setting, point_in};
 ghost use Rattle.inline_expand.specs.Inner.Layouts.{narrowing_of};
 ghost use Rattle.inline_expand.specs.Inner.Settings.{IsSpot, narrowed_points};
@@ -25,19 +25,51 @@ pub(crate) fn push_return(
     behind: u16,
 ) -> Result<(), NoMemory>
     ensures { OnOk result ((t : Setting) (at : ℕ)
-        → IsSpot t at spot
+        → IsSpot t at spot.entry
         → points.new.items
         ≡ points.old.items
         ++ (narrowed_points t at typed narrowed ++ point_in t at typed (Goto behind) ∷ [])) }
 {
-    match narrowed {
-        Narrowed::Same => {}
-        Narrowed::ToByte => points.push(spot.point(Instr::Pure(I2B), typed.copy(alloc)?)?)?,
-        Narrowed::ToShort => points.push(spot.point(Instr::Pure(I2S), typed.copy(alloc)?)?)?,
-        Narrowed::ToChar => points.push(spot.point(Instr::Pure(I2C), typed.copy(alloc)?)?)?,
-        Narrowed::ToBool => push_mask(alloc, points, spot, &typed)?,
-    }
+    push_narrowed(alloc, points, spot, &typed, narrowed)?;
     points.push(spot.point(Instr::Goto(u32::from(behind)), typed)?)?;
+    Ok(())
+}
+
+// Appends what narrows a result.
+fn push_narrowed(
+    alloc: Global,
+    points: &mut Vec<Point>,
+    spot: Spot<'_>,
+    typed: &Frame,
+    narrowed: Narrowed,
+) -> Result<(), NoMemory>
+    ensures { OnOk result ((t : Setting) (at : ℕ)
+        → IsSpot t at spot.entry
+        → points.new.items ≡ points.old.items ++ narrowed_points t at typed.now narrowed) }
+{
+    match narrowed {
+        Narrowed::Same => Ok(()),
+        Narrowed::ToByte => push_pure(alloc, points, spot, typed, I2B),
+        Narrowed::ToShort => push_pure(alloc, points, spot, typed, I2S),
+        Narrowed::ToChar => push_pure(alloc, points, spot, typed, I2C),
+        Narrowed::ToBool => push_mask(alloc, points, spot, typed),
+    }
+}
+
+// Appends a conversion.
+fn push_pure(
+    alloc: Global,
+    points: &mut Vec<Point>,
+    spot: Spot<'_>,
+    typed: &Frame,
+    opcode: u8,
+) -> Result<(), NoMemory>
+    ensures { OnOk result ((t : Setting) (at : ℕ)
+        → IsSpot t at spot.entry
+        → points.new.items
+        ≡ points.old.items ++ point_in t at typed.now (Pure opcode) ∷ []) }
+{
+    points.push(spot.point(Instr::Pure(opcode), typed.copy(alloc)?)?)?;
     Ok(())
 }
 
@@ -49,7 +81,7 @@ fn push_mask(
     typed: &Frame,
 ) -> Result<(), NoMemory>
     ensures { OnOk result ((t : Setting) (at : ℕ)
-        → IsSpot t at spot
+        → IsSpot t at spot.entry
         → points.new.items ≡ points.old.items ++ narrowed_points t at typed.now Narrowed.ToBool) }
 {
     let Frame { locals, stack } = typed.copy(alloc)?;
