@@ -1,6 +1,7 @@
 //! What stands in place of a call before the callee's own instructions.
-ghost use Rattle.std.specs.Prelude.{◌≡◌, ◌+◌, ◌≤◌, ◌++◌, ℕ, map, reverse, IfOk, OnOk};
-ghost use Rattle.inline_expand.specs.Expanded.{Setting, frame_behind_stores, points_of_entry, store_points};
+ghost use Rattle.std.specs.Prelude.{◌≡◌, ◌+◌, ◌≤◌, ◌++◌, ◌∷◌, [], ℕ, map, reverse, IfOk, OnOk};
+ghost use Rattle.class_model.specs.declared.instr.Instr.TheVariants.{Store};
+ghost use Rattle.inline_expand.specs.Expanded.{Setting, frame_behind_stores, frame_stored, point_in, points_of_entry, store_points};
 ghost use Rattle.inline_expand.specs.Inner.Layouts.{AreWithin, IsShape, argument_from};
 ghost use Rattle.inline_expand.specs.Inner.Settings.{IsSpot};
 ghost use Rattle.member_link.specs.Scope.{Scope};
@@ -59,10 +60,33 @@ fn push_stores(
     let mut left = parameters.len();
     while left > 0 {
         left -= 1;
-        let parameter = &parameters[left];
-        let local = unit + parameter.unit;
-        points.push(spot.point(Instr::Store(parameter.kind, local), frame.copy(alloc)?)?)?;
-        frame = stored(frame, local)?;
+        let Some(parameter) = parameters.get(left) else {
+            unreachable!()
+        };
+        frame = push_store(alloc, points, spot, frame, parameter, unit)?;
     }
     Ok(frame)
+}
+
+// Appends the store of an argument, and gives the frame behind it.
+fn push_store(
+    alloc: Global,
+    points: &mut Vec<Point>,
+    spot: Spot<'_>,
+    frame: Frame,
+    parameter: &Parameter,
+    unit: u16,
+) -> Result<Frame, NoMemory>
+    requires { unit + parameter.now.unit ≤ 65535 }
+    ensures point { OnOk result ((t : Setting) (at : ℕ)
+        → IsSpot t at spot.entry
+        → points.new.items
+        ≡ points.old.items
+        ++ point_in t at frame (Store parameter.now.kind (unit + parameter.now.unit)) ∷ []) }
+    ensures behind { IfOk result
+        (λ behind. behind ≡ frame_stored frame (argument_from unit parameter.now)) }
+{
+    let local = unit + parameter.unit;
+    points.push(spot.point(Instr::Store(parameter.kind, local), frame.copy(alloc)?)?)?;
+    stored(frame, local)
 }
