@@ -2,6 +2,7 @@ mod AloneCode
 mod AloneFlat
 mod AlonePoints
 mod AloneProgram
+mod CalleeParts
 mod DescriptorTexts
 mod FlatPlaces
 mod FrameParts
@@ -9,6 +10,7 @@ mod HostCodes
 mod LayoutParts
 mod NumberedLocals
 mod Overlays
+mod PlaceParts
 mod RenumberedArithmetic
 mod RenumberedArrays
 mod RenumberedEntry
