@@ -8,6 +8,7 @@ mod FlatPlaces
 mod FrameParts
 mod HostCodes
 mod LayoutParts
+mod MethodParts
 mod NumberedLocals
 mod Overlays
 mod PlaceParts

@@ -1,6 +1,8 @@
 -- Words of callees in their places.
 use Rattle.std.specs.Prelude.{◌≡◌, ◌+◌, ◌≤◌, ◌<◌, ℕ, List, length, Option, Some, None, IfSome, option_map}
 use Rattle.std.specs.List.{AllByRecursion}
+use Rattle.class_model.specs.declared.instr.Placed.{Placed}
+use Rattle.flow_code.specs.FlatCode.{HasLocal}
 use Rattle.inline_expand.specs.Expanded.{own_narrowing, points_before, points_of, points_of_callee, units_in}
 use Rattle.inline_expand.specs.Inner.Layouts.{AreLayouts, IsLayout, narrowing_of, replacing, starts_from, units_of_callee}
 use Rattle.inline_expand.specs.Inner.Steps.{Callee, IsBody, callee_by, callees_of, expansion_by}
@@ -71,3 +73,10 @@ pub record StandsFrom (found : Found) (start unit : ℕ) (place : Placing) : Typ
   pub body : place.body.now ≡ found.body.now
   pub base : place.base ≡ start + points_before found.body.now.host
   pub unit_is : place.unit ≡ unit
+
+-- An instruction may stand in its place: its local is a unit of its method, whose units are numbers of two bytes. A callee's results
+-- are narrowed as its descriptor says.
+pub record CanStay (s : Placing) (placed : Placed) : Type 0 where
+  pub local : HasLocal s.body.now.host.part.max_locals placed.instr
+  pub units : s.unit + s.body.now.host.part.max_locals ≤ 65535
+  pub narrows : NarrowsBy s.body.now.host s.call

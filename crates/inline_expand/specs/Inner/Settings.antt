@@ -3,8 +3,9 @@ use Rattle.std.specs.Prelude.{◌≡◌, ◌+◌, ◌<◌, ◌≤◌, ℕ, List,
 use Rattle.flow_code.specs.declared.handlers.FlatHandler.{FlatHandler}
 use Rattle.inline_expand.specs.Alone.{handlers_by, number_at}
 use Rattle.class_model.specs.declared.frame.Frame.{Frame}
+use Rattle.class_model.specs.declared.instr.Placed.{Placed}
 use Rattle.flow_code.specs.declared.point.Point.{Point}
-use Rattle.inline_expand.specs.Expanded.{Setting, class_of, point_in}
+use Rattle.inline_expand.specs.Expanded.{Setting, class_of, point_in, set_instr}
 use Rattle.inline_expand.specs.Inner.Layouts.{narrowing_of}
 use Rattle.inline_expand.specs.declared.expanded.shapes.Narrowed.{Narrowed}
 use Rattle.inline_expand.specs.Inner.Numbers.{placed_by}
@@ -51,3 +52,7 @@ abbrev pub narrowed_points : Setting → ℕ → Frame → Narrowed → List Poi
 narrowed_points t at typed narrowed =
     map (λ n. point_in t at (record typed { stack = typed.stack ++ n.above }) n.instr)
     (narrowing_of narrowed)
+
+-- an instruction that stays one point
+abbrev pub own_point : Setting → Placed → Frame → List Point
+own_point t placed typed = point_in t placed.at typed (set_instr t placed.instr) ∷ []
