@@ -5,7 +5,7 @@ use Rattle.class_model.specs.declared.frame.VType.{VType}
 use Rattle.inline_expand.specs.Expanded.{overlaid}
 use Rattle.inline_expand.specs.Inner.Frames.{put_at}
 
-le-cases : (m n : ℕ) → (m ≤ n) ⊎ (n < m)
+pub le-cases : (m n : ℕ) → (m ≤ n) ⊎ (n < m)
 le-cases zero n = inl (omega arith)
 le-cases (suc m) zero = inr (omega arith)
 le-cases (suc m) (suc n) = of-less (le-cases m n) where

@@ -22,7 +22,8 @@ pub(crate) struct Around {
 impl Around {
     /// Those around no instruction.
     pub(crate) fn none(alloc: Global) -> Around
-        ensures { (numbers : Numbers) → AreAround numbers result }
+        ensures around { (numbers : Numbers) → AreAround numbers result }
+        ensures none { result.until ≡ 0 }
     {
         Around {
             from: 0,

@@ -54,9 +54,10 @@ pub record IsCallable (s : Scope) : Type 0 where
   pub read : IsReadMethod s.class.pool s.method
   pub fits : units_at_call s.method.flags (own_descriptor s) ≤ s.part.max_locals
 
--- Frames type its code; it has a step for each instruction; its instructions name local units that it has; and it may be called.
+-- Frames type its code, one for each instruction; it has a step for each instruction; its instructions name local units that it has; and it may be called.
 pub record IsBody (body : Body) : Type 0 where
   pub typed : Typed body.host body.frames.now
+  pub one_each : length body.frames.now ≡ length (instructions body.host)
   pub steps : length body.steps ≡ length (instructions body.host)
   pub units : HasUnits body.host
   pub callable : IsCallable body.host

@@ -23,12 +23,12 @@ use std::alloc::Global;
 ///
 /// # Errors
 /// `NoMemory`, where memory runs out.
-pub(crate) fn push_method(
+pub(crate) fn push_method<'s, 't>(
     alloc: Global,
     points: &mut Vec<Point>,
-    bodies: &[Body<'_>],
-    layouts: &[Layout],
-    setting: &Setting<'_, '_>,
+    bodies: &'s [Body<'t>],
+    layouts: &'s [Layout],
+    setting: &Setting<'s, 't>,
 ) -> Result<(), NoMemory>
     requires ready { AreReady bodies.now layouts.now }
     requires place { HasPlace (callees_of bodies.now) setting.now }
