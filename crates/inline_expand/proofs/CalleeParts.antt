@@ -98,3 +98,12 @@ pub layout-found : (bodies : List Body) (layouts : List Layout) (at : ℕ) (body
     → IsLayout (callee_by (callees_of (take at bodies)) body) layout
 layout-found bodies layouts at body layout is inside layout_is ready =
     layout-at (callees_of bodies) layouts at (callee_by (callees_of (take at bodies)) body) layout ready.laid (callee-at bodies at body is inside) layout_is
+
+same-length : (callees : List Callee) (layouts : List Layout) → AreLayouts callees layouts → length layouts ≡ length callees
+same-length [] [] are = refl
+same-length [] (layout ∷ layouts) are = elim are [ ]
+same-length (callee ∷ callees) [] are = elim are [ ]
+same-length (callee ∷ callees) (layout ∷ layouts) are = ap suc (same-length callees layouts are.1)
+
+pub length-layouts : (bodies : List Body) (layouts : List Layout) → AreLayouts (callees_of bodies) layouts → length layouts ≡ length bodies
+length-layouts bodies layouts are = same-length (callees_of bodies) layouts are ∙ length-callees bodies

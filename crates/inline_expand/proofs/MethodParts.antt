@@ -12,11 +12,13 @@ use Rattle.inline_expand.proofs.LayoutParts.{next-start, next-units, units_by}
 use Rattle.inline_expand.proofs.Overlays.{le-cases}
 use Rattle.inline_expand.specs.Expansions.{Expansion, no_more, replaced, site, stays}
 use Rattle.inline_expand.specs.Inner.Layouts.{points_by, replacing, starts_from, step_points, units_of_callee}
-use Rattle.inline_expand.specs.Inner.Places.{method_of}
+use Rattle.inline_expand.specs.Inner.Places.{StandsFrom, callee_in, callee_points, method_of}
 use Rattle.inline_expand.specs.Inner.Settings.{own_point, setting_of}
-use Rattle.inline_expand.specs.Inner.Steps.{Callee, expansion_by, replaced_by}
+use Rattle.inline_expand.specs.Inner.Steps.{Callee, callees_of, expansion_by, replaced_by}
+use Rattle.inline_expand.specs.declared.expanded.places.Found.{Found}
 use Rattle.inline_expand.specs.declared.expanded.settings.Call.{Call}
 use Rattle.inline_expand.specs.declared.expanded.settings.Setting.{Setting as Placing}
+use Rattle.inline_expand.specs.declared.expansions.Body.{Body}
 use Rattle.inline_expand.specs.declared.expansions.Step.{Step}
 use Rattle.inline_expand.specs.declared.expansions.Step.TheVariants.{Replaced, Site, Stays}
 use Rattle.member_link.specs.Scope.{Scope, instructions}
@@ -53,11 +55,7 @@ module _ (t : Setting) (callees : List Callee) (number unit : ℕ) (placed : Pla
   rest next units = points_from t next units instrs frames (expansion_by callees steps)
 
   abbrev replaced-points : Callee → List Point
-  replaced-points callee =
-      points_of_entry t placed.at (set_frame t frame) callee.coded.scope unit
-      ++ points_from (callee_setting t placed.at (set_frame t frame) number unit callee.coded callee.inner)
-      (number + points_before callee.coded.scope) (unit + callee.coded.scope.part.max_locals)
-      (instructions callee.coded.scope) callee.coded.frames callee.inner
+  replaced-points callee = callee_points t placed.at (set_frame t frame) number unit callee
 
   pub own-next : (step : Step) → replacing callees step ≡ None
       → points_from t number unit (placed ∷ instrs) (frame ∷ frames) (expansion_by callees (step ∷ steps)) ≡ instr_points t placed frame ++ rest (number + own_points (callee_of t) placed.instr) unit
@@ -256,3 +254,26 @@ module _ (s : Placing) (callees : List Callee) (instrs : List Placed) (frames : 
       ∙ ap (λ (points : List Point). done ++ points) (sym (no-points (setting_of s) (s.base + get_or s.starts.now at 0) unit (drop at frames) (expansion_by callees (drop at steps))))
       ∙ ap (λ (all : List Placed). done ++ points_from (setting_of s) (s.base + get_or s.starts.now at 0) unit all (drop at frames) (expansion_by callees (drop at steps))) (sym (drop_all at instrs behind))
       ∙ has.points
+
+-- ---- a callee's points
+
+pub callee-done : (found : Found) (start unit : ℕ) (place : Placing) (t : Setting) (at : ℕ) (entry : Frame) (before after pushed : List Point)
+    → StandsFrom found start unit place
+    → setting_of place ≡ callee_setting t at entry start unit (callee_in found).coded (callee_in found).inner
+    → after ≡ before ++ points_of_entry t at entry found.body.now.host unit
+    → pushed
+    ≡ after
+    ++ points_from (setting_of place) place.base (place.unit + place.body.now.host.part.max_locals) (instructions place.body.now.host) place.body.now.frames.now
+    (expansion_by (callees_of found.bodies.now) place.body.now.steps)
+    → pushed ≡ before ++ callee_points t at entry start unit (callee_in found)
+callee-done found start unit place t at entry before after pushed stands setting entered all =
+    let callees = callees_of found.bodies.now in
+    let body = found.body.now in
+    let points = λ (own : Setting) (number units : ℕ) (b : Body). points_from own number (units + b.host.part.max_locals) (instructions b.host) b.frames.now (expansion_by callees b.steps) in
+    all
+    ∙ ap (λ (some : List Point). some ++ points (setting_of place) place.base place.unit place.body.now) entered
+    ∙ append_assoc before (points_of_entry t at entry body.host unit) (points (setting_of place) place.base place.unit place.body.now)
+    ∙ ap (λ (b : Body). before ++ (points_of_entry t at entry body.host unit ++ points (setting_of place) place.base place.unit b)) stands.body
+    ∙ ap (λ (n : ℕ). before ++ (points_of_entry t at entry body.host unit ++ points (setting_of place) n place.unit body)) stands.base
+    ∙ ap (λ (n : ℕ). before ++ (points_of_entry t at entry body.host unit ++ points (setting_of place) (start + points_before body.host) n body)) stands.unit_is
+    ∙ ap (λ (own : Setting). before ++ (points_of_entry t at entry body.host unit ++ points own (start + points_before body.host) unit body)) setting

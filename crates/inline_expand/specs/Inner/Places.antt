@@ -1,9 +1,11 @@
 -- Words of callees in their places.
-use Rattle.std.specs.Prelude.{◌≡◌, ◌+◌, ◌≤◌, ◌<◌, ℕ, List, length, Option, Some, None, IfSome, option_map}
+use Rattle.std.specs.Prelude.{◌≡◌, ◌+◌, ◌≤◌, ◌<◌, ◌++◌, ℕ, List, length, Option, Some, None, IfSome, option_map}
 use Rattle.std.specs.List.{AllByRecursion}
+use Rattle.class_model.specs.declared.frame.Frame.{Frame}
 use Rattle.class_model.specs.declared.instr.Placed.{Placed}
 use Rattle.flow_code.specs.FlatCode.{HasLocal}
-use Rattle.inline_expand.specs.Expanded.{own_narrowing, points_before, points_of, points_of_callee, units_in}
+use Rattle.flow_code.specs.declared.point.Point.{Point}
+use Rattle.inline_expand.specs.Expanded.{Setting, callee_setting, own_narrowing, points_before, points_from, points_of, points_of_callee, points_of_entry, units_in}
 use Rattle.inline_expand.specs.Inner.Layouts.{AreLayouts, IsLayout, narrowing_of, replacing, starts_from, units_of_callee}
 use Rattle.inline_expand.specs.Inner.Steps.{Callee, IsBody, callee_by, callees_of, expansion_by}
 use Rattle.inline_expand.specs.declared.expanded.layouts.Layout.{Layout}
@@ -80,3 +82,12 @@ pub record CanStay (s : Placing) (placed : Placed) : Type 0 where
   pub local : HasLocal s.body.now.host.part.max_locals placed.instr
   pub units : s.unit + s.body.now.host.part.max_locals ≤ 65535
   pub narrows : NarrowsBy s.body.now.host s.call
+
+-- the points in place of a call at an offset, before which there is a frame
+abbrev pub callee_points : Setting → ℕ → Frame → ℕ → ℕ → Callee → List Point
+callee_points t at frame number unit callee =
+    points_of_entry t at frame callee.coded.scope unit
+    ++ points_from (callee_setting t at frame number unit callee.coded callee.inner)
+    (number + points_before callee.coded.scope)
+    (unit + callee.coded.scope.part.max_locals)
+    (instructions callee.coded.scope) callee.coded.frames callee.inner

@@ -1,8 +1,7 @@
 //! The points of a method in its place.
 ghost use Rattle.std.specs.Prelude.{◌≡◌, ◌+◌, ◌≤◌, ◌++◌, ℕ, length, OnOk};
-ghost use Rattle.flow_code.specs.FlatCode.{HasLocal};
-ghost use Rattle.inline_expand.specs.Expanded.{instr_points, points_from};
-ghost use Rattle.inline_expand.specs.Inner.Places.{AreReady, CanStay, HasPlace, NarrowsBy};
+ghost use Rattle.inline_expand.specs.Expanded.{Setting as Standing, instr_points, points_from};
+ghost use Rattle.inline_expand.specs.Inner.Places.{AreReady, CanEnter, CanStay, HasPlace, callee_in, callee_points};
 ghost use Rattle.inline_expand.specs.Inner.Settings.{IsSpot, own_point, setting_of};
 ghost use Rattle.inline_expand.specs.Inner.Steps.{callees_of, expansion_by};
 ghost use Rattle.member_link.specs.Scope.{instructions};
@@ -10,7 +9,7 @@ ghost use Rattle.member_link.specs.Scope.{instructions};
 use crate::expanded::entries::push_entry;
 use crate::expanded::frames::set_frame;
 use crate::expanded::layouts::Layout;
-use crate::expanded::places::{enter, find};
+use crate::expanded::places::{Found, enter, find};
 use crate::expanded::returns::push_return;
 use crate::expanded::settings::{Setting, Spot};
 use crate::expansions::Body;
@@ -23,6 +22,7 @@ use std::alloc::Global;
 ///
 /// # Errors
 /// `NoMemory`, where memory runs out.
+#[cycle(method)]
 pub(crate) fn push_method<'s, 't>(
     alloc: Global,
     points: &mut Vec<Point>,
@@ -59,14 +59,35 @@ pub(crate) fn push_method<'s, 't>(
             Some(found) => {
                 let entry = set_frame(alloc, setting, frame)?;
                 let start = setting.base + setting.starts[number];
-                let place = enter(alloc, &found, spot, &entry, start, unit)?;
-                push_entry(alloc, points, spot, entry, &found.layout.shape, unit)?;
-                push_method(alloc, points, found.bodies, found.layouts, &place)?;
+                push_callee(alloc, points, &found, spot, entry, start, unit)?;
                 unit += found.layout.units;
             }
         }
     }
     Ok(())
+}
+
+// Appends the points in place of a call before which there is a frame: from a number and a local unit on.
+#[cycle(method)]
+fn push_callee<'s, 't>(
+    alloc: Global,
+    points: &mut Vec<Point>,
+    found: &Found<'s, 't>,
+    spot: Spot<'_>,
+    entry: Frame,
+    start: u16,
+    unit: u16,
+) -> Result<(), NoMemory>
+    requires ready { AreReady found.now.bodies.now found.now.layouts.now }
+    requires enter { CanEnter found.now start unit }
+    ensures { OnOk result ((t : Standing) (at : ℕ)
+        → IsSpot t at spot.entry
+        → points.new.items
+        ≡ points.old.items ++ callee_points t at entry start unit (callee_in found.now)) }
+{
+    let place = enter(alloc, found, spot, &entry, start, unit)?;
+    push_entry(alloc, points, spot, entry, &found.layout.shape, unit)?;
+    push_method(alloc, points, found.bodies, found.layouts, &place)
 }
 
 // Appends the points of an instruction that stays.
