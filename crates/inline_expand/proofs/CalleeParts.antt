@@ -5,7 +5,7 @@ use Rattle.std.proofs.lemmas.Option.{same_Some}
 use Rattle.std.specs.List.{AllByRecursion}
 use Rattle.class_model.specs.Laws.Lists.{at_index, drop_item}
 use Rattle.inline_expand.specs.Inner.Layouts.{AreLayouts, IsLayout, replacing}
-use Rattle.inline_expand.specs.Inner.Places.{AreReady, IsFound}
+use Rattle.inline_expand.specs.Inner.CalleePlaces.{AreReady, IsFound}
 use Rattle.inline_expand.specs.Inner.Steps.{Callee, IsBody, callee_by, callees_behind, callees_of}
 use Rattle.inline_expand.specs.declared.expanded.layouts.Layout.{Layout}
 use Rattle.inline_expand.specs.declared.expansions.Body.{Body}

@@ -12,7 +12,7 @@ use Rattle.inline_expand.proofs.LayoutParts.{next-start, next-units, units_by}
 use Rattle.inline_expand.proofs.Overlays.{le-cases}
 use Rattle.inline_expand.specs.Expansions.{Expansion, no_more, replaced, site, stays}
 use Rattle.inline_expand.specs.Inner.Layouts.{points_by, replacing, starts_from, step_points, units_of_callee}
-use Rattle.inline_expand.specs.Inner.Places.{StandsFrom, callee_in, callee_points, method_of}
+use Rattle.inline_expand.specs.Inner.CalleePlaces.{StandsFrom, callee_in, callee_points, method_of}
 use Rattle.inline_expand.specs.Inner.Settings.{own_point, setting_of}
 use Rattle.inline_expand.specs.Inner.Steps.{Callee, callees_of, expansion_by, replaced_by}
 use Rattle.inline_expand.specs.declared.expanded.places.Found.{Found}

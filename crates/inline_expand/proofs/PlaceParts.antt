@@ -12,7 +12,7 @@ use Rattle.inline_expand.specs.Expanded.{Argument, arguments, number_from, own_p
 use Rattle.inline_expand.specs.Expansions.{Expansion, no_more, replaced, site, stays}
 use Rattle.inline_expand.specs.Inner.Layouts.{argument_from, capped, starts_from}
 use Rattle.inline_expand.specs.Inner.Numbers.{placed_by}
-use Rattle.inline_expand.specs.Inner.Places.{CanEnter, callee_in}
+use Rattle.inline_expand.specs.Inner.CalleePlaces.{CanEnter, callee_in}
 use Rattle.inline_expand.specs.Inner.Steps.{callees_of}
 use Rattle.inline_expand.specs.declared.expanded.places.Found.{Found}
 use Rattle.member_link.specs.Machine.Programs.{number_of_first}

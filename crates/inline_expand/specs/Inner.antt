@@ -6,4 +6,4 @@ pub mod Steps
 pub mod Layouts
 pub mod Settings
 pub mod Frames
-pub mod Places
+pub mod CalleePlaces

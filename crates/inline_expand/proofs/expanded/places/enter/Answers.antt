@@ -6,7 +6,7 @@ use Rattle.inline_expand.proofs.expanded.places.enter.Goals as goal
 use Rattle.inline_expand.specs.Alone.{number_at}
 use Rattle.inline_expand.specs.Expanded.{arguments, number_from, points_before, points_of_callee}
 use Rattle.inline_expand.specs.Inner.Numbers.{placed_by}
-use Rattle.inline_expand.specs.Inner.Places.{callee_in}
+use Rattle.inline_expand.specs.Inner.CalleePlaces.{callee_in}
 use Rattle.inline_expand.specs.Inner.Settings.{number_in}
 use Rattle.member_link.specs.Rows.Operands.{lowest_of, under}
 use Rattle.member_link.specs.Scope.{Scope, instructions}

@@ -12,7 +12,7 @@ use Rattle.inline_expand.proofs.expanded.points.+method.Goals as goal
 use Rattle.inline_expand.proofs.expanded.points.+method.Goals.{push_method-in-None+in_ok-push_own-in-None, push_method-in-Some+in_ok-entry-in-Some+in_ok-push_callee-in-Some}
 use Rattle.inline_expand.specs.Expanded.{points_from, set_frame}
 use Rattle.inline_expand.specs.Inner.Layouts.{replacing, units_of_callee}
-use Rattle.inline_expand.specs.Inner.Places.{callee_in, callee_points}
+use Rattle.inline_expand.specs.Inner.CalleePlaces.{callee_in, callee_points}
 use Rattle.inline_expand.specs.Inner.Settings.{setting_of}
 use Rattle.inline_expand.specs.Inner.Steps.{callees_of, expansion_by}
 use Rattle.inline_expand.specs.declared.expansions.Step.{Step}
