@@ -4,12 +4,15 @@
 mod alone;
 mod calls;
 mod classes;
+mod expanded;
+mod expansions;
 mod folder_methods;
 mod found;
 mod handlers;
 mod host;
 mod laws;
 mod numbered;
+mod numbers;
 mod open;
 mod overridden;
 mod quiet;
