@@ -2,9 +2,15 @@ mod AloneCode
 mod AloneFlat
 mod AlonePoints
 mod AloneProgram
+mod CalledMethods
+mod DecidedRuns
 mod FlatPlaces
+mod FolderPlaces
+mod FoundMethods
 mod HostCodes
 mod NumberedLocals
+mod OpenMembers
+mod OverridingMethods
 mod RenumberedArithmetic
 mod RenumberedArrays
 mod RenumberedEntry
@@ -16,6 +22,7 @@ mod RenumberedTable
 mod RenumberedTargets
 mod RenumberedTypes
 mod StackRoom
+mod StandingParts
 mod TypedAloneBody
 mod TypedAloneEdges
 mod TypedAloneHandlers

@@ -1,3 +1,9 @@
 -- Words for private functions: no public contract cites them. What the code is proved to do is said without them, so a reader of the
 -- definitions may pass them over.
+pub mod Calls
+pub mod Found
 pub mod Hosts
+pub mod Open
+pub mod Overridden
+pub mod References
+pub mod Standing
