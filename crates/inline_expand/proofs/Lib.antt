@@ -7,10 +7,14 @@ mod DecidedRuns
 mod FlatPlaces
 mod FolderPlaces
 mod FoundMethods
+mod Founding
 mod HostCodes
 mod NumberedLocals
 mod OpenMembers
 mod OverridingMethods
+mod ParameterCounts
+mod Initialisations
+mod ReadyCalls
 mod RenumberedArithmetic
 mod RenumberedArrays
 mod RenumberedEntry
@@ -21,6 +25,7 @@ mod RenumberedShuffles
 mod RenumberedTable
 mod RenumberedTargets
 mod RenumberedTypes
+mod Seeing
 mod StackRoom
 mod StandingParts
 mod TypedAloneBody
@@ -30,3 +35,4 @@ mod TypedAloneLaw
 mod TypedAloneNews
 mod TypedAloneNumbers
 mod TypedAlonePoints
+mod Walking

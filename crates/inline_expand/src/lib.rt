@@ -2,19 +2,28 @@
 #![tactic(auto)]
 
 mod alone;
+mod called_methods;
+mod callees;
 mod calls;
 mod classes;
+mod coded;
 mod found;
 mod handlers;
 mod host;
+mod initialised;
 mod laws;
 mod numbered;
 mod open;
 mod overridden;
+mod parameters;
 mod quiet;
+mod ready;
 mod references;
 mod renumbered;
 mod standing;
+mod verdicts;
+mod visits;
 
 pub use alone::flat_alone;
+pub use callees::callee;
 pub use laws::{a_flat_code_alone_is_typed, flat_codes_alone_run_equally};
