@@ -9,11 +9,12 @@ mod FolderPlaces
 mod FoundMethods
 mod Founding
 mod HostCodes
+mod Initialisations
+mod MethodLists
 mod NumberedLocals
 mod OpenMembers
 mod OverridingMethods
 mod ParameterCounts
-mod Initialisations
 mod ReadyCalls
 mod RenumberedArithmetic
 mod RenumberedArrays
@@ -26,6 +27,7 @@ mod RenumberedTable
 mod RenumberedTargets
 mod RenumberedTypes
 mod Seeing
+mod ShallowCalls
 mod StackRoom
 mod StandingParts
 mod TypedAloneBody

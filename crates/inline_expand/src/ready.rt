@@ -76,9 +76,12 @@ fn next(verdicts: &mut Verdicts, stack: &mut Stack) -> Result<Option<MethodAt>, 
     Ok(None)
 }
 
-// The methods that a method calls on its own uninitialised object, if it may stand in a host's code; none where it may not,
-// or one of these calls can't be replaced.
-fn needs(
+/// The methods that a method calls on its own uninitialised object, if it may stand in a host's code; none where it may not,
+/// or one of these calls can't be replaced.
+///
+/// # Errors
+/// `NoMemory`, where memory runs out.
+pub(crate) fn needs(
     alloc: Global,
     host: HostClass<'_>,
     at: MethodAt,

@@ -1,7 +1,7 @@
 //! What was found of methods.
-ghost use Rattle.std.specs.Prelude.{◌≡◌, ◌↔◌, true, Some, None, IsTrue, OnOk};
+ghost use Rattle.std.specs.Prelude.{◌≡◌, ◌↔◌, true, Some, None, IsTrue, OnOk, OnErr};
 ghost use Rattle.class_model.specs.declared.class_file.MethodAt.{MethodAt as Method};
-ghost use Rattle.inline_expand.specs.Inner.Verdicts.{Judges, verdict};
+ghost use Rattle.inline_expand.specs.Inner.Verdicts.{AreSame, Judges, verdict};
 
 use class_model::{MethodAt, NoMemory};
 use std::alloc::Global;
@@ -39,7 +39,8 @@ impl Verdicts {
 
     /// Judges a method.
     pub(crate) fn judge(&mut self, at: MethodAt, is_ready: bool) -> Result<(), NoMemory>
-        ensures { OnOk result (Judges self.old self.new at is_ready) }
+        ensures ok { OnOk result (Judges self.old self.new at is_ready) }
+        ensures err { OnErr result (AreSame self.old self.new) }
     {
         self.by_method.insert((at.class, at.method), is_ready)?;
         Ok(())

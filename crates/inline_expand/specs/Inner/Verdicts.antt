@@ -12,3 +12,7 @@ verdict verdicts at =
 pub record Judges (before after : Verdicts) (at : MethodAt) (is_ready : Bool) : Type 0 where
   pub here : verdict after at ≡ Some is_ready
   pub apart : (other : MethodAt) → other ≢ at → verdict after other ≡ verdict before other
+
+-- all stay as they are
+abbrev pub AreSame : Verdicts → Verdicts → Type 0
+AreSame before after = (at : MethodAt) → verdict after at ≡ verdict before at

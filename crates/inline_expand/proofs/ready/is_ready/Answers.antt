@@ -35,7 +35,7 @@ pub loop-stack-smaller : goal.loop-stack-smaller
 loop-stack-smaller c =
     let has = subst (λ (o : Option (Vec MethodAt Global)). HasNeeds c.args.host.tree.now c.args.host.typed.now c.args.host.number c.in-Some.at (option_map (λ v. v.items) o)) c.in-Some-2.is c.in_ok-needs.ensures in
     sees_more c.args.host.tree.now c.args.host.typed.now c.args.host.number c.loop-stack.verdicts c.loop-stack.stack c.next.new.verdicts c.next.new.stack
-        c.in_ok-at.field-0 c.in-Some.at c.of-in-Some.result c.judge.new.self c.in_ok-at.ensures c.of-in-Some.ensures (sym c.is_some.ensures ∙ c.if-is_some.false) has.fits c.in_ok-judge.ensures
+        c.in_ok-at.field-0 c.in-Some.at c.of-in-Some.result c.judge.new.self c.in_ok-at.ensures c.of-in-Some.ensures (sym c.is_some.ensures ∙ c.if-is_some.false) has.fits c.in_ok-judge.ensures.ok
 
 pub loop-stack-preserved : goal.loop-stack-preserved
 loop-stack-preserved c =
@@ -43,4 +43,4 @@ loop-stack-preserved c =
     goes_down c.args.host.tree.now c.args.host.typed.now c.args.host.number c.args.root c.loop-stack.verdicts c.loop-stack.stack c.next.new.verdicts c.next.new.stack c.loop-stack.invariant
         c.in_ok-at.field-0 c.in-Some.at c.of-in-Some.result c.as_slice.result.now c.judge.new.self c.enter.new.self c.in_ok-at.ensures c.in-Some.is c.of-in-Some.ensures (sym c.is_some.ensures ∙ c.if-is_some.false)
         (subst (NeedsThese c.args.host.tree.now c.args.host.typed.now c.args.host.number c.in-Some.at) (sym c.as_slice.ensures.value) has)
-        c.in_ok-judge.ensures c.in_ok-enter.ensures
+        c.in_ok-judge.ensures.ok c.in_ok-enter.ensures

@@ -10,8 +10,8 @@ loop-visit-preserved-in-Continue-1 c = record {
       let top = c.in-Some.ensures.some ∙ ap (λ (v : Visit). v ∷ c.pop.new.self) c.in-Leave.is in
       left classes typed host root c.loop-visit.verdicts c.judge.new.self c.pop.new.self c.in-Leave.at
       (subst (Walks classes typed host root c.loop-visit.verdicts) top (c.loop-visit.invariant.walks classes typed host root walk))
-      c.in_ok-judge-in-Leave.ensures;
-  unseen = λ at none. c.loop-visit.invariant.unseen at (judged_is_seen c.loop-visit.verdicts c.judge.new.self c.in-Leave.at at true c.in_ok-judge-in-Leave.ensures none);
+      c.in_ok-judge-in-Leave.ensures.ok;
+  unseen = λ at none. c.loop-visit.invariant.unseen at (judged_is_seen c.loop-visit.verdicts c.judge.new.self c.in-Leave.at at true c.in_ok-judge-in-Leave.ensures.ok none);
 }
 
 pub loop-visit-preserved : goal.loop-visit-preserved
