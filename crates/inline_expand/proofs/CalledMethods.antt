@@ -1,7 +1,7 @@
 -- The call at an offset, and the method of the folder that it runs.
 use Rattle.std.proofs.Common.{◌≡◌, ◌==◌, ℕ, zero, suc, Bool, true, false, List, [], ◌∷◌, length, slice_get, Option, Some, None, option_map, if◌then◌else◌, refl, sym, ap, subst, ◌∙◌}
 use Rattle.std.proofs.lemmas.Option.{none-some, same_Some}
-use Rattle.class_model.specs.Pool.{constant_at}
+use Rattle.class_model.specs.Pool.{Constants, constant_at}
 use Rattle.class_model.specs.declared.class_file.MethodAt.{MethodAt}
 use Rattle.class_model.specs.declared.instr.Instr.{Instr}
 use Rattle.class_model.specs.declared.instr.Instr.TheVariants.{Invoke}
@@ -37,6 +37,13 @@ pub placed_by_number : (s : Scope) (at : ℕ) → placed_at (instructions s) at 
 placed_by_number s at =
     let instrs = instructions s in
     placed_first at instrs ∙ ap (slice_get instrs) (sym (found-instr instrs at (number_of_first (λ (placed : Placed). placed.at == at) instrs) refl))
+
+-- what is read of the instruction of a number is what is read at its offset
+pub call_is : (s : Scope) (at : ℕ) (instrs : List Placed) (number : ℕ) → instrs ≡ instructions s → number ≡ number_at s at → (placed : Option Placed) → slice_get instrs number ≡ placed → (pool : Constants) → pool ≡ s.class.pool → (call : Option Called) → call ≡ called_by pool (option_map (λ (p : Placed). p.instr) placed) → call ≡ call_at s at
+call_is s at instrs number are is placed read pool own call reads =
+    let found : slice_get (instructions s) (number_at s at) ≡ placed = ap (λ (all : List Placed). slice_get all (number_at s at)) (sym are) ∙ ap (slice_get instrs) (sym is) ∙ read in
+    let instr : instr_at s at ≡ option_map (λ (p : Placed). p.instr) placed = ap (option_map (λ (p : Placed). p.instr)) (placed_by_number s at ∙ found) in
+    reads ∙ ap (λ (constants : Constants). called_by constants (option_map (λ (p : Placed). p.instr) placed)) own ∙ ap (called_by s.class.pool) (sym instr)
 
 -- ---- calls
 

@@ -21,6 +21,8 @@ use Rattle.member_link.specs.SpecialStart.{StartsSpecial}
 use Rattle.member_link.specs.declared.found.Found.{Found}
 use Rattle.member_link.specs.declared.selection.CallForm.{CallForm}
 use Rattle.member_link.specs.declared.selection.CallForm.TheVariants.{Special}
+use Rattle.member_link.specs.declared.selection.Selected.{Selected}
+use Rattle.member_link.specs.declared.selection.Selected.TheVariants as selected
 
 -- ---- laws of member_link
 
@@ -92,21 +94,21 @@ module _ {headers : Headers} {own : Name} {reference : Reference} where
   of_other no_static no_special no_virtual (runs_special found method start may finds of_instance starts selects) = no_special refl
   of_other no_static no_special no_virtual (runs_virtual method finds class alone) = no_virtual refl
 
-module _ (laws : HasLaws) {headers : Headers} {reference : Reference} where
+module _ (look-up : LooksUpOnce) {headers : Headers} {reference : Reference} where
   pub finds_once : {one other : Declared} → Finds headers reference one → Finds headers reference other → one ≡ other
-  finds_once {one} {other} finds also = same_Some one other (laws.looks_up headers reference.class reference.name reference.desc (Some one) (Some other) finds also)
+  finds_once {one} {other} finds also = same_Some one other (look-up headers reference.class reference.name reference.desc (Some one) (Some other) finds also)
 
   pub finds_nothing : {method : Declared} → FindsMethod headers reference.class reference.name reference.desc None → ¬ Finds headers reference method
-  finds_nothing {method} none finds = none-some method (laws.looks_up headers reference.class reference.name reference.desc None (Some method) none finds)
+  finds_nothing {method} none finds = none-some method (look-up headers reference.class reference.name reference.desc None (Some method) none finds)
 
-same_choice : (one other : Declared) → chosen_method one ≡ chosen_method other → one ≡ other
+pub same_choice : (one other : Declared) → chosen_method one ≡ chosen_method other → one ≡ other
 same_choice one other same = cc
 
 module _ (laws : HasLaws) {headers : Headers} {own : Name} {reference : Reference} where
   -- what a special call runs is what is selected
   pub special_selects : {found method : Declared} {start : Name} {choice : Choice} → RunsSpecial headers own reference method → Finds headers reference found → StartsSpecial headers own reference.class start → Selects headers start found Special choice → chosen_method method ≡ choice
   special_selects {found} {method} {start} {choice} runs finds starts selects =
-      let resolved : runs.found ≡ found = finds_once laws runs.finds finds in
+      let resolved : runs.found ≡ found = finds_once laws.looks_up runs.finds finds in
       let from : runs.start ≡ start = laws.starts headers own reference.class runs.start start runs.starts starts in
       let at_found = subst (λ (d : Declared). Selects headers runs.start d Special (chosen_method method)) resolved runs.selects in
       let at_start = subst (λ (name : Name). Selects headers name found Special (chosen_method method)) from at_found in
@@ -117,10 +119,10 @@ module _ (laws : HasLaws) {headers : Headers} {own : Name} {reference : Referenc
 
   -- a call runs one method
   pub runs_once : {opcode : ℕ} {one other : Declared} → Runs headers own reference opcode one → Runs headers own reference opcode other → one ≡ other
-  runs_once (runs_static method finds) also = finds_once laws finds (of_static also refl)
+  runs_once (runs_static method finds) also = finds_once laws.looks_up finds (of_static also refl)
   runs_once (runs_special found method start may finds of_instance starts selects) also =
       special_once (record { found = found; start = start; may = may; finds = finds; of_instance = of_instance; starts = starts; selects = selects }) (of_special also refl)
-  runs_once (runs_virtual method finds class alone) also = finds_once laws finds (of_virtual also refl).finds
+  runs_once (runs_virtual method finds class alone) also = finds_once laws.looks_up finds (of_virtual also refl).finds
 
 -- ---- the numbers of the method that runs
 
@@ -140,5 +142,19 @@ module _ (classes : Classes) (hierarchy : IsHierarchy (headers_of classes)) wher
       let stands = subst (λ (d : Declared). StandsAt classes callee d) (one at.method at.runs) at.stands in
       none-some callee (sym numbers ∙ standing_numbers classes hierarchy callee is stands)
 
-  pub undecided : (IsRun : Declared → Type 0) → ((method : Declared) → ¬ IsRun method) → Decides classes IsRun None
-  undecided IsRun none = λ callee at. none at.method at.runs
+pub undecided : (classes : Classes) (IsRun : Declared → Type 0) → ((method : Declared) → ¬ IsRun method) → Decides classes IsRun None
+undecided classes IsRun none = λ callee at. none at.method at.runs
+
+-- ---- what a selection answers
+
+pub chosen_found : {headers : Headers} {chosen : Found} (choice : Choice) → IsChoice headers (selected.Found chosen) choice → (method : Declared) × (choice ≡ chosen_method method) × IsMethodFound headers chosen method
+chosen_found (chosen_method method) is = (method, refl, is)
+chosen_found abstract_choice is = absurd is
+chosen_found several_defaults is = absurd is
+chosen_found choice_not_public is = absurd is
+
+pub nothing_chosen : (headers : Headers) (method : Declared) (answer : Selected) → ((chosen : Found) → answer ≡ selected.Found chosen → ⊥) → ¬ IsChoice headers answer (chosen_method method)
+nothing_chosen headers method (selected.Found found) not is = not found refl
+nothing_chosen headers method selected.Abstract not is = is
+nothing_chosen headers method selected.Twice not is = is
+nothing_chosen headers method selected.NotPublic not is = is

@@ -58,9 +58,13 @@ found_in_folder headers hierarchy index header at = by (first_place (λ (class :
 
     by : (found : Option ℕ) → first_place (λ (class : Header). bytes_eq header.name class.name) headers.folder ≡ found → named header.name headers.folder ≡ Some header
     by (Some one) first =
-        let same : one ≡ index = folder_index_is one (sym (rw first refl) ∙ place) in
+        let first_is : place_of headers header.name ≡ Some (Folder one) = rw first refl in
+        let same : one ≡ index = folder_index_is one (sym first_is ∙ place) in
         named_at header.name headers.folder ∙ ap (option_and_then (slice_get headers.folder)) first ∙ ap (slice_get headers.folder) same ∙ at
-    by None none = absurd (no_folder _ index (sym (rw none refl) ∙ place))
+    by None none =
+        let in_library = first_place (λ (class : Header). bytes_eq header.name class.name) headers.library in
+        let library_is : place_of headers header.name ≡ option_map Library in_library = rw none refl in
+        absurd (no_folder in_library index (sym library_is ∙ place))
 
 -- ---- members
 

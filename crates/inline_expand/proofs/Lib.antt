@@ -16,6 +16,7 @@ mod OpenMembers
 mod OverridingMethods
 mod ParameterCounts
 mod ReadyCalls
+mod ReadMethods
 mod RenumberedArithmetic
 mod RenumberedArrays
 mod RenumberedEntry
@@ -28,6 +29,7 @@ mod RenumberedTargets
 mod RenumberedTypes
 mod Seeing
 mod ShallowCalls
+mod ResultTexts
 mod StackRoom
 mod StandingParts
 mod TypedAloneBody

@@ -10,7 +10,7 @@ use Rattle.class_tree.specs.Order.{header_at, place_of}
 use Rattle.class_tree.specs.Subtype.{IsArray}
 use Rattle.class_tree.specs.declared.place.Place.{Place}
 use Rattle.class_tree.specs.declared.place.Place.TheVariants.{Folder, Library}
-use Rattle.inline_expand.specs.Callees.{IsOpenField, IsOpenMethod, clone_of_array, opened_field, package_field, package_method, public_field, public_method}
+use Rattle.inline_expand.specs.Callees.{IsOpenField, opened_field, package_field, public_field}
 use Rattle.inline_expand.specs.Inner.Found.{IsFolderPlace}
 use Rattle.inline_expand.specs.Inner.Open.{WillBeOpened}
 use Rattle.inline_expand.specs.Quiet.{IsOfFolder}
@@ -47,25 +47,29 @@ folder_decides headers hierarchy found field is = (to found.place refl, from)
 
 -- ---- fields
 
-module _ (headers : Headers) (host : Name) (field : Declared) where
-  pub not_public : IsFalse (has field.member.flags PUBLIC) → IsOpenField headers host field → package_of host ≡ package_of field.class
-  not_public no (public_field yes) = absurd (both_ways (has field.member.flags PUBLIC) no yes)
-  not_public no (package_field open_ same) = same
-  not_public no (opened_field is_private of_instance folder same) = same
+-- one that is neither public nor open in its package is open where it will be opened
+pub opened_decides :
+    (headers : Headers)
+    → IsHierarchy headers
+    → (host : Name) (found : Found) (field : Declared)
+    → IsFieldFound headers found field
+    → IsFalse (has field.member.flags PUBLIC)
+    → package_of host ≡ package_of field.class
+    → IsFalse (is_package_access field.member || has field.member.flags PROTECTED)
+    → WillBeOpened found ↔ IsOpenField headers host field
+opened_decides headers hierarchy host found field is no_public same no_package = (to, from)
+  where
+    folder : IsFolderPlace found.place ↔ IsOfFolder headers field.class
+    folder = folder_decides headers hierarchy found field is
 
-  pub in_package :
-      IsFalse (has field.member.flags PUBLIC)
-      → IsOpenField headers host field
-      → IsTrue (is_package_access field.member || has field.member.flags PROTECTED)
-      ⊎ (IsTrue (has field.member.flags PRIVATE) × IsFalse (has field.member.flags STATIC) × IsOfFolder headers field.class)
-  in_package no (public_field yes) = absurd (both_ways (has field.member.flags PUBLIC) no yes)
-  in_package no (package_field open_ same) = inl open_
-  in_package no (opened_field is_private of_instance folder same) = inr (is_private, of_instance, folder)
+    to : WillBeOpened found → IsOpenField headers host field
+    to opened = opened_field (ap (λ (flags : ℕ). has flags PRIVATE) (sym is.same_flags) ∙ opened.is_private) (ap (λ (flags : ℕ). has flags STATIC) (sym is.same_flags) ∙ opened.of_instance) (folder.0 opened.of_folder) same
 
--- ---- methods
-
-module _ (host named : Name) (method : Declared) where
-  pub method_cases : IsOpenMethod host named method → IsTrue (has method.member.flags PUBLIC) ⊎ ((IsTrue (is_package_access method.member || has method.member.flags PROTECTED) × (package_of host ≡ package_of method.class)) ⊎ (IsArray named × (method.member.name ≡ codes "clone")))
-  method_cases (public_method yes) = inl yes
-  method_cases (package_method open_ same) = inr (inl (open_, same))
-  method_cases (clone_of_array deep clone) = inr (inr (deep, clone))
+    from : IsOpenField headers host field → WillBeOpened found
+    from (public_field is_public) = absurd (false≢true (sym no_public ∙ is_public))
+    from (package_field open_ same_package) = absurd (false≢true (sym no_package ∙ open_))
+    from (opened_field is_private of_instance of_folder same_package) = record {
+      is_private = ap (λ (flags : ℕ). has flags PRIVATE) is.same_flags ∙ is_private;
+      of_instance = ap (λ (flags : ℕ). has flags STATIC) is.same_flags ∙ of_instance;
+      of_folder = folder.1 of_folder;
+    }

@@ -1,26 +1,30 @@
 -- The conditions of a callee, part by part.
-use Rattle.std.proofs.Common.{◌≡◌, ◌↔◌, ◌⊎◌, ◌+◌, ◌-◌, ◌<◌, ◌≤◌, ℕ, zero, suc, Bool, true, false, List, [], ◌∷◌, drop, length, slice_get, Option, Some, None, IfSome, IsTrue, IsFalse, refl, sym, ap, subst, ◌∙◌, inl, inr, arith}
+use Rattle.std.proofs.Common.{◌≡◌, ◌↔◌, ◌⊎◌, ◌+◌, ◌-◌, ◌<◌, ◌≤◌, ℕ, zero, suc, Bool, true, false, List, [], ◌∷◌, drop, length, slice_get, Option, Some, None, Result, Ok, Err, IfOk, IfSome, IsTrue, IsFalse, refl, sym, ap, subst, ◌∙◌, inl, inr, arith}
 use Rattle.std.proofs.lemmas.Bool.{cases_eq}
 use Rattle.std.proofs.lemmas.List.{drop-drop, drop_all}
 use Rattle.std.proofs.lemmas.Option.{none-some, same_Some}
 use Rattle.std.specs.List.{AllByRecursion}
 use Rattle.class_model.specs.Code.{verification_type}
-use Rattle.class_model.specs.Descriptors.{kind_of, parameters_of, units_of}
+use Rattle.class_model.specs.Descriptors.{SpellsDescriptor, kind_of, parameters_of, units_of}
 use Rattle.class_model.specs.Laws.Lists.{at_index, drop_item, none_behind}
 use Rattle.class_model.specs.Members.{has, STATIC}
 use Rattle.class_model.specs.Methods.{this_units}
 use Rattle.class_model.specs.declared.class_file.ClassFile.{ClassFile}
+use Rattle.class_model.specs.declared.descriptor.Descriptor.{Descriptor}
 use Rattle.class_model.specs.declared.descriptor.FieldType.{FieldType}
 use Rattle.class_model.specs.declared.descriptor.FieldType.TheVariants as sorts
 use Rattle.class_model.specs.declared.frame.Frame.{Frame}
 use Rattle.class_model.specs.declared.frame.VType.{VType}
 use Rattle.class_model.specs.declared.instr.Placed.{Placed}
+use Rattle.class_model.specs.declared.memory.NoMemory.{NoMemory}
 use Rattle.class_tree.specs.Headers.{Name, Classes, Headers, headers_of}
 use Rattle.class_model.specs.Header.{header_of}
 use Rattle.inline_expand.specs.Callees.{LeavesResult, MayStandIn, NamesOpen, SayAtMost, SaysAtMost, own_name}
 use Rattle.inline_expand.specs.Inner.Standing.{AreOpen, ArePlain, HasForm, HasPlainCode, IsQuietIfStatic, NameInitialisers, ReturnAlone, TakesDeclared}
 use Rattle.inline_expand.specs.Quiet.{IsQuiet}
+use Rattle.inline_expand.proofs.ResultTexts.{result_spelled}
 use Rattle.member_link.specs.Scope.{Scope, instructions, own_descriptor}
+use Rattle.member_link.specs.Signatures.{result_of}
 
 -- ---- loops
 
@@ -46,6 +50,12 @@ alone_more instrs frames count placed at leaves before = record {
   ];
 }
 
+-- ---- descriptors
+
+pub result_of_own : (own text : List ℕ) → own ≡ text → (read : Result Descriptor NoMemory) → IfOk read (SpellsDescriptor text) → IfOk read (λ (d : Descriptor). parameters_of text ≡ d.params) → IfOk read (λ (d : Descriptor). result_of own ≡ d.result)
+result_of_own own text same (Ok descriptor) spells params = ap result_of same ∙ result_spelled text descriptor params spells
+result_of_own own text same (Err fault) spells params = tt
+
 -- ---- parameters
 
 -- What is said of the types from one on and of the units from one on is said of all.
@@ -63,6 +73,17 @@ some_units sorts.Long = omega arith
 some_units sorts.Float = omega arith
 some_units sorts.Double = omega arith
 some_units (sorts.Named name) = omega arith
+
+pub few_units : (type : FieldType) → units_of (kind_of type) ≤ 2
+few_units sorts.Byte = omega arith
+few_units sorts.Char = omega arith
+few_units sorts.Short = omega arith
+few_units sorts.Bool = omega arith
+few_units sorts.Int = omega arith
+few_units sorts.Long = omega arith
+few_units sorts.Float = omega arith
+few_units sorts.Double = omega arith
+few_units (sorts.Named name) = omega arith
 
 module _ (headers : Headers) (types : List FieldType) (units : List VType) (from index unit : ℕ) where
   pub said_first : IsSaidOfRest headers types units from 0 from

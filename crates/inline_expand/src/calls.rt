@@ -1,11 +1,12 @@
 //! The method of the folder that a call runs, whatever its receiver is (JVM Specification SE 8, 6.5 on the
 //! instructions of calls).
-ghost use Rattle.std.specs.Prelude.{◌≡◌, Some, IfOk};
+ghost use Rattle.std.specs.Prelude.{◌≡◌, ◌↔◌, ◌⊎◌, ℕ, Some, IfOk, IsTrue};
 ghost use Rattle.std.specs.Option.{option_map};
+ghost use Rattle.class_model.specs.Names.{init};
 ghost use Rattle.class_model.specs.declared.class_file.MethodAt.{MethodAt};
 ghost use Rattle.class_tree.specs.Headers.{Classes, Name, headers_of};
 ghost use Rattle.class_tree.specs.Hierarchy.{IsHierarchy};
-ghost use Rattle.inline_expand.specs.Callees.{Calls};
+ghost use Rattle.inline_expand.specs.Callees.{Calls, IsClass};
 ghost use Rattle.inline_expand.specs.Inner.Calls.{DecidesCall, DecidesRun, call_at, call_meant, called_by};
 ghost use Rattle.inline_expand.specs.Inner.References.{reference_meant};
 ghost use Rattle.member_link.specs.Scope.{Scope};
@@ -125,7 +126,7 @@ fn special_callee(tree: &Tree, own: &Text, reference: &Reference<'_>) -> Option<
     a_look_up_finds_one_method();
     a_selection_chooses_one();
     a_special_call_starts_once();
-    if reference.name.bytes() != INIT && !is_class(tree, own) {
+    if !is_special(tree, own, reference) {
         return None;
     }
     let found = find_method(tree, reference.class, reference.name, reference.desc)?;
@@ -137,6 +138,15 @@ fn special_callee(tree: &Tree, own: &Text, reference: &Reference<'_>) -> Option<
         Selected::Found(chosen) => folder_method(chosen),
         _ => None,
     }
+}
+
+// Whether a special call in a class of this name may run: it names an initialiser, or the class is no interface.
+fn is_special(tree: &Tree, own: &Text, reference: &Reference<'_>) -> bool
+    ensures { IsTrue result
+        ↔ (IsClass (headers_of tree.now) own.now
+        ⊎ ((reference_meant reference.now).name ≡ init)) }
+{
+    reference.name.bytes() == INIT || is_class(tree, own)
 }
 
 // The method of the folder that a virtual call runs.
