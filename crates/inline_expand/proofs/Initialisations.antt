@@ -11,7 +11,9 @@ use Rattle.class_tree.specs.Laws.Decided.{same_bytes}
 use Rattle.inline_expand.proofs.CalledMethods.{call_stands, read_call}
 use Rattle.inline_expand.specs.Callees.{InitialisesAt, IsCall, frame_before}
 use Rattle.inline_expand.specs.Inner.Calls.{Called, call_at, called_as}
-use Rattle.inline_expand.specs.Inner.Initialised.{IsInitialisation, object_of, type_of_object, type_or_top}
+use Rattle.inline_expand.specs.Inner.Initialised.{Initialises, IsInitialisation, IsOtherOnThis, object_of, type_of_object, type_or_top}
+use Rattle.inline_expand.specs.Inner.Ready.{CallsOnThis}
+use Rattle.inline_expand.specs.declared.initialised.Initialisation.{Initialisation}
 use Rattle.inline_expand.specs.declared.initialised.Object.{Object}
 use Rattle.inline_expand.specs.declared.initialised.Object.TheVariants.{New, This}
 use Rattle.member_link.specs.References.{Reference}
@@ -114,3 +116,23 @@ module _ (s : Scope) (frames : List Frame) (at : ℕ) where
 
 pub new_is_not_this : (new : ℕ) → ¬ (Uninit new ≡ UninitThis)
 new_is_not_this new e = absurd cc
+
+-- ---- calls on the method's own object
+
+this_of_type : (found : Object) → type_of_object found ≡ UninitThis → found ≡ This
+this_of_type This e = refl
+this_of_type (New at) e = absurd (new_is_not_this at e)
+
+module _ (s : Scope) (frames : List Frame) (at : ℕ) (call : Initialisation) (is : Initialises s frames at call) where
+  pub is_on_this : IsOtherOnThis call → CallsOnThis s frames at
+  is_on_this on = record {
+    reference = is.reference;
+    is = subst (λ (o : Object). InitialisesAt s frames at (type_of_object o) is.reference) on.0 is.is;
+    other = λ e. on.1 (sym is.class ∙ e);
+  }
+
+  pub on_this_is : CallsOnThis s frames at → IsOtherOnThis call
+  on_this_is on =
+      let type = one_object s frames at (type_of_object call.object) UninitThis is.reference on.reference is.is on.is in
+      let reference = one_reference s frames at (type_of_object call.object) UninitThis is.reference on.reference is.is on.is in
+      (this_of_type call.object type, λ e. on.other (sym (ap (λ (r : Reference). r.class) reference) ∙ is.class ∙ e))

@@ -6,6 +6,7 @@ mod CalledMethods
 mod DecidedRuns
 mod FlatPlaces
 mod FolderPlaces
+mod FoundCallees
 mod FoundMethods
 mod Founding
 mod HostCodes

@@ -55,7 +55,7 @@ module _ (classes : Classes) (typed : FolderFrames) where
         once also.caller at one other (subst (λ (s : Scope). Calls classes s at one) same calls.calls) also.calls
 
     -- what is needed on its own object, at the scope and the frames of the method
-    need_here : (callee need : MethodAt) (scope : Scope) (frames : List Frame) → HasFrames classes typed callee scope frames → (needs : Needs classes typed callee need) → CallsOnThis scope frames needs.within
+    pub need_here : (callee need : MethodAt) (scope : Scope) (frames : List Frame) → HasFrames classes typed callee scope frames → (needs : Needs classes typed callee need) → CallsOnThis scope frames needs.within
     need_here callee need scope frames is needs =
         subst (λ (f : List Frame). CallsOnThis scope f needs.within) (one_list callee needs.scope scope needs.frames frames needs.is is)
         (subst (λ (s : Scope). CallsOnThis s needs.frames needs.within) (one_scope callee needs.scope scope needs.frames frames needs.is is) needs.on_this)
@@ -64,6 +64,9 @@ module _ (classes : Classes) (typed : FolderFrames) where
 
     pub from_callee : (host : ℕ) (from : MethodAt) (at : ℕ) (callee : MethodAt) → IsCallee classes typed host from at callee → CallsAtMost classes typed from at callee × IsReady classes typed host callee
     from_callee host _ _ _ (is_callee from at callee host_class caller scope before frames inner is_host is_caller are_before is_scope are_frames calls stands result parts) =
+        let has : HasFrames classes typed callee scope frames = record { is_scope = is_scope; are_frames = are_frames } in
+        let part : (within : ℕ) → CallsOnThis scope frames within → CallsAtMost classes typed callee within (inner within) × IsReady classes typed host (inner within) =
+            λ within on. from_callee host callee within (inner within) (parts within on.reference on.is on.other) in
         (record {
           caller = caller; before = before; is_caller = record { is_scope = is_caller; are_frames = are_before };
           scope = scope; frames = frames; is_callee = has;
@@ -75,12 +78,7 @@ module _ (classes : Classes) (typed : FolderFrames) where
         }) (λ need needs.
         let on = need_here callee need scope frames has needs in
         let h = part needs.within on in
-        subst (IsReady classes typed host) (one_callee callee needs.within (inner needs.within) need h.0 needs.calls) h.1)) where
-      has : HasFrames classes typed callee scope frames
-      has = record { is_scope = is_scope; are_frames = are_frames }
-
-      part : (within : ℕ) → CallsOnThis scope frames within → CallsAtMost classes typed callee within (inner within) × IsReady classes typed host (inner within)
-      part within on = from_callee host callee within (inner within) (parts within on.reference on.is on.other)
+        subst (IsReady classes typed host) (one_callee callee needs.within (inner needs.within) need h.0 needs.calls) h.1))
 
     -- ---- what is ready is a callee
 
@@ -92,11 +90,11 @@ module _ (classes : Classes) (typed : FolderFrames) where
 
   module _ (callee : MethodAt) (scope : Scope) (frames : List Frame) (is : HasFrames classes typed callee scope frames)
       (called : (within : ℕ) → CallsOnThis scope frames within → (inner : MethodAt) × CallsAtMost classes typed callee within inner) where
-    inner_by : (within : ℕ) → CallsOnThis scope frames within ⊎ (¬ CallsOnThis scope frames within) → MethodAt
+    abbrev inner_by : (within : ℕ) → CallsOnThis scope frames within ⊎ (¬ CallsOnThis scope frames within) → MethodAt
     inner_by within (inl on) = (called within on).0
     inner_by within (inr none) = callee
 
-    inner_at : ℕ → MethodAt
+    abbrev inner_at : ℕ → MethodAt
     inner_at within = inner_by within (on_this_or_not scope frames within)
 
     inner_called_by : (within : ℕ) (is : CallsOnThis scope frames within ⊎ (¬ CallsOnThis scope frames within)) → CallsOnThis scope frames within → CallsAtMost classes typed callee within (inner_by within is)

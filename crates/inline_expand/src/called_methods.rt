@@ -63,8 +63,8 @@ fn says_at_most(
         → frame_behind caller.now.host caller.now.frames.now at ≡ Some behind
         → ResultSaysAtMost (headers_of tree.now) (result_of (own_descriptor callee.now)) behind)) }
 {
-    match caller.frames.get(caller.host.number(at) as usize + 1) {
-        Some(behind) => result_says_at_most(alloc, tree, callee, behind),
+    match caller.frame_behind(at) {
+        Some(behind) => Ok(result_says_at_most(alloc, tree, callee, behind)?),
         None => Ok(true),
     }
 }

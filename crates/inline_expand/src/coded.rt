@@ -1,6 +1,7 @@
 //! Methods with code and the frames that type them.
 ghost use Rattle.std.specs.Prelude.{◌≡◌, IfOk, length};
-ghost use Rattle.std.specs.Option.{option_map};
+ghost use Rattle.std.specs.Option.{option_copied, option_map};
+ghost use Rattle.inline_expand.specs.Callees.{frame_before, frame_behind};
 ghost use Rattle.inline_expand.specs.Inner.Coded.{IsCoded, IsShortCoded};
 ghost use Rattle.member_link.specs.Scope.{scope_at};
 
@@ -63,6 +64,20 @@ impl<'a> CodedMethod<'a> {
             Some(len) if len <= MOST_BYTES => CodedMethod::at(alloc, tree, typed, at),
             _ => Ok(None),
         }
+    }
+
+    /// The frame before the instruction at an offset.
+    pub(crate) fn frame_before(&self, at: u32) -> Option<&'a Frame>
+        ensures { option_copied result ≡ frame_before self.now.host self.now.frames.now at }
+    {
+        self.frames.get(self.host.number(at) as usize)
+    }
+
+    /// The frame before the instruction behind the one at an offset.
+    pub(crate) fn frame_behind(&self, at: u32) -> Option<&'a Frame>
+        ensures { option_copied result ≡ frame_behind self.now.host self.now.frames.now at }
+    {
+        self.frames.get(self.host.number(at) as usize + 1)
     }
 }
 

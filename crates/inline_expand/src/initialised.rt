@@ -1,7 +1,7 @@
 //! Calls of instance initialisers, and the objects that they are on.
 ghost use Rattle.std.specs.Prelude.{◌≡◌, ◌↔◌, IsTrue};
 ghost use Rattle.std.specs.Option.{option_copied};
-ghost use Rattle.inline_expand.specs.Inner.Initialised.{IsInitialisation, object_of, type_or_top};
+ghost use Rattle.inline_expand.specs.Inner.Initialised.{IsInitialisation, IsOtherOnThis, object_of, type_or_top};
 ghost use Rattle.inline_expand.specs.Inner.Ready.{CallsOnThis};
 ghost use Rattle.member_link.specs.Rows.MemberRows.{receiver};
 
@@ -35,12 +35,21 @@ pub(crate) fn initialisation_at<'a>(
 ) -> Option<Initialisation<'a>>
     ensures { IsInitialisation method.now.host method.now.frames.now at result }
 {
-    let call = call_at(&method.host, at)?;
-    if call.opcode != INVOKESPECIAL || call.reference.name.bytes() != INIT {
+    let Some(call) = call_at(&method.host, at) else {
+        return None;
+    };
+    if call.opcode != INVOKESPECIAL {
         return None;
     }
-    let frame = method.frames.get(method.host.number(at) as usize)?;
-    let object = object_of(receiver(frame, call.reference.desc.bytes()))?;
+    if call.reference.name.bytes() != INIT {
+        return None;
+    }
+    let Some(frame) = method.frame_before(at) else {
+        return None;
+    };
+    let Some(object) = object_of(receiver(frame, call.reference.desc.bytes())) else {
+        return None;
+    };
     Some(Initialisation {
         object,
         class: call.reference.class,
@@ -53,8 +62,18 @@ pub(crate) fn calls_on_this(method: &CodedMethod<'_>, at: u32) -> bool
     ensures { IsTrue result ↔ CallsOnThis method.now.host method.now.frames.now at }
 {
     match initialisation_at(method, at) {
-        Some(call) => matches!(call.object, Object::This) && call.class.bytes() != OBJECT,
+        Some(call) => is_other_on_this(&call),
         None => false,
+    }
+}
+
+// Whether a call is on the method's own object, and of another class than java/lang/Object.
+fn is_other_on_this(call: &Initialisation<'_>) -> bool
+    ensures { IsTrue result ↔ IsOtherOnThis call.now }
+{
+    match call.object {
+        Object::This => call.class.bytes() != OBJECT,
+        Object::New(_) => false,
     }
 }
 
@@ -63,8 +82,8 @@ fn receiver<'f>(frame: &'f Frame, desc: &[u8]) -> Option<&'f VType>
     ensures { type_or_top (option_copied result) ≡ receiver frame.now desc.now }
 {
     let stack = frame.stack.as_slice();
-    let under = stack.len().saturating_sub(parameter_count(desc) + 1);
-    stack.get(under)
+    let parameters = parameter_count(desc);
+    stack.get(stack.len().saturating_sub(parameters).saturating_sub(1))
 }
 
 // The uninitialised object of a type, if it is that of one.

@@ -1,8 +1,9 @@
 -- Calls of instance initialisers as the code finds them.
-use Rattle.std.specs.Prelude.{◌≡◌, ℕ, List, Option, Some, None}
+use Rattle.std.specs.Prelude.{◌≡◌, ◌≢◌, ℕ, List, Option, Some, None}
 use Rattle.class_model.specs.declared.frame.Frame.{Frame}
 use Rattle.class_model.specs.declared.frame.VType.{VType}
 use Rattle.class_model.specs.declared.frame.VType.TheVariants.{Top, Uninit, UninitThis}
+use Rattle.class_tree.specs.Names.{object}
 use Rattle.inline_expand.specs.Callees.{InitialisesAt}
 use Rattle.inline_expand.specs.declared.initialised.Initialisation.{Initialisation}
 use Rattle.inline_expand.specs.declared.initialised.Object.{Object}
@@ -36,3 +37,7 @@ IsInitialisation s frames at (Some call) = Initialises s frames at call
 IsInitialisation s frames at None =
     (object : Object) (reference : Reference)
     → ¬ InitialisesAt s frames at (type_of_object object) reference
+
+-- it is on the method's own object, and of another class than java/lang/Object
+abbrev pub IsOtherOnThis : Initialisation → Type 0
+IsOtherOnThis call = (call.object ≡ This) × (call.class.now ≢ object)
