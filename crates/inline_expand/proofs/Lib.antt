@@ -15,6 +15,7 @@ mod MethodLists
 mod NumberedLocals
 mod OpenMembers
 mod OverridingMethods
+mod OwnCallees
 mod ParameterCounts
 mod ReadyCalls
 mod ReadMethods

@@ -1,10 +1,10 @@
 //! Which methods may stand in the code of a host with all that they call on their own uninitialised object: an
 //! instance initialiser calls one of its own class or of its superclass, and so on upwards.
-ghost use Rattle.std.specs.Prelude.{◌≡◌, ◌↔◌, IfOk, OnOk, IsTrue, Some, slice_get};
+ghost use Rattle.std.specs.Prelude.{◌≡◌, ◌↔◌, IfOk, OnOk, IsTrue};
 ghost use Rattle.std.specs.Option.{option_map};
 ghost use Rattle.inline_expand.specs.Inner.Coded.{Stands};
 ghost use Rattle.inline_expand.specs.Inner.Ready.{IsReady};
-ghost use Rattle.inline_expand.specs.Inner.ReadyCallees.{CallsThese, IsHostClass};
+ghost use Rattle.inline_expand.specs.Inner.ReadyCallees.{AddsOwn, CallsThese, IsHostClass};
 ghost use Rattle.inline_expand.specs.Inner.Walks.{AreRight, GoesOn, HasNeeds};
 
 use crate::called_methods::find_callee;
@@ -98,7 +98,7 @@ pub(crate) fn needs(
     if !may_stand_in(alloc, host.tree, host.class, &method.host, method.frames)? {
         return Ok(None);
     }
-    own_callees(alloc, host.tree, host.typed, &method)
+    Ok(own_callees(alloc, host.tree, host.typed, &method)?)
 }
 
 // The methods that a method calls on its own uninitialised object; none where one of these calls can't be replaced.
@@ -112,14 +112,36 @@ fn own_callees(
     ensures { IfOk result (λ callees. CallsThese tree.now typed.now method.now
         (option_map (λ list. list.items) callees)) }
 {
+    let instrs = method.host.instrs();
     let mut callees = Vec::new(alloc);
-    for placed in method.host.instrs() {
-        if calls_on_this(method, placed.at) {
-            let Some(callee) = find_callee(alloc, tree, typed, method, placed.at)? else {
-                return Ok(None);
-            };
-            callees.push(callee.at)?;
+    for number in 0..instrs.len() {
+        if !add_own_callee(alloc, tree, typed, method, instrs[number].at, &mut callees)? {
+            return Ok(None);
         }
     }
     Ok(Some(callees))
+}
+
+// Appends the method that the call at an offset runs, if the call is on the method's own uninitialised object. It answers whether
+// there is no such call or it can be replaced.
+fn add_own_callee(
+    alloc: Global,
+    tree: &Tree,
+    typed: &TypedFolder,
+    method: &CodedMethod<'_>,
+    at: u32,
+    callees: &mut Vec<MethodAt>,
+) -> Result<bool, NoMemory>
+    requires { Stands tree.now typed.now method.now }
+    ensures { IfOk result (AddsOwn tree.now typed.now method.now at callees.old.items
+        callees.new.items) }
+{
+    if !calls_on_this(method, at) {
+        return Ok(true);
+    }
+    let Some(callee) = find_callee(alloc, tree, typed, method, at)? else {
+        return Ok(false);
+    };
+    callees.push(callee.at)?;
+    Ok(true)
 }
