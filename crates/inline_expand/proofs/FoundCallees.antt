@@ -1,16 +1,16 @@
 -- The method that a call runs, with its code and frames, as it is found.
-use Rattle.std.proofs.Common.{◌≡◌, ◌≢◌, ◌⊎◌, ◌↔◌, ℕ, List, Option, Some, None, IsTrue, refl, sym, ap, subst, ◌∙◌, inl, inr, length, ◌≤◌}
+use Rattle.std.proofs.Common.{◌≡◌, ◌≢◌, ◌⊎◌, ◌↔◌, ℕ, List, Option, Some, None, IsTrue, refl, sym, ap, subst, ◌∙◌, inl, inr, length, slice_get, ◌≤◌}
 use Rattle.std.proofs.lemmas.Option.{none-some, same_Some}
 use Rattle.class_model.specs.declared.class_file.MethodAt.{MethodAt}
 use Rattle.class_model.specs.declared.frame.Frame.{Frame}
 use Rattle.class_tree.specs.Headers.{Classes, headers_of}
-use Rattle.inline_expand.proofs.ReadyCalls.{one_callee, one_list, one_scope}
-use Rattle.inline_expand.specs.Callees.{Calls, ResultSaysAtMost, frame_behind}
+use Rattle.inline_expand.proofs.ReadyCalls.{from_callee, one_list, one_scope, to_callee}
+use Rattle.inline_expand.specs.Callees.{Calls, IsCallee, ResultSaysAtMost, frame_behind, is_callee}
 use Rattle.inline_expand.specs.Inner.Calls.{DecidesCall}
 use Rattle.inline_expand.specs.Inner.Coded.{IsShortCoded, Stands}
 use Rattle.inline_expand.specs.Inner.Founded.{Founded, founded}
 use Rattle.inline_expand.specs.Inner.Ready.{CallsAtMost, Fits, IsReady}
-use Rattle.inline_expand.specs.Inner.ReadyCallees.{FindsCallee, IsTheCallee}
+use Rattle.inline_expand.specs.Inner.ReadyCallees.{FindsCallee, IsCalleeFound, IsReadyCallee, IsTheCallee}
 use Rattle.inline_expand.specs.Sites.{HasFrames}
 use Rattle.inline_expand.specs.declared.coded.CodedMethod.{CodedMethod}
 use Rattle.member_link.specs.Scope.{Scope, own_descriptor}
@@ -90,3 +90,35 @@ module _ (classes : Classes) (typed : FolderFrames)
             subst (SaysBehind classes caller.host caller.frames.now at) (scope_is other calls)
             (subst (λ (f : List Frame). SaysBehind classes caller.host f at calls.scope) (before_is other calls)
             (subst (λ (s : Scope). SaysBehind classes s calls.before at calls.scope) (caller_is other calls) calls.result))
+
+-- ---- the callee that may be replaced
+
+module _ (classes : Classes) (typed : FolderFrames) (host : ℕ) (from : MethodAt) (at : ℕ)
+    (once : (s : Scope) (at : ℕ) (one other : MethodAt) → Calls classes s at one → Calls classes s at other → one ≡ other) where
+  pub none_found : FindsCallee classes typed from at None → IsCalleeFound classes typed host from at None
+  none_found none callee is =
+      let h = from_callee classes typed once host from at callee is in
+      none host callee h.0 h.1
+
+  module _ (callee : CodedMethod) (found : IsTheCallee classes typed from at callee) where
+    pub found_ready : IsReady classes typed host callee.at → IsReadyCallee classes typed host from at callee
+    found_ready ready = record {
+      stands = found.stands;
+      is_callee = to_callee classes typed host callee.at ready from at found.calls;
+      only = λ other is. found.only other (from_callee classes typed once host from at other is).0;
+    }
+
+    pub found_unready : ¬ IsReady classes typed host callee.at → IsCalleeFound classes typed host from at None
+    found_unready not other is =
+        let h = from_callee classes typed once host from at other is in
+        not (subst (IsReady classes typed host) (found.only other h.0) h.1)
+
+-- ---- what is asked by numbers
+
+pub no_host_class : (classes : Classes) (typed : FolderFrames) (host : ℕ) (from : MethodAt) (at : ℕ) (callee : MethodAt) → slice_get classes.folder host ≡ None → ¬ IsCallee classes typed host from at callee
+no_host_class classes typed host _ _ _ none (is_callee from at callee host_class caller scope before frames inner is_host is_caller are_before is_scope are_frames calls stands result parts) =
+    none-some host_class (sym none ∙ is_host)
+
+pub no_caller : (classes : Classes) (typed : FolderFrames) (host : ℕ) (from : MethodAt) (at : ℕ) (callee : MethodAt) → ((scope : Scope) (frames : List Frame) → ¬ HasFrames classes typed from scope frames) → ¬ IsCallee classes typed host from at callee
+no_caller classes typed host _ _ _ none (is_callee from at callee host_class caller scope before frames inner is_host is_caller are_before is_scope are_frames calls stands result parts) =
+    none caller before (record { is_scope = is_caller; are_frames = are_before })

@@ -7,11 +7,12 @@ ghost use Rattle.inline_expand.specs.Inner.ReadyCallees.{IsCalleeFound, IsHostCl
 ghost use Rattle.inline_expand.specs.Inner.Walks.{AreRight};
 
 use crate::called_methods::find_callee;
+use crate::calls::a_call_runs_one_method;
 use crate::coded::CodedMethod;
 use crate::ready::{HostClass, is_ready};
 use crate::verdicts::Verdicts;
 use class_model::{MethodAt, NoMemory};
-use class_tree::Tree;
+use class_tree::{Tree, a_tree_is_a_hierarchy};
 use std::alloc::Global;
 use type_rules::TypedFolder;
 
@@ -71,6 +72,8 @@ pub(crate) fn find_ready<'a>(
     ensures right { OnOk result
         (AreRight host.entry.tree.now host.entry.typed.now host.entry.number verdicts.new) }
 {
+    a_tree_is_a_hierarchy(host.tree);
+    a_call_runs_one_method();
     let Some(callee) = find_callee(alloc, host.tree, host.typed, caller, at)? else {
         return Ok(None);
     };
