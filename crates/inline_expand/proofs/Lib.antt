@@ -31,6 +31,7 @@ mod RenumberedTargets
 mod RenumberedTypes
 mod Seeing
 mod ShallowCalls
+mod ShallowLevels
 mod ResultTexts
 mod StackRoom
 mod StandingParts

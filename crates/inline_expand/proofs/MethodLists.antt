@@ -71,3 +71,8 @@ adds_one_more first before after methods more at all adds is =
   only : (other : MethodAt) → IsAmong before other ⊎ (other ≡ at) → IsAmong first other ⊎ IsAmong (methods ++ at ∷ []) other
   only other (inl among) = front other (all.only other among)
   only other (inr e) = inr (subst (IsAmong (methods ++ at ∷ [])) (sym e) (among_last methods at))
+
+pub among_at : (methods : List MethodAt) (number : ℕ) (other : MethodAt) → number < length methods → IsAmong methods (get_or methods number other)
+among_at [] number other within = absurd (omega arith)
+among_at (first ∷ methods) zero other within = inl refl
+among_at (first ∷ methods) (suc number) other within = inr (among_at methods number other (omega (arith, within)))
