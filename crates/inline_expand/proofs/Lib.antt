@@ -17,8 +17,9 @@ mod OpenMembers
 mod OverridingMethods
 mod OwnCallees
 mod ParameterCounts
-mod ReadyCalls
+mod PlacedCalls
 mod ReadMethods
+mod ReadyCalls
 mod RenumberedArithmetic
 mod RenumberedArrays
 mod RenumberedEntry
@@ -29,10 +30,11 @@ mod RenumberedShuffles
 mod RenumberedTable
 mod RenumberedTargets
 mod RenumberedTypes
+mod ResultTexts
 mod Seeing
 mod ShallowCalls
 mod ShallowLevels
-mod ResultTexts
+mod SiteLaws
 mod StackRoom
 mod StandingParts
 mod TypedAloneBody

@@ -39,7 +39,7 @@ placed_there (first ∷ instrs) at placed is = by (first.at == at) refl is (plac
   by true same is further = record { number = 0; placed = first; is = refl; within = omega arith; here = eqb-true first.at at same }
   by false same is further = let there = further is in record { number = suc there.number; placed = there.placed; is = there.is; within = omega (arith, there.within); here = there.here }
 
-instr_there : (s : Scope) (at : ℕ) (instr : Instr) → instr_at s at ≡ Some instr → PlacedThere (instructions s) at
+pub instr_there : (s : Scope) (at : ℕ) (instr : Instr) → instr_at s at ≡ Some instr → PlacedThere (instructions s) at
 instr_there s at instr is = by (placed_at (instructions s) at) refl is where
   by : (found : Option Placed) → placed_at (instructions s) at ≡ found → option_map (λ placed. placed.instr) found ≡ Some instr → PlacedThere (instructions s) at
   by None found is = absurd (none-some instr is)

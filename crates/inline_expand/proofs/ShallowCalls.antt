@@ -21,6 +21,7 @@ use Rattle.type_rules.specs.TypedFrames.{FolderFrames}
 -- ---- lists of methods
 
 pub none_among : (methods : List MethodAt) (at other : MethodAt) → IsNoneOf methods at → IsAmong methods other → other ≢ at
+none_among [] at other none is = elim is [ ]
 none_among (first ∷ methods) at other none (inl e) = λ same. none.0 (sym e ∙ same)
 none_among (first ∷ methods) at other none (inr is) = none_among methods at other none.1 is
 
@@ -41,10 +42,10 @@ module _ (classes : Classes) (typed : FolderFrames) (host : MethodAt)
       → (callee : MethodAt)
       → CallsAtMost classes typed from at callee
       → IsShallow classes typed outer left callee
-  constructs_shallow _ _ _ (constructs chain from at own scope frames is_callee follows has parts) outer zero within six callee calls = absurd (six_left follows.short six) where
+  constructs_shallow _ _ _ (constructs chain from at own scope frames callee_is follows has parts) outer zero within six callee calls = absurd (six_left follows.short six) where
     six_left : length chain < 6 → length chain + 0 ≡ 6 → ⊥
     six_left short six = omega arith
-  constructs_shallow _ _ _ (constructs chain from at own scope frames is_callee follows has parts) outer (suc left) within six callee calls =
+  constructs_shallow _ _ _ (constructs chain from at own scope frames callee_is follows has parts) outer (suc left) within six callee calls =
       subst (IsShallow classes typed outer (suc left)) same
       (none_of_each outer own (λ other is. none_among (host ∷ chain) own other follows.other (within other is)),
       λ need needs.
@@ -52,7 +53,7 @@ module _ (classes : Classes) (typed : FolderFrames) (host : MethodAt)
       constructs_shallow (own ∷ chain) own needs.within (parts needs.within on.reference on.is on.other) outer left
       (λ other is. wider other (within other is)) (omega (arith, six)) need needs.calls) where
     same : own ≡ callee
-    same = one_callee classes typed once from at own callee (from_callee classes typed once host.class from at own is_callee).0 calls
+    same = one_callee classes typed once from at own callee (from_callee classes typed once host.class from at own callee_is).0 calls
 
     wider : (other : MethodAt) → IsAmong (host ∷ chain) other → IsAmong (host ∷ own ∷ chain) other
     wider other (inl e) = inl e

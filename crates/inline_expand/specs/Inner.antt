@@ -11,10 +11,12 @@ pub mod MethodSets
 pub mod Open
 pub mod Overridden
 pub mod ParameterLists
+pub mod Places
 pub mod Ready
 pub mod ReadyCallees
 pub mod References
 pub mod SeenMethods
+pub mod SiteTables
 pub mod Stacks
 pub mod Standing
 pub mod Unseen
