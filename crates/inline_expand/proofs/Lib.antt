@@ -22,6 +22,7 @@ mod RenumberedShuffles
 mod RenumberedTable
 mod RenumberedTargets
 mod RenumberedTypes
+mod ResultTexts
 mod SettingParts
 mod ShapeParts
 mod StackRoom
