@@ -25,6 +25,7 @@ mod RenumberedTypes
 mod ResultTexts
 mod SettingParts
 mod ShapeParts
+mod SiteParts
 mod StackRoom
 mod TypedAloneBody
 mod TypedAloneEdges

@@ -7,3 +7,4 @@ pub mod Layouts
 pub mod Settings
 pub mod Frames
 pub mod CalleePlaces
+pub mod SiteNumbers

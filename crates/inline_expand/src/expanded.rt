@@ -7,3 +7,4 @@ pub(crate) mod points;
 pub(crate) mod returns;
 pub(crate) mod settings;
 pub(crate) mod shapes;
+pub(crate) mod sites;
