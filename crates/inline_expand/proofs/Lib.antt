@@ -34,3 +34,4 @@ mod TypedAloneLaw
 mod TypedAloneNews
 mod TypedAloneNumbers
 mod TypedAlonePoints
+mod WideParts

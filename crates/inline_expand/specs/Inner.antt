@@ -8,3 +8,4 @@ pub mod Settings
 pub mod Frames
 pub mod CalleePlaces
 pub mod SiteNumbers
+pub mod WideWords

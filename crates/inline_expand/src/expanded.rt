@@ -8,3 +8,4 @@ pub(crate) mod returns;
 pub(crate) mod settings;
 pub(crate) mod shapes;
 pub(crate) mod sites;
+pub(crate) mod wide;
