@@ -9,3 +9,4 @@ pub mod Frames
 pub mod CalleePlaces
 pub mod SiteNumbers
 pub mod WideWords
+pub mod Measures
