@@ -37,7 +37,12 @@ impl Around {
     ///
     /// # Errors
     /// `NoMemory`, where memory runs out.
-    pub(crate) fn moved(self, alloc: Global, numbers: &Numbers<'_, '_>, at: u32) -> Result<Around, NoMemory>
+    pub(crate) fn moved(
+        self,
+        alloc: Global,
+        numbers: &Numbers<'_, '_>,
+        at: u32,
+    ) -> Result<Around, NoMemory>
         requires { AreAround numbers.now self }
         ensures around { IfOk result (AreAround numbers.now) }
         ensures at { IfOk result (λ around. around.handlers ≡ handlers_for numbers.now at) }
@@ -62,7 +67,11 @@ fn handlers_from(alloc: Global, numbers: &Numbers<'_, '_>, at: u32) -> Result<Ar
 }
 
 // The handlers around an offset, in table order.
-fn handlers_at(alloc: Global, numbers: &Numbers<'_, '_>, at: u32) -> Result<FlatHandlerList, NoMemory>
+fn handlers_at(
+    alloc: Global,
+    numbers: &Numbers<'_, '_>,
+    at: u32,
+) -> Result<FlatHandlerList, NoMemory>
     ensures { IfOk result (λ list. list ≡ handlers_for numbers.now at) }
 {
     let mut list = FlatHandlerList::new(alloc);

@@ -11,7 +11,11 @@ use std::alloc::Global;
 ///
 /// # Errors
 /// `NoMemory`, where memory runs out.
-pub(crate) fn renumbered(alloc: Global, numbers: &Numbers<'_, '_>, instr: &Instr) -> Result<Instr, NoMemory>
+pub(crate) fn renumbered(
+    alloc: Global,
+    numbers: &Numbers<'_, '_>,
+    instr: &Instr,
+) -> Result<Instr, NoMemory>
     ensures { IfOk result (λ copy. copy ≡ with_targets (number_by numbers.now) instr.now) }
 {
     Ok(match instr {
@@ -38,7 +42,11 @@ pub(crate) fn renumbered(alloc: Global, numbers: &Numbers<'_, '_>, instr: &Instr
 }
 
 // The numbers of the instructions at these targets.
-fn numbers_of(alloc: Global, numbers: &Numbers<'_, '_>, targets: &[u32]) -> Result<Vec<u32>, NoMemory>
+fn numbers_of(
+    alloc: Global,
+    numbers: &Numbers<'_, '_>,
+    targets: &[u32],
+) -> Result<Vec<u32>, NoMemory>
     ensures { IfOk result (λ list. list.items ≡ map (number_by numbers.now) targets.now) }
 {
     let mut list = Vec::with_capacity(alloc, targets.len())?;
@@ -49,7 +57,11 @@ fn numbers_of(alloc: Global, numbers: &Numbers<'_, '_>, targets: &[u32]) -> Resu
 }
 
 // Keys with the numbers of the instructions at their targets.
-fn numbered_pairs(alloc: Global, numbers: &Numbers<'_, '_>, pairs: &[Pair]) -> Result<Vec<Pair>, NoMemory>
+fn numbered_pairs(
+    alloc: Global,
+    numbers: &Numbers<'_, '_>,
+    pairs: &[Pair],
+) -> Result<Vec<Pair>, NoMemory>
     ensures { IfOk result (λ list. list.items ≡ map (pair_to (number_by numbers.now)) pairs.now) }
 {
     let mut list = Vec::with_capacity(alloc, pairs.len())?;

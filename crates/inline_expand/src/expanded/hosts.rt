@@ -40,7 +40,13 @@ pub(crate) fn host_points<'s, 't>(
 {
     let setting = setting_by(alloc, bodies, host, measure)?;
     let mut points = Vec::with_capacity(alloc, usize::from(measure.points))?;
-    push_method(alloc, &mut points, bodies, measure.layouts.as_slice(), &setting)?;
+    push_method(
+        alloc,
+        &mut points,
+        bodies,
+        measure.layouts.as_slice(),
+        &setting,
+    )?;
     Ok(PointList::from_vec(points))
 }
 

@@ -95,7 +95,12 @@ pub(crate) fn starts_of(
     let mut number: u16 = 0;
     for at in 0..instrs.len() {
         starts.push(number)?;
-        number = number.saturating_add(step_points(layouts, &steps[at], returns, &instrs[at].instr));
+        number = number.saturating_add(step_points(
+            layouts,
+            &steps[at],
+            returns,
+            &instrs[at].instr,
+        ));
     }
     starts.push(number)?;
     Ok(starts)

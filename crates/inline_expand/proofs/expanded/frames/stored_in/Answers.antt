@@ -15,8 +15,8 @@ returns c =
     c.in_ok-set.ensures ∙ ap (λ (all : List VType). slice_set all at value) c.in_ok-cut_before.ensures in
     elim c.if-is_wide.branch [
       | then-is_wide+in_ok-set-2 w ↦
-        w.after-is ∙ w.in_ok-set-2.ensures ∙ ap (λ (all : List VType). slice_set all (at + 1) Top) one
-        ∙ sym (stored-wide value at locals (sym w.if-is_wide.ensures)) ∙ ap (λ (n : ℕ). stored n value locals) c.from-at.ensures
+          w.after-is ∙ w.in_ok-set-2.ensures ∙ ap (λ (all : List VType). slice_set all (at + 1) Top) one
+          ∙ sym (stored-wide value at locals (sym w.if-is_wide.ensures)) ∙ ap (λ (n : ℕ). stored n value locals) c.from-at.ensures
       | else-is_wide w ↦
-        w.after-is ∙ one ∙ sym (stored-single value at locals (sym w.if-is_wide.ensures)) ∙ ap (λ (n : ℕ). stored n value locals) c.from-at.ensures
+          w.after-is ∙ one ∙ sym (stored-single value at locals (sym w.if-is_wide.ensures)) ∙ ap (λ (n : ℕ). stored n value locals) c.from-at.ensures
     ]

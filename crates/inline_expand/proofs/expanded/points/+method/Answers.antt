@@ -21,9 +21,9 @@ pub push_callee-returns : goal.push_callee-returns
 push_callee-returns t c =
     let found = c.args.found.now in
     on_ok_weaker c.push_method.result (λ pushed standing at is.
-        callee-done found c.args.start c.args.unit c.in_ok-place.place standing at c.args.entry c.args.points.now.items c.push_entry.new.points.items c.push_method.new.points.items
-        c.in_ok-place.ensures.stands (c.in_ok-place.ensures.setting standing at is)
-        (c.in_ok-push_entry.ensures standing at found.body.now.host is c.requires.enter.layout.shape) pushed) c.push_method.ensures
+    callee-done found c.args.start c.args.unit c.in_ok-place.place standing at c.args.entry c.args.points.now.items c.push_entry.new.points.items c.push_method.new.points.items
+    c.in_ok-place.ensures.stands (c.in_ok-place.ensures.setting standing at is)
+    (c.in_ok-push_entry.ensures standing at found.body.now.host is c.requires.enter.layout.shape) pushed) c.push_method.ensures
 
 pub push_method-find-requires : goal.push_method-find-requires
 push_method-find-requires t c = length-layouts c.args.bodies.now c.args.layouts.now c.requires.ready.laid
@@ -53,8 +53,7 @@ push_method-push_callee-requires t c =
     let is = c.in-Some.ensures.some in
     let some : replacing callees step ≡ Some (callee_in found) = is.is in
     let points = room-points s callees instrs frames steps whole at unit done c.loop-number.invariant.done placed frame step instrs_are frames_are steps_are (callee_in found) some in
-    let units = room-units s callees instrs frames steps whole at unit done c.loop-number.invariant.done placed frame step instrs_are frames_are steps_are (callee_in found) some in
-    (
+    let units = room-units s callees instrs frames steps whole at unit done c.loop-number.invariant.done placed frame step instrs_are frames_are steps_are (callee_in found) some in (
       omega (arith, c.decreases, is.fewer),
       (is.ready c.requires.ready, record { body = is.body c.requires.ready; layout = is.layout c.requires.ready; points = points; units = units }),
     )
@@ -82,12 +81,12 @@ push_method-loop-number-preserved t c =
     let done = c.loop-number.points.items in
     record {
       done = elim c.match-find.branch [
-          | push_method-in-None+in_ok-push_own-in-None w ↦
+        | push_method-in-None+in_ok-push_own-in-None w ↦
             let none : replacing callees step ≡ None = w.in-None.ensures.none in
             let more = ap (λ (v : Vec Point Global). v.items) w.points-is ∙ w.in_ok-push_own-in-None.ensures (record { class = refl; handlers = c.in_ok-around.ensures.at }) in
             subst (λ (u : ℕ). HasDone s callees instrs frames steps whole (at + 1) u c.match-find.points.items) (sym w.unit-is)
             (done-own s callees instrs frames steps whole at unit done c.loop-number.invariant.done placed frame step instrs_are frames_are steps_are c.match-find.points.items none more)
-          | push_method-in-Some+in_ok-entry-in-Some+in_ok-push_callee-in-Some w ↦
+        | push_method-in-Some+in_ok-entry-in-Some+in_ok-push_callee-in-Some w ↦
             let found = w.in-Some.found in
             let is = w.in-Some.ensures.some in
             let some : replacing callees step ≡ Some (callee_in found) = is.is in
@@ -100,6 +99,6 @@ push_method-loop-number-preserved t c =
             ∙ w.in_ok-push_callee-in-Some.ensures (setting_of s) placed.at (record { class = refl; handlers = c.in_ok-around.ensures.at })
             ∙ ap (λ (entry : Frame). done ++ callee_points (setting_of s) placed.at entry number unit (callee_in found)) w.in_ok-entry-in-Some.ensures in
             done-callee s callees instrs frames steps whole at unit done c.loop-number.invariant.done placed frame step instrs_are frames_are steps_are (callee_in found) c.match-find.points.items c.match-find.unit some units more
-        ];
+      ];
       around = c.in_ok-around.ensures.around;
     }

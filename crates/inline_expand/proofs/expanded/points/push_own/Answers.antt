@@ -12,6 +12,6 @@ returns-in-None c =
     let before = c.args.points.now.items in
     let placed = c.args.placed.now in
     on_ok_weaker c.push_set.result (λ pushed spot.
-        pushed spot
-        ∙ ap (λ (typed : Frame). before ++ own_point t placed typed) c.in_ok-typed.ensures
-        ∙ ap (λ (points : List Point). before ++ points) (sym (own-host c.args.setting.now placed c.args.frame.now c.in-None.is))) c.push_set.ensures
+    pushed spot
+    ∙ ap (λ (typed : Frame). before ++ own_point t placed typed) c.in_ok-typed.ensures
+    ∙ ap (λ (points : List Point). before ++ points) (sym (own-host c.args.setting.now placed c.args.frame.now c.in-None.is))) c.push_set.ensures

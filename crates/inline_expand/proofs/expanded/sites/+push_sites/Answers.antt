@@ -61,11 +61,11 @@ loop-number-preserved t c =
           let has = c.loop-number.invariant.done headers in
           elim c.match-find.branch [
             | in-None+in_ok-push_site-in-None w ↦
-              sites-own (method_at m) m.starts.now m.base callees instrs steps at numbered one.0 step one.1 steps_are headers whole before has (sites_by headers c.match-find.sites.items) w.in-None.ensures.none
-              (ap (λ (v : Vec NewAt Global). sites_by headers v.items) w.sites-is ∙ w.in_ok-push_site-in-None.ensures headers)
+                sites-own (method_at m) m.starts.now m.base callees instrs steps at numbered one.0 step one.1 steps_are headers whole before has (sites_by headers c.match-find.sites.items) w.in-None.ensures.none
+                (ap (λ (v : Vec NewAt Global). sites_by headers v.items) w.sites-is ∙ w.in_ok-push_site-in-None.ensures headers)
             | in-Some+in_ok-push_sites-in-Some w ↦
-              sites-callee (method_at m) m.starts.now m.base callees instrs steps at numbered one.0 step one.1 steps_are headers whole before has (callee_in w.in-Some.found) (sites_by headers c.match-find.sites.items) w.in-Some.ensures.some.is
-              (ap (λ (v : Vec NewAt Global). sites_by headers v.items) w.sites-is
-              ∙ callee-done headers w.in-Some.found (m.base + get_or m.starts.now at 0) w.numbered_at-inner.result before (sites_by headers w.push_sites.new.sites.items) w.numbered_at-inner.ensures.behind (w.in_ok-push_sites-in-Some.ensures headers))
+                sites-callee (method_at m) m.starts.now m.base callees instrs steps at numbered one.0 step one.1 steps_are headers whole before has (callee_in w.in-Some.found) (sites_by headers c.match-find.sites.items) w.in-Some.ensures.some.is
+                (ap (λ (v : Vec NewAt Global). sites_by headers v.items) w.sites-is
+                ∙ callee-done headers w.in-Some.found (m.base + get_or m.starts.now at 0) w.numbered_at-inner.result before (sites_by headers w.push_sites.new.sites.items) w.numbered_at-inner.ensures.behind (w.in_ok-push_sites-in-Some.ensures headers))
           ];
     }
