@@ -1,8 +1,8 @@
-use Rattle.std.proofs.Common.{◌≡◌, ◌+◌, ◌-◌, ◌++◌, ℕ, List, None, length, replicate, refl, sym, ap, ◌∙◌, arith}
+use Rattle.std.proofs.Common.{◌≡◌, ◌+◌, ◌-◌, ◌++◌, ℕ, List, None, length, replicate, ap, ◌∙◌, arith}
 use mathlib.Core.Path.{fun_ext}
 use Rattle.class_model.specs.declared.frame.VType.{VType}
 use Rattle.class_model.specs.declared.frame.VType.TheVariants.{Top, UninitThis}
-use Rattle.inline_expand.proofs.LayoutParts.{as-long, capped-few}
+use Rattle.inline_expand.proofs.LayoutParts.{as-long}
 use Rattle.inline_expand.proofs.PlaceParts.{few-starts, number-placed}
 use Rattle.inline_expand.proofs.expanded.hosts.setting_by.Goals as goal
 use Rattle.inline_expand.specs.Alone.{handlers_by, number_at}

@@ -7,7 +7,6 @@ use Rattle.inline_expand.specs.Expanded.{units_in}
 use Rattle.inline_expand.specs.Inner.Layouts.{AreLayouts, capped}
 use Rattle.inline_expand.specs.Inner.Measures.{host_expansion}
 use Rattle.inline_expand.specs.Inner.Steps.{callees_of, expansion_by}
-use Rattle.inline_expand.specs.declared.expanded.layouts.Layout.{Layout}
 use Rattle.inline_expand.specs.declared.expansions.Step.{Step}
 use Rattle.member_link.specs.Scope.{instructions}
 

@@ -1,13 +1,11 @@
-use Rattle.std.proofs.Common.{◌≡◌, ◌+◌, ℕ, List, Some, length, refl, sym, ap, ◌∙◌, arith}
+use Rattle.std.proofs.Common.{◌≡◌, ◌+◌, ℕ, Some, length, refl, ap, ◌∙◌, arith}
 use mathlib.Core.Path.{fun_ext}
-use Rattle.class_model.specs.declared.frame.VType.{VType}
 use Rattle.inline_expand.proofs.PlaceParts.{exact-before, exact-points, exact-starts, its-number, many-arguments}
 use Rattle.inline_expand.proofs.expanded.places.enter.Goals as goal
 use Rattle.inline_expand.specs.Alone.{number_at}
-use Rattle.inline_expand.specs.Expanded.{arguments, number_from, points_before, points_of_callee}
+use Rattle.inline_expand.specs.Expanded.{arguments, number_from, points_before}
 use Rattle.inline_expand.specs.Inner.Numbers.{placed_by}
 use Rattle.inline_expand.specs.Inner.CalleePlaces.{callee_in}
-use Rattle.inline_expand.specs.Inner.Settings.{number_in}
 use Rattle.member_link.specs.Rows.Operands.{lowest_of, under}
 use Rattle.member_link.specs.Scope.{Scope, instructions}
 

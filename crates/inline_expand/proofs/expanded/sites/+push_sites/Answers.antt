@@ -1,8 +1,6 @@
-use Rattle.std.proofs.Common.{Vec, Global, ◌≡◌, ◌∷◌, ◌++◌, ◌+◌, ◌<◌, ℕ, List, Some, None, drop, get_or, length, refl, sym, ap, subst, ◌∙◌, arith}
+use Rattle.std.proofs.Common.{Vec, Global, ◌≡◌, ◌++◌, ◌+◌, ◌<◌, List, drop, get_or, length, refl, ap, ◌∙◌, arith}
 use Rattle.std.proofs.lemmas.Option.{slice_get_read}
 use Rattle.class_model.specs.Laws.Lists.{drop_item}
-use Rattle.class_model.specs.declared.instr.Placed.{Placed}
-use Rattle.class_tree.specs.Headers.{Headers}
 use Rattle.inline_expand.proofs.CalleeParts.{length-layouts}
 use Rattle.inline_expand.proofs.MethodParts.{number-there}
 use Rattle.inline_expand.proofs.SiteParts.{callee-done, item-at, numbered-next, room-callee, sites-callee, sites-own}
@@ -10,7 +8,6 @@ use Rattle.inline_expand.proofs.expanded.sites.+push_sites.Goals as goal
 use Rattle.inline_expand.proofs.expanded.sites.+push_sites.Goals.{in-None+in_ok-push_site-in-None, in-Some+in_ok-push_sites-in-Some}
 use Rattle.inline_expand.specs.Expanded.{sites_from}
 use Rattle.inline_expand.specs.Inner.CalleePlaces.{callee_in}
-use Rattle.inline_expand.specs.Inner.Layouts.{replacing}
 use Rattle.inline_expand.specs.Inner.SiteNumbers.{method_at, sites_by}
 use Rattle.inline_expand.specs.Inner.Steps.{callees_of, expansion_by}
 use Rattle.inline_expand.specs.declared.expanded.sites.NewAt.{NewAt}

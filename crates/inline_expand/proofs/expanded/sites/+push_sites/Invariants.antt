@@ -1,4 +1,4 @@
-use Rattle.std.proofs.Common.{◌++◌, List, length}
+use Rattle.std.proofs.Common.{◌++◌, length}
 use Rattle.class_tree.specs.Headers.{Headers}
 use Rattle.inline_expand.proofs.SiteParts.{HasNumbered, HasSites}
 use Rattle.inline_expand.specs.Expanded.{sites_from}
