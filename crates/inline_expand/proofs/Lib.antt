@@ -45,6 +45,7 @@ mod ShallowCalls
 mod ShallowLevels
 mod ShapeParts
 mod SiteLaws
+mod SiteParts
 mod StackRoom
 mod StandingParts
 mod TypedAloneBody
@@ -55,3 +56,4 @@ mod TypedAloneNews
 mod TypedAloneNumbers
 mod TypedAlonePoints
 mod Walking
+mod WideParts

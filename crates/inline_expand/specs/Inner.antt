@@ -11,6 +11,7 @@ pub mod Frames
 pub mod Hosts
 pub mod Initialised
 pub mod Layouts
+pub mod Measures
 pub mod MethodSets
 pub mod Numbers
 pub mod Open
@@ -22,6 +23,7 @@ pub mod ReadyCallees
 pub mod References
 pub mod SeenMethods
 pub mod Settings
+pub mod SiteNumbers
 pub mod SiteTables
 pub mod Stacks
 pub mod Standing
@@ -29,3 +31,4 @@ pub mod Steps
 pub mod Unseen
 pub mod Verdicts
 pub mod Walks
+pub mod WideWords
