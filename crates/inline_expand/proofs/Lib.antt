@@ -23,3 +23,12 @@ mod TypedAloneLaw
 mod TypedAloneNews
 mod TypedAloneNumbers
 mod TypedAlonePoints
+mod AddedMarks
+mod AllLeft
+mod FinalClasses
+mod FolderNames
+mod FreeConstructors
+mod Marks
+mod MethodInstrs
+mod QuietLaws
+mod SuperChains

@@ -2,10 +2,14 @@
 #![tactic(auto)]
 
 mod alone;
+mod field_constructors;
+mod final_stores;
 mod handlers;
 mod host;
 mod laws;
 mod numbered;
+mod quiet;
+mod referred;
 mod renumbered;
 
 pub use alone::flat_alone;
