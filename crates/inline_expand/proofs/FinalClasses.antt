@@ -1,5 +1,5 @@
 -- The class of the folder of whose final field a constant is a reference.
-use Rattle.std.proofs.Common.{◌≡◌, ◌≢◌, ◌⊎◌, ◌↔◌, ℕ, Bool, true, false, List, Option, Some, None, IsTrue, refl, sym, ap, subst, ◌∙◌}
+use Rattle.std.proofs.Common.{◌≡◌, ◌≢◌, ◌⊎◌, ◌↔◌, ℕ, true, false, List, Option, Some, None, IsTrue, sym, ap, subst, ◌∙◌}
 use Rattle.std.proofs.lemmas.Option.{none-some, same_Some}
 use Rattle.class_model.specs.Members.{FINAL, has}
 use Rattle.class_model.specs.Pool.{Constants, constant_at}
@@ -7,8 +7,7 @@ use Rattle.class_model.specs.declared.class_file.ClassFile.{ClassFile}
 use Rattle.class_tree.specs.Headers.{Headers, Name}
 use Rattle.class_tree.specs.Hierarchy.{IsHierarchy}
 use Rattle.class_tree.specs.Order.{place_of}
-use Rattle.class_tree.specs.declared.place.Place.{Place}
-use Rattle.class_tree.specs.declared.place.Place.TheVariants.{Folder, Library}
+use Rattle.class_tree.specs.declared.place.Place.TheVariants.{Folder}
 use Rattle.member_link.specs.DeclaredMembers.{Declared}
 use Rattle.member_link.specs.Fields.{FindsField}
 use Rattle.member_link.specs.Found.{AreSame, IsField, IsFieldFound}

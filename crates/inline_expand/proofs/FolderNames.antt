@@ -10,7 +10,7 @@ use Rattle.class_tree.specs.Laws.FirstPlaces.{first_at}
 use Rattle.class_tree.specs.Names.{object}
 use Rattle.class_tree.specs.Order.{first_place, place_of}
 use Rattle.class_tree.specs.Problems.{Problem}
-use Rattle.class_tree.specs.Steps.{folder_checks, hierarchy_checks, library_checks, step_checks}
+use Rattle.class_tree.specs.Steps.{folder_checks, hierarchy_checks, library_checks}
 use Rattle.class_tree.specs.Trees.{IsTree}
 use Rattle.class_tree.specs.declared.place.Place.{Place}
 use Rattle.class_tree.specs.declared.place.Place.TheVariants.{Folder, Library}
@@ -91,3 +91,12 @@ object_outside classes tree header is =
     let folder = first_holds (asked_each (folder_checks headers) headers.folder) (asked_each (library_checks headers) headers.library) hierarchy in
     let asked = asked_of_named (folder_checks headers) object headers.folder header is folder in
     asked.1.1.1.0.1 (named_own object headers.folder header is)
+
+-- a class that stands at no number of the folder is none of it
+pub not_in_folder : (headers : Headers) (name : Name) → ((number : ℕ) → place_of headers name ≢ Some (Folder number)) → named name headers.folder ≡ None
+not_in_folder headers name never = by (place_of headers name) refl (in_folder headers name)
+  where
+    by : (place : Option Place) → place_of headers name ≡ place → InFolder headers name place → named name headers.folder ≡ None
+    by None is none = none
+    by (Some (Folder number)) is found = absurd (never number is)
+    by (Some (Library number)) is none = none

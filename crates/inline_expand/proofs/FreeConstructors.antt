@@ -1,5 +1,5 @@
 -- The fewest free dimensions of field constructors.
-use Rattle.std.proofs.Common.{◌≡◌, ◌⊎◌, ◌↔◌, ◌+◌, ◌<◌, ◌≤◌, ◌≢◌, leb, ℕ, Bool, true, false, List, length, IsTrue, IsFalse, refl, sym, ap, subst, ◌∙◌, inl, inr, arith}
+use Rattle.std.proofs.Common.{◌≡◌, ◌⊎◌, ◌↔◌, ◌+◌, ◌<◌, ◌≤◌, ◌≢◌, leb, ℕ, Bool, List, length, IsTrue, IsFalse, sym, subst, ◌∙◌, inl, inr, arith}
 use Rattle.std.proofs.lemmas.Bool.{cases_Bool, cases_eq, false≢true, leb-false, leb-true}
 use Rattle.class_model.specs.declared.header.Header.{Header}
 use Rattle.inline_expand.specs.Inner.ConstructorWords.{HasFree, descriptor_of, is_taken}

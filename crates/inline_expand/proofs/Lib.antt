@@ -32,3 +32,10 @@ mod Marks
 mod MethodInstrs
 mod QuietLaws
 mod SuperChains
+mod ConstructorLaws
+mod FieldLists
+mod HandledLists
+mod JudgedChains
+mod JudgedClasses
+mod SoundClasses
+mod StoredClasses

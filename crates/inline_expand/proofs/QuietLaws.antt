@@ -1,14 +1,14 @@
 -- Quiet classes, class by class.
-use Rattle.std.proofs.Common.{◌≡◌, ◌≢◌, ◌⊎◌, ◌↔◌, cond, not, ℕ, Bool, true, false, List, [], ◌∷◌, bytes_eq, filter, map, slice_get, Option, Some, None, IsSome, IsTrue, IsFalse, IfSome, is_some, refl, sym, ap, subst, ◌∙◌, inl, inr}
+use Rattle.std.proofs.Common.{◌≡◌, ◌≢◌, ◌↔◌, cond, not, Bool, true, false, List, [], ◌∷◌, bytes_eq, filter, map, Option, Some, None, IsSome, IsTrue, IsFalse, IfSome, is_some, refl, sym, ap, subst, ◌∙◌, inl, inr}
 use Rattle.std.specs.List.{AllByRecursion, list_any}
 use Rattle.std.proofs.lemmas.Bool.{false≢true, or_right}
 use Rattle.std.proofs.lemmas.Slice.Eq.{bytes_eq-Decides}
 use Rattle.std.proofs.lemmas.Option.{none-some, same_Some}
 use Rattle.class_model.specs.declared.header.Header.{Header}
-use Rattle.class_tree.specs.Headers.{Name, Classes, Headers, headers_of, named, class_named, IsThere}
+use Rattle.class_tree.specs.Headers.{Name, Headers, named, class_named, IsThere}
 use Rattle.class_tree.specs.Hierarchy.{IsHierarchy}
 use Rattle.class_tree.specs.Interfaces.{AreSuperinterfaces}
-use Rattle.class_tree.specs.Laws.Above.{below_more, class_above_interface, hierarchy_is_rooted, hierarchy_is_sound, interface_kind, nothing_above_object}
+use Rattle.class_tree.specs.Laws.Above.{below_more, class_above_interface, hierarchy_is_rooted, hierarchy_is_sound, nothing_above_object}
 use Rattle.class_tree.specs.Laws.Headers.{class_there, interfaces_there, own_name, same_class}
 use Rattle.class_tree.specs.Laws.Names.{IsOneName, one_name_first, each_of_names}
 use Rattle.class_tree.specs.Names.{is_interface, object}
@@ -16,10 +16,9 @@ use Rattle.class_tree.specs.Order.{header_at, place_of}
 use Rattle.class_tree.specs.Subtype.{IsBelow, IsChain, IsDirectlyBelow, superclass, interface, directly, onwards}
 use Rattle.class_tree.specs.Subtype.IsChain.{root, below}
 use Rattle.class_tree.specs.Layouts.{superclasses}
-use Rattle.class_tree.specs.Trees.{IsTree}
 use Rattle.class_tree.specs.declared.place.Place.{Place}
 use Rattle.class_tree.specs.declared.place.Place.TheVariants.{Folder, Library}
-use Rattle.inline_expand.proofs.FolderNames.{InFolder, in_folder_at, object_outside, of_folder}
+use Rattle.inline_expand.proofs.FolderNames.{in_folder_at, of_folder}
 use Rattle.inline_expand.proofs.SuperChains.{chain_is, chain_of_object, of_each_class, superclasses_is, superclasses_of_root}
 use Rattle.inline_expand.specs.Inner.QuietWords.{IsInterfaceThere, IsQuietItself, IsSilent, IsSilentAt, IsSilentItself}
 use Rattle.member_link.specs.Access.{IsAtOrBelow}

@@ -1,14 +1,13 @@
 -- The superclasses of a class of a hierarchy, and its chain, class by class.
-use Rattle.std.proofs.Common.{◌≡◌, ◌≢◌, ◌⊎◌, ◌<◌, ◌≤◌, not, cond, ℕ, zero, suc, Bool, true, false, List, [], ◌∷◌, bytes_eq, filter, length, Option, Some, None, refl, sym, ap, subst, ◌∙◌, inl, inr, arith}
+use Rattle.std.proofs.Common.{◌≡◌, ◌≢◌, ◌<◌, ◌≤◌, not, cond, ℕ, zero, suc, Bool, true, false, List, [], ◌∷◌, bytes_eq, filter, length, Option, Some, None, refl, sym, ap, subst, ◌∙◌, inl, inr, arith}
 use Rattle.std.proofs.lemmas.Slice.Eq.{bytes_eq-Decides}
-use Rattle.class_model.specs.Laws.Decisions.{Decision}
 use Rattle.class_model.specs.declared.header.Header.{Header}
-use Rattle.class_tree.specs.Headers.{Name, Headers, all_headers, class_named, IsThere}
+use Rattle.class_tree.specs.Headers.{Name, Headers, all_headers, class_named}
 use Rattle.class_tree.specs.Hierarchy.{IsHierarchy, climb, height, superclass_of}
 use Rattle.class_tree.specs.Interfaces.{IsInterfaceWalk, of_root, below}
 use Rattle.class_tree.specs.Laws.Above.{hierarchy_is_sound, hierarchy_is_rooted, object_no_superclass}
 use Rattle.class_tree.specs.Laws.Decided.{same_bytes}
-use Rattle.class_tree.specs.Laws.Headers.{class_there, own_name, super_is_there, superclass_is, no_superclass}
+use Rattle.class_tree.specs.Laws.Headers.{class_there, own_name, super_is_there, superclass_is}
 use Rattle.class_tree.specs.Layouts.{classes_up, superclasses}
 use Rattle.class_tree.specs.Names.{object}
 use Rattle.class_tree.specs.Order.{place_of}

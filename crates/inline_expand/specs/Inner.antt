@@ -4,3 +4,4 @@ pub mod Hosts
 pub mod QuietWords
 pub mod ConstructorWords
 pub mod StoreWords
+pub mod CandidateWords

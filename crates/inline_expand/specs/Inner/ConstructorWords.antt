@@ -1,12 +1,11 @@
 -- Descriptors of field constructors by the descriptors of the fields.
-use Rattle.std.specs.Prelude.{◌≡◌, ◌≤◌, ◌<◌, ◌++◌, ◌&&◌, ◌||◌, not, ℕ, Bool, List, [], ◌∷◌, bytes_eq, codes, length, map, replicate, Option, Some, None, IsTrue, IsFalse, if◌then◌else◌}
+use Rattle.std.specs.Prelude.{◌≡◌, ◌≤◌, ◌<◌, ◌++◌, ◌&&◌, ◌||◌, slice_get, ℕ, Bool, List, [], ◌∷◌, bytes_eq, codes, length, map, replicate, Option, Some, None, IsTrue, IsFalse, if◌then◌else◌}
 use Rattle.std.specs.List.{flat_map, list_any}
 use Rattle.class_model.specs.Characters.{left_bracket, left_parenthesis}
 use Rattle.class_model.specs.Names.{init}
 use Rattle.class_model.specs.Pool.{Constants}
 use Rattle.class_model.specs.declared.class_file.ClassFile.{ClassFile}
 use Rattle.class_model.specs.declared.header.Header.{Header}
-use Rattle.class_model.specs.declared.pool.Const.{Const}
 use Rattle.class_tree.specs.Headers.{Name, Headers}
 use Rattle.class_tree.specs.Layouts.{instance_fields}
 use Rattle.class_tree.specs.Names.{is_member}
@@ -55,3 +54,11 @@ handled_of_pool class pool constants = flat_map (λ constant. handled_in class (
 
 abbrev pub handled_of : Name → List ClassFile → List (List ℕ)
 handled_of class files = flat_map (λ (file : ClassFile). handled_of_pool class file.pool file.pool) files
+
+-- lists that have for each class of the folder, by its number, what a function gives of its name
+pub record AreHandled (headers : Headers) (lists : List (List (List ℕ)))
+    (of : Name → List (List ℕ)) : Type 0 where
+  pub len : length lists ≡ length headers.folder
+  pub each : (number : ℕ) (header : Header)
+      → slice_get headers.folder number ≡ Some header
+      → slice_get lists number ≡ Some (of header.name)

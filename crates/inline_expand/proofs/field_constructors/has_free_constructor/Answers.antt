@@ -1,4 +1,4 @@
-use Rattle.std.proofs.Common.{◌≡◌, ◌<◌, ◌≤◌, ℕ, List, length, leb, refl, sym, ap, subst, ◌∙◌, arith}
+use Rattle.std.proofs.Common.{◌≡◌, ◌≤◌, ℕ, length, leb, sym, ap, subst, ◌∙◌, arith}
 use Rattle.std.proofs.lemmas.Bool.{false≢true, le-leb, leb-true}
 use Rattle.inline_expand.proofs.FreeConstructors.{free_there, none_free, none_taken, one_taken}
 use Rattle.inline_expand.specs.Inner.ConstructorWords.{descriptor_of, is_taken}

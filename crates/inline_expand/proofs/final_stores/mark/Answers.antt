@@ -1,6 +1,4 @@
-use Rattle.inline_expand.proofs.AddedMarks.{adds_none, adds_one, adds_outside}
-use Rattle.std.proofs.lemmas.Option.{none-some}
-use Rattle.std.proofs.Common.{◌≡◌, Some, sym, ◌∙◌}
+use Rattle.inline_expand.proofs.AddedMarks.{adds_one, adds_outside}
 use Rattle.inline_expand.proofs.final_stores.mark.Goals as goal
 
 pub returns-then-found-marks : goal.returns-then-found-marks

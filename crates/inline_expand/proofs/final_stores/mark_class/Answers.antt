@@ -1,7 +1,7 @@
-use Rattle.std.proofs.Common.{◌≡◌, ℕ, Some, sym, subst}
+use Rattle.std.proofs.Common.{◌≡◌, Some}
 use Rattle.class_tree.specs.Headers.{headers_of}
 use Rattle.inline_expand.proofs.AddedMarks.{adds_next, adds_same, adds_start}
-use Rattle.inline_expand.specs.Inner.StoreWords.{Adds, StoresAt}
+use Rattle.inline_expand.specs.Inner.StoreWords.{StoresAt}
 use Rattle.inline_expand.proofs.final_stores.mark_class.Goals as goal
 
 pub loop-index-init : goal.loop-index-init

@@ -1,4 +1,4 @@
-use Rattle.std.proofs.Common.{◌≡◌, ◌||◌, ℕ, Bool, List, Some, None, sym, ap, subst, ◌∙◌}
+use Rattle.std.proofs.Common.{◌≡◌, ◌||◌, ℕ, List, Some, None, sym, ap, subst, ◌∙◌}
 use Rattle.std.specs.List.{list_any}
 use Rattle.std.specs.Option.{option_copied}
 use Rattle.class_model.specs.Checks.{AllHold}
@@ -8,7 +8,7 @@ use Rattle.class_model.specs.declared.instr.Placed.{Placed}
 use Rattle.code_bytes.specs.Decoding.{decoding_checks}
 use Rattle.inline_expand.proofs.Marks.{or_no, same_marks}
 use Rattle.inline_expand.proofs.MethodInstrs.{code_checks, instrs_are, no_instrs}
-use Rattle.inline_expand.specs.Inner.StoreWords.{AreMarks, is_store, method_instrs}
+use Rattle.inline_expand.specs.Inner.StoreWords.{is_store, method_instrs}
 use Rattle.inline_expand.proofs.final_stores.mark_code.Goals as goal
 
 pub instructions_of-requires : goal.instructions_of-requires

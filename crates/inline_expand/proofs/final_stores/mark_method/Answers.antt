@@ -1,4 +1,4 @@
-use Rattle.std.proofs.Common.{◌≡◌, ◌||◌, ◌&&◌, ℕ, Bool, true, false, refl, sym, ap, subst, ◌∙◌, OnOk}
+use Rattle.std.proofs.Common.{◌≡◌, ◌||◌, ◌&&◌, ℕ, Bool, true, false, sym, ap, subst, ◌∙◌, OnOk}
 use Rattle.std.specs.List.{list_any}
 use Rattle.inline_expand.proofs.Marks.{or_no, same_marks}
 use Rattle.inline_expand.specs.Inner.StoreWords.{AreMarks, is_store, is_wanted, method_instrs, stores_into}

@@ -1,5 +1,3 @@
-use Rattle.std.proofs.Common.{◌||◌, Bool, ℕ, take}
-use Rattle.std.specs.List.{list_any}
 use Rattle.inline_expand.proofs.Marks.{any_all, any_more, any_none}
 use Rattle.inline_expand.specs.Inner.StoreWords.{is_store}
 use Rattle.inline_expand.proofs.final_stores.mark_stores.Goals as goal

@@ -1,4 +1,4 @@
-use Rattle.std.proofs.Common.{◌≡◌, ◌≢◌, ◌⊎◌, ℕ, true, false, sym, ap, ◌∙◌, inl, inr}
+use Rattle.std.proofs.Common.{sym, ◌∙◌, inl, inr}
 use Rattle.std.proofs.lemmas.Bool.{false≢true}
 use Rattle.class_tree.specs.Headers.{headers_of}
 use Rattle.inline_expand.proofs.FinalClasses.{IsStoredFor, stores_none, stores_not, stores_there}

@@ -1,9 +1,7 @@
-use Rattle.std.proofs.Common.{◌≡◌, ◌<◌, ◌⊎◌, ◌↔◌, ℕ, Bool, true, false, List, length, drop, get_or, replicate, IsTrue, sym, ap, subst, ◌∙◌, inl, inr, arith}
+use Rattle.std.proofs.Common.{◌≡◌, ◌<◌, Bool, false, List, length, drop, get_or, replicate, sym, ap, subst, ◌∙◌, inl, inr, arith}
 use Rattle.std.proofs.lemmas.Bool.{false≢true}
 use Rattle.std.proofs.lemmas.List.{get_or-replicate, length-replicate}
-use Rattle.class_tree.specs.Headers.{headers_of}
 use Rattle.inline_expand.proofs.Marks.{written}
-use Rattle.inline_expand.specs.Inner.StoreWords.{StoredBefore}
 use Rattle.inline_expand.proofs.final_stores.stored_finals.Goals as goal
 
 pub returns-clause-each : goal.returns-clause-each

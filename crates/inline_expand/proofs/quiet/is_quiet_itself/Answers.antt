@@ -1,9 +1,8 @@
-use Rattle.std.proofs.Common.{◌≡◌, List, Some, sym, subst, ap, ◌∙◌}
+use Rattle.std.proofs.Common.{◌≡◌, Some, sym, subst, ap, ◌∙◌}
 use Rattle.std.specs.List.{AllByRecursion}
 use Rattle.std.specs.Option.{option_copied}
-use Rattle.class_model.specs.declared.header.Header.{Header}
-use Rattle.class_tree.specs.Headers.{Name, headers_of, named}
-use Rattle.inline_expand.proofs.FolderNames.{object_outside, of_folder}
+use Rattle.class_tree.specs.Headers.{headers_of, named}
+use Rattle.inline_expand.proofs.FolderNames.{of_folder}
 use Rattle.inline_expand.proofs.QuietLaws.{interfaces_are}
 use Rattle.inline_expand.specs.Inner.QuietWords.{IsInterfaceThere}
 use Rattle.inline_expand.proofs.quiet.is_quiet_itself.Goals as goal

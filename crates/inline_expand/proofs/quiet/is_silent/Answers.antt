@@ -1,7 +1,7 @@
-use Rattle.std.proofs.Common.{◌≡◌, Some, IsSome, refl, sym, subst, ap, ◌∙◌, is_some, inl}
+use Rattle.std.proofs.Common.{◌≡◌, Some, refl, sym, ap, ◌∙◌, is_some, inl}
 use Rattle.std.proofs.lemmas.Bool.{false≢true}
 use Rattle.class_tree.specs.Headers.{headers_of}
-use Rattle.class_tree.specs.Order.{header_at, place_of}
+use Rattle.class_tree.specs.Order.{place_of}
 use Rattle.inline_expand.proofs.FolderNames.{object_outside}
 use Rattle.inline_expand.proofs.QuietLaws.{interface_places, stands_there, silent_at}
 use Rattle.inline_expand.proofs.quiet.is_silent.Goals as goal
