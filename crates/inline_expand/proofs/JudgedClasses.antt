@@ -1,19 +1,24 @@
 -- What is judged of a class of the folder, by what is judged of its superclass.
-use Rattle.std.proofs.Common.{◌≡◌, ◌≢◌, ◌<◌, ◌≤◌, ◌++◌, ℕ, List, length, map, slice_get, Some, option_map, ap, subst, ◌∙◌, inl, inr, arith}
+use Rattle.std.proofs.Common.{IfSome, List, None, Option, Some, ap, arith, get_or-set_other, get_or-set_same, inl, inr, length, map, option_map, refl, slice_get, slice_set, subst, sym, ℕ, ◌++◌, ◌<◌, ◌∙◌, ◌≡◌, ◌≢◌, ◌≤◌}
 use Rattle.std.proofs.lemmas.List.{length-map}
-use Rattle.std.proofs.lemmas.Option.{slice_get-map, slice_get_cases, slice_get_within}
+use Rattle.std.proofs.lemmas.Option.{get_or_from_slice_get, same_Some, slice_get-get_or, slice_get-map, slice_get_cases, slice_get_past, slice_get_within}
+use Rattle.std.proofs.Math.ListN.{length-set}
+use Rattle.std.proofs.lemmas.Bool.{cases_eq}
+use Rattle.class_model.specs.Laws.Lists.{none_behind}
 use Rattle.class_model.specs.Header.{header_of}
 use Rattle.class_model.specs.declared.class_file.ClassFile.{ClassFile}
 use Rattle.class_model.specs.declared.header.Header.{Header}
-use Rattle.class_tree.specs.Headers.{Name, Classes, headers_of, class_named, named}
+use Rattle.class_tree.specs.Headers.{Classes, Headers, Name, class_named, headers_of, named}
 use Rattle.class_tree.specs.Hierarchy.{IsHierarchy}
 use Rattle.class_tree.specs.Names.{object}
 use Rattle.class_tree.specs.Order.{place_of}
+use Rattle.class_tree.specs.declared.place.Place.{Place}
 use Rattle.class_tree.specs.declared.place.Place.TheVariants.{Folder}
+use Rattle.inline_expand.specs.declared.candidates.Judged.{Judged}
 use Rattle.inline_expand.proofs.FolderNames.{in_folder_at, of_folder}
 use Rattle.inline_expand.proofs.SoundClasses.{sound_above, sound_fit, sound_free, sound_narrow, there_judged}
 use Rattle.inline_expand.proofs.SuperChains.{has_superclass}
-use Rattle.inline_expand.specs.Inner.CandidateWords.{IsFileOf, IsFitAt, IsJudged, IsSound, own_descs, units_of_all}
+use Rattle.inline_expand.specs.Inner.CandidateWords.{AreKept, IsFileOf, IsFitAt, IsJudged, IsKept, IsSound, own_descs, units_of_all}
 use Rattle.inline_expand.specs.Inner.ConstructorWords.{HasFree, field_descs, handled_of}
 
 -- the class of a name stands in the folder
@@ -72,3 +77,36 @@ file_there files number within = elim (slice_get_cases files number).1 [
   | inl here ↦ (here.0, here.2)
   | inr behind ↦ absurd (omega (arith, within, behind.0))
 ]
+
+-- one name stands at a place
+pub one_name : (headers : Headers) → IsHierarchy headers → (one other : Name) (place : Place) → place_of headers one ≡ Some place → place_of headers other ≡ Some place → one ≡ other
+one_name headers hierarchy one other place is also =
+    let first = hierarchy.placed one place is in
+    let second = hierarchy.placed other place also in
+    sym first.1.own_name ∙ ap (λ (h : Header). h.name) (same_Some first.0 second.0 (sym first.1.at ∙ second.1.at)) ∙ second.1.own_name
+
+-- what is kept, with one more
+pub kept_more : (classes : Classes) (judged : List Judged) (number : ℕ) (one : Judged) → number < length judged → AreKept classes judged
+    → ((name : Name) → place_of (headers_of classes) name ≡ Some (Folder number) → IsKept classes name one)
+    → AreKept classes (slice_set judged number one)
+kept_more classes judged number one within kept here = λ name other placed. elim (cases_eq other number) [
+  | inl same ↦
+      let at : slice_get (slice_set judged number one) number ≡ Some one =
+      slice_get-get_or (slice_set judged number one) number one (let long = length-set judged number one in omega (arith, long, within)) ∙ ap Some (get_or-set_same judged number one one within) in
+      subst (λ (n : ℕ). IfSome (slice_get (slice_set judged number one) n) (IsKept classes name)) (sym same)
+      (subst (λ (o : Option Judged). IfSome o (IsKept classes name)) (sym at) (here name (subst (λ (n : ℕ). place_of (headers_of classes) name ≡ Some (Folder n)) same placed)))
+  | inr differ ↦ by name other differ placed (slice_get judged other) refl (kept name other placed)
+] where
+  by : (name : Name) (other : ℕ) → other ≢ number → place_of (headers_of classes) name ≡ Some (Folder other) → (found : Option Judged) → slice_get judged other ≡ found → IfSome found (IsKept classes name)
+      → IfSome (slice_get (slice_set judged number one) other) (IsKept classes name)
+  by name other differ placed None none was =
+      let behind = none_behind judged other none in
+      let long = length-set judged number one in
+      let none' : slice_get (slice_set judged number one) other ≡ None = slice_get_past (slice_set judged number one) other (omega (arith, behind, long)) in
+      subst (λ (o : Option Judged). IfSome o (IsKept classes name)) (sym none') tt
+  by name other differ placed (Some found) is was =
+      let low = slice_get_within judged other found is in
+      let long = length-set judged number one in
+      let at : slice_get (slice_set judged number one) other ≡ Some found =
+      slice_get-get_or (slice_set judged number one) other found (omega (arith, low, long)) ∙ ap Some (get_or-set_other judged number other one found differ ∙ get_or_from_slice_get judged other found found is) in
+      subst (λ (o : Option Judged). IfSome o (IsKept classes name)) (sym at) was

@@ -1,6 +1,7 @@
 //! Classes whose objects may be kept in local variables.
-ghost use Rattle.std.specs.Prelude.{◌≡◌, ◌≢◌, ◌↔◌, ◌≤◌, ◌++◌, Some, IfOk, IsTrue, length, map};
+ghost use Rattle.std.specs.Prelude.{◌≡◌, ◌≢◌, ◌↔◌, ◌≤◌, ◌++◌, Some, IfOk, IsTrue, length, map, replicate, slice_get};
 ghost use Rattle.std.specs.List.{list_any};
+ghost use Rattle.std.specs.Option.{option_copied};
 ghost use Rattle.class_model.specs.Descriptors as descriptors;
 ghost use Rattle.class_model.specs.declared.header.Header.{Header};
 ghost use Rattle.class_tree.specs.Headers.{Name, IsThere, class_named, headers_of, named};
@@ -9,7 +10,7 @@ ghost use Rattle.class_tree.specs.Order.{place_of};
 ghost use Rattle.class_tree.specs.declared.place.Place.TheVariants.{Folder};
 ghost use Rattle.class_model.specs.Header.{header_of};
 ghost use Rattle.inline_expand.specs.Candidates.{IsCandidate, declares_finalizer};
-ghost use Rattle.inline_expand.specs.Inner.CandidateWords.{IsFileOf, IsFitAt, IsJudged, IsSound, own_descs, units_of_all};
+ghost use Rattle.inline_expand.specs.Inner.CandidateWords.{IsFileOf, IsFitAt, IsJudged, IsKept, IsKnown, IsLeft, IsSound, own_descs, units_of_all};
 
 use crate::field_constructors::has_free_constructor;
 use crate::final_stores::stored_finals;
@@ -19,7 +20,7 @@ use class_model::{
     ACC_ABSTRACT, ACC_INTERFACE, ACC_STATIC, ClassFile, Header, ListOf, NoMemory, Text, TextList,
     has,
 };
-use class_tree::{OBJECT, Tree, a_tree_is_a_hierarchy, chain};
+use class_tree::{OBJECT, Place, Tree, a_tree_is_a_hierarchy};
 use std::alloc::Global;
 use std::marker::Model;
 
@@ -39,7 +40,7 @@ const MOST_METHODS: usize = 65_534;
 pub fn candidate(alloc: Global, tree: &Tree, class: &Text) -> Result<bool, NoMemory>
     ensures { IfOk result (λ is. IsTrue is ↔ IsCandidate tree.now class.now) }
 {
-    let candidates = Candidates::new(alloc, tree)?;
+    let mut candidates = Candidates::new(alloc, tree)?;
     candidates.is_candidate(alloc, class)
 }
 
@@ -52,18 +53,37 @@ pub struct Candidates<'t> {
     stored: Vec<bool>,
     // by the number of a class of the folder: the descriptors of those of its instance initialisers that method handles refer to
     handles: Vec<TextList>,
+    // by the number of a class of the folder
+    judged: Vec<Judged>,
+}
+
+/// What is known of a class of the folder: whether the classes of its chain are fit and its fields narrow, and then the
+/// descriptors of the fields.
+#[derive(Drop)]
+pub(crate) enum Judged {
+    Unknown,
+    Unsound,
+    Sound(TextList),
+}
+
+// The classes of a chain up to one that is judged, upwards, and the descriptors of the fields of that one, if it is sound.
+#[derive(Drop)]
+struct Climbed {
+    names: Vec<Text>,
+    fields: Option<TextList>,
 }
 
 impl<'t> Model for Candidates<'t> {
     ghost use Rattle.class_tree.specs.Headers.{Classes};
-    ghost use Rattle.inline_expand.specs.Inner.CandidateWords.{AreFacts};
+    ghost use Rattle.inline_expand.specs.Inner.CandidateWords.{AreFacts, AreKept};
 
     ghost Value = { Classes };
 
     ghost view = { λ candidates. candidates.tree.now };
 
     ghost invariant = { λ candidates.
-        AreFacts candidates.tree.now candidates.stored.items candidates.handles.items };
+        AreFacts candidates.tree.now candidates.stored.items candidates.handles.items
+        × AreKept candidates.tree.now candidates.judged.items };
 }
 
 impl<'t> Candidates<'t> {
@@ -73,16 +93,19 @@ impl<'t> Candidates<'t> {
     {
         let stored = stored_finals(alloc, tree)?;
         let handles = handled_initialisers(alloc, tree)?;
+        let judged = unknown(alloc, tree.folder().len())?;
         Ok(Candidates {
             tree,
             stored,
             handles,
+            judged,
         })
     }
 
     /// Whether the objects of a class may be kept in local variables.
-    pub fn is_candidate(&self, alloc: Global, class: &Text) -> Result<bool, NoMemory>
-        ensures { IfOk result (λ is. IsTrue is ↔ IsCandidate self.now class.now) }
+    pub fn is_candidate(&mut self, alloc: Global, class: &Text) -> Result<bool, NoMemory>
+        ensures same { self.new ≡ self.old }
+        ensures decides { IfOk result (λ is. IsTrue is ↔ IsCandidate self.old class.now) }
     {
         a_tree_is_a_hierarchy(self.tree);
         let _folder = self.tree.folder();
@@ -96,16 +119,92 @@ impl<'t> Candidates<'t> {
     }
 
     // Whether the classes of a chain are fit, and the fields narrow.
-    fn is_sound(&self, alloc: Global, class: &Text) -> Result<bool, NoMemory>
-        requires { IsThere (headers_of self.now) class.now }
-        ensures { IfOk result (λ is. IsTrue is ↔ IsSound self.now class.now) }
+    fn is_sound(&mut self, alloc: Global, class: &Text) -> Result<bool, NoMemory>
+        requires { IsThere (headers_of self.old) class.now }
+        ensures same { self.new ≡ self.old }
+        ensures decides { IfOk result (λ is. IsTrue is ↔ IsSound self.old class.now) }
     {
-        let mut names = chain(alloc, self.tree, class)?.into_vec();
-        let mut fields = None;
+        let Climbed {
+            mut names,
+            mut fields,
+        } = self.climb(alloc, class)?;
         while let Some(name) = names.pop() {
             fields = self.judge(alloc, &name, fields)?;
+            self.keep(alloc, &name, fields.as_ref())?;
         }
         Ok(fields.is_some())
+    }
+
+    // The classes of a chain up to one that is judged.
+    fn climb(&self, alloc: Global, class: &Text) -> Result<Climbed, NoMemory>
+        requires { IsThere (headers_of self.now) class.now }
+        ensures { IfOk result
+            (λ climbed. IsLeft self.now class.now climbed.names.items climbed.fields) }
+    {
+        a_tree_is_a_hierarchy(self.tree);
+        let mut names = Vec::new(alloc);
+        let mut next = self.tree.place(class);
+        while let Some(place) = next {
+            let Some(header) = self.tree.header(place) else {
+                unreachable!();
+            };
+            if let Some(fields) = self.known(alloc, place)? {
+                return Ok(Climbed { names, fields });
+            }
+            names.push(header.name.copy()?)?;
+            next = self.tree.superclass(place);
+        }
+        Ok(Climbed {
+            names,
+            fields: None,
+        })
+    }
+
+    // What is known of the class at a place.
+    fn known(&self, alloc: Global, place: Place) -> Result<Option<Option<TextList>>, NoMemory>
+        ensures { IfOk result (IsKnown self.now place) }
+    {
+        let Place::Folder(number) = place else {
+            return Ok(None);
+        };
+        match judged_at(self.judged.as_slice(), number) {
+            Some(Judged::Sound(fields)) => Ok(Some(Some(copy_of(alloc, fields.as_slice())?))),
+            Some(Judged::Unsound) => Ok(Some(None)),
+            Some(Judged::Unknown) | None => Ok(None),
+        }
+    }
+
+    // Keeps what is judged of a class.
+    fn keep(
+        &mut self,
+        alloc: Global,
+        class: &Text,
+        fields: Option<&TextList>,
+    ) -> Result<(), NoMemory>
+        requires { IsJudged self.old class.now (option_copied fields) }
+        ensures { self.new ≡ self.old }
+    {
+        a_tree_is_a_hierarchy(self.tree);
+        let Some(number) = folder_number(self.tree, class) else {
+            return Ok(());
+        };
+        match fields {
+            Some(fields) => self.put(number, Judged::Sound(copy_of(alloc, fields.as_slice())?)),
+            None => self.put(number, Judged::Unsound),
+        }
+        Ok(())
+    }
+
+    // Keeps what is known of the class of a number.
+    fn put(&mut self, number: usize, judged: Judged)
+        requires { (name : Name)
+            → place_of (headers_of self.old) name ≡ Some (Folder number)
+            → IsKept self.old name judged }
+        ensures { self.new ≡ self.old }
+    {
+        if number < self.judged.len() {
+            self.judged[number] = judged;
+        }
     }
 
     // The descriptors of the fields of a class, if it is sound, by those of its superclass.
@@ -199,6 +298,35 @@ fn has_room(file: &ClassFile) -> bool
         ↔ ((length file.now.pool ≤ 64535) × (length file.now.methods ≤ 65534)) }
 {
     file.pool.count() <= MOST_CONSTANTS && file.methods.len() <= MOST_METHODS
+}
+
+// What is known of the class of a number.
+fn judged_at(judged: &[Judged], number: usize) -> Option<&Judged>
+    ensures { option_copied result ≡ slice_get judged.now number }
+{
+    judged.get(number)
+}
+
+// As many classes, of which nothing is known.
+fn unknown(alloc: Global, count: usize) -> Result<Vec<Judged>, NoMemory>
+    ensures { IfOk result (λ judged. judged.items ≡ replicate count Judged.Unknown) }
+{
+    let mut judged = Vec::new(alloc);
+    for _ in 0..count {
+        judged.push(Judged::Unknown)?;
+    }
+    Ok(judged)
+}
+
+// Equal texts, which share their bytes.
+fn copy_of(alloc: Global, texts: &[Text]) -> Result<TextList, NoMemory>
+    ensures { IfOk result (λ copy. copy ≡ texts.now) }
+{
+    let mut copy = ListOf::new(alloc);
+    for text in texts {
+        copy.push(text.copy()?)?;
+    }
+    Ok(copy)
 }
 
 // The descriptors of fields, and of those that a class declares behind them.

@@ -1,5 +1,5 @@
 -- What is asked of each class of a candidate's chain.
-use Rattle.std.specs.Prelude.{◌≡◌, ◌≤◌, ◌<◌, ◌↔◌, not, ℕ, Bool, false, List, filter, get_or, length, map, slice_get, Option, Some, None, IsTrue, IsFalse}
+use Rattle.std.specs.Prelude.{Bool, IfSome, IsFalse, IsTrue, List, None, Option, Some, [], false, filter, get_or, length, map, not, slice_get, ℕ, ◌++◌, ◌<◌, ◌↔◌, ◌∷◌, ◌≡◌, ◌≤◌}
 use Rattle.std.specs.List.{AllByRecursion}
 use Rattle.class_model.specs.Descriptors.{parameter_units, type_of}
 use Rattle.class_model.specs.Header.{header_of}
@@ -9,6 +9,10 @@ use Rattle.class_model.specs.declared.header.Header.{Header}
 use Rattle.class_model.specs.declared.header.Member.{Member}
 use Rattle.class_tree.specs.Headers.{Name, Classes, headers_of}
 use Rattle.class_tree.specs.Order.{place_of}
+use Rattle.class_tree.specs.Subtype.{IsChain}
+use Rattle.class_tree.specs.declared.place.Place.{Place}
+use Rattle.inline_expand.specs.declared.candidates.Judged.{Judged}
+use Rattle.inline_expand.specs.declared.candidates.Judged.TheVariants.{Unknown, Unsound, Sound}
 use Rattle.class_tree.specs.declared.place.Place.TheVariants.{Folder}
 use Rattle.inline_expand.specs.Candidates.{HasNoFinalizer, HasRoom, declares_finalizer}
 use Rattle.inline_expand.specs.FieldConstructors.{field_types}
@@ -67,3 +71,36 @@ units_of_all fields = parameter_units (map type_of fields)
 pub record IsFileOf (classes : Classes) (name : Name) (number : ℕ) (file : ClassFile) : Type 0 where
   pub placed : place_of (headers_of classes) name ≡ Some (Folder number)
   pub there : slice_get classes.folder number ≡ Some file
+
+-- ---- what is judged already
+
+-- what is judged of the first of these
+abbrev pub IsFirstJudged : Classes → List Name → Option (List (List ℕ)) → Type 0
+IsFirstJudged classes [] fields = Unit {0}
+IsFirstJudged classes (name ∷ names) fields = IsJudged classes name fields
+
+-- The classes of a chain at the back are judged, and these in front are left.
+pub record IsLeft (classes : Classes) (class : Name) (left : List Name) (fields : Option (List (List ℕ))) : Type 0 where
+  pub done : List Name
+  pub chain : IsChain (headers_of classes) class (left ++ done)
+  pub judged : IsFirstJudged classes done fields
+
+-- what is kept of a class by its name
+abbrev pub IsKept : Classes → Name → Judged → Type 0
+IsKept classes name Unknown = Unit {0}
+IsKept classes name Unsound = ¬ IsSound classes name
+IsKept classes name (Sound fields) = IsJudged classes name (Some fields)
+
+abbrev pub AreKept : Classes → List Judged → Type 0
+AreKept classes judged =
+    (name : Name) (number : ℕ)
+    → place_of (headers_of classes) name ≡ Some (Folder number)
+    → IfSome (slice_get judged number) (IsKept classes name)
+
+-- what is known of the class at a place
+abbrev pub IsKnown : Classes → Place → Option (Option (List (List ℕ))) → Type 0
+IsKnown classes place known =
+    IfSome known
+    (λ fields. (name : Name)
+    → place_of (headers_of classes) name ≡ Some place
+    → IsJudged classes name fields)

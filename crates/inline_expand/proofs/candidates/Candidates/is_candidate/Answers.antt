@@ -22,8 +22,8 @@ is_sound-requires c =
     ap (λ (k : Classes). named c.args.class.now (headers_of k).folder) (sym c.self.view_is) ∙ sym c.folder_class.ensures ∙ ap option_copied c.in-Some.is in
     ap is_some (of_folder (headers_of classes) c.args.class.now c.in-Some.header.now found)
 
-pub returns : goal.returns
-returns c =
+pub returns-clause-decides : goal.returns-clause-decides
+returns-clause-decides c =
     let classes = c.args.self.now in
     let hierarchy : IsHierarchy (headers_of classes) = subst (λ (k : Classes). IsHierarchy (headers_of k)) c.self.view_is c.a_tree_is_a_hierarchy.ensures in
     let outside : (header : Header) → named object (headers_of classes).folder ≡ Some header → ⊥ =
@@ -33,4 +33,4 @@ returns c =
     let is = candidate_is classes hierarchy outside c.args.class.now c.in-Some.header.now found in
     told (IsSound classes c.args.class.now) (IsCandidate classes c.args.class.now)
     (λ sound. is.1 (sym c.has.ensures ∙ c.if-has.false, sym c.has-else-has.ensures ∙ c.if-has-2.false, sound), λ candidate. (is.0 candidate).2)
-    c.is_sound.result c.is_sound.ensures
+    c.is_sound.result c.is_sound.ensures.decides

@@ -138,7 +138,7 @@ index-requires c =
     let number = c.args.number in
     let items : c.as_slice.result.now ≡ classes.folder = c.as_slice.ensures ∙ c.folder.ensures.same ∙ ap (λ (k : Classes). k.folder) c.self.view_is in
     let within : number < length c.as_slice.result.now = subst (λ (files : List ClassFile). number < length files) (sym items) (number_within classes hierarchy name number c.requires.number) in
-    let facts : AreFacts classes c.self.inside.stored.items c.self.inside.handles.items = subst (λ (k : Classes). AreFacts k c.self.inside.stored.items c.self.inside.handles.items) c.self.view_is c.self.invariant in
+    let facts : AreFacts classes c.self.inside.stored.items c.self.inside.handles.items = subst (λ (k : Classes). AreFacts k c.self.inside.stored.items c.self.inside.handles.items) c.self.view_is c.self.invariant.0 in
     let low = number_within classes hierarchy name number c.requires.number in
     let long = length-map classes.folder header_of in
     omega (arith, low, long, facts.handles.len, c.self.inside.handles.ok.0)
@@ -161,7 +161,7 @@ returns-then-not-branch c =
     let header : c.in-Some.header.now ≡ header_of file = same_Some c.in-Some.header.now (header_of file) (ap option_copied (sym c.in-Some.is) ∙ asked ∙ own) in
     let fields = c.in_ok-fields.fields in
     let are : fields ≡ c.args.above ++ own_descs (header_of file) = c.in_ok-fields.ensures ∙ ap (λ (h : Header). c.args.above ++ own_descs h) header in
-    let facts : AreFacts classes c.self.inside.stored.items c.self.inside.handles.items = subst (λ (k : Classes). AreFacts k c.self.inside.stored.items c.self.inside.handles.items) c.self.view_is c.self.invariant in
+    let facts : AreFacts classes c.self.inside.stored.items c.self.inside.handles.items = subst (λ (k : Classes). AreFacts k c.self.inside.stored.items c.self.inside.handles.items) c.self.view_is c.self.invariant.0 in
     let handled : c.as_slice-handles.result.now ≡ handled_of name classes.folder =
     c.as_slice-handles.ensures ∙ c.index.ensures
     ∙ get_or_from_slice_get c.self.inside.handles.items number (handled_of (header_of file).name classes.folder) c.index.result.now
@@ -190,7 +190,7 @@ returns c =
     let header : c.in-Some.header.now ≡ header_of file = same_Some c.in-Some.header.now (header_of file) (ap option_copied (sym c.in-Some.is) ∙ asked ∙ own) in
     let fields = c.in_ok-fields.fields in
     let are : fields ≡ c.args.above ++ own_descs (header_of file) = c.in_ok-fields.ensures ∙ ap (λ (h : Header). c.args.above ++ own_descs h) header in
-    let facts : AreFacts classes c.self.inside.stored.items c.self.inside.handles.items = subst (λ (k : Classes). AreFacts k c.self.inside.stored.items c.self.inside.handles.items) c.self.view_is c.self.invariant in
+    let facts : AreFacts classes c.self.inside.stored.items c.self.inside.handles.items = subst (λ (k : Classes). AreFacts k c.self.inside.stored.items c.self.inside.handles.items) c.self.view_is c.self.invariant.0 in
     let handled : c.as_slice-handles.result.now ≡ handled_of name classes.folder =
     c.as_slice-handles.ensures ∙ c.index.ensures
     ∙ get_or_from_slice_get c.self.inside.handles.items number (handled_of (header_of file).name classes.folder) c.index.result.now
