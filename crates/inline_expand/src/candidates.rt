@@ -1,10 +1,9 @@
 //! Classes whose objects may be kept in local variables.
-ghost use Rattle.std.specs.Prelude.{◌≡◌, ◌≢◌, ◌↔◌, ◌≤◌, ◌++◌, Some, IfOk, IsTrue, length, map, replicate, slice_get};
-ghost use Rattle.std.specs.List.{list_any};
+ghost use Rattle.std.specs.Prelude.{◌≡◌, ◌≢◌, ◌↔◌, ◌≤◌, ◌++◌, Some, IfOk, IsTrue, length, replicate, slice_get};
 ghost use Rattle.std.specs.Option.{option_copied};
 ghost use Rattle.class_model.specs.Descriptors as descriptors;
 ghost use Rattle.class_model.specs.declared.header.Header.{Header};
-ghost use Rattle.class_tree.specs.Headers.{Name, IsThere, class_named, headers_of, named};
+ghost use Rattle.class_tree.specs.Headers.{Name, IsThere, class_named, headers_of};
 ghost use Rattle.class_tree.specs.Names.{object};
 ghost use Rattle.class_tree.specs.Order.{place_of};
 ghost use Rattle.class_tree.specs.declared.place.Place.TheVariants.{Folder};

@@ -1,7 +1,6 @@
 //! Field constructors.
-ghost use Rattle.std.specs.Prelude.{◌≡◌, ◌↔◌, ◌≤◌, ◌++◌, ◌∷◌, length, replicate, codes, IfOk, IsTrue, bytes_eq};
-ghost use Rattle.std.specs.List.{flat_map, list_any};
-ghost use Rattle.class_model.specs.Characters.{left_bracket, left_parenthesis};
+ghost use Rattle.std.specs.Prelude.{◌≡◌, ◌↔◌, IfOk, IsTrue, bytes_eq};
+ghost use Rattle.std.specs.List.{list_any};
 ghost use Rattle.class_model.specs.Names.{init};
 ghost use Rattle.class_tree.specs.Names.{is_member};
 ghost use Rattle.inline_expand.specs.Inner.ConstructorWords.{HasFree, descriptor_of, is_taken};

@@ -1,7 +1,6 @@
 //! Stores into final fields.
-ghost use Rattle.std.specs.Prelude.{◌≡◌, ◌↔◌, ◌⊎◌, ◌||◌, ◌<◌, ℕ, Bool, length, get_or, true, false, slice_get, Some, IfOk, OnOk, IsTrue};
+ghost use Rattle.std.specs.Prelude.{◌≡◌, ◌↔◌, ◌||◌, ◌<◌, ℕ, Bool, length, get_or, true, false, Some, IfOk, OnOk, IsTrue};
 ghost use Rattle.std.specs.List.{AllByRecursion, list_any};
-ghost use Rattle.class_model.specs.declared.header.Header.{Header};
 ghost use Rattle.class_tree.specs.Headers.{headers_of};
 ghost use Rattle.code_bytes.specs.Codes.{HasInstrs, HasReadMethods, IsReadMethod};
 ghost use Rattle.inline_expand.specs.Inner.StoreWords.{Adds, AreMarks, IsFinalClass, StoredBefore, StoresAt, StoresFrom, is_store, is_stored_by, is_wanted, method_instrs, stores_into};

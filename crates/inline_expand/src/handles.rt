@@ -1,7 +1,6 @@
 //! Method handles of instance initialisers.
-ghost use Rattle.std.specs.Prelude.{◌≡◌, ◌++◌, ◌<◌, ℕ, List, length, slice_set, get_or, [], ◌∷◌, Some, IfOk, OnOk};
+ghost use Rattle.std.specs.Prelude.{◌++◌, ◌<◌, ℕ, List, Some, IfOk, OnOk};
 ghost use Rattle.std.specs.Option.{option_copied};
-ghost use Rattle.class_model.specs.declared.class_file.ClassFile.{ClassFile};
 ghost use Rattle.class_tree.specs.Headers.{Name, headers_of};
 ghost use Rattle.inline_expand.specs.FieldConstructors.{handled};
 ghost use Rattle.inline_expand.specs.Inner.ConstructorWords.{AreHandled, handled_in, handled_of, handled_of_pool};

@@ -3,8 +3,8 @@ ghost use Rattle.std.specs.Prelude.{◌≡◌, ◌≢◌, ◌↔◌, ℕ, Some, 
 ghost use Rattle.std.specs.List.{AllByRecursion};
 ghost use Rattle.std.specs.Option.{option_copied};
 ghost use Rattle.class_model.specs.declared.header.Header.{Header};
-ghost use Rattle.class_tree.specs.Headers.{headers_of, class_named, named};
-ghost use Rattle.class_tree.specs.Names.{is_interface, object};
+ghost use Rattle.class_tree.specs.Headers.{headers_of, named};
+ghost use Rattle.class_tree.specs.Names.{object};
 ghost use Rattle.class_tree.specs.Order.{place_of};
 ghost use Rattle.class_tree.specs.declared.place.Place.TheVariants.{Folder};
 ghost use Rattle.inline_expand.specs.Inner.QuietWords.{IsQuietItself, IsSilent, IsSilentAt, IsInterfaceThere};
