@@ -2,8 +2,10 @@
 -- definitions may pass them over.
 pub mod CalleePlaces
 pub mod Calls
+pub mod CandidateWords
 pub mod Chains
 pub mod Coded
+pub mod ConstructorWords
 pub mod FolderMethods
 pub mod Found
 pub mod Founded
@@ -18,6 +20,7 @@ pub mod Open
 pub mod Overridden
 pub mod ParameterLists
 pub mod Places
+pub mod QuietWords
 pub mod Ready
 pub mod ReadyCallees
 pub mod References
@@ -28,6 +31,7 @@ pub mod SiteTables
 pub mod Stacks
 pub mod Standing
 pub mod Steps
+pub mod StoreWords
 pub mod Unseen
 pub mod Verdicts
 pub mod Walks
