@@ -7,7 +7,7 @@ ghost use Rattle.inline_expand.specs.Inner.SiteTables.{AreCandidates, AreSites, 
 ghost use Rattle.inline_expand.specs.Inner.Walks.{AreRight};
 ghost use Rattle.member_link.specs.Scope.{instructions};
 
-use crate::candidates::is_candidate;
+use crate::candidates::candidate;
 use crate::coded::CodedMethod;
 use crate::initialised::{Object, initialisation_at};
 use crate::places::{Place, constructs_at};
@@ -80,7 +80,7 @@ fn candidate_of(
     let Some(class) = class_made(method, instr) else {
         return Ok(None);
     };
-    if is_candidate(alloc, tree, class)? {
+    if candidate(alloc, tree, class)? {
         Ok(Some(class.copy()?))
     } else {
         Ok(None)
