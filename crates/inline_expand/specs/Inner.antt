@@ -17,7 +17,6 @@ pub mod Measures
 pub mod MethodSets
 pub mod Numbers
 pub mod Open
-pub mod Overridden
 pub mod ParameterLists
 pub mod Places
 pub mod QuietWords
