@@ -1,3 +1,37 @@
 -- Words for private functions: no public contract cites them. What the code is proved to do is said without them, so a reader of the
 -- definitions may pass them over.
+pub mod CalleePlaces
+pub mod Calls
+pub mod CandidateWords
+pub mod Chains
+pub mod Coded
+pub mod ConstructorWords
+pub mod FolderMethods
+pub mod Found
+pub mod Founded
+pub mod Frames
 pub mod Hosts
+pub mod Initialised
+pub mod Layouts
+pub mod Measures
+pub mod MethodSets
+pub mod Numbers
+pub mod Open
+pub mod ParameterLists
+pub mod Places
+pub mod QuietWords
+pub mod Ready
+pub mod ReadyCallees
+pub mod References
+pub mod SeenMethods
+pub mod Settings
+pub mod SiteNumbers
+pub mod SiteTables
+pub mod Stacks
+pub mod Standing
+pub mod Steps
+pub mod StoreWords
+pub mod Unseen
+pub mod Verdicts
+pub mod Walks
+pub mod WideWords

@@ -135,6 +135,34 @@ impl<'a> Host<'a> {
         self.part.handlers.as_slice()
     }
 
+    /// The classes around it.
+    pub(crate) fn tree(&self) -> &'a Tree
+        ensures { headers_of result.now ≡ self.now.headers }
+    {
+        self.tree
+    }
+
+    /// Its class file.
+    pub(crate) fn class(&self) -> &'a ClassFile
+        ensures { result.now ≡ self.now.class }
+    {
+        self.class
+    }
+
+    /// The method itself.
+    pub(crate) fn method(&self) -> &'a Method
+        ensures { result.now ≡ self.now.method }
+    {
+        self.method
+    }
+
+    /// The content of its Code attribute.
+    pub(crate) fn part(&self) -> &'a CodePart
+        ensures { result.now ≡ self.now.part }
+    {
+        self.part
+    }
+
     /// How many local units it has.
     pub(crate) fn max_locals(&self) -> u16
         ensures { result ≡ self.now.part.max_locals }

@@ -2,11 +2,42 @@
 #![tactic(auto)]
 
 mod alone;
+mod called_methods;
+mod callees;
+mod calls;
+mod candidates;
+mod classes;
+mod coded;
+mod expanded;
+mod expansions;
+mod field_constructors;
+mod final_stores;
+mod folder_methods;
+mod found;
 mod handlers;
+mod handles;
 mod host;
+mod initialised;
 mod laws;
+mod method_set;
 mod numbered;
+mod numbers;
+mod open;
+mod overridden;
+mod parameters;
+mod places;
+mod quiet;
+mod ready;
+mod references;
+mod referred;
 mod renumbered;
+mod shallow;
+mod sites;
+mod standing;
+mod verdicts;
+mod visits;
 
 pub use alone::flat_alone;
+pub use callees::callee;
+pub use candidates::{Candidates, candidate};
 pub use laws::{a_flat_code_alone_is_typed, flat_codes_alone_run_equally};

@@ -1,0 +1,7 @@
+use Rattle.class_model.specs.declared.instr.Placed.{Placed}
+use Rattle.inline_expand.specs.Callees.{IsPlain}
+use Rattle.inline_expand.proofs.StandingParts.{IsLeft}
+use Rattle.inline_expand.proofs.standing.are_plain.Given as goal
+
+abbrev pub invariant-loop-placed : goal.invariant-loop-placed
+invariant-loop-placed l = IsLeft (λ (placed : Placed). IsPlain l.callee placed.instr) l.instrs l.placed-index
