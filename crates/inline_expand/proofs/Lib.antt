@@ -30,6 +30,7 @@ mod RenumberedShuffles
 mod RenumberedTable
 mod RenumberedTargets
 mod RenumberedTypes
+mod ReplacedCalls
 mod ResultTexts
 mod Seeing
 mod ShallowCalls

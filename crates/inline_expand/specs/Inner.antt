@@ -15,6 +15,7 @@ pub mod Places
 pub mod Ready
 pub mod ReadyCallees
 pub mod References
+pub mod Replacements
 pub mod SeenMethods
 pub mod SiteTables
 pub mod Stacks

@@ -23,6 +23,7 @@ mod quiet;
 mod ready;
 mod references;
 mod renumbered;
+mod replaced;
 mod shallow;
 mod sites;
 mod standing;

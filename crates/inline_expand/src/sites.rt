@@ -22,7 +22,7 @@ use std::alloc::Global;
 /// `NoMemory`, where memory runs out.
 pub(crate) fn sites_of(
     alloc: Global,
-    place: Place<'_>,
+    place: Place<'_, '_>,
     verdicts: &mut Verdicts,
     method: &CodedMethod<'_>,
 ) -> Result<Vec<Option<Text>>, NoMemory>
@@ -93,7 +93,7 @@ fn class_made<'a>(method: &CodedMethod<'a>, instr: &Instr) -> Option<&'a Text>
 // Takes a site away if the call at an offset is of an initialiser on its object and is not replaced.
 fn spoil(
     alloc: Global,
-    place: Place<'_>,
+    place: Place<'_, '_>,
     verdicts: &mut Verdicts,
     method: &CodedMethod<'_>,
     at: u32,
@@ -156,7 +156,7 @@ fn entry(sites: &[Option<Text>], number: usize) -> Option<&Text>
 
 /// The class of the candidate site at an offset, by the table of a method's sites.
 pub(crate) fn site_at<'s>(
-    place: Place<'_>,
+    place: Place<'_, '_>,
     method: &CodedMethod<'_>,
     sites: &'s [Option<Text>],
     at: u32,
