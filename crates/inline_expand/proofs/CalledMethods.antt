@@ -8,7 +8,7 @@ use Rattle.class_model.specs.declared.instr.Instr.TheVariants.{Invoke}
 use Rattle.class_model.specs.declared.instr.Placed.{Placed}
 use Rattle.class_tree.specs.Headers.{Classes, headers_of}
 use Rattle.class_tree.specs.Hierarchy.{IsHierarchy}
-use Rattle.inline_expand.specs.Alone.{number_at, number_in}
+use Rattle.inline_expand.specs.Alone.{number_at}
 use Rattle.inline_expand.specs.Callees.{Calls, IsCall, Runs, StandsAt, instr_at, own_name}
 use Rattle.inline_expand.specs.Inner.Calls.{Called, DecidesCall, DecidesRun, call_at, called_as, called_by}
 use Rattle.inline_expand.proofs.AloneCode.{found-instr, or_behind}
@@ -78,9 +78,6 @@ module _ (classes : Classes) (s : Scope) (at : ℕ) where
   decides_call call read None none = λ callee calls.
       let at_call = called_at call read calls in
       none callee (record { method = at_call.0; runs = at_call.1; stands = at_call.2 })
-
-  pub no_call : call_at s at ≡ None → DecidesCall classes s at None
-  no_call none = λ callee calls. none-some (called_as calls.opcode calls.reference) (sym none ∙ read_call s at calls.is_call)
 
   pub calls_once : HasLaws → IsHierarchy (headers_of classes) → (one other : MethodAt) → Calls classes s at one → Calls classes s at other → one ≡ other
   calls_once laws hierarchy one other calls also =

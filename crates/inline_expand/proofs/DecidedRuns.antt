@@ -1,17 +1,19 @@
 -- Which method of the folder a call by a reference runs.
-use Rattle.std.proofs.Common.{◌≡◌, ◌≢◌, ◌⊎◌, ℕ, List, Option, Some, None, IsTrue, IsFalse, refl, sym, ap, subst, ◌∙◌, inl, inr, arith}
-use Rattle.std.proofs.lemmas.Bool.{both_ways}
+use Rattle.std.proofs.Common.{◌≡◌, ◌≢◌, ◌⊎◌, ℕ, List, Option, Some, None, IsFalse, refl, sym, ap, subst, ◌∙◌, arith}
 use Rattle.std.proofs.lemmas.Option.{none-some, same_Some}
 use Rattle.class_model.specs.Members.{has, STATIC}
 use Rattle.class_model.specs.Names.{init}
 use Rattle.class_model.specs.declared.class_file.MethodAt.{MethodAt}
+use Rattle.class_model.specs.declared.header.Header.{Header}
 use Rattle.class_model.specs.declared.opcodes.TheConstants.{INVOKESPECIAL, INVOKESTATIC, INVOKEVIRTUAL}
-use Rattle.class_tree.specs.Headers.{Name, Classes, Headers, headers_of}
+use Rattle.class_tree.specs.Headers.{Name, Classes, Headers, class_named, headers_of}
 use Rattle.class_tree.specs.Hierarchy.{IsHierarchy}
+use Rattle.class_tree.specs.Laws.Headers.{same_class}
+use Rattle.class_tree.specs.Names.{is_interface}
 use Rattle.inline_expand.specs.Callees.{Finds, IsClass, IsOverriddenByNone, Runs, StandsAt, runs_special, runs_static, runs_virtual}
-use Rattle.inline_expand.specs.Inner.Calls.{Decides, RunsAt}
+use Rattle.inline_expand.specs.Inner.Calls.{Decides}
 use Rattle.inline_expand.specs.Inner.Found.{folder_method}
-use Rattle.inline_expand.proofs.FoundMethods.{found_alike, numbers_stand, standing_numbers, stands_once}
+use Rattle.inline_expand.proofs.FoundMethods.{numbers_stand, standing_numbers}
 use Rattle.member_link.specs.DeclaredMembers.{Declared}
 use Rattle.member_link.specs.Found.{AreSame, IsChoice, IsMethodFound, IsMethodOf}
 use Rattle.member_link.specs.Methods.{FindsMethod}
@@ -158,3 +160,9 @@ nothing_chosen headers method (selected.Found found) not is = not found refl
 nothing_chosen headers method selected.Abstract not is = is
 nothing_chosen headers method selected.Twice not is = is
 nothing_chosen headers method selected.NotPublic not is = is
+
+-- ---- classes
+
+-- the class of a name is no interface
+pub no_interface : (headers : Headers) (name : Name) (header : Header) → class_named headers name ≡ Some header → IsClass headers name → IsFalse (is_interface header)
+no_interface headers name header found class = ap (λ (h : Header). is_interface h) (same_class headers name header class.header found class.found) ∙ class.no_interface

@@ -1,5 +1,5 @@
 -- Classes of the folder by their names and places, and the members that a class declares.
-use Rattle.std.proofs.Common.{◌≡◌, ◌+◌, ℕ, Bool, true, false, cond, List, [], ◌∷◌, ◌++◌, slice_get, bytes_eq, Option, Some, None, option_map, option_and_then, refl, sym, ap, ◌∙◌}
+use Rattle.std.proofs.Common.{◌≡◌, ℕ, Bool, true, false, cond, List, [], ◌∷◌, ◌++◌, slice_get, bytes_eq, Option, Some, None, option_map, option_and_then, refl, sym, ap, ◌∙◌}
 use Rattle.std.proofs.lemmas.Bool.{and_parts}
 use Rattle.std.proofs.lemmas.Option.{same_Some}
 use Rattle.std.proofs.lemmas.Slice.Eq.{bytes_eq-Decides}
@@ -9,14 +9,11 @@ use Rattle.class_tree.specs.Headers.{Name, Headers, named, class_named}
 use Rattle.class_tree.specs.Hierarchy.{IsHierarchy}
 use Rattle.class_tree.specs.Laws.FirstPlaces.{first_at, first_passes}
 use Rattle.class_tree.specs.Names.{is_member}
-use Rattle.class_tree.specs.Order.{first_place, header_at, member_place, place_of}
+use Rattle.class_tree.specs.Order.{first_place, member_place, place_of}
 use Rattle.class_tree.specs.declared.place.Place.TheVariants.{Folder, Library}
 use Rattle.member_link.specs.DeclaredMembers.{declared}
 
 -- ---- classes
-
-abbrev has_name : Name → Header → Bool
-has_name name header = bytes_eq name header.name
 
 -- the class of a name in a list is the one at the first place of it
 pub named_at : (name : Name) (headers : List Header) → named name headers ≡ option_and_then (slice_get headers) (first_place (λ (header : Header). bytes_eq name header.name) headers)

@@ -1,10 +1,12 @@
 -- Methods that are found, and their numbers in the folder.
-use Rattle.std.proofs.Common.{◌≡◌, ℕ, List, slice_get, Option, Some, None, option_map, refl, sym, ap, subst, ◌∙◌}
-use Rattle.std.proofs.lemmas.Option.{none-some, same_Some}
+use Rattle.std.proofs.Common.{◌≡◌, ◌<◌, ℕ, List, length, slice_get, Option, Some, None, option_map, refl, sym, ap, subst, ◌∙◌, inl, inr, arith}
+use Rattle.std.proofs.lemmas.List.{length-map}
+use Rattle.std.proofs.lemmas.Option.{none-some, same_Some, slice_get_cases}
+use Rattle.class_model.specs.Header.{header_of}
 use Rattle.class_model.specs.declared.class_file.MethodAt.{MethodAt}
 use Rattle.class_model.specs.declared.header.Header.{Header}
 use Rattle.class_model.specs.declared.header.Member.{Member}
-use Rattle.class_tree.specs.Headers.{Name, Classes, Headers, class_named, headers_of, named}
+use Rattle.class_tree.specs.Headers.{Classes, Headers, class_named, headers_of}
 use Rattle.class_tree.specs.Hierarchy.{IsHierarchy}
 use Rattle.class_tree.specs.Order.{header_at, member_place, place_of}
 use Rattle.class_tree.specs.declared.place.Place.{Place}
@@ -13,7 +15,7 @@ use Rattle.inline_expand.specs.Callees.{StandsAt}
 use Rattle.inline_expand.specs.Inner.Found.{folder_method, method_numbers}
 use Rattle.inline_expand.proofs.FolderPlaces.{none_own, own_at}
 use Rattle.member_link.specs.DeclaredMembers.{Declared, declared, declared_by}
-use Rattle.member_link.specs.Found.{AreSame, IsFoundIn, IsMethodFound, methods_of}
+use Rattle.member_link.specs.Found.{AreSame, IsMethodFound}
 use Rattle.member_link.specs.declared.found.Found.{Found}
 
 -- ---- what the look-up of a class's own method answers
@@ -37,6 +39,17 @@ pub own_missing : (headers : Headers) (header : Header) (name desc : List ℕ) �
 own_missing headers header name desc none =
     subst (λ (o : Option Member). AreSame (IsMethodFound headers) None (option_map (declared_by header.name) o)) (sym (none_own name desc header.methods none)) tt
 
+-- the class file of a number in the folder has a header
+pub class_at : (classes : Classes) (class : ℕ) → class < length classes.folder → (header : Header) × (slice_get (headers_of classes).folder class ≡ Some header)
+class_at classes class within = elim (slice_get_cases (headers_of classes).folder class).1 [
+  | inl found ↦ (found.0, found.2)
+  | inr past ↦ absurd (omega (arith, within, past.0, length-map classes.folder header_of))
+]
+
+pub method_found : (headers : Headers) (found : Found) (own : Option Declared) → AreSame (IsMethodFound headers) (Some found) own → (method : Declared) × IsMethodFound headers found method
+method_found headers found (Some method) is = (method, is)
+method_found headers found None is = absurd is
+
 -- ---- places
 
 module _ (headers : Headers) (hierarchy : IsHierarchy headers) where
@@ -53,14 +66,6 @@ module _ (headers : Headers) (hierarchy : IsHierarchy headers) where
       let place : found.place ≡ other.place = same_Some found.place other.place (sym (found_place is) ∙ found_place also) in
       let header : is.header ≡ also.header = same_Some is.header also.header (sym is.at ∙ ap (header_at headers) place ∙ also.at) in
       (place, same_Some found.member other.member (sym is.first ∙ ap (λ (h : Header). member_place method.member.name method.member.desc h.methods) header ∙ also.first))
-
-  -- two methods at one place are the same
-  pub found_alike : {found : Found} {method other : Declared} → IsMethodFound headers found method → IsMethodFound headers found other → method ≡ other
-  found_alike {found} {method} {other} is also =
-      let header : is.header ≡ also.header = same_Some is.header also.header (sym is.at ∙ also.at) in
-      let class : method.class ≡ other.class = sym is.own_class ∙ ap (λ (h : Header). h.name) header ∙ also.own_class in
-      let member : method.member ≡ other.member = same_Some method.member other.member (sym is.stands ∙ ap (λ (h : Header). slice_get h.methods found.member) header ∙ also.stands) in
-      λ i. record { class = class i; member = member i }
 
 -- ---- numbers in the folder
 

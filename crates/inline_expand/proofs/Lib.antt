@@ -11,6 +11,7 @@ mod FoundMethods
 mod Founding
 mod HostCodes
 mod Initialisations
+mod MethodBuckets
 mod MethodLists
 mod NumberedLocals
 mod OpenMembers

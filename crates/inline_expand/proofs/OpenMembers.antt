@@ -1,16 +1,18 @@
 -- Members that are accessible from a host's class.
-use Rattle.std.proofs.Common.{◌≡◌, ◌↔◌, ◌⊎◌, ◌||◌, not, ◌&&◌, ℕ, Bool, true, false, List, Option, Some, None, IsSome, IsTrue, IsFalse, is_some, slice_get, codes, refl, sym, ap, subst, ◌∙◌, inl, inr}
-use Rattle.std.proofs.lemmas.Bool.{both_ways, false≢true}
-use Rattle.std.proofs.lemmas.Option.{none-some, same_Some}
+use Rattle.std.proofs.Common.{◌≡◌, ◌↔◌, ◌⊎◌, ◌||◌, ℕ, Bool, Option, Some, None, IsSome, IsTrue, IsFalse, is_some, codes, refl, sym, ap, subst, ◌∙◌, inl, inr}
+use Rattle.std.proofs.lemmas.Bool.{false≢true}
+use Rattle.std.proofs.lemmas.Option.{same_Some}
 use Rattle.class_model.specs.Members.{has, PRIVATE, PROTECTED, PUBLIC, STATIC}
-use Rattle.class_model.specs.declared.header.Header.{Header}
+use Rattle.class_model.specs.Pool.{Constants, constant_at}
+use Rattle.class_model.specs.declared.instr.Instr.{Instr}
+use Rattle.class_model.specs.declared.instr.Instr.TheVariants.{GetField, GetStatic, PutField, PutStatic}
 use Rattle.class_tree.specs.Headers.{Name, Headers, named}
 use Rattle.class_tree.specs.Hierarchy.{IsHierarchy}
 use Rattle.class_tree.specs.Order.{header_at, place_of}
 use Rattle.class_tree.specs.Subtype.{IsArray}
 use Rattle.class_tree.specs.declared.place.Place.{Place}
 use Rattle.class_tree.specs.declared.place.Place.TheVariants.{Folder, Library}
-use Rattle.inline_expand.specs.Callees.{IsOpenField, opened_field, package_field, public_field}
+use Rattle.inline_expand.specs.Callees.{IsOpenField, IsOpenFieldAt, IsOpenMethod, NamesOpen, clone_of_array, opened_field, package_field, package_method, public_field, public_method}
 use Rattle.inline_expand.specs.Inner.Found.{IsFolderPlace}
 use Rattle.inline_expand.specs.Inner.Open.{WillBeOpened}
 use Rattle.inline_expand.specs.Quiet.{IsOfFolder}
@@ -18,6 +20,9 @@ use Rattle.inline_expand.proofs.FolderPlaces.{folder_index, found_in_folder}
 use Rattle.member_link.specs.DeclaredMembers.{Declared, is_package_access}
 use Rattle.member_link.specs.Found.{IsFieldFound}
 use Rattle.member_link.specs.Overriding.{package_of}
+use Rattle.member_link.specs.References.{Reference}
+use Rattle.member_link.specs.Scope.{Scope}
+use Rattle.member_link.specs.Signatures.{reference_of}
 use Rattle.member_link.specs.declared.found.Found.{Found}
 
 -- ---- classes of the folder
@@ -73,3 +78,50 @@ opened_decides headers hierarchy host found field is no_public same no_package =
       of_instance = ap (λ (flags : ℕ). has flags STATIC) is.same_flags ∙ of_instance;
       of_folder = folder.1 of_folder;
     }
+
+-- ---- methods
+
+-- one that is neither public nor open in its package is open where it is the clone of an array
+pub clone_decides :
+    (host class : Name) (method : Declared)
+    → IsFalse (has method.member.flags PUBLIC)
+    → (IsTrue (is_package_access method.member || has method.member.flags PROTECTED) → package_of host ≡ package_of method.class → ⊥)
+    → IsArray class
+    → IsOpenMethod host class method ↔ (method.member.name ≡ codes "clone")
+clone_decides host class method no_public no_package deep = (to, λ clone. clone_of_array deep clone)
+  where
+    to : IsOpenMethod host class method → method.member.name ≡ codes "clone"
+    to (public_method is_public) = absurd (false≢true (sym no_public ∙ is_public))
+    to (package_method open_ same) = absurd (no_package open_ same)
+    to (clone_of_array deep clone) = clone
+
+-- ---- references
+
+-- what holds of the one reference of a constant holds of each
+pub of_reference :
+    (IsOpen : Headers → Reference → Type 0) (s : Scope) (index : ℕ) (headers : Headers) (pool : Constants) (reference : Reference) (result : Bool)
+    → headers ≡ s.headers
+    → pool ≡ s.class.pool
+    → Some reference ≡ reference_of pool (constant_at pool index)
+    → IsTrue result ↔ IsOpen headers reference
+    → IsTrue result ↔ ((other : Reference) → reference_of s.class.pool (constant_at s.class.pool index) ≡ Some other → IsOpen s.headers other)
+of_reference IsOpen s index headers pool reference result same own read told = (
+  λ passed other is. subst (IsOpen s.headers) (same_Some reference other (sym named_is ∙ is)) (subst (λ (h : Headers). IsOpen h reference) same (told.0 passed)),
+  λ all. told.1 (subst (λ (h : Headers). IsOpen h reference) (sym same) (all reference named_is)),
+)
+  where
+    named_is : reference_of s.class.pool (constant_at s.class.pool index) ≡ Some reference
+    named_is = ap (λ (p : Constants). reference_of p (constant_at p index)) (sym own) ∙ sym read
+
+-- ---- instructions
+
+-- an instruction that names a field
+pub names_field :
+    (s : Scope) (host : Name) (index : ℕ) (instr : Instr) (result : Bool)
+    → (instr ≡ GetStatic index) ⊎ ((instr ≡ PutStatic index) ⊎ ((instr ≡ GetField index) ⊎ (instr ≡ PutField index)))
+    → IsTrue result ↔ IsOpenFieldAt s host index
+    → IsTrue result ↔ NamesOpen s host instr
+names_field s host index instr result (inl is) told = subst (λ (i : Instr). IsTrue result ↔ NamesOpen s host i) (sym is) told
+names_field s host index instr result (inr (inl is)) told = subst (λ (i : Instr). IsTrue result ↔ NamesOpen s host i) (sym is) told
+names_field s host index instr result (inr (inr (inl is))) told = subst (λ (i : Instr). IsTrue result ↔ NamesOpen s host i) (sym is) told
+names_field s host index instr result (inr (inr (inr is))) told = subst (λ (i : Instr). IsTrue result ↔ NamesOpen s host i) (sym is) told

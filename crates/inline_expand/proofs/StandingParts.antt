@@ -1,15 +1,9 @@
 -- The conditions of a callee, part by part.
-use Rattle.std.proofs.Common.{◌≡◌, ◌↔◌, ◌⊎◌, ◌+◌, ◌-◌, ◌<◌, ◌≤◌, ℕ, zero, suc, Bool, true, false, List, [], ◌∷◌, drop, length, slice_get, Option, Some, None, Result, Ok, Err, IfOk, IfSome, IsTrue, IsFalse, refl, sym, ap, subst, ◌∙◌, inl, inr, arith}
-use Rattle.std.proofs.lemmas.Bool.{cases_eq}
+use Rattle.std.proofs.Common.{◌≡◌, ◌+◌, ◌-◌, ◌<◌, ◌≤◌, ℕ, List, ◌∷◌, drop, slice_get, Some, None, Result, Ok, Err, IfOk, sym, ap, subst, ◌∙◌, arith}
 use Rattle.std.proofs.lemmas.List.{drop-drop, drop_all}
-use Rattle.std.proofs.lemmas.Option.{none-some, same_Some}
 use Rattle.std.specs.List.{AllByRecursion}
-use Rattle.class_model.specs.Code.{verification_type}
 use Rattle.class_model.specs.Descriptors.{SpellsDescriptor, kind_of, parameters_of, units_of}
-use Rattle.class_model.specs.Laws.Lists.{at_index, drop_item, none_behind}
-use Rattle.class_model.specs.Members.{has, STATIC}
-use Rattle.class_model.specs.Methods.{this_units}
-use Rattle.class_model.specs.declared.class_file.ClassFile.{ClassFile}
+use Rattle.class_model.specs.Laws.Lists.{drop_item, none_behind}
 use Rattle.class_model.specs.declared.descriptor.Descriptor.{Descriptor}
 use Rattle.class_model.specs.declared.descriptor.FieldType.{FieldType}
 use Rattle.class_model.specs.declared.descriptor.FieldType.TheVariants as sorts
@@ -17,13 +11,9 @@ use Rattle.class_model.specs.declared.frame.Frame.{Frame}
 use Rattle.class_model.specs.declared.frame.VType.{VType}
 use Rattle.class_model.specs.declared.instr.Placed.{Placed}
 use Rattle.class_model.specs.declared.memory.NoMemory.{NoMemory}
-use Rattle.class_tree.specs.Headers.{Name, Classes, Headers, headers_of}
-use Rattle.class_model.specs.Header.{header_of}
-use Rattle.inline_expand.specs.Callees.{LeavesResult, MayStandIn, NamesOpen, SayAtMost, SaysAtMost, own_name}
-use Rattle.inline_expand.specs.Inner.Standing.{AreOpen, ArePlain, HasForm, HasPlainCode, IsQuietIfStatic, NameInitialisers, ReturnAlone, TakesDeclared}
-use Rattle.inline_expand.specs.Quiet.{IsQuiet}
+use Rattle.class_tree.specs.Headers.{Headers}
+use Rattle.inline_expand.specs.Callees.{LeavesResult, SayAtMost, SaysAtMost}
 use Rattle.inline_expand.proofs.ResultTexts.{result_spelled}
-use Rattle.member_link.specs.Scope.{Scope, instructions, own_descriptor}
 use Rattle.member_link.specs.Signatures.{result_of}
 
 -- ---- loops
@@ -35,20 +25,6 @@ pub record IsLeft {X : Type 0} (Asked : X → Type 0) (xs : List X) (i : ℕ) : 
 -- what returns there are among the first so many instructions has its result alone
 pub record AloneBefore (instrs : List Placed) (frames : List Frame) (count : ℕ) : Type 0 where
   pub alone : (number : ℕ) (placed : Placed) (frame : Frame) → number < count → slice_get instrs number ≡ Some placed → slice_get frames number ≡ Some frame → LeavesResult placed.instr frame
-
-pub alone_none : (instrs : List Placed) (frames : List Frame) → AloneBefore instrs frames 0
-alone_none instrs frames = record { alone = λ number placed frame below. absurd (omega (arith, below)) }
-
-pub alone_more : (instrs : List Placed) (frames : List Frame) (count : ℕ) (placed : Placed) → slice_get instrs count ≡ Some placed → IfSome (slice_get frames count) (LeavesResult placed.instr) → AloneBefore instrs frames count → AloneBefore instrs frames (count + 1)
-alone_more instrs frames count placed at leaves before = record {
-  alone = λ number other frame below is framed. elim (cases_eq number count) [
-    | inl same ↦
-        let instr : placed ≡ other = same_Some placed other (sym at ∙ ap (slice_get instrs) (sym same) ∙ is) in
-        let there = subst (λ (found : Option Frame). IfSome found (LeavesResult placed.instr)) (ap (slice_get frames) (sym same) ∙ framed) leaves in
-        subst (λ (p : Placed). LeavesResult p.instr frame) instr there
-    | inr differs ↦ before.alone number other frame (omega (arith, differs, below)) is framed
-  ];
-}
 
 -- ---- descriptors
 
@@ -86,13 +62,7 @@ few_units sorts.Double = omega arith
 few_units (sorts.Named name) = omega arith
 
 module _ (headers : Headers) (types : List FieldType) (units : List VType) (from index unit : ℕ) where
-  pub said_first : IsSaidOfRest headers types units from 0 from
-  said_first = record { to = λ said. said; back = λ said. said }
-
   module _ (before : IsSaidOfRest headers types units from index unit) where
-    pub said_all : length types ≤ index → SayAtMost headers types (drop from units)
-    said_all past = before.to (subst (λ (rest : List FieldType). SayAtMost headers rest (drop unit units)) (sym (drop_all index types past)) tt)
-
     module _ (type : FieldType) (at : slice_get types index ≡ Some type) where
       at_type : SayAtMost headers types (drop from units) → SayAtMost headers (type ∷ drop (index + 1) types) (drop unit units)
       at_type all = subst (λ (rest : List FieldType). SayAtMost headers rest (drop unit units)) (drop_item types index type at) (before.back all)
@@ -122,26 +92,3 @@ module _ (headers : Headers) (types : List FieldType) (units : List VType) (from
               before.to (subst (λ (all : List FieldType). SayAtMost headers all (drop unit units)) (sym (drop_item types index type at)) here);
           back = λ all. (split all).1;
         }
-
--- ---- the whole
-
-module _ (classes : Classes) (host : ClassFile) (s : Scope) (frames : List Frame) where
-  pub stands : HasForm host s → HasPlainCode s frames → AreOpen s (header_of host).name (instructions s) → TakesDeclared (headers_of classes) s frames → IsQuietIfStatic (headers_of classes) s → MayStandIn classes host s frames
-  stands form code open_ takes quiet = record {
-    version = form.version;
-    quiet = quiet;
-    short = form.short;
-    no_handlers = form.no_handlers;
-    plain = code.plain;
-    no_monitor = form.no_monitor;
-    returns = code.returns;
-    parameters = takes;
-    special = code.special;
-    access = open_;
-  }
-
-  pub form_of : MayStandIn classes host s frames → HasForm host s
-  form_of may = record { version = may.version; short = may.short; no_handlers = may.no_handlers; no_monitor = may.no_monitor }
-
-  pub code_of : MayStandIn classes host s frames → HasPlainCode s frames
-  code_of may = record { plain = may.plain; special = may.special; returns = may.returns }

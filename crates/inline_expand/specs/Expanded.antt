@@ -2,12 +2,12 @@
 --
 -- In place of a call stand: a store for each argument, the last first; for a method of an object that is no initialiser a test of the
 -- receiver for null; the callee's instructions, its locals in a block of units of its own; and for each return a narrowing and a goto behind.
-use Rattle.std.specs.Prelude.{◌==◌, ◌+◌, ℕ, zero, suc, not, ◌||◌, List, [], ◌∷◌, ◌++◌, bytes_eq, drop, length, map, reverse, take, replicate, Option, Some, None, if◌then◌else◌}
+use Rattle.std.specs.Prelude.{◌==◌, ◌+◌, ℕ, not, ◌||◌, List, [], ◌∷◌, ◌++◌, Bool, pos, drop, length, map, reverse, take, replicate, Option, Some, None, if◌then◌else◌}
 use Rattle.class_model.specs.Descriptors.{kind_of, parameters_of, units_of}
 use Rattle.class_model.specs.Members.{has, STATIC}
 use Rattle.class_model.specs.declared.class_file.MethodAt.{MethodAt}
 use Rattle.class_model.specs.declared.descriptor.FieldType.{FieldType}
-use Rattle.class_model.specs.declared.descriptor.FieldType.TheVariants.{Byte, Short, Char, Bool}
+use Rattle.class_model.specs.declared.descriptor.FieldType.TheVariants.{Byte, Short, Char, Bool as Boolean}
 use Rattle.class_model.specs.declared.descriptor.Kind.{Kind}
 use Rattle.class_model.specs.declared.descriptor.Kind.TheVariants as kinds
 use Rattle.class_model.specs.declared.frame.Frame.{Frame}
@@ -69,8 +69,8 @@ abbrev pub narrowing : Option FieldType → List Narrowing
 narrowing (Some Byte) = narrows (Pure I2B)
 narrowing (Some Short) = narrows (Pure I2S)
 narrowing (Some Char) = narrows (Pure I2C)
-narrowing (Some Bool) =
-    record { instr = Const (imms.Int 1); above = [] }
+narrowing (Some Boolean) =
+    record { instr = Const (imms.Int (pos 1)); above = [] }
     ∷ record { instr = Pure IAND; above = Int ∷ [] }
     ∷ []
 narrowing result = []

@@ -3,6 +3,7 @@
 pub mod Calls
 pub mod Chains
 pub mod Coded
+pub mod FolderMethods
 pub mod Found
 pub mod Founded
 pub mod Hosts

@@ -12,6 +12,7 @@ ghost use Rattle.inline_expand.specs.Inner.References.{reference_meant};
 ghost use Rattle.member_link.specs.Scope.{Scope};
 
 use crate::classes::{is_class, is_class_at, name_of};
+use crate::folder_methods::FolderMethods;
 use crate::found::folder_method;
 use crate::host::Host;
 use crate::overridden::is_overridden_by_none;
@@ -39,17 +40,17 @@ pub(crate) struct Call<'a> {
 /// `NoMemory`, where memory runs out.
 pub(crate) fn called(
     alloc: Global,
-    tree: &Tree,
+    methods: &FolderMethods<'_>,
     from: &Host<'_>,
     at: u32,
 ) -> Result<Option<MethodAt>, NoMemory>
-    ensures { IfOk result (DecidesCall tree.now from.now at) }
+    ensures { IfOk result (DecidesCall methods.now from.now at) }
 {
     let Some(call) = call_at(from, at) else {
         return Ok(None);
     };
     let own = name_of(alloc, from.class())?;
-    Ok(callee_of(tree, &own, &call))
+    Ok(callee_of(methods, &own, &call))
 }
 
 /// A law: a call runs one method of the folder, if any.
@@ -91,15 +92,17 @@ fn call_of<'a>(pool: &'a Pool, instr: &Instr) -> Option<Call<'a>>
 }
 
 // The method of the folder that a call in a class of this name runs.
-fn callee_of(tree: &Tree, own: &Text, call: &Call<'_>) -> Option<MethodAt>
-    ensures { DecidesRun tree.now own.now (reference_meant call.now.reference) call.now.opcode result }
+fn callee_of(methods: &FolderMethods<'_>, own: &Text, call: &Call<'_>) -> Option<MethodAt>
+    ensures { DecidesRun methods.now own.now (reference_meant call.now.reference) call.now.opcode
+        result }
 {
+    let tree = methods.tree();
     if call.opcode == INVOKESTATIC {
         static_callee(tree, &call.reference)
     } else if call.opcode == INVOKESPECIAL {
         special_callee(tree, own, &call.reference)
     } else if call.opcode == INVOKEVIRTUAL {
-        virtual_callee(tree, &call.reference)
+        virtual_callee(methods, &call.reference)
     } else {
         None
     }
@@ -150,15 +153,16 @@ fn is_special(tree: &Tree, own: &Text, reference: &Reference<'_>) -> bool
 }
 
 // The method of the folder that a virtual call runs.
-fn virtual_callee(tree: &Tree, reference: &Reference<'_>) -> Option<MethodAt>
+fn virtual_callee(methods: &FolderMethods<'_>, reference: &Reference<'_>) -> Option<MethodAt>
     ensures { (own : Name)
-        → DecidesRun tree.now own (reference_meant reference.now) INVOKEVIRTUAL result }
+        → DecidesRun methods.now own (reference_meant reference.now) INVOKEVIRTUAL result }
 {
+    let tree = methods.tree();
     a_tree_is_a_hierarchy(tree);
     a_look_up_finds_one_method();
     let found = find_method(tree, reference.class, reference.name, reference.desc)?;
     let callee = folder_method(found)?;
-    if is_class_at(tree, found.place) && is_overridden_by_none(tree, found) {
+    if is_class_at(tree, found.place) && is_overridden_by_none(methods, found) {
         Some(callee)
     } else {
         None

@@ -8,6 +8,7 @@ mod calls;
 mod candidates;
 mod classes;
 mod coded;
+mod folder_methods;
 mod found;
 mod handlers;
 mod host;

@@ -17,9 +17,7 @@ ghost use Rattle.member_link.specs.Overriding.{package_of};
 use crate::found::method_of;
 use crate::host::Host;
 use crate::references::{Reference, reference_at};
-use class_model::{
-    ACC_PRIVATE, ACC_PROTECTED, ACC_PUBLIC, ACC_STATIC, Const, Instr, Text, has,
-};
+use class_model::{ACC_PRIVATE, ACC_PROTECTED, ACC_PUBLIC, ACC_STATIC, Const, Instr, Text, has};
 use class_tree::{Place, Tree, a_tree_is_a_hierarchy, is_array};
 use member_link::{
     Found, a_look_up_finds_one_field, a_look_up_finds_one_method, class_accessible, find_field,

@@ -11,6 +11,5 @@ use std::alloc::Global;
 pub(crate) fn is_quiet(alloc: Global, tree: &Tree, class: &Text) -> Result<bool, NoMemory>
     ensures { IfOk result (λ quiet. IsTrue quiet ↔ IsQuiet (headers_of tree.now) class.now) }
 {
-    let _ = (alloc, tree, class);
     Err(NoMemory)
 }

@@ -1,5 +1,5 @@
-use Rattle.std.proofs.Common.{◌≡◌, ◌⊎◌, ℕ, true, false, refl, sym, ap, subst, ◌∙◌, Option, None, inl, inr, IsFalse, IsTrue}
-use Rattle.std.proofs.lemmas.Bool.{both_ways, false≢true}
+use Rattle.std.proofs.Common.{◌≡◌, ◌⊎◌, ℕ, true, false, refl, sym, ap, subst, ◌∙◌, Option}
+use Rattle.std.proofs.lemmas.Bool.{false≢true}
 use Rattle.class_model.specs.Members.{has, STATIC}
 use Rattle.class_model.specs.Names.{init}
 use Rattle.class_model.specs.declared.class_file.MethodAt.{MethodAt}

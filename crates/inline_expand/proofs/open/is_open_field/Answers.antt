@@ -1,7 +1,6 @@
-use Rattle.std.proofs.Common.{◌≡◌, ◌||◌, ℕ, true, false, IsTrue, IsFalse, sym, ap, ◌∙◌}
-use Rattle.std.proofs.lemmas.Bool.{false≢true}
+use Rattle.std.proofs.Common.{◌≡◌, ◌||◌, ℕ, false, sym, ap, ◌∙◌}
 use Rattle.class_model.specs.Members.{has, PROTECTED, PUBLIC}
-use Rattle.class_tree.specs.Headers.{Name, headers_of}
+use Rattle.class_tree.specs.Headers.{headers_of}
 use Rattle.inline_expand.proofs.OpenMembers.{opened_decides}
 use Rattle.inline_expand.proofs.open.is_open_field.Goals as goal
 use Rattle.member_link.specs.DeclaredMembers.{is_package_access}

@@ -1,5 +1,4 @@
-use Rattle.std.proofs.Common.{◌≡◌, List, ℕ, Ok, Err, IfOk, sym, ap, ◌∙◌, Result}
-use Rattle.class_model.specs.Descriptors.{SpellsDescriptor, parameters_of}
+use Rattle.std.proofs.Common.{◌≡◌, sym, ap, ◌∙◌}
 use Rattle.class_model.specs.Pool.{Constants}
 use Rattle.class_model.specs.PoolChecks.{text_or_empty, utf8_at}
 use Rattle.class_model.specs.declared.class_file.Method.{Method}

@@ -1,8 +1,7 @@
-use Rattle.std.proofs.Common.{◌≡◌, ◌+◌, ◌≤◌, ℕ, List, length, slice_get, Some, None, IsTrue, refl, sym, ap, subst, ◌∙◌, arith}
-use Rattle.std.proofs.lemmas.Bool.{both_ways, false≢true}
+use Rattle.std.proofs.Common.{◌≡◌, ◌+◌, ℕ, length, slice_get, Some, None, refl, sym, ap, subst, ◌∙◌, arith}
+use Rattle.std.proofs.lemmas.Bool.{false≢true}
 use Rattle.std.proofs.lemmas.Option.{slice_get_read}
 use Rattle.class_model.specs.Descriptors.{kind_of, units_of}
-use Rattle.class_model.specs.declared.descriptor.Kind.{Kind}
 use Rattle.class_tree.specs.Headers.{headers_of}
 use Rattle.inline_expand.proofs.StandingParts.{IsSaidOfRest, few_units, said_more, said_of_none, said_too_much}
 use Rattle.inline_expand.proofs.standing.say_at_most.Goals as goal
@@ -31,7 +30,7 @@ returns-then-not-says_at_most c =
     let held : slice_get locals unit ≡ Some c.in-Some.said.now = sym c.in-Some.ensures in (
       λ yes. absurd (false≢true yes),
       λ all. absurd (said_too_much headers types locals c.args.from index unit c.loop-type_.invariant.0 c.type_-item.result at c.in-Some.said.now held
-      (λ says. false≢true (sym c.if-not-says_at_most.true ∙ c.says_at_most.ensures.1 says)) all),
+          (λ says. false≢true (sym c.if-not-says_at_most.true ∙ c.says_at_most.ensures.1 says)) all),
     )
 
 pub loop-type_-preserved : goal.loop-type_-preserved
