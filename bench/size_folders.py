@@ -181,6 +181,22 @@ def same_descriptors(count, folder):
     made.write(folder, "M.class")
 
 
+def same_descriptors_code(count, folder):
+    """So many methods of one descriptor, which has 64,000 bytes, each with a code of one byte."""
+    made, desc = ClassFile(), long_type(folder, 64_000)
+    for number in range(count):
+        made.method(f"m{number}", desc, RETURN, local_units=1)
+    made.write(folder, "M.class")
+
+
+def same_types(count, folder):
+    """So many fields of one descriptor, which has 64,000 bytes."""
+    made, desc = ClassFile(), long_type(folder, 64_000)[1:-2]
+    for number in range(count):
+        made.field(f"f{number}", desc)
+    made.write(folder, "M.class")
+
+
 def full(count, folder):
     """So many frames of 65,535 locals, of which no two are equal."""
     made, frames = ClassFile(), []
@@ -302,7 +318,8 @@ def deep(count, folder):
 SHAPES = {
     made.__name__.replace("_", "-"): made
     for made in (
-        nops, handlers, targets, changes, calls, references, interface_calls, same_descriptors, full, wide, wide_handlers, wide_stores,
+        nops, handlers, targets, changes, calls, references, interface_calls, same_descriptors, same_descriptors_code,
+        same_types, full, wide, wide_handlers, wide_stores,
         fields, methods, constants, texts, tiny, tables, lookups, names, deep,
     )
 }

@@ -75,6 +75,7 @@ calls 800000 2000 - verified
 references 65000 2000 - verified
 interface-calls 640000 2000 - verified
 same-descriptors 65000 2000 - verified
+same-types 65000 2000 - verified
 full 64 - 100 verified
 wide 65535 - 200 verified
 wide-handlers 65535 - 200 verified

@@ -1,8 +1,9 @@
 #!/usr/bin/env bash
-# jdk-library.sh [--whole] FOLDER: fills the folder with the class files of the JDK that is on the machine, a folder for each module,
-# cut down to their headers (class_headers.py), which give the same answers in a fraction of the bytes; with --whole they are whole.
-# Each is given the version 52.0, with which headers end. Descriptors of modules, which are no classes, are left out. Prints why and
-# ends with status 2 where there is no JDK.
+# jdk-library.sh [--whole] FOLDER: fills the folder with the class files of the JDK that is on the machine, a folder for each module:
+# those that class files outside of the JDK can use, cut down to their headers (exported_classes.py says which; they give the same answers
+# in a fraction of the time). With --whole all of its classes, as they are: for class files that name a class which no module exports to all,
+# as sun/security/x509/X500Name, or that are the JDK's own. Each is given the version 52.0, with which headers end. Descriptors of modules,
+# which are no classes, are left out. Prints why and ends with status 2 where there is no JDK.
 set -eu
 whole=
 if [ "${1-}" = --whole ]; then
@@ -21,10 +22,14 @@ if [ ! -f "$modules" ]; then
     exit 2
 fi
 jimage extract --dir="$1" "$modules"
-find "$1" -type f \( ! -name '*.class' -o -name module-info.class \) -delete
+find "$1" -type f ! -name '*.class' -delete
+if [ -z "$whole" ]; then
+    python3 -B "$(dirname "$0")/exported_classes.py" "$1"
+fi
+find "$1" -name module-info.class -delete
 find "$1" -type d -empty -delete
 if [ -z "$whole" ]; then
-    exec python3 "$(dirname "$0")/class_headers.py" --in "$1"
+    exit
 fi
 python3 - "$1" <<'PYTHON'
 import os

@@ -10,4 +10,4 @@ if ! command -v python3 >/dev/null; then
     echo "python3 is missing"
     exit 2
 fi
-exec python3 "$(dirname "$0")/class_headers.py" --add "$@"
+exec python3 "$(dirname "$0")/class_headers.py" "$@"

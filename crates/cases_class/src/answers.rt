@@ -4,10 +4,9 @@ use crate::hierarchies::{
 };
 use crate::linking::{access, field_owner, linking, method_owner, selection};
 use crate::rules::{assignability, frame_assignability, rule_answer};
-use crate::setting::Setting;
 use crate::typed_folders::{folder_answer, typed_answer};
 use crate::typed_methods::method_answer;
-use cases_notation::word_and_rest;
+use cases_notation::{Setting, word_and_rest};
 use class_model::Text;
 use class_tree::{Tree, is_sub};
 use std::alloc::Global;

@@ -22,53 +22,19 @@
 #![tactic(auto)]
 
 mod answers;
-mod frame_text;
 mod hierarchies;
 mod linking;
 mod rules;
-mod setting;
 mod typed_folders;
 mod typed_methods;
 
 use answers::answer;
-use cases_notation::{lines_of, print_difference, question_of};
-use setting::Setting;
+use cases_notation::compare_files;
 use std::process::ExitCode;
-use std::{env, fs};
 
 fn main(rt: HostRuntime) -> ExitCode {
-    let Ok(args) = env::args(&rt) else {
-        return ExitCode::FAILURE;
-    };
-    let Ok(names) = args.skip(1).collect::<Vec<String>>(rt.alloc()) else {
-        return ExitCode::FAILURE;
-    };
-    for name in names.as_slice() {
-        if compare_file(&rt, name).is_none() {
-            return ExitCode::FAILURE;
-        }
-    }
-    ExitCode::SUCCESS
-}
-
-// Asks the cases of a file, and prints those that are answered otherwise and how many there are. None where the file cannot
-// be read or memory runs out.
-fn compare_file(rt: &HostRuntime, name: &str) -> Option<()> {
-    let text = fs::read_to_string(rt, name).ok()?;
-    let lines = lines_of(rt.alloc(), &text)?;
-    let mut setting = Setting::empty();
-    let mut count: u64 = 0;
-    for line in lines.as_slice() {
-        if !setting.take(&line.text) {
-            let place = format!(in rt.alloc(); "{name}:{}", line.number).ok()?;
-            let came = question_of(&line.text).and_then(|question| answer(
-                rt.alloc(),
-                &setting,
-                question,
-            ));
-            print_difference(rt, &place, &line.text, came)?;
-            count = count.wrapping_add(1);
-        }
-    }
-    println!(rt; "{name}: {count}").ok()
+    compare_files(
+        &rt,
+        |alloc, setting, question| answer(alloc, setting, question),
+    )
 }

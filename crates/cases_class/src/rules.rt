@@ -4,9 +4,7 @@ ghost use Rattle.member_link.specs.Linked.{IsLinked};
 ghost use Rattle.type_rules.specs.Rule.{FitsPool};
 ghost use Rattle.member_link.specs.Scope.{scope_at};
 
-use crate::frame_text::{frame_of, text_of, type_of};
-use crate::setting::Setting;
-use cases_notation::last_method;
+use cases_notation::{Setting, frame_of, last_method, text_of_frame, type_of};
 use class_model::{Frame, MethodAt, Placed, Text, VType};
 use class_tree::Tree;
 use member_link::check_links;
@@ -138,11 +136,11 @@ fn text_of_answer(
         Err(RuleFault::NoMemory) => return None,
     };
     if ruled.thrown.locals != before.locals || !ruled.thrown.stack.is_empty() {
-        let thrown = text_of(alloc, &ruled.thrown)?;
+        let thrown = text_of_frame(alloc, &ruled.thrown)?;
         return format!(in alloc; "thrown {thrown}").ok();
     }
     match &ruled.next {
-        Some(next) => text_of(alloc, next),
+        Some(next) => text_of_frame(alloc, next),
         None => String::from_str(alloc, "end").ok(),
     }
 }

@@ -1,6 +1,5 @@
 //! What verifying a method answers.
-use crate::setting::Setting;
-use cases_notation::last_method;
+use cases_notation::{Setting, last_method};
 use class_model::{Member, MethodAt, Text};
 use class_tree::{Place, Tree};
 use member_link::check_links;

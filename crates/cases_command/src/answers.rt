@@ -16,6 +16,7 @@ pub(crate) fn answer(alloc: Global, setting: &mut Setting, question: &str) -> Op
     match asked {
         "run" => run(alloc, &mut setting.host, about),
         "explain" => explain(alloc, &mut setting.host, about),
+        "progress" => progress(alloc, &mut setting.host, about),
         "files" => files(alloc, setting, about),
         "faults" => {
             let count = setting.host.faults(call_of(about)?);
@@ -75,6 +76,25 @@ fn explain(alloc: Global, host: &mut MemoryHost, words: &str) -> Option<String> 
         return String::from_str(alloc, "nothing").ok();
     }
     shown(alloc, explained)
+}
+
+// The progress that a command showed, with ` | ` between, or `nothing`. None where that is not behind what was shown before.
+fn progress(alloc: Global, host: &mut MemoryHost, words: &str) -> Option<String> {
+    let words = words_of(alloc, words)?;
+    let before = host.shown().len();
+    let _ = pea(alloc, &words, host);
+    let mut told = String::new(alloc);
+    for progress in host.shown().get(before..)? {
+        let line = format!(in alloc; "{progress}").ok()?;
+        if !told.is_empty() {
+            told.push_str(" | ").ok()?;
+        }
+        told.push_str(&line).ok()?;
+    }
+    if told.is_empty() {
+        told.push_str("nothing").ok()?;
+    }
+    Some(told)
 }
 
 // The names of the contents of files.

@@ -23,6 +23,7 @@
 //! - `run WORDS`, the command of these words, cut at each space, so that two spaces make an empty word. The answer is the code
 //!   and the status, and behind ` | ` what was printed, if anything was;
 //! - `explain WORDS`, what the command of these words explains, or `nothing`;
+//! - `progress WORDS`, the progress that the command of these words shows, with ` | ` between, or `nothing`;
 //! - `files ROOT/FILE ..`, the name of the content of each file: `-` where no file is there, and `?` where the content has no
 //!   name;
 //! - `faults List`, or of another kind of call: how often calls of this kind have failed;

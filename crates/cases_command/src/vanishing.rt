@@ -3,7 +3,7 @@ ghost use Rattle.std.specs.Prelude.{[], None, false};
 ghost use Rattle.host_tree.specs.Faults.{count_of};
 
 use class_model::ByteList;
-use host_tree::{FileName, FileNameList, Host, HostFail};
+use host_tree::{FileName, FileNameList, Host, HostFail, Progress};
 use std::alloc::Global;
 
 /// Lists one file of each root but of `empty`, and finds none, as where others change a folder. It tells nothing, and remembers whether it
@@ -60,4 +60,6 @@ impl Host for Vanishing {
     }
 
     fn explain(&mut self, _bytes: &[u8]) {}
+
+    fn show_progress(&mut self, _progress: Progress) {}
 }

@@ -1,14 +1,13 @@
 //! The code of a method by what it uses.
 use crate::code_tables::{push_frame, push_full, push_handler};
 use crate::counted::Counted;
-use crate::mnemonics::opcode;
 use crate::pool::{MemberTag, PoolBytes, low_bits};
 use class_model::opcodes::{
     ANEWARRAY, CHECKCAST, GETFIELD, GETSTATIC, INSTANCEOF, INVOKEDYNAMIC, INVOKEINTERFACE,
     INVOKESPECIAL, INVOKESTATIC, INVOKEVIRTUAL, LDC_W, LDC2_W, MULTIANEWARRAY, NEW, NOP, PUTFIELD,
     PUTSTATIC, RETURN,
 };
-use class_model::{NoMemory, push_u2, push_u4};
+use class_model::{NoMemory, opcode_of, push_u2, push_u4};
 use std::alloc::Global;
 
 /// The parts of a Code attribute, without its name and length.
@@ -224,7 +223,7 @@ fn push_class_use(
 
 // Appends an instruction by its mnemonic and its operand bytes.
 fn push_plain(out: &mut Vec<u8>, op: &str, operands: &[&str]) -> Result<(), NoMemory> {
-    if let Some(opcode) = opcode(op) {
+    if let Some(opcode) = opcode_of(op) {
         out.push(opcode)?;
         for operand in operands {
             out.push(byte(operand))?;

@@ -2,21 +2,26 @@
 #![tactic(auto)]
 
 mod case;
+mod case_files;
 mod code;
 mod code_tables;
 mod counted;
+mod frame_text;
 mod head;
 mod input;
 mod library;
 mod lines;
-mod mnemonics;
 mod notation;
 mod pool;
 mod questions;
+mod setting;
 
 pub use case::{difference, print_difference, question_of};
+pub use case_files::compare_files;
+pub use frame_text::{frame_of, text_of_frame, type_of};
 pub use head::Head;
 pub use input::Input;
 pub use lines::{Line, lines_of, word_and_rest};
 pub use notation::{OBJECT, class_file};
 pub use questions::{last_method, superclasses};
+pub use setting::Setting;

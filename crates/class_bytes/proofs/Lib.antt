@@ -2,6 +2,7 @@ pub mod CutBytes
 pub mod Many
 pub mod Bodies
 pub mod Kept
+pub mod Numbering
 pub mod Decides
 pub mod Attributes
 pub mod Members

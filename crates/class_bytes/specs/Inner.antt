@@ -9,3 +9,4 @@ pub mod MethodParts
 pub mod Parts
 pub mod Shapes
 pub mod Signatures
+pub mod TextNumbers

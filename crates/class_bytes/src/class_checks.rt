@@ -57,14 +57,15 @@ fn check_behind(
         (λ count. count ≡ bootstrap_count pool.now (attrs_of body.now.attrs)) result }
 {
     let fields = check_head(pool, body, at)?;
+    let shapes = KnownShapes::of(alloc, pool);
     let methods = check_fields(
         alloc,
         pool,
+        &shapes,
         body.flags,
         body.fields.as_slice(),
         fields + COUNT_LEN,
     )?;
-    let shapes = KnownShapes::of(alloc, pool);
     let home = Home {
         pool,
         major: body.version.major,

@@ -13,11 +13,11 @@ ghost use Rattle.class_bytes.specs.Inner.Parts.{attrs_len, fields_len};
 use crate::checks::{ask, ask_text};
 use crate::cut::{CutAttr, CutMember};
 use crate::flags::one_visibility;
+use crate::known_shapes::KnownShapes;
 use crate::names::CONSTANT_VALUE;
 use crate::signatures::Signatures;
 use class_model::{
-    ACC_INTERFACE, ACC_STATIC, ClassFault, Const, FileRule, Pool, has, is_field_descriptor,
-    is_field_name,
+    ACC_INTERFACE, ACC_STATIC, ClassFault, Const, FileRule, Pool, has, is_field_name,
 };
 use std::alloc::Global;
 
@@ -26,19 +26,21 @@ use std::alloc::Global;
 pub(crate) fn check_fields(
     alloc: Global,
     pool: &Pool,
+    shapes: &KnownShapes<'_>,
     class_flags: u16,
     fields: &[CutMember<'_>],
     at: u64,
 ) -> Result<u64, ClassFault>
-    requires { at + fields_len (fields_of fields.now) < 2 ^ 64 }
+    requires shapes { shapes.now ≡ pool.now }
+    requires fits { at + fields_len (fields_of fields.now) < 2 ^ 64 }
     ensures { Tells (fields_checks pool.now class_flags [] at (fields_of fields.now))
         (λ end. end ≡ at + fields_len (fields_of fields.now)) result }
 {
-    let mut signatures = Signatures::new(alloc);
+    let mut signatures = Signatures::new(alloc, pool)?;
     let mut place = at;
     for field in fields {
-        let is_again = signatures.add(pool, field.name, field.desc)?;
-        place = check_field(pool, class_flags, field, is_again, place)?;
+        let is_again = signatures.add(field.name, field.desc)?;
+        place = check_field(pool, shapes, class_flags, field, is_again, place)?;
     }
     Ok(place)
 }
@@ -47,12 +49,14 @@ pub(crate) fn check_fields(
 // the place behind it.
 fn check_field(
     pool: &Pool,
+    shapes: &KnownShapes<'_>,
     class_flags: u16,
     field: &CutMember<'_>,
     is_again: bool,
     at: u64,
 ) -> Result<u64, ClassFault>
-    requires { at + length (field_bytes (field_of field.now)) < 2 ^ 64 }
+    requires shapes { shapes.now ≡ pool.now }
+    requires fits { at + length (field_bytes (field_of field.now)) < 2 ^ 64 }
     ensures { (before : List Signature)
         → is_again ≡ stands_before pool.now before (field_signature (field_of field.now))
         → Tells (field_checks pool.now class_flags before at (field_of field.now))
@@ -64,7 +68,7 @@ fn check_field(
     ask(is_field_name(name.bytes()), at + 2, FileRule::Name)?;
     let desc = ask_text(pool, field.desc, at + 4)?;
     ask(
-        is_field_descriptor(desc.bytes()),
+        shapes.is_field_type(field.desc, desc.bytes()),
         at + 4,
         FileRule::Descriptor,
     )?;

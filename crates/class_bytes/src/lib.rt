@@ -28,6 +28,7 @@ mod names;
 mod operands;
 mod reading;
 mod signatures;
+mod text_numbers;
 mod writing;
 
 pub use header::read_header;

@@ -42,10 +42,10 @@ pub(crate) fn check_methods(
     ensures { Tells (methods_checks (home_seen home.now) [] at (methods_of methods.now))
         (λ end. end ≡ at + methods_len (methods_of methods.now)) result }
 {
-    let mut signatures = Signatures::new(alloc);
+    let mut signatures = Signatures::new(alloc, home.pool)?;
     let mut place = at;
     for method in methods {
-        let is_again = signatures.add(home.pool, method.name, method.desc)?;
+        let is_again = signatures.add(method.name, method.desc)?;
         place = check_method(alloc, home, method, is_again, place)?;
     }
     Ok(place)

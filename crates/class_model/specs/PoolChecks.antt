@@ -15,6 +15,7 @@ use Rattle.class_model.specs.declared.descriptor.Descriptor.{Descriptor}
 use Rattle.class_model.specs.declared.fault.FileRule.TheVariants as rules
 use Rattle.class_model.specs.declared.pool.Const.{Const}
 use Rattle.class_model.specs.declared.pool.Const.TheVariants.{Utf8, Integer, Float, Long, Double, Class, String, Fieldref, Methodref, InterfaceMethodref, NameAndType, MethodHandle, MethodType, InvokeDynamic}
+use Rattle.class_model.specs.declared.reference_kinds.TheConstants.{REF_GET_FIELD, REF_PUT_STATIC, REF_INVOKE_VIRTUAL, REF_INVOKE_STATIC, REF_INVOKE_SPECIAL, REF_NEW_INVOKE_SPECIAL, REF_INVOKE_INTERFACE}
 
 -- ---- what indices name
 
@@ -200,17 +201,26 @@ abbrev pub IsMethodConstantOf : ℕ → Option Const → Type 0
 IsMethodConstantOf major constant =
     IsMethodConstant constant ⊎ ((major ≡ 52) × IsInterfaceConstant constant)
 
--- What a method handle of a kind refers to (4.4.8): kinds 1 to 4 name a field, 5 and 8 a method, 6 and 7 a method
--- that in version 52 may be an interface's, and 9 an interface's method. Kind 8 names an instance initialiser, and 5, 6, 7 and 9 do not.
+-- What a method handle of a kind refers to (4.4.8): one of the first four kinds to a field, the others to a method. Of a static or special
+-- call it may in version 52 be an interface's, and of an interface call it is. A new one's is an instance initialiser, and no other's.
 abbrev pub RefersWell : ℕ → Constants → ℕ → ℕ → Type 0
 RefersWell major pool kind reference =
     let constant = constant_at pool reference in
     let name = referred_name pool reference in
-    ((1 ≤ kind) × (kind ≤ 4) × IsFieldConstant constant)
-    ⊎ (((kind ≡ 5) × IsMethodConstant constant × IfSome name (λ n. n ≢ init))
-    ⊎ (((6 ≤ kind) × (kind ≤ 7) × IsMethodConstantOf major constant × IfSome name (λ n. n ≢ init))
-    ⊎ (((kind ≡ 8) × IsMethodConstant constant × IfSome name (λ n. n ≡ init))
-    ⊎ ((kind ≡ 9) × IsInterfaceConstant constant × IfSome name (λ n. n ≢ init)))))
+    ((REF_GET_FIELD ≤ kind) × (kind ≤ REF_PUT_STATIC) × IsFieldConstant constant)
+    ⊎ (((kind ≡ REF_INVOKE_VIRTUAL)
+    × IsMethodConstant constant
+    × IfSome name (λ n. n ≢ init))
+    ⊎ (((REF_INVOKE_STATIC ≤ kind)
+    × (kind ≤ REF_INVOKE_SPECIAL)
+    × IsMethodConstantOf major constant
+    × IfSome name (λ n. n ≢ init))
+    ⊎ (((kind ≡ REF_NEW_INVOKE_SPECIAL)
+    × IsMethodConstant constant
+    × IfSome name (λ n. n ≡ init))
+    ⊎ ((kind ≡ REF_INVOKE_INTERFACE)
+    × IsInterfaceConstant constant
+    × IfSome name (λ n. n ≢ init)))))
 
 -- a method handle (4.4.8)
 abbrev pub handle_checks : ℕ → ℕ → Constants → ℕ → ℕ → List (Check Fault)

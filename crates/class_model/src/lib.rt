@@ -22,54 +22,114 @@ mod local_part;
 mod local_types;
 mod lookup;
 mod memory;
+mod mnemonics;
 mod names;
 mod offset_index;
 pub mod opcodes;
 mod pool;
+pub mod reference_kinds;
 mod rule_text;
 mod text;
 mod value_laws;
 
-pub use class_file::{
-    Attr, AttrList, ClassFile, CodePart, Field, FieldList, Handler, HandlerList, IndexList,
-    InnerAttr, InnerAttrList, Method, MethodAt, MethodList,
-};
+pub use class_file::Attr;
+pub use class_file::AttrList;
+pub use class_file::ClassFile;
+pub use class_file::CodePart;
+pub use class_file::Field;
+pub use class_file::FieldList;
+pub use class_file::Handler;
+pub use class_file::HandlerList;
+pub use class_file::IndexList;
+pub use class_file::InnerAttr;
+pub use class_file::InnerAttrList;
+pub use class_file::Method;
+pub use class_file::MethodAt;
+pub use class_file::MethodList;
 pub use code_index::CodeIndex;
-pub use descriptor::{
-    Descriptor, FieldType, FieldTypeList, Kind, NameFault, is_array_type, parse_descriptor,
-    parse_field_type,
-};
-pub use descriptor_bytes::{
-    MethodShape, dimensions, is_field_descriptor, is_reference_name, method_shape,
-};
-pub use fault::{ClassFault, FileRule};
-pub use flags::{
-    ACC_ABSTRACT, ACC_FINAL, ACC_INTERFACE, ACC_NATIVE, ACC_PRIVATE, ACC_PROTECTED, ACC_PUBLIC,
-    ACC_STATIC, ACC_SUPER, has,
-};
-pub use frame::{Frame, PlacedFrame, PlacedFrameList, VType, VTypeList};
-pub use header::{Header, Member, MemberList, TextList};
-pub use instr::{Imm, Instr, Pair, PairList, Placed, PlacedList, TargetList};
-pub use items::{Cursor, push_u2, push_u4};
-pub use laws::{
-    a_class_file_has_no_fault, a_class_file_is_spelled, a_cut_class_is_spelled,
-    a_cut_pool_is_spelled, a_descriptor_of_a_text, a_library_file_is_told_once,
-    a_spelling_is_one_instruction, a_text_spells_one_descriptor, a_text_spells_one_field_type,
-    another_version_is_no_class_file, bytes_are_one_class_file, constants_compare_by_value,
-    each_file_is_told, each_library_file_is_told, each_pool_is_decided, one_first_fault,
-    parameters_are_spelled, parameters_of_bytes_are_spelled,
-};
-pub use list::{ByteList, ListOf};
+pub use descriptor::Descriptor;
+pub use descriptor::FieldType;
+pub use descriptor::FieldTypeList;
+pub use descriptor::Kind;
+pub use descriptor::NameFault;
+pub use descriptor::is_array_type;
+pub use descriptor::parse_descriptor;
+pub use descriptor::parse_field_type;
+pub use descriptor_bytes::MethodShape;
+pub use descriptor_bytes::dimensions;
+pub use descriptor_bytes::is_field_descriptor;
+pub use descriptor_bytes::is_reference_name;
+pub use descriptor_bytes::method_shape;
+pub use fault::ClassFault;
+pub use fault::FileRule;
+pub use flags::ACC_ABSTRACT;
+pub use flags::ACC_FINAL;
+pub use flags::ACC_INTERFACE;
+pub use flags::ACC_NATIVE;
+pub use flags::ACC_PRIVATE;
+pub use flags::ACC_PROTECTED;
+pub use flags::ACC_PUBLIC;
+pub use flags::ACC_STATIC;
+pub use flags::ACC_SUPER;
+pub use flags::has;
+pub use frame::Frame;
+pub use frame::PlacedFrame;
+pub use frame::PlacedFrameList;
+pub use frame::VType;
+pub use frame::VTypeList;
+pub use header::Header;
+pub use header::Member;
+pub use header::MemberList;
+pub use header::TextList;
+pub use instr::Imm;
+pub use instr::Instr;
+pub use instr::Pair;
+pub use instr::PairList;
+pub use instr::Placed;
+pub use instr::PlacedList;
+pub use instr::TargetList;
+pub use items::Cursor;
+pub use items::push_u2;
+pub use items::push_u4;
+pub use laws::a_class_file_has_no_fault;
+pub use laws::a_class_file_is_spelled;
+pub use laws::a_cut_class_is_spelled;
+pub use laws::a_cut_pool_is_spelled;
+pub use laws::a_descriptor_of_a_text;
+pub use laws::a_library_file_is_told_once;
+pub use laws::a_spelling_is_one_instruction;
+pub use laws::a_text_spells_one_descriptor;
+pub use laws::a_text_spells_one_field_type;
+pub use laws::another_version_is_no_class_file;
+pub use laws::bytes_are_one_class_file;
+pub use laws::constants_compare_by_value;
+pub use laws::each_file_is_told;
+pub use laws::each_library_file_is_told;
+pub use laws::each_pool_is_decided;
+pub use laws::one_first_fault;
+pub use laws::parameters_are_spelled;
+pub use laws::parameters_of_bytes_are_spelled;
+pub use list::ByteList;
+pub use list::ListOf;
 pub use local_types::LocalTypeList;
 pub use memory::NoMemory;
-pub use names::{
-    BadName, CLINIT, INIT, is_class_name, is_field_name, is_method_name, is_unqualified_name,
-    parse_class_name,
-};
-pub use offset_index::{HasOffset, OffsetIndex};
-pub use pool::{Const, Pool};
-pub use text::{Text, TextFault, is_modified_utf8};
-pub use value_laws::{
-    a_class_file_holds_over_a_grown_pool, checks_do_not_depend_on_places,
-    checks_hold_over_a_grown_pool,
-};
+pub use mnemonics::mnemonic;
+pub use mnemonics::opcode_of;
+pub use names::BadName;
+pub use names::CLINIT;
+pub use names::INIT;
+pub use names::is_class_name;
+pub use names::is_field_name;
+pub use names::is_method_name;
+pub use names::is_unqualified_name;
+pub use names::parse_class_name;
+pub use offset_index::HasOffset;
+pub use offset_index::OffsetIndex;
+pub use pool::Const;
+pub use pool::Pool;
+pub use text::Text;
+pub use text::TextFault;
+pub use text::is_modified_utf8;
+pub use value_laws::a_class_file_holds_over_a_grown_pool;
+pub use value_laws::checks_do_not_depend_on_places;
+pub use value_laws::checks_hold_over_a_grown_pool;

@@ -63,7 +63,7 @@ fn compare(members: &[Member], one: usize, other: usize) -> Ordering
     let (other_name, other_desc) = texts(members, other);
     one_name
         .cmp(other_name)
-        .then(one_desc.cmp(other_desc))
+        .then_with(|| one_desc.cmp(other_desc))
         .then(one.cmp(&other))
 }
 
@@ -100,7 +100,7 @@ fn is_before(members: &[Member], place: usize, name: &[u8], desc: &[u8]) -> bool
         (slice_cmp (slice_cmp nat_cmp) (key_at members.now place) (name.now ∷ desc.now ∷ [])) }
 {
     let (own_name, own_desc) = texts(members, place);
-    own_name.cmp(name).then(own_desc.cmp(desc)).is_lt()
+    own_name.cmp(name).then_with(|| own_desc.cmp(desc)).is_lt()
 }
 
 // Whether the member has this name and descriptor.

@@ -1,5 +1,6 @@
 //! The form that an instruction needs of what it names (JVM Specification SE 8, 6.5).
 use crate::references::{MemberRef, Reference};
+use class_model::opcodes::{INVOKEINTERFACE, INVOKESPECIAL, INVOKESTATIC};
 use class_model::{
     ACC_ABSTRACT, ACC_INTERFACE, ACC_PRIVATE, ACC_STATIC, Header, INIT, Instr, Text, has,
 };
@@ -30,7 +31,7 @@ pub(crate) fn wrong_form(
         Instr::GetStatic(_) | Instr::PutStatic(_) => wrong_kind(is_static, true),
         Instr::GetField(_) | Instr::PutField(_) => wrong_kind(is_static, false),
         Instr::Invoke(opcode, _, _) => {
-            let wrong = wrong_kind(is_static, *opcode == 184);
+            let wrong = wrong_kind(is_static, *opcode == INVOKESTATIC);
             if wrong.is_empty() {
                 wrong_call(tree, *opcode, reference, flags)
             } else {
@@ -58,9 +59,9 @@ fn wrong_call(tree: &Tree, opcode: u8, reference: &Reference<'_>, flags: u16) ->
         "  its class is an interface, which an InterfaceMethodref would name\n"
     } else if !is_interface && reference.kind == MemberRef::InterfaceMethod {
         "  its class is no interface, which a Methodref would name\n"
-    } else if reference.name.bytes() == INIT && opcode != 183 {
+    } else if reference.name.bytes() == INIT && opcode != INVOKESPECIAL {
         "  invokespecial alone calls a constructor\n"
-    } else if opcode == 185 && has(flags, ACC_PRIVATE) {
+    } else if opcode == INVOKEINTERFACE && has(flags, ACC_PRIVATE) {
         "  it is private\n"
     } else {
         ""

@@ -2,6 +2,11 @@
 use crate::frames::kind_word;
 use crate::lines::Lines;
 use crate::references::{descriptor_of, reference_at};
+use class_model::opcodes::{
+    AALOAD, AASTORE, BALOAD, BASTORE, CALOAD, CASTORE, D2F, D2I, DALOAD, DASTORE, DCMPG, DCMPL,
+    DNEG, DREM, DUP, DUP_X1, DUP2, F2D, F2I, FALOAD, FASTORE, FCMPG, FCMPL, I2L, I2S, IADD, IALOAD,
+    IAND, IASTORE, INEG, ISHL, L2D, L2I, LALOAD, LASTORE, LCMP, LUSHR, LXOR, POP, POP2, SWAP,
+};
 use class_model::{ClassFile, Instr};
 
 /// Writes what an instruction takes, if it takes something.
@@ -93,14 +98,14 @@ fn plain_one(instr: &Instr) -> &'static str {
 
 fn arithmetic(opcode: u8) -> &'static str {
     match opcode {
-        96..=115 => two(opcode % 4),
-        116..=119 => one(opcode % 4),
-        120..=125 => shifted(opcode % 2),
-        126..=131 => two(opcode % 2),
-        133..=147 => converted(opcode),
-        148 => two(1),
-        149 | 150 => two(2),
-        151 | 152 => two(3),
+        IADD..=DREM => two(opcode % 4),
+        INEG..=DNEG => one(opcode % 4),
+        ISHL..=LUSHR => shifted(opcode % 2),
+        IAND..=LXOR => two(opcode % 2),
+        I2L..=I2S => converted(opcode),
+        LCMP => two(1),
+        FCMPL | FCMPG => two(2),
+        DCMPL | DCMPG => two(3),
         _ => "",
     }
 }
@@ -132,44 +137,44 @@ fn shifted(kind: u8) -> &'static str {
 
 fn converted(opcode: u8) -> &'static str {
     match opcode {
-        136..=138 => "long",
-        139..=141 => "float",
-        142..=144 => "double",
+        L2I..=L2D => "long",
+        F2I..=F2D => "float",
+        D2I..=D2F => "double",
         _ => "int",
     }
 }
 
 fn array_load(opcode: u8) -> &'static str {
     match opcode {
-        46 => "an array of int and int",
-        47 => "an array of long and int",
-        48 => "an array of float and int",
-        49 => "an array of double and int",
-        50 => "an array of references and int",
-        51 => "an array of byte or boolean and int",
-        52 => "an array of char and int",
+        IALOAD => "an array of int and int",
+        LALOAD => "an array of long and int",
+        FALOAD => "an array of float and int",
+        DALOAD => "an array of double and int",
+        AALOAD => "an array of references and int",
+        BALOAD => "an array of byte or boolean and int",
+        CALOAD => "an array of char and int",
         _ => "an array of short and int",
     }
 }
 
 fn array_store(opcode: u8) -> &'static str {
     match opcode {
-        79 => "an array of int, int and int",
-        80 => "an array of long, int and long",
-        81 => "an array of float, int and float",
-        82 => "an array of double, int and double",
-        83 => "an array of references, int and a reference",
-        84 => "an array of byte or boolean, int and int",
-        85 => "an array of char, int and int",
+        IASTORE => "an array of int, int and int",
+        LASTORE => "an array of long, int and long",
+        FASTORE => "an array of float, int and float",
+        DASTORE => "an array of double, int and double",
+        AASTORE => "an array of references, int and a reference",
+        BASTORE => "an array of byte or boolean, int and int",
+        CASTORE => "an array of char, int and int",
         _ => "an array of short, int and int",
     }
 }
 
 fn shuffle(opcode: u8) -> &'static str {
     match opcode {
-        87 | 89 => "one entry that is neither long nor double",
-        88 | 92 => "one entry that is long or double, or two that are neither",
-        90 | 95 => "two entries that are neither long nor double",
+        POP | DUP => "one entry that is neither long nor double",
+        POP2 | DUP2 => "one entry that is long or double, or two that are neither",
+        DUP_X1 | SWAP => "two entries that are neither long nor double",
         _ => "entries that it does not cut in the middle of a long or double",
     }
 }

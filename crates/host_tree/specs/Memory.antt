@@ -3,6 +3,7 @@ use Rattle.std.specs.Prelude.{◌≡◌, ℕ, Bool, ◌==◌, List}
 use Rattle.std.specs.List.{list_any}
 use Rattle.host_tree.specs.declared.call.HostCall.{HostCall}
 use Rattle.host_tree.specs.declared.memory.MemoryHost.{MemoryHost}
+use Rattle.host_tree.specs.declared.progress.Progress.{Progress}
 use Rattle.host_tree.specs.Faults.{count_of}
 use Rattle.host_tree.specs.Host.{Bytes, Files}
 use Rattle.host_tree.specs.Tree.{tree_files}
@@ -18,6 +19,10 @@ printed_by host = host.printed.items
 -- the explanations so far
 abbrev pub explained_by : MemoryHost → Bytes
 explained_by host = host.explained.items
+
+-- the progress that was shown so far
+abbrev pub shown_by : MemoryHost → List Progress
+shown_by host = host.shown.items
 
 -- how often calls of each kind have failed
 abbrev pub faults_of : MemoryHost → HostCall → ℕ
@@ -39,6 +44,7 @@ refused_calls host = host.fail
 pub record SameButFiles (old new : MemoryHost) : Type 0 where
   pub printed : printed_by new ≡ printed_by old
   pub explained : explained_by new ≡ explained_by old
+  pub shown : shown_by new ≡ shown_by old
   pub faults : (of : HostCall) → faults_of new of ≡ faults_of old of
   pub next_call : next_call_of new ≡ next_call_of old
   pub refused : refused_calls new ≡ refused_calls old

@@ -6,13 +6,14 @@ ghost use Rattle.host_tree.specs.Counts.{Rose, CountsOnly};
 
 use crate::call::{HostCall, HostFail};
 use crate::file_name::FileNameList;
+use crate::progress::Progress;
 use class_model::ByteList;
 use std::alloc::Global;
 
 /// A host. What it holds is told or not told, by its type. Four counts of faults, one for each kind
 /// of call, never fall, and stand still at 2^64 - 1. Each call, also a refused one, leaves the files,
 /// what was printed and the counts of the other kinds as they were, but for what its clauses say.
-/// What is explained to the user is kept apart from what is printed: no clause speaks of it.
+/// What is explained to the user and how far a command has come are kept apart from what is printed: no clause speaks of them.
 pub trait Host {
     /// Whether it tells its files and what was printed.
     ghost tells: { Bool };
@@ -92,6 +93,13 @@ pub trait Host {
 
     /// Shows the user an explanation, a text in UTF-8, beside what is printed. It may be lost.
     fn explain(&mut self, bytes: &[u8])
+        ensures files { IsTrue tells → SameFiles (file self.old) (file self.new) }
+        ensures printed { IsTrue tells → printed self.new ≡ printed self.old }
+        ensures counts { (call : HostCall) → faults self.new call ≡ faults self.old call };
+
+    /// Shows the user how far a command has come, in the place of what was shown before. It may be lost, and is gone
+    /// where something else is shown.
+    fn show_progress(&mut self, progress: Progress)
         ensures files { IsTrue tells → SameFiles (file self.old) (file self.new) }
         ensures printed { IsTrue tells → printed self.new ≡ printed self.old }
         ensures counts { (call : HostCall) → faults self.new call ≡ faults self.old call };

@@ -1,15 +1,16 @@
 //! A host in memory, for tests.
-ghost use Rattle.std.specs.Prelude.{◌≡◌, ℕ, ◌+◌, ◌-◌, ◌^◌, ◌++◌, ◌⊎◌, List, [], true, false, None, Some, take, min, IsSome, IfOk, IsOk, OnOk, OnErr, IsErrOf};
+ghost use Rattle.std.specs.Prelude.{◌≡◌, ℕ, ◌+◌, ◌-◌, ◌^◌, ◌∷◌, ◌++◌, ◌⊎◌, List, [], true, false, None, Some, take, min, IsSome, IfOk, IsOk, OnOk, OnErr, IsErrOf};
 ghost use Rattle.std.specs.Option.{option_copied};
 ghost use Rattle.host_tree.specs.declared.call.HostCall.{HostCall};
 ghost use Rattle.host_tree.specs.Host.{SameFiles, SameElsewhere, IsListing, IsReadOf, IsPrefixPrinted};
 ghost use Rattle.host_tree.specs.Counts.{last_count, Rose, CountsOnly};
-ghost use Rattle.host_tree.specs.Memory.{stored, printed_by, explained_by, faults_of, is_refused, next_call_of, refused_calls, SameButFiles};
+ghost use Rattle.host_tree.specs.Memory.{stored, printed_by, explained_by, shown_by, faults_of, is_refused, next_call_of, refused_calls, SameButFiles};
 
 use crate::call::{HostCall, HostFail};
 use crate::faults::Faults;
 use crate::file_name::FileNameList;
 use crate::host::Host;
+use crate::progress::Progress;
 use crate::tree::FileTree;
 use class_model::{ByteList, ListOf, NoMemory};
 use std::alloc::Global;
@@ -19,13 +20,14 @@ pub type CallNumberList = ListOf<u64>;
 
 /// A host in memory, which tells everything. Its calls are numbered from 0 by a number that stands
 /// still at `u64::MAX`. A call whose number is among those to refuse is refused with `Failed`, and
-/// changes nothing but the count of its kind; a read of a name that is not there is `Absent` always. Explanations are kept, and
-/// are no numbered calls.
+/// changes nothing but the count of its kind; a read of a name that is not there is `Absent` always. Explanations and progress are
+/// kept, and are no numbered calls.
 #[derive(Drop)]
 pub struct MemoryHost {
     tree: FileTree,
     printed: Vec<u8>,
     explained: Vec<u8>,
+    shown: Vec<Progress>,
     fail: CallNumberList,
     next_call: u64,
     faults: Faults,
@@ -38,6 +40,7 @@ impl MemoryHost {
         ensures files { IfOk result (λ host. (root name : List ℕ) → stored host root name ≡ None) }
         ensures printed { IfOk result (λ host. printed_by host ≡ []) }
         ensures explained { IfOk result (λ host. explained_by host ≡ []) }
+        ensures shown { IfOk result (λ host. shown_by host ≡ []) }
         ensures counts { IfOk result (λ host. (of : HostCall) → faults_of host of ≡ 0) }
         ensures calls { IfOk result
             (λ host. (next_call_of host ≡ 0) × (refused_calls host ≡ fail)) }
@@ -46,6 +49,7 @@ impl MemoryHost {
             tree: FileTree::new(alloc),
             printed: Vec::new(alloc),
             explained: Vec::new(alloc),
+            shown: Vec::new(alloc),
             fail,
             next_call: 0,
             faults: Faults::none(),
@@ -87,6 +91,13 @@ impl MemoryHost {
         ensures { result.now ≡ explained_by self.now }
     {
         self.explained.as_slice()
+    }
+
+    /// The progress that was shown so far, in order.
+    pub fn shown(&self) -> &[Progress]
+        ensures { result.now ≡ shown_by self.now }
+    {
+        self.shown.as_slice()
     }
 
     /// How often calls of one kind have failed.
@@ -250,5 +261,18 @@ impl Host for MemoryHost {
     {
         // An explanation for which there is no memory is lost.
         let _ = self.explained.extend_from_slice(bytes);
+    }
+
+    fn show_progress(&mut self, progress: Progress)
+        ensures files { SameFiles (stored self.old) (stored self.new) }
+        ensures printed { printed_by self.new ≡ printed_by self.old }
+        ensures counts { (call : HostCall) → faults_of self.new call ≡ faults_of self.old call }
+        ensures kept { (shown_by self.new ≡ shown_by self.old ++ progress ∷ [])
+            ⊎ (shown_by self.new ≡ shown_by self.old) }
+        ensures not_numbered { (next_call_of self.new ≡ next_call_of self.old)
+            × (refused_calls self.new ≡ refused_calls self.old) }
+    {
+        // Progress for which there is no memory is lost.
+        let _ = self.shown.push(progress);
     }
 }

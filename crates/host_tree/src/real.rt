@@ -8,34 +8,48 @@ use crate::call::{HostCall, HostFail};
 use crate::faults::Faults;
 use crate::file_name::FileNameList;
 use crate::host::Host;
+use crate::progress::{Progress, ProgressLine};
 use crate::stream::{read_first, write_all};
 use crate::walk::{Listing, list_files, path_below};
 use class_model::ByteList;
 use std::alloc::Global;
 use std::fs::OpenFile;
-use std::io::ErrorKind;
-use std::rt::Files;
+use std::io::{ErrorKind, IsTerminal};
+use std::rt::{Clock, Files};
 use std::{fs, io};
 
 /// The files of the system, and its standard output. A root is the path of a folder, and the empty
 /// root is the working folder. A walk lists regular files alone, follows no symbolic link below the root, and fails behind
 /// 1,000,000 entries; a file that is not found is `Absent`, and counted as a fault of reading; a write makes the folders above
-/// its file. Explanations go to standard error, and so does why a call failed; one that can't be written is lost.
+/// its file. Explanations go to standard error, and so does why a call failed; one that can't be written is lost. Progress is shown there
+/// in one line, where it is a terminal and the work takes longer than a second; whatever is written or printed erases the line first.
 #[derive(Drop)]
 pub struct RealHost<R> {
     rt: R,
     faults: Faults,
+    line: ProgressLine,
 }
 
-impl<R: Files + Print + Eprint + AllocGlobal + Clone + Drop> RealHost<R> {
-    /// The system, with no faults.
-    pub fn new(rt: R) -> Self
+impl<R: Files + Print + Eprint + Clock + AllocGlobal + Clone + Drop> RealHost<R> {
+    /// The system, with no faults, and its standard error. The work begins now.
+    pub fn new<E: IsTerminal>(rt: R, errors: &E) -> Self
         ensures { (of : HostCall) → ⟦<RealHost<R> as Host>⟧.faults result of ≡ 0 }
     {
+        let line = ProgressLine::new(&rt, errors.is_terminal());
         RealHost {
             rt,
             faults: Faults::none(),
+            line,
         }
+    }
+
+    /// Erases the line of progress, as the work is at its end.
+    pub fn end_progress(&mut self)
+        ensures { (of : HostCall)
+            → ⟦<RealHost<R> as Host>⟧.faults self.new of
+            ≡ ⟦<RealHost<R> as Host>⟧.faults self.old of }
+    {
+        self.line.erase(&self.rt);
     }
 
     /// Why a call failed, which is counted and explained unless memory ran out.
@@ -48,6 +62,7 @@ impl<R: Files + Print + Eprint + AllocGlobal + Clone + Drop> RealHost<R> {
         if error.kind() == ErrorKind::OutOfMemory {
             return HostFail::NoMemory;
         }
+        self.line.erase(&self.rt);
         explain_fault(&self.rt, call, root, name, error);
         self.faults.raise(call);
         HostFail::Failed
@@ -131,7 +146,7 @@ fn create<R: Files>(rt: &R, path: &str) -> io::Result<R::File> {
     fs::create(rt, path)
 }
 
-impl<R: Files + Print + Eprint + AllocGlobal + Clone + Drop> Host for RealHost<R> {
+impl<R: Files + Print + Eprint + Clock + AllocGlobal + Clone + Drop> Host for RealHost<R> {
     ghost tells = { false };
 
     ghost file = { λ _ _ _. None };
@@ -143,6 +158,7 @@ impl<R: Files + Print + Eprint + AllocGlobal + Clone + Drop> Host for RealHost<R
     fn list(&mut self, alloc: Global, root: &str, most: u64) -> Result<FileNameList, HostFail> {
         match list_files(&self.rt, alloc, root, most) {
             Ok(listing) => {
+                self.line.erase(&self.rt);
                 explain_listing(&self.rt, root, &listing);
                 Ok(listing.names)
             }
@@ -160,6 +176,7 @@ impl<R: Files + Print + Eprint + AllocGlobal + Clone + Drop> Host for RealHost<R
         match read_file(&self.rt, alloc, root, name, most) {
             Ok(bytes) => Ok(bytes),
             Err(error) if error.kind() == ErrorKind::NotFound => {
+                self.line.erase(&self.rt);
                 explain_fault(&self.rt, HostCall::Read, root, name, &error);
                 self.faults.raise(HostCall::Read);
                 Err(HostFail::Absent)
@@ -175,6 +192,7 @@ impl<R: Files + Print + Eprint + AllocGlobal + Clone + Drop> Host for RealHost<R
         name: &str,
         bytes: &[u8],
     ) -> Result<(), HostFail> {
+        self.line.erase(&self.rt);
         match write_file(&self.rt, alloc, root, name, bytes) {
             Ok(()) => Ok(()),
             Err(error) => Err(self.fail(HostCall::Write, root, name, &error)),
@@ -182,6 +200,7 @@ impl<R: Files + Print + Eprint + AllocGlobal + Clone + Drop> Host for RealHost<R
     }
 
     fn print(&mut self, _alloc: Global, bytes: &[u8]) -> Result<(), HostFail> {
+        self.line.erase(&self.rt);
         match write_all(&mut io::writer(&self.rt), bytes) {
             Ok(()) => Ok(()),
             Err(error) => Err(self.fail(HostCall::Print, "", "", &error)),
@@ -189,8 +208,13 @@ impl<R: Files + Print + Eprint + AllocGlobal + Clone + Drop> Host for RealHost<R
     }
 
     fn explain(&mut self, bytes: &[u8]) {
+        self.line.erase(&self.rt);
         if let Ok(text) = str::from_utf8(bytes) {
             let _ = self.rt.eprint(text);
         }
+    }
+
+    fn show_progress(&mut self, progress: Progress) {
+        self.line.show(&self.rt, progress);
     }
 }

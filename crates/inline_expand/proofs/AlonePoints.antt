@@ -8,8 +8,10 @@ use Rattle.class_model.specs.declared.frame.Frame.{Frame}
 use Rattle.class_model.specs.declared.instr.Placed.{Placed}
 use Rattle.flow_code.specs.declared.handlers.FlatHandler.{FlatHandler}
 use Rattle.flow_code.specs.declared.point.Point.{Point}
-use Rattle.inline_expand.specs.Alone.{alone_point, alone_points, handler_of, handlers_at}
+use Rattle.inline_expand.specs.Alone.{alone_point, alone_points, handler_by}
 use Rattle.inline_expand.specs.Inner.Hosts.{CoversAlike}
+use Rattle.inline_expand.specs.Inner.Numbers.{handlers_for, number_by}
+use Rattle.inline_expand.specs.declared.numbers.Numbers.{Numbers}
 use Rattle.member_link.specs.Machine.Codes.{covers}
 use Rattle.member_link.specs.Scope.{Scope}
 
@@ -37,13 +39,13 @@ module _ (s : Scope) (class : ℕ) where
 -- ---- handlers
 
 -- up to the next bound the handlers are the same
-alike : (s : Scope) (at until : ℕ) (handlers : List Handler) → AllByRecursion (CoversAlike at until) handlers → (later : ℕ) → at ≤ later → later < until
-    → flat_map (λ (handler : Handler). if covers handler later then handler_of s handler else []) handlers ≡ flat_map (λ (handler : Handler). if covers handler at then handler_of s handler else []) handlers
-alike s at until [] all later least below = refl
-alike s at until (handler ∷ handlers) all later least below = rw (all.0 later least below, alike s at until handlers all.1 later least below) refl
+alike : (s : Scope) (number : ℕ → ℕ) (at until : ℕ) (handlers : List Handler) → AllByRecursion (CoversAlike at until) handlers → (later : ℕ) → at ≤ later → later < until
+    → flat_map (λ (handler : Handler). if covers handler later then handler_by s number handler else []) handlers ≡ flat_map (λ (handler : Handler). if covers handler at then handler_by s number handler else []) handlers
+alike s number at until [] all later least below = refl
+alike s number at until (handler ∷ handlers) all later least below = rw (all.0 later least below, alike s number at until handlers all.1 later least below) refl
 
-pub handlers-alike : (s : Scope) (at until : ℕ) (handlers : List FlatHandler) → AllByRecursion (CoversAlike at until) s.part.handlers → handlers ≡ handlers_at s at → (later : ℕ) → at ≤ later → later < until → handlers_at s later ≡ handlers
-handlers-alike s at until handlers all is later least below = alike s at until s.part.handlers all later least below ∙ sym is
+pub handlers-alike : (numbers : Numbers) (at until : ℕ) (handlers : List FlatHandler) → AllByRecursion (CoversAlike at until) numbers.host.now.part.handlers → handlers ≡ handlers_for numbers at → (later : ℕ) → at ≤ later → later < until → handlers_for numbers later ≡ handlers
+handlers-alike numbers at until handlers all is later least below = alike numbers.host.now (number_by numbers) at until numbers.host.now.part.handlers all later least below ∙ sym is
 
 -- and up to a bound before it
 pub before-bound : (at until : ℕ) (handlers : List Handler) → AllByRecursion (CoversAlike at until) handlers → (less : ℕ) → less ≤ until → AllByRecursion (CoversAlike at less) handlers

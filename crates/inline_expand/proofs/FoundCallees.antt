@@ -27,9 +27,10 @@ SaysBehind classes caller before at callee =
 
 module _ (classes : Classes) (caller : Scope) (before : List Frame) (at : ℕ) (callee : Scope) where
   pub says_at_frame : (frame : Frame) (says : Type 0) → frame_behind caller before at ≡ Some frame → (says ↔ ResultSaysAtMost (headers_of classes) (result_of (own_descriptor callee)) frame) → says ↔ SaysBehind classes caller before at callee
-  says_at_frame frame says is told =
-      (λ yes behind e. subst (ResultSaysAtMost (headers_of classes) (result_of (own_descriptor callee))) (same_Some frame behind (sym is ∙ e)) (told.0 yes),
-      λ each. told.1 (each frame is))
+  says_at_frame frame says is told = (
+    λ yes behind e. subst (ResultSaysAtMost (headers_of classes) (result_of (own_descriptor callee))) (same_Some frame behind (sym is ∙ e)) (told.0 yes),
+    λ each. told.1 (each frame is),
+  )
 
   pub says_nothing : frame_behind caller before at ≡ None → SaysBehind classes caller before at callee
   says_nothing none behind e = absurd (none-some behind (sym none ∙ e))
@@ -39,7 +40,6 @@ module _ (classes : Classes) (caller : Scope) (before : List Frame) (at : ℕ) (
 module _ (classes : Classes) (typed : FolderFrames)
     (once : (s : Scope) (at : ℕ) (one other : MethodAt) → Calls classes s at one → Calls classes s at other → one ≡ other)
     (caller : CodedMethod) (stands : Stands classes typed caller) (at : ℕ) where
-
   calls_here : (callee : MethodAt) → CallsAtMost classes typed caller.at at callee → Calls classes caller.host at callee
   calls_here callee calls =
       subst (λ (s : Scope). Calls classes s at callee) (one_scope classes typed caller.at calls.caller caller.host calls.before caller.frames.now calls.is_caller stands) calls.calls
@@ -64,8 +64,12 @@ module _ (classes : Classes) (typed : FolderFrames)
       it_says says = record {
         stands = short.1;
         calls = record {
-          caller = caller.host; before = caller.frames.now; is_caller = stands;
-          scope = callee.host; frames = callee.frames.now; is_callee = short.1;
+          caller = caller.host;
+          before = caller.frames.now;
+          is_caller = stands;
+          scope = callee.host;
+          frames = callee.frames.now;
+          is_callee = short.1;
           calls = subst (λ (m : MethodAt). Calls classes caller.host at m) (sym short.0) runs;
           result = says;
         };

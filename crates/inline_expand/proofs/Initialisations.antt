@@ -36,7 +36,6 @@ top_is_none None = refl
 top_is_none (Some type) = refl
 
 module _ (s : Scope) (frames : List Frame) (at : ℕ) where
-
   -- ---- one call is one initialisation
 
   is_read : {object : VType} {reference : Reference} (call : Called) → call_at s at ≡ Some call → InitialisesAt s frames at object reference → called_as INVOKESPECIAL reference ≡ call

@@ -49,9 +49,9 @@ stay_among seen after before methods at are is same =
 pub come_among : (seen after : Verdicts) (before methods : List MethodAt) (at : MethodAt) → AreAmong seen before → methods ≡ before ++ at ∷ [] → Judges seen after at true → AreAmong after methods
 come_among seen after before methods at are is judges =
     λ other known. subst (λ (list : List MethodAt). IsAmong list other) (sym is) (by other known (same_method other at)) where
-  by : (other : MethodAt) → verdict after other ≢ None → (other ≡ at) ⊎ (other ≢ at) → IsAmong (before ++ at ∷ []) other
-  by other known (inl e) = subst (λ (m : MethodAt). IsAmong (before ++ at ∷ []) m) (sym e) (among_last before at)
-  by other known (inr apart) = among_front before (at ∷ []) other (are other (λ none. known (judges.apart other apart ∙ none)))
+      by : (other : MethodAt) → verdict after other ≢ None → (other ≡ at) ⊎ (other ≢ at) → IsAmong (before ++ at ∷ []) other
+      by other known (inl e) = subst (λ (m : MethodAt). IsAmong (before ++ at ∷ []) m) (sym e) (among_last before at)
+      by other known (inr apart) = among_front before (at ∷ []) other (are other (λ none. known (judges.apart other apart ∙ none)))
 
 pub adds_one_more : (first before after methods more : List MethodAt) (at : MethodAt) → AddsAll first before methods → Adds before after at → more ≡ methods ++ at ∷ [] → AddsAll first after more
 adds_one_more first before after methods more at all adds is =
@@ -60,17 +60,17 @@ adds_one_more first before after methods more at all adds is =
       here = λ other among. here other (among_more methods at other among);
       only = λ other among. only other (adds.only other among);
     }) where
-  here : (other : MethodAt) → IsAmong methods other ⊎ (other ≡ at) → IsAmong after other
-  here other (inl among) = adds.keeps other (all.here other among)
-  here other (inr e) = subst (IsAmong after) (sym e) adds.here
+      here : (other : MethodAt) → IsAmong methods other ⊎ (other ≡ at) → IsAmong after other
+      here other (inl among) = adds.keeps other (all.here other among)
+      here other (inr e) = subst (IsAmong after) (sym e) adds.here
 
-  front : (other : MethodAt) → IsAmong first other ⊎ IsAmong methods other → IsAmong first other ⊎ IsAmong (methods ++ at ∷ []) other
-  front other (inl among) = inl among
-  front other (inr among) = inr (among_front methods (at ∷ []) other among)
+      front : (other : MethodAt) → IsAmong first other ⊎ IsAmong methods other → IsAmong first other ⊎ IsAmong (methods ++ at ∷ []) other
+      front other (inl among) = inl among
+      front other (inr among) = inr (among_front methods (at ∷ []) other among)
 
-  only : (other : MethodAt) → IsAmong before other ⊎ (other ≡ at) → IsAmong first other ⊎ IsAmong (methods ++ at ∷ []) other
-  only other (inl among) = front other (all.only other among)
-  only other (inr e) = inr (subst (IsAmong (methods ++ at ∷ [])) (sym e) (among_last methods at))
+      only : (other : MethodAt) → IsAmong before other ⊎ (other ≡ at) → IsAmong first other ⊎ IsAmong (methods ++ at ∷ []) other
+      only other (inl among) = front other (all.only other among)
+      only other (inr e) = inr (subst (IsAmong (methods ++ at ∷ [])) (sym e) (among_last methods at))
 
 pub among_at : (methods : List MethodAt) (number : ℕ) (other : MethodAt) → number < length methods → IsAmong methods (get_or methods number other)
 among_at [] number other within = absurd (omega arith)

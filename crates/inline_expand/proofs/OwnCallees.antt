@@ -70,12 +70,12 @@ module _ (classes : Classes) (typed : FolderFrames) (method : CodedMethod) where
         keeps = λ other among. among_front before (callee.at ∷ []) other among;
         only = λ other among. added other (among_more before callee.at other among);
       }) where
-    need : Needs classes typed method.at callee.at
-    need = record { scope = method.host; frames = method.frames.now; is = stands; within = at; on_this = on; calls = is.calls }
+        need : Needs classes typed method.at callee.at
+        need = record { scope = method.host; frames = method.frames.now; is = stands; within = at; on_this = on; calls = is.calls }
 
-    added : (other : MethodAt) → IsAmong before other ⊎ (other ≡ callee.at) → IsAmong before other ⊎ Needs classes typed method.at other
-    added other (inl among) = inl among
-    added other (inr e) = inr (subst (Needs classes typed method.at) (sym e) need)
+        added : (other : MethodAt) → IsAmong before other ⊎ (other ≡ callee.at) → IsAmong before other ⊎ Needs classes typed method.at other
+        added other (inl among) = inl among
+        added other (inr e) = inr (subst (Needs classes typed method.at) (sym e) need)
 
   -- ---- one call after the other
 

@@ -63,9 +63,10 @@ one_parameter (first ∷ rest) behind is = by (first == right_parenthesis) refl 
       let same : drop (type_len (first ∷ rest)) (first ∷ rest) ≡ behind = cc in
       let short : length (drop (type_len (first ∷ rest)) (first ∷ rest)) ≤ length rest = behind_is_shorter first rest (length rest) (omega arith) in
       subst (λ (after : List ℕ). (length after < length (first ∷ rest)) × (length (types_before (length (first ∷ rest)) (first ∷ rest)) ≡ suc (length (types_before (length after) after))))
-      same
-      (omega arith,
-      rw e (ap (λ n. suc n) (ap length (bound_is_large (length rest) (length (drop (type_len (first ∷ rest)) (first ∷ rest))) (drop (type_len (first ∷ rest)) (first ∷ rest)) short (omega arith)))))
+      same (
+        omega arith,
+        rw e (ap (λ n. suc n) (ap length (bound_is_large (length rest) (length (drop (type_len (first ∷ rest)) (first ∷ rest))) (drop (type_len (first ∷ rest)) (first ∷ rest)) short (omega arith)))),
+      )
 
 -- ---- all of them
 

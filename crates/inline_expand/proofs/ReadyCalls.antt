@@ -66,20 +66,30 @@ module _ (classes : Classes) (typed : FolderFrames) where
     from_callee host _ _ _ (is_callee from at callee host_class caller scope before frames inner is_host is_caller are_before is_scope are_frames calls stands result parts) =
         let has : HasFrames classes typed callee scope frames = record { is_scope = is_scope; are_frames = are_frames } in
         let part : (within : ℕ) → CallsOnThis scope frames within → CallsAtMost classes typed callee within (inner within) × IsReady classes typed host (inner within) =
-            λ within on. from_callee host callee within (inner within) (parts within on.reference on.is on.other) in
-        (record {
-          caller = caller; before = before; is_caller = record { is_scope = is_caller; are_frames = are_before };
-          scope = scope; frames = frames; is_callee = has;
-          calls = calls; result = result;
-        },
-        founded callee (record {
-          host_class = host_class; is_host = is_host; scope = scope; frames = frames; is = has; stands = stands;
-          called = λ within on. (inner within, (part within on).0);
-        }) (λ need needs.
-        let on = need_here callee need scope frames has needs in
-        let h = part needs.within on in
-        subst (IsReady classes typed host) (one_callee callee needs.within (inner needs.within) need h.0 needs.calls) h.1))
-
+        λ within on. from_callee host callee within (inner within) (parts within on.reference on.is on.other) in (
+          record {
+            caller = caller;
+            before = before;
+            is_caller = record { is_scope = is_caller; are_frames = are_before };
+            scope = scope;
+            frames = frames;
+            is_callee = has;
+            calls = calls;
+            result = result;
+          },
+          founded callee (record {
+            host_class = host_class;
+            is_host = is_host;
+            scope = scope;
+            frames = frames;
+            is = has;
+            stands = stands;
+            called = λ within on. (inner within, (part within on).0);
+          }) (λ need needs.
+              let on = need_here callee need scope frames has needs in
+              let h = part needs.within on in
+              subst (IsReady classes typed host) (one_callee callee needs.within (inner needs.within) need h.0 needs.calls) h.1),
+        )
     -- ---- what is ready is a callee
 
   -- the result is that of the one scope

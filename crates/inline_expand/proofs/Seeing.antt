@@ -34,20 +34,25 @@ module _ (before after : MethodAt → Option Bool) (more : (at : MethodAt) → a
     methods_fall class number place [] method is is_class is_number = absurd cc
     methods_fall class number zero (first ∷ methods) method is is_class is_number =
         let here : record { class = class; method = number } ≡ at = same in
-        omega (arith,
-        one_falls (before (record { class = class; method = number })) (after (record { class = class; method = number }))
-        (subst (λ (m : MethodAt). before m ≡ None) (sym here) not_before)
-        (subst (λ (m : MethodAt). after m ≢ None) (sym here) is_after),
-        methods_more class (suc number) methods) where
-      is_method : number ≡ at.method
-      is_method = omega arith
+        omega (
+          arith,
+          one_falls (before (record { class = class; method = number })) (after (record { class = class; method = number }))
+              (subst (λ (m : MethodAt). before m ≡ None) (sym here) not_before)
+              (subst (λ (m : MethodAt). after m ≢ None) (sym here) is_after),
+          methods_more class (suc number) methods,
+        ) where
+          is_method : number ≡ at.method
+          is_method = omega arith
 
-      same : record { class = class; method = number } ≡ at
-      same = λ i. record { class = is_class i; method = is_method i }
+          same : record { class = class; method = number } ≡ at
+          same = λ i. record { class = is_class i; method = is_method i }
     methods_fall class number (suc place) (first ∷ methods) method is is_class is_number =
         let here : MethodAt = record { class = class; method = number } in
-        omega (arith, one_more (before here) (after here) (more here),
-        methods_fall class (suc number) place methods method is is_class (omega arith))
+        omega (
+          arith,
+          one_more (before here) (after here) (more here),
+          methods_fall class (suc number) place methods method is is_class (omega arith),
+        )
 
     classes_fall : (number place : ℕ) (classes : List ClassFile) (class : ClassFile) (method : Method)
         → slice_get classes place ≡ Some class

@@ -31,7 +31,6 @@ none_of_each (first ∷ methods) at each = (each first (inl refl), none_of_each 
 
 module _ (classes : Classes) (typed : FolderFrames) (host : MethodAt)
     (once : (s : Scope) (at : ℕ) (one other : MethodAt) → Calls classes s at one → Calls classes s at other → one ≡ other) where
-
   -- ---- what is replaced is shallow
 
   pub constructs_shallow : (chain : List MethodAt) (from : MethodAt) (at : ℕ)
@@ -46,18 +45,19 @@ module _ (classes : Classes) (typed : FolderFrames) (host : MethodAt)
     six_left : length chain < 6 → length chain + 0 ≡ 6 → ⊥
     six_left short six = omega arith
   constructs_shallow _ _ _ (constructs chain from at own scope frames callee_is follows has parts) outer (suc left) within six callee calls =
-      subst (IsShallow classes typed outer (suc left)) same
-      (none_of_each outer own (λ other is. none_among (host ∷ chain) own other follows.other (within other is)),
-      λ need needs.
-      let on = need_here classes typed once own need scope frames has needs in
-      constructs_shallow (own ∷ chain) own needs.within (parts needs.within on.reference on.is on.other) outer left
-      (λ other is. wider other (within other is)) (omega (arith, six)) need needs.calls) where
-    same : own ≡ callee
-    same = one_callee classes typed once from at own callee (from_callee classes typed once host.class from at own callee_is).0 calls
+      subst (IsShallow classes typed outer (suc left)) same (
+        none_of_each outer own (λ other is. none_among (host ∷ chain) own other follows.other (within other is)),
+        λ need needs.
+            let on = need_here classes typed once own need scope frames has needs in
+            constructs_shallow (own ∷ chain) own needs.within (parts needs.within on.reference on.is on.other) outer left
+            (λ other is. wider other (within other is)) (omega (arith, six)) need needs.calls,
+      ) where
+        same : own ≡ callee
+        same = one_callee classes typed once from at own callee (from_callee classes typed once host.class from at own callee_is).0 calls
 
-    wider : (other : MethodAt) → IsAmong (host ∷ chain) other → IsAmong (host ∷ own ∷ chain) other
-    wider other (inl e) = inl e
-    wider other (inr is) = inr (inr is)
+        wider : (other : MethodAt) → IsAmong (host ∷ chain) other → IsAmong (host ∷ own ∷ chain) other
+        wider other (inl e) = inl e
+        wider other (inr is) = inr (inr is)
 
   -- ---- what is shallow is replaced
 
@@ -96,14 +96,14 @@ module _ (classes : Classes) (typed : FolderFrames) (host : MethodAt)
       let need : Needs classes typed callee inner.0 = record { scope = fits.scope; frames = fits.frames; is = fits.is; within = within; on_this = on; calls = inner.1 } in
       shallow_constructs outer left (callee ∷ chain) callee within inner.0 (omega (arith, six)) inner.1 (parts inner.0 need) (shallow.1 inner.0 need)
       (λ other is. further need (rotated other is))) where
-    rotated : (other : MethodAt) → IsAmong (host ∷ callee ∷ chain) other → (other ≡ callee) ⊎ IsAmong (host ∷ chain) other
-    rotated other (inl e) = inr (inl e)
-    rotated other (inr (inl e)) = inl e
-    rotated other (inr (inr is)) = inr (inr is)
+        rotated : (other : MethodAt) → IsAmong (host ∷ callee ∷ chain) other → (other ≡ callee) ⊎ IsAmong (host ∷ chain) other
+        rotated other (inl e) = inr (inl e)
+        rotated other (inr (inl e)) = inl e
+        rotated other (inr (inr is)) = inr (inr is)
 
-    further : {inner other : MethodAt} → Needs classes typed callee inner → (other ≡ callee) ⊎ IsAmong (host ∷ chain) other → IsAmong outer other ⊎ Leads (Needs classes typed) other inner
-    further {inner} {other} need (inl e) = inr (subst (λ (m : MethodAt). Leads (Needs classes typed) m inner) (sym e) (leads_at_once callee inner need))
-    further {inner} {other} need (inr is) = led (each other is) where
-      led : IsAmong outer other ⊎ Leads (Needs classes typed) other callee → IsAmong outer other ⊎ Leads (Needs classes typed) other inner
-      led (inl among) = inl among
-      led (inr leads) = inr (then_needs other callee inner leads need)
+        further : {inner other : MethodAt} → Needs classes typed callee inner → (other ≡ callee) ⊎ IsAmong (host ∷ chain) other → IsAmong outer other ⊎ Leads (Needs classes typed) other inner
+        further {inner} {other} need (inl e) = inr (subst (λ (m : MethodAt). Leads (Needs classes typed) m inner) (sym e) (leads_at_once callee inner need))
+        further {inner} {other} need (inr is) = led (each other is) where
+          led : IsAmong outer other ⊎ Leads (Needs classes typed) other callee → IsAmong outer other ⊎ Leads (Needs classes typed) other inner
+          led (inl among) = inl among
+          led (inr leads) = inr (then_needs other callee inner leads need)

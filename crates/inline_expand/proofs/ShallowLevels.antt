@@ -66,10 +66,10 @@ module _ (classes : Classes) (typed : FolderFrames) (host : ℕ) (outer : List M
   descends_on before left level needs is began needed apart =
       let descends : Descends classes typed host outer steps root (suc left) level = subst (λ (n : ℕ). Descends classes typed host outer steps root n level) is began in
       record {
-    down = λ shallow. level_down classes typed outer left level needs needed (descends.down shallow);
-    up = λ shallow. descends.up (level_up classes typed outer left level needs needed apart shallow);
-    ready = λ need is. (let from = needed.only need is in needed_is_founded from.0 need (descends.ready from.0 from.1) from.2);
-  }
+        down = λ shallow. level_down classes typed outer left level needs needed (descends.down shallow);
+        up = λ shallow. descends.up (level_up classes typed outer left level needs needed apart shallow);
+        ready = λ need is. (let from = needed.only need is in needed_is_founded from.0 need (descends.ready from.0 from.1) from.2);
+      }
 
   pub stops : (before left : ℕ) (level : List MethodAt) → before ≡ suc left → Descends classes typed host outer steps root before level → ¬ NoneIsOneOf outer level → ¬ IsShallow classes typed outer steps root
   stops before left level is began some shallow =
@@ -99,15 +99,15 @@ needed_more classes typed host methods more before after needs at needed has add
       each = λ one need among needs_it. by one need needs_it (among_more methods at one among);
       only = λ need among. from need (adds.only need among);
     }) where
-  by : (one need : MethodAt) → Needs classes typed one need → IsAmong methods one ⊎ (one ≡ at) → IsAmong after need
-  by one need needs_it (inl among) = adds.keeps need (needed.each one need among needs_it)
-  by one need needs_it (inr e) = adds.here need (has.each need (subst (λ (m : MethodAt). Needs classes typed m need) e needs_it))
+      by : (one need : MethodAt) → Needs classes typed one need → IsAmong methods one ⊎ (one ≡ at) → IsAmong after need
+      by one need needs_it (inl among) = adds.keeps need (needed.each one need among needs_it)
+      by one need needs_it (inr e) = adds.here need (has.each need (subst (λ (m : MethodAt). Needs classes typed m need) e needs_it))
 
-  from : (need : MethodAt) → IsAmong before need ⊎ IsAmong needs need → (one : MethodAt) × IsAmong (methods ++ at ∷ []) one × Needs classes typed one need
-  from need (inl among) =
-      let old = needed.only need among in
-      (old.0, among_front methods (at ∷ []) old.0 old.1, old.2)
-  from need (inr among) = (at, among_last methods at, has.only need among)
+      from : (need : MethodAt) → IsAmong before need ⊎ IsAmong needs need → (one : MethodAt) × IsAmong (methods ++ at ∷ []) one × Needs classes typed one need
+      from need (inl among) =
+          let old = needed.only need among in
+          (old.0, among_front methods (at ∷ []) old.0 old.1, old.2)
+      from need (inr among) = (at, among_last methods at, has.only need among)
 
 pub no_items : (methods : List MethodAt) → length methods == 0 ≡ true → methods ≡ []
 no_items [] is = refl

@@ -113,33 +113,32 @@ module _ (classes : Classes) (s : Scope) where
         long = omega (arith, are.long, length_grown before);
         each = λ number other found below is_other is_found. by number other found below is_other is_found (cases_eq number count);
       }) where
-    length_grown : (list : List (Option Name)) → length (list ++ class ∷ []) ≡ length list + 1
-    length_grown [] = refl
-    length_grown (first ∷ list) = omega (arith, length_grown list)
+        length_grown : (list : List (Option Name)) → length (list ++ class ∷ []) ≡ length list + 1
+        length_grown [] = refl
+        length_grown (first ∷ list) = omega (arith, length_grown list)
 
-    last : (list : List (Option Name)) → slice_get (list ++ class ∷ []) (length list) ≡ Some class
-    last [] = refl
-    last (first ∷ list) = last list
+        last : (list : List (Option Name)) → slice_get (list ++ class ∷ []) (length list) ≡ Some class
+        last [] = refl
+        last (first ∷ list) = last list
 
-    front : (list : List (Option Name)) (number : ℕ) → number < length list → slice_get (list ++ class ∷ []) number ≡ slice_get list number
-    front [] number within = absurd (omega arith)
-    front (first ∷ list) zero within = refl
-    front (first ∷ list) (suc number) within = front list number (omega (arith, within))
+        front : (list : List (Option Name)) (number : ℕ) → number < length list → slice_get (list ++ class ∷ []) number ≡ slice_get list number
+        front [] number within = absurd (omega arith)
+        front (first ∷ list) zero within = refl
+        front (first ∷ list) (suc number) within = front list number (omega (arith, within))
 
-    by : (number : ℕ) (other : Placed) (found : Option Name) → number < count + 1 → slice_get (instructions s) number ≡ Some other → slice_get (before ++ class ∷ []) number ≡ Some found → (number ≡ count) ⊎ (number ≢ count) → IsCandidateOf classes (class_made s other.instr) found
-    by number other found below is_other is_found (inl same) =
-        let here : placed ≡ other = same_Some placed other (sym there ∙ ap (slice_get (instructions s)) (sym same) ∙ is_other) in
-        let at_end : number ≡ length before = omega (arith, same, are.long) in
-        let found_is : class ≡ found = same_Some class found (sym (last before) ∙ ap (slice_get (before ++ class ∷ [])) (sym at_end) ∙ is_found) in
-        subst (IsCandidateOf classes (class_made s other.instr)) found_is (subst (λ (p : Placed). IsCandidateOf classes (class_made s p.instr) class) here is)
-    by number other found below is_other is_found (inr apart) =
-        let within : number < length before = omega (arith, below, apart, are.long) in
-        are.each number other found (omega (arith, below, apart)) is_other (sym (front before number within) ∙ is_found)
+        by : (number : ℕ) (other : Placed) (found : Option Name) → number < count + 1 → slice_get (instructions s) number ≡ Some other → slice_get (before ++ class ∷ []) number ≡ Some found → (number ≡ count) ⊎ (number ≢ count) → IsCandidateOf classes (class_made s other.instr) found
+        by number other found below is_other is_found (inl same) =
+            let here : placed ≡ other = same_Some placed other (sym there ∙ ap (slice_get (instructions s)) (sym same) ∙ is_other) in
+            let at_end : number ≡ length before = omega (arith, same, are.long) in
+            let found_is : class ≡ found = same_Some class found (sym (last before) ∙ ap (slice_get (before ++ class ∷ [])) (sym at_end) ∙ is_found) in
+            subst (IsCandidateOf classes (class_made s other.instr)) found_is (subst (λ (p : Placed). IsCandidateOf classes (class_made s p.instr) class) here is)
+        by number other found below is_other is_found (inr apart) =
+            let within : number < length before = omega (arith, below, apart, are.long) in
+            are.each number other found (omega (arith, below, apart)) is_other (sym (front before number within) ∙ is_found)
 
 -- ---- sites
 
 module _ (classes : Classes) (typed : FolderFrames) (host : MethodAt) (chain : List MethodAt) (method : CodedMethod) (stands : Stands classes typed method) where
-
   scope_here : (scope : Scope) (frames : List Frame) → HasFrames classes typed method.at scope frames → scope ≡ method.host
   scope_here scope frames is = one_scope classes typed method.at scope method.host frames method.frames.now is stands
 
@@ -211,8 +210,11 @@ module _ (classes : Classes) (typed : FolderFrames) (host : MethodAt) (chain : L
   module _ (count : ℕ) (sites : List (Option Name)) (all : count ≡ length (instructions method.host)) (are : AreSites classes typed host chain method count sites) (at : ℕ) where
     is_site : (class : Name) → IsKeptSoFar classes typed host chain method count at class → IsSite classes typed host chain method.at at class
     is_site class is = record {
-      scope = method.host; frames = method.frames.now; is = stands;
-      makes = is.makes; candidate = is.candidate;
+      scope = method.host;
+      frames = method.frames.now;
+      is = stands;
+      makes = is.makes;
+      candidate = is.candidate;
       constructed = λ call reference init. of_call call reference init (instr_there method.host call _ init.is_call.is);
     } where
       of_call : (call : ℕ) (reference : Reference) → InitialisesAt method.host method.frames.now call (Uninit at) reference → PlacedThere (instructions method.host) call → Constructs classes typed host chain method.at call
@@ -281,11 +283,16 @@ module _ (classes : Classes) (typed : FolderFrames) (host : MethodAt) (chain : L
       by : (other : ℕ) (placed : Placed) → placed_at (instructions method.host) other ≡ Some placed → (other ≡ new) ⊎ (other ≢ new)
           → StaysOrFalls classes typed host chain method at other (slice_get sites (number_at method.host other)) (slice_get (slice_set sites (number_at method.host new) None) (number_at method.host other))
       by other placed is (inl same) =
-          inr (ap (λ (n : ℕ). slice_get (slice_set sites (number_at method.host new) None) (number_at method.host n)) same ∙ set_here sites (number_at method.host new) None within,
-          (reference, subst (λ (n : ℕ). InitialisesAt method.host method.frames.now at (Uninit n) reference) (sym same) init), not)
+          inr (
+            ap (λ (n : ℕ). slice_get (slice_set sites (number_at method.host new) None) (number_at method.host n)) same ∙ set_here sites (number_at method.host new) None within,
+            (reference, subst (λ (n : ℕ). InitialisesAt method.host method.frames.now at (Uninit n) reference) (sym same) init),
+            not,
+          )
       by other placed is (inr apart) =
-          inl (set_apart sites (number_at method.host new) (number_at method.host other) None (λ e. apart (one_offset method.host other new placed is e)),
-          λ class also entry init_also. absurd (apart (sym (one_new other also init_also))))
+          inl (
+            set_apart sites (number_at method.host new) (number_at method.host other) None (λ e. apart (one_offset method.host other new placed is e)),
+            λ class also entry init_also. absurd (apart (sym (one_new other also init_also))),
+          )
 
   pub none_new_stays : ((new : ℕ) (reference : Reference) → ¬ InitialisesAt method.host method.frames.now at (Uninit new) reference) → SpoilsAt classes typed host chain method at sites sites
   none_new_stays none = all_stay (λ new class reference entry init. absurd (none new reference init))

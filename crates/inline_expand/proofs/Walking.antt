@@ -46,7 +46,6 @@ module _ where
     of_parts (inr apart) method = inr (λ e. apart (λ i. (e i).class))
 
 module _ (classes : Classes) (typed : FolderFrames) (host : ℕ) (root : MethodAt) where
-
   -- ---- what is led to
 
   -- where a method on the stack is ready, so is each that the walk came to from it
@@ -68,9 +67,10 @@ module _ (classes : Classes) (typed : FolderFrames) (host : ℕ) (root : MethodA
       → AreSettled classes typed host root before above stack
       → AreSettled classes typed host root after over stack
   stays_settled before after above over [] more settled = more root settled
-  stays_settled before after above over (visit ∷ below) more settled =
-      (each visit settled.0,
-      stays_settled before after (method_of visit ∷ above) (method_of visit ∷ over) below (under (method_of visit)) settled.1) where
+  stays_settled before after above over (visit ∷ below) more settled = (
+    each visit settled.0,
+    stays_settled before after (method_of visit ∷ above) (method_of visit ∷ over) below (under (method_of visit)) settled.1,
+  ) where
     each : (visit : Visit) → Settles classes typed host before above visit → Settles classes typed host after over visit
     each (Enter at) is = tt
     each (Leave at) is = (is.0, λ need needs. more need (is.1 need needs))
@@ -155,13 +155,13 @@ module _ (classes : Classes) (typed : FolderFrames) (host : ℕ) (root : MethodA
     either need (inr is) = is
   stacked_settles verdicts (first ∷ needs) above stack settled =
       stacked_settles verdicts needs above (Enter first ∷ stack) (λ over more. (tt, settled (first ∷ over) (λ need is. put need over more is))) where
-    put : (need : MethodAt) (over : List MethodAt)
-        → ((need : MethodAt) → IsAmong needs need ⊎ IsAmong above need → IsAmong over need)
-        → IsAmong (first ∷ needs) need ⊎ IsAmong above need
-        → IsAmong (first ∷ over) need
-    put need over more (inl (inl e)) = inl e
-    put need over more (inl (inr is)) = inr (more need (inl is))
-    put need over more (inr is) = inr (more need (inr is))
+        put : (need : MethodAt) (over : List MethodAt)
+            → ((need : MethodAt) → IsAmong needs need ⊎ IsAmong above need → IsAmong over need)
+            → IsAmong (first ∷ needs) need ⊎ IsAmong above need
+            → IsAmong (first ∷ over) need
+        put need over more (inl (inl e)) = inl e
+        put need over more (inl (inr is)) = inr (more need (inl is))
+        put need over more (inr is) = inr (more need (inr is))
 
   stacked_left : (needs : List MethodAt) (stack : List Visit) (at : MethodAt) → IsLeft stack at → IsLeft (stacked needs stack) at
   stacked_left [] stack at is = is
@@ -210,9 +210,10 @@ module _ (classes : Classes) (typed : FolderFrames) (host : ℕ) (root : MethodA
     more over other (inr (inr none)) = elim none [ ]
 
     settled : (over : List MethodAt) → ((need : MethodAt) → IsAmong needs need ⊎ IsAmong [] need → IsAmong over need) → AreSettled classes typed host root after over (Leave at ∷ stack)
-    settled over among =
-        ((has.fits, λ need is. inr (among need (inl (has.each need is)))),
-        stays_settled before after (at ∷ []) (at ∷ over) stack (more over) walk.settled.1)
+    settled over among = (
+      (has.fits, λ need is. inr (among need (inl (has.each need is)))),
+      stays_settled before after (at ∷ []) (at ∷ over) stack (more over) walk.settled.1,
+    )
 
   -- ---- how the walk begins and ends
 
@@ -241,9 +242,10 @@ module _ (classes : Classes) (typed : FolderFrames) (host : ℕ) (root : MethodA
       → Walks classes typed host root verdicts (Enter at ∷ stack)
       → ¬ IsReady classes typed host at
       → AreRight classes typed host verdicts × (¬ IsReady classes typed host root)
-  fails verdicts stack at walk none =
-      (record { ready = walk.ready; unready = λ other is. of_unready other (walk.unready other is) },
-      λ is. none (root_leads stack at walk.led.1 walk.led.0 is)) where
+  fails verdicts stack at walk none = (
+    record { ready = walk.ready; unready = λ other is. of_unready other (walk.unready other is) },
+    λ is. none (root_leads stack at walk.led.1 walk.led.0 is),
+  ) where
     of_unready : (other : MethodAt) → IsLeft stack other ⊎ (¬ IsReady classes typed host other) → ¬ IsReady classes typed host other
     of_unready other (inl is) = λ ready. none (led_is_founded other at (left_leads stack at other walk.led.1 walk.led.0 is) ready)
     of_unready other (inr apart) = apart
@@ -279,7 +281,6 @@ found_none (Some is_ready) is = absurd cc
 
 module _ (classes : Classes) (typed : FolderFrames) (host : ℕ) (root : MethodAt) (before : Verdicts) (old : List Visit) (after : Verdicts) (new : List Visit)
     (walk : Walks classes typed host root before old) where
-
   pub next_walks : (next : Option MethodAt) (at : MethodAt) → GoesOn before old after new next → next ≡ Some at
       → Walks classes typed host root after (Enter at ∷ new) × (verdict after at ≢ Some true)
   next_walks next at on is = subst (Advances classes typed host root after new) is (on.walks classes typed host root walk)

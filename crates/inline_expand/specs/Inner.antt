@@ -1,14 +1,18 @@
 -- Words for private functions: no public contract cites them. What the code is proved to do is said without them, so a reader of the
 -- definitions may pass them over.
+pub mod CalleePlaces
 pub mod Calls
 pub mod Chains
 pub mod Coded
 pub mod FolderMethods
 pub mod Found
 pub mod Founded
+pub mod Frames
 pub mod Hosts
 pub mod Initialised
+pub mod Layouts
 pub mod MethodSets
+pub mod Numbers
 pub mod Open
 pub mod Overridden
 pub mod ParameterLists
@@ -18,9 +22,11 @@ pub mod ReadyCallees
 pub mod References
 pub mod Replacements
 pub mod SeenMethods
+pub mod Settings
 pub mod SiteTables
 pub mod Stacks
 pub mod Standing
+pub mod Steps
 pub mod Unseen
 pub mod Verdicts
 pub mod Walks

@@ -10,6 +10,7 @@ ghost use Rattle.type_rules.specs.Verified.{TypesFolder};
 use crate::handlers::Around;
 use crate::host::Host;
 use crate::numbered::numbered_frame;
+use crate::numbers::Numbers;
 use crate::renumbered::renumbered;
 use class_model::{Frame, MethodAt, NoMemory, Placed};
 use class_tree::Tree;
@@ -71,10 +72,11 @@ fn points_of(
 {
     let instrs = host.instrs();
     let mut points = Vec::with_capacity(alloc, instrs.len())?;
+    let numbers = Numbers::own(host);
     let mut around = Around::none(alloc);
     for number in 0..instrs.len() {
         let placed = &instrs[number];
-        around = around.moved(alloc, host, placed.at)?;
+        around = around.moved(alloc, &numbers, placed.at)?;
         points.push(point(
             alloc,
             host,
@@ -102,7 +104,7 @@ fn point(
     Ok(Point {
         instr: FlatInstr::Of {
             class,
-            instr: renumbered(alloc, host, &placed.instr)?,
+            instr: renumbered(alloc, &Numbers::own(host), &placed.instr)?,
         },
         typed: numbered_frame(alloc, host, frame)?,
         handlers: handlers.copy()?,

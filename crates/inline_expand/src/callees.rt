@@ -9,6 +9,7 @@ ghost use Rattle.inline_expand.specs.Inner.Walks.{AreRight};
 use crate::called_methods::find_callee;
 use crate::calls::a_call_runs_one_method;
 use crate::coded::CodedMethod;
+use crate::folder_methods::FolderMethods;
 use crate::ready::{HostClass, is_ready};
 use crate::verdicts::Verdicts;
 use class_model::{MethodAt, NoMemory};
@@ -40,8 +41,10 @@ pub fn callee(
     let Some(caller) = CodedMethod::at(alloc, tree, typed, from)? else {
         return Ok(None);
     };
+    let methods = FolderMethods::of(alloc, tree)?;
     let host = HostClass {
         tree,
+        methods: &methods,
         typed,
         number: host,
         class,
@@ -74,7 +77,7 @@ pub(crate) fn find_ready<'a>(
 {
     a_tree_is_a_hierarchy(host.tree);
     a_call_runs_one_method();
-    let Some(callee) = find_callee(alloc, host.tree, host.typed, caller, at)? else {
+    let Some(callee) = find_callee(alloc, host, caller, at)? else {
         return Ok(None);
     };
     if is_ready(alloc, host, verdicts, callee.at)? {

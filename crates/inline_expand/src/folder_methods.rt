@@ -2,8 +2,7 @@
 ghost use Rattle.std.specs.Prelude.{◌≡◌, ◌<◌, ℕ, [], ◌∷◌, length, slice_get, slice_index_or, Some, IfOk, OnOk};
 ghost use Rattle.class_model.specs.declared.header.Header.{Header};
 ghost use Rattle.class_tree.specs.Headers.{headers_of};
-ghost use Rattle.inline_expand.specs.Inner.FolderMethods.{AreAlike, AreBuckets, AreKept};
-ghost use Rattle.member_link.specs.Inner.FinalMarks.{front, key, slot_of};
+ghost use Rattle.inline_expand.specs.Inner.FolderMethods.{AreAlike, AreBuckets, AreKept, front, key, slot_of};
 
 use crate::found::own_method;
 use class_model::{ListOf, Member, NoMemory};

@@ -1,12 +1,12 @@
 //! The handlers of points.
 ghost use Rattle.std.specs.Prelude.{◌≡◌, ◌++◌, [], if◌then◌else◌, option_to_list, IfOk, OnOk};
 ghost use Rattle.std.specs.List.{AllByRecursion};
-ghost use Rattle.inline_expand.specs.Alone.{handler_of, handlers_at};
-ghost use Rattle.inline_expand.specs.Inner.Hosts.{AreAround, CoversAlike};
+ghost use Rattle.inline_expand.specs.Inner.Hosts.{CoversAlike};
+ghost use Rattle.inline_expand.specs.Inner.Numbers.{AreAround, handler_for, handlers_for};
 ghost use Rattle.member_link.specs.Machine.Codes.{covers};
-ghost use Rattle.member_link.specs.Scope.{Scope};
+ghost use Rattle.inline_expand.specs.declared.numbers.Numbers.{Numbers};
 
-use crate::host::Host;
+use crate::numbers::Numbers;
 use class_model::{Handler, NoMemory, Text};
 use flow_code::{FlatHandler, FlatHandlerList};
 use std::alloc::Global;
@@ -22,7 +22,8 @@ pub(crate) struct Around {
 impl Around {
     /// Those around no instruction.
     pub(crate) fn none(alloc: Global) -> Around
-        ensures { (s : Scope) → AreAround s result }
+        ensures around { (numbers : Numbers) → AreAround numbers result }
+        ensures none { result.until ≡ 0 }
     {
         Around {
             from: 0,
@@ -36,37 +37,46 @@ impl Around {
     ///
     /// # Errors
     /// `NoMemory`, where memory runs out.
-    pub(crate) fn moved(self, alloc: Global, host: &Host<'_>, at: u32) -> Result<Around, NoMemory>
-        requires { AreAround host.now self }
-        ensures around { IfOk result (AreAround host.now) }
-        ensures at { IfOk result (λ around. around.handlers ≡ handlers_at host.now at) }
+    pub(crate) fn moved(
+        self,
+        alloc: Global,
+        numbers: &Numbers<'_, '_>,
+        at: u32,
+    ) -> Result<Around, NoMemory>
+        requires { AreAround numbers.now self }
+        ensures around { IfOk result (AreAround numbers.now) }
+        ensures at { IfOk result (λ around. around.handlers ≡ handlers_for numbers.now at) }
     {
         if self.from <= at && at < self.until {
             return Ok(self);
         }
-        handlers_from(alloc, host, at)
+        handlers_from(alloc, numbers, at)
     }
 }
 
 // The handlers around an offset, and around all behind it up to where a range starts or ends.
-fn handlers_from(alloc: Global, host: &Host<'_>, at: u32) -> Result<Around, NoMemory>
-    ensures around { IfOk result (AreAround host.now) }
-    ensures at { IfOk result (λ around. around.handlers ≡ handlers_at host.now at) }
+fn handlers_from(alloc: Global, numbers: &Numbers<'_, '_>, at: u32) -> Result<Around, NoMemory>
+    ensures around { IfOk result (AreAround numbers.now) }
+    ensures at { IfOk result (λ around. around.handlers ≡ handlers_for numbers.now at) }
 {
     Ok(Around {
         from: at,
-        until: next_bound(host.handlers(), at),
-        handlers: handlers_at(alloc, host, at)?,
+        until: next_bound(numbers.host.handlers(), at),
+        handlers: handlers_at(alloc, numbers, at)?,
     })
 }
 
 // The handlers around an offset, in table order.
-fn handlers_at(alloc: Global, host: &Host<'_>, at: u32) -> Result<FlatHandlerList, NoMemory>
-    ensures { IfOk result (λ list. list ≡ handlers_at host.now at) }
+fn handlers_at(
+    alloc: Global,
+    numbers: &Numbers<'_, '_>,
+    at: u32,
+) -> Result<FlatHandlerList, NoMemory>
+    ensures { IfOk result (λ list. list ≡ handlers_for numbers.now at) }
 {
     let mut list = FlatHandlerList::new(alloc);
-    for handler in host.handlers() {
-        add(&mut list, handler_around(host, handler, at)?)?;
+    for handler in numbers.host.handlers() {
+        add(&mut list, handler_around(numbers, handler, at)?)?;
     }
     Ok(list)
 }
@@ -83,32 +93,32 @@ fn add(list: &mut FlatHandlerList, handler: Option<FlatHandler>) -> Result<(), N
 
 // A handler, if its range has an offset and it catches anything.
 fn handler_around(
-    host: &Host<'_>,
+    numbers: &Numbers<'_, '_>,
     handler: &Handler,
     at: u32,
 ) -> Result<Option<FlatHandler>, NoMemory>
     ensures { IfOk result (λ found. option_to_list found
-        ≡ (if covers handler.now at then handler_of host.now handler.now else [])) }
+        ≡ (if covers handler.now at then handler_for numbers.now handler.now else [])) }
 {
     if u32::from(handler.start) <= at && at < u32::from(handler.end) {
-        handler_of(host, handler)
+        handler_of(numbers, handler)
     } else {
         Ok(None)
     }
 }
 
 // A handler, if it catches anything: it begins at the number of the instruction at its offset.
-fn handler_of(host: &Host<'_>, handler: &Handler) -> Result<Option<FlatHandler>, NoMemory>
-    ensures { IfOk result (λ found. option_to_list found ≡ handler_of host.now handler.now) }
+fn handler_of(numbers: &Numbers<'_, '_>, handler: &Handler) -> Result<Option<FlatHandler>, NoMemory>
+    ensures { IfOk result (λ found. option_to_list found ≡ handler_for numbers.now handler.now) }
 {
-    let to = host.number(u32::from(handler.at)) as usize;
+    let to = numbers.number(u32::from(handler.at)) as usize;
     if handler.catch_type == 0 {
         return Ok(Some(FlatHandler {
             to,
             catch_class: None,
         }));
     }
-    match host.pool().class_name(handler.catch_type) {
+    match numbers.host.pool().class_name(handler.catch_type) {
         Some(name) => Ok(Some(FlatHandler {
             to,
             catch_class: Some(name.copy()?),

@@ -29,10 +29,7 @@ pub(crate) struct Initialisation<'a> {
 }
 
 /// The call of an instance initialiser on an uninitialised object at an offset, if one stands there.
-pub(crate) fn initialisation_at<'a>(
-    method: &CodedMethod<'a>,
-    at: u32,
-) -> Option<Initialisation<'a>>
+pub(crate) fn initialisation_at<'a>(method: &CodedMethod<'a>, at: u32) -> Option<Initialisation<'a>>
     ensures { IsInitialisation method.now.host method.now.frames.now at result }
 {
     let Some(call) = call_at(&method.host, at) else {

@@ -45,7 +45,11 @@ fn element_len(bytes: &[u8]) -> usize
     let Some((first, rest)) = bytes.split_first() else {
         return 0;
     };
-    if *first == b'L' { name_len(rest) + 2 } else { 1 }
+    if *first == b'L' {
+        name_len(rest) + 2
+    } else {
+        1
+    }
 }
 
 // How many bytes stand before the first semicolon.

@@ -9,6 +9,7 @@ ghost use Rattle.inline_expand.specs.Inner.Walks.{AreRight, GoesOn, HasNeeds};
 
 use crate::called_methods::find_callee;
 use crate::coded::CodedMethod;
+use crate::folder_methods::FolderMethods;
 use crate::initialised::calls_on_this;
 use crate::standing::{a_method_of_a_tree_was_read, may_stand_in};
 use crate::verdicts::Verdicts;
@@ -22,6 +23,7 @@ use type_rules::TypedFolder;
 #[derive(Clone, Copy)]
 pub(crate) struct HostClass<'a> {
     pub(crate) tree: &'a Tree,
+    pub(crate) methods: &'a FolderMethods<'a>,
     pub(crate) typed: &'a TypedFolder,
     pub(crate) number: usize,
     pub(crate) class: &'a ClassFile,
@@ -98,24 +100,25 @@ pub(crate) fn needs(
     if !may_stand_in(alloc, host.tree, host.class, &method.host, method.frames)? {
         return Ok(None);
     }
-    Ok(own_callees(alloc, host.tree, host.typed, &method)?)
+    Ok(own_callees(alloc, host, &method)?)
 }
 
 // The methods that a method calls on its own uninitialised object; none where one of these calls can't be replaced.
 fn own_callees(
     alloc: Global,
-    tree: &Tree,
-    typed: &TypedFolder,
+    host: HostClass<'_>,
     method: &CodedMethod<'_>,
 ) -> Result<Option<Vec<MethodAt>>, NoMemory>
-    requires { Stands tree.now typed.now method.now }
-    ensures { IfOk result (λ callees. CallsThese tree.now typed.now method.now
+    requires class { IsHostClass host }
+    requires stands { Stands host.tree.now host.typed.now method.now }
+    ensures { IfOk result (λ callees.
+        CallsThese host.entry.tree.now host.entry.typed.now method.now
         (option_map (λ list. list.items) callees)) }
 {
     let instrs = method.host.instrs();
     let mut callees = Vec::new(alloc);
     for number in 0..instrs.len() {
-        if !add_own_callee(alloc, tree, typed, method, instrs[number].at, &mut callees)? {
+        if !add_own_callee(alloc, host, method, instrs[number].at, &mut callees)? {
             return Ok(None);
         }
     }
@@ -126,20 +129,20 @@ fn own_callees(
 // there is no such call or it can be replaced.
 fn add_own_callee(
     alloc: Global,
-    tree: &Tree,
-    typed: &TypedFolder,
+    host: HostClass<'_>,
     method: &CodedMethod<'_>,
     at: u32,
     callees: &mut Vec<MethodAt>,
 ) -> Result<bool, NoMemory>
-    requires { Stands tree.now typed.now method.now }
-    ensures { IfOk result (AddsOwn tree.now typed.now method.now at callees.old.items
-        callees.new.items) }
+    requires class { IsHostClass host }
+    requires stands { Stands host.tree.now host.typed.now method.now }
+    ensures { IfOk result (AddsOwn host.entry.tree.now host.entry.typed.now method.now at
+        callees.old.items callees.new.items) }
 {
     if !calls_on_this(method, at) {
         return Ok(true);
     }
-    let Some(callee) = find_callee(alloc, tree, typed, method, at)? else {
+    let Some(callee) = find_callee(alloc, host, method, at)? else {
         return Ok(false);
     };
     callees.push(callee.at)?;

@@ -44,11 +44,7 @@ pub(crate) fn is_shallow(
 }
 
 // The methods that some methods need, each once.
-fn needed(
-    alloc: Global,
-    host: HostClass<'_>,
-    methods: &[MethodAt],
-) -> Result<MethodSet, NoMemory>
+fn needed(alloc: Global, host: HostClass<'_>, methods: &[MethodAt]) -> Result<MethodSet, NoMemory>
     requires class { IsHostClass host }
     requires ready { AreReady host.tree.now host.typed.now host.number methods.now }
     ensures { IfOk result (IsNeeded host.entry.tree.now host.entry.typed.now methods.now) }

@@ -39,7 +39,14 @@ pub(crate) fn sites_of(
     let instrs = method.host.instrs();
     let mut sites = candidates_of(alloc, place.class.tree, method)?;
     for number in 0..instrs.len() {
-        spoil(alloc, place, verdicts, method, instrs[number].at, &mut sites)?;
+        spoil(
+            alloc,
+            place,
+            verdicts,
+            method,
+            instrs[number].at,
+            &mut sites,
+        )?;
     }
     Ok(sites)
 }

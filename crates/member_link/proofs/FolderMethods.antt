@@ -54,19 +54,19 @@ no_folder None place is = absurd cc
 no_folder (Some other) place is = absurd cc
 
 module _ (headers : Headers) where
-  in_folder : (name : Name) (place : ℕ) → place_of headers name ≡ Some (Folder place) → (header : Header) × (named name headers.folder ≡ Some header)
+  pub in_folder : (name : Name) (place : ℕ) → place_of headers name ≡ Some (Folder place) → (header : Header) × (named name headers.folder ≡ Some header)
   in_folder name place is = by (first_place (λ header. bytes_eq name header.name) headers.folder) refl
     where
       by : (found : Option ℕ) → first_place (λ header. bytes_eq name header.name) headers.folder ≡ found → (header : Header) × (named name headers.folder ≡ Some header)
       by (Some at) found = placed_is_named name headers.folder at found
       by None none = absurd (no_folder _ place (rw none at is))
 
-  of_folder : (name : Name) (header : Header) → named name headers.folder ≡ Some header → (place : ℕ) × (place_of headers name ≡ Some (Folder place))
+  pub of_folder : (name : Name) (header : Header) → named name headers.folder ≡ Some header → (place : ℕ) × (place_of headers name ≡ Some (Folder place))
   of_folder name header is =
       let place = named_is_placed name headers.folder header is in
       (place.0, rw place.1 refl)
 
-  class_of_folder : (name : Name) (header : Header) → named name headers.folder ≡ Some header → class_named headers name ≡ Some header
+  pub class_of_folder : (name : Name) (header : Header) → named name headers.folder ≡ Some header → class_named headers name ≡ Some header
   class_of_folder name header is = named_in_front name headers.folder headers.library header is
 
   -- ---- methods of the folder

@@ -19,7 +19,8 @@ pub mod DefaultMethods
 pub mod DefaultsSoFar
 pub mod LastSlash
 pub mod ClassesAbove
-pub mod MarkedMethods
+pub mod SpannedClasses
+pub mod SweptMethods
 pub mod MembersSeen
 pub mod SpelledTypes
 pub mod OwnAnswers

@@ -6,7 +6,7 @@ pub mod Counting
 pub mod DefaultsAt
 pub mod DefaultsOf
 pub mod FieldSearch
-pub mod FinalMarks
+pub mod FinalEnds
 pub mod FinalMethods
 pub mod NamedDescriptors
 pub mod NeededForms
@@ -15,3 +15,4 @@ pub mod Resolutions
 pub mod Resolving
 pub mod Scope
 pub mod SelectionSteps
+pub mod Spans

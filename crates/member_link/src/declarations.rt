@@ -1,29 +1,32 @@
 //! What the declarations of a folder's classes are asked to be linked.
-ghost use Rattle.std.specs.Prelude.{◌≡◌, ◌↔◌, Some, IfSome, IsTrue};
+ghost use Rattle.std.specs.Prelude.{◌≡◌, ◌↔◌, Some, IfOk, IfSome, IsTrue};
 ghost use Rattle.std.specs.List.{AllByRecursion};
+ghost use Rattle.std.specs.Option.{option_copied};
 ghost use Rattle.class_model.specs.Checks.{asked_each};
 ghost use Rattle.class_model.specs.declared.header.Header.{Header};
 ghost use Rattle.class_tree.specs.Answers.{Answers};
-ghost use Rattle.class_tree.specs.Headers.{headers_of};
+ghost use Rattle.class_tree.specs.Headers.{headers_of, IsThere};
 ghost use Rattle.class_tree.specs.Hierarchy.{StandsAt};
 ghost use Rattle.class_tree.specs.Order.{header_at};
 ghost use Rattle.class_tree.specs.Steps.{supers};
+ghost use Rattle.class_tree.specs.declared.place.Place.TheVariants.{Folder};
 ghost use Rattle.member_link.specs.Access.{IsClassAccessible};
 ghost use Rattle.member_link.specs.Declarations.{declaration_checks, declared_field_checks, declared_method_checks, OverridesNoFinal};
 ghost use Rattle.member_link.specs.DeclaredMembers.{Declared, declared_by};
-ghost use Rattle.member_link.specs.Inner.FinalMarks.{AreFinalMarks};
+ghost use Rattle.member_link.specs.Inner.FinalEnds.{AreKnown, AreKnownOf};
 ghost use Rattle.member_link.specs.Inner.FinalMethods.{IsFolderPlace, IsOverriddenFinal};
 ghost use Rattle.member_link.specs.Found.{IsMethodFound};
+ghost use Rattle.member_link.specs.References.{FieldTypeNames};
 
 use crate::access::is_class_accessible;
 use crate::ask::ask_at;
-use crate::final_methods::{final_marks, may_be_final};
+use crate::final_methods::known_methods;
 use crate::flags::is_inherited;
 use crate::found::Found;
 use crate::named_descriptors::NamedDescriptors;
 use crate::names::is_field_type_there;
 use crate::overriding::{Method, any_above, method_at, overrides_method};
-use class_model::{ACC_FINAL, Header, has};
+use class_model::{ACC_FINAL, Header, NoMemory, Text, has};
 use class_tree::{LinkFault, LinkRule, Place, Tree, a_tree_is_a_hierarchy, ask};
 use std::alloc::Global;
 
@@ -33,21 +36,22 @@ pub(crate) fn check_declarations(alloc: Global, tree: &Tree) -> Result<(), LinkF
     ensures { Answers (asked_each (declaration_checks (headers_of tree.now))
         (headers_of tree.now).folder) result }
 {
-    let finals = final_marks(alloc, tree)?;
+    let known = known_methods(alloc, tree)?;
     for index in 0..tree.folder().len() {
-        check_class(alloc, tree, finals.as_slice(), Place::Folder(index))?;
+        check_class(alloc, tree, known.as_slice(), index)?;
     }
     Ok(())
 }
 
 // Asks the class at a place.
-fn check_class(alloc: Global, tree: &Tree, finals: &[bool], place: Place) -> Result<(), LinkFault>
-    requires { AreFinalMarks (headers_of tree.now) finals.now }
+fn check_class(alloc: Global, tree: &Tree, known: &[usize], index: usize) -> Result<(), LinkFault>
+    requires { AreKnown (headers_of tree.now) known.now }
     ensures { (header : Header)
-        → header_at (headers_of tree.now) place ≡ Some header
+        → header_at (headers_of tree.now) (Folder index) ≡ Some header
         → Answers (declaration_checks (headers_of tree.now) header) result }
 {
     a_tree_is_a_hierarchy(tree);
+    let place = Place::Folder(index);
     let Some(header) = tree.header(place) else {
         return Ok(());
     };
@@ -58,7 +62,7 @@ fn check_class(alloc: Global, tree: &Tree, finals: &[bool], place: Place) -> Res
         LinkRule::NoAccess,
     )?;
     check_fields(alloc, tree, header)?;
-    check_methods(alloc, tree, finals, place, header)
+    check_methods(alloc, tree, known[index], place, header)
 }
 
 // Whether the superclass and the interfaces of a class are accessible from it.
@@ -100,11 +104,41 @@ fn check_fields(alloc: Global, tree: &Tree, header: &Header) -> Result<(), LinkF
     ensures { Answers (asked_each
         (declared_field_checks (headers_of tree.now) header.now) header.now.fields) result }
 {
+    let mut before = None;
     for field in header.fields.as_slice() {
-        let is_there = is_field_type_there(alloc, tree, &field.desc)?;
+        let is_there = is_type_there(alloc, tree, before, &field.desc)?;
         ask_at(alloc, is_there, &header.name, field, LinkRule::Missing)?;
+        before = Some(&field.desc);
     }
     Ok(())
+}
+
+// Whether the class that a field's descriptor names is there, behind a field with this descriptor, whose class is there: one
+// that equals the one before it is not parsed again.
+fn is_type_there(
+    alloc: Global,
+    tree: &Tree,
+    before: Option<&Text>,
+    desc: &Text,
+) -> Result<bool, NoMemory>
+    requires { IfSome (option_copied before) (FieldTypeNames (IsThere (headers_of tree.now))) }
+    ensures { IfOk result
+        (λ there. IsTrue there ↔ FieldTypeNames (IsThere (headers_of tree.now)) desc.now) }
+{
+    if is_text(before, desc) {
+        return Ok(true);
+    }
+    is_field_type_there(alloc, tree, desc)
+}
+
+// Whether a text is there and equals another.
+fn is_text(one: Option<&Text>, other: &Text) -> bool
+    ensures { IsTrue result → option_copied one.entry ≡ Some other.now }
+{
+    match one {
+        Some(one) => one.bytes() == other.bytes(),
+        None => false,
+    }
 }
 
 // Asks that the classes in the descriptors of the methods of the class at a place are there, and that its methods override
@@ -112,17 +146,18 @@ fn check_fields(alloc: Global, tree: &Tree, header: &Header) -> Result<(), LinkF
 fn check_methods<'a>(
     alloc: Global,
     tree: &'a Tree,
-    finals: &[bool],
+    known: usize,
     place: Place,
     header: &'a Header,
 ) -> Result<(), LinkFault>
-    requires finals { AreFinalMarks (headers_of tree.now) finals.now }
+    requires known { AreKnownOf (headers_of tree.now) header.now known }
     requires place { StandsAt (headers_of tree.now) header.now.name place header.now }
     ensures { Answers
         (asked_each (declared_method_checks (headers_of tree.now) header.now) header.now.methods)
         result }
 {
     let mut descriptors = NamedDescriptors::new(tree);
+    let mut index = 0;
     for member in header.methods.as_slice() {
         let is_there = descriptors.are_there(alloc, &member.desc)?;
         ask_at(alloc, is_there, &header.name, member, LinkRule::Missing)?;
@@ -133,25 +168,28 @@ fn check_methods<'a>(
         };
         ask_at(
             alloc,
-            overrides_no_final(tree, finals, method),
+            overrides_no_final(tree, index < known, method),
             &header.name,
             member,
             LinkRule::FinalOverridden,
         )?;
+        index += 1;
     }
     Ok(())
 }
 
-// Whether a method overrides no final method of the folder.
-fn overrides_no_final(tree: &Tree, finals: &[bool], low: Method<'_>) -> bool
-    requires finals { AreFinalMarks (headers_of tree.now) finals.now }
+// Whether a method overrides no final method of the folder, where that may be known.
+fn overrides_no_final(tree: &Tree, is_known: bool, low: Method<'_>) -> bool
+    requires known { IsTrue is_known
+        → OverridesNoFinal (headers_of tree.now)
+        (declared_by low.header.now.name low.member.now) }
     requires place { StandsAt (headers_of tree.now) low.header.now.name low.place low.header.now }
     ensures { IsTrue result
         ↔ OverridesNoFinal (headers_of tree.now)
         (declared_by low.entry.header.now.name low.entry.member.now) }
 {
-    !is_inherited(low.member.flags)
-        || !may_be_final(tree, finals, low.member)
+    is_known
+        || !is_inherited(low.member.flags)
         || !any_above(tree, low, |high| overrides_final(tree, low, high))
 }
 

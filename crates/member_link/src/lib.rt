@@ -35,6 +35,7 @@ mod resolution;
 mod resolver;
 mod resolving;
 mod selection;
+mod spans;
 mod special;
 mod stated;
 mod upwards;

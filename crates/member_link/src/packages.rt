@@ -9,8 +9,8 @@ pub fn is_same_package(one: &[u8], other: &[u8]) -> bool
     package_of(one) == package_of(other)
 }
 
-// The package of a class: its name up to the last slash, and with it.
-fn package_of(name: &[u8]) -> &[u8]
+/// The package of a class: its name up to the last slash, and with it.
+pub(crate) fn package_of(name: &[u8]) -> &[u8]
     ensures { result.now ≡ package_of name.now }
 {
     match name.iter().rposition(|byte| *byte == b'/') {

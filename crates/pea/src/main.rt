@@ -13,10 +13,12 @@ use std::io::ErrorKind;
 use std::process::ExitCode;
 
 fn main(rt: HostRuntime) -> ExitCode {
+    let mut host = RealHost::new(rt, &rt.stderr());
     let status = match words_of(&rt) {
-        Ok(words) => pea(rt.alloc(), &words, &mut RealHost::new(rt)),
+        Ok(words) => pea(rt.alloc(), &words, &mut host),
         Err(NoMemory) => Status::NoMemory,
     };
+    host.end_progress();
     exit_code(&status)
 }
 

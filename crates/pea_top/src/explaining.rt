@@ -7,6 +7,7 @@ ghost use Rattle.member_link.specs.Linked.{IsLinked};
 
 use crate::folder::{NamedFile, is_class_file};
 use crate::linking::LinkStop;
+use crate::progress::show_linking;
 use crate::reading::{Input, ReadStop};
 use crate::script::ScriptStop;
 use class_bytes::read_class;
@@ -40,7 +41,7 @@ pub(crate) fn explain_usage<H: Host>(alloc: Global, host: &mut H)
     show(host, usage(alloc));
 }
 
-/// Notes where the input or the library has no class files.
+/// Notes where the input or the library has no class files, and shows that they are about to be linked.
 pub(crate) fn note_input<H: Host>(alloc: Global, host: &mut H, input: &Input)
     ensures files { IsTrue H.tells → SameFiles (H.file host.old) (H.file host.new) }
     ensures printed { IsTrue H.tells → H.printed host.new ≡ H.printed host.old }
@@ -50,6 +51,7 @@ pub(crate) fn note_input<H: Host>(alloc: Global, host: &mut H, input: &Input)
         host,
         class_counts(alloc, input.classes.len(), input.headers.len()),
     );
+    show_linking(host, input);
 }
 
 /// Explains why a file is refused.

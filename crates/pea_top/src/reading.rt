@@ -15,6 +15,7 @@ ghost use Rattle.pea_top.specs.Inner.ReadingSteps.{IsCallStop, IsFileOrWhy, IsHe
 ghost use Rattle.pea_top.specs.declared.reading.ReadStop.TheVariants.{NoMemory as no_memory};
 
 use crate::folder::{NamedFile, is_class_file};
+use crate::progress::show_read;
 use crate::sharing::SharedTexts;
 use crate::status::Status;
 use class_bytes::{push_class, read_class, read_header};
@@ -24,7 +25,7 @@ use class_model::{
 };
 use class_tree::{ClassFileList, HeaderList};
 use explain::Side;
-use host_tree::{FileName, Host, HostCall, HostFail};
+use host_tree::{FileName, Host, HostCall, HostFail, Progress};
 use std::alloc::{AllocError, AllocFailed, Global};
 
 /// What a command reads.
@@ -183,10 +184,12 @@ fn read_files<H: Host>(
         → (call ≡ HostCall.Read)
         × Rose (H.faults host.old HostCall.Read) (H.faults host.new HostCall.Read) }
 {
+    let of = names.len() as u64;
     let mut files = Vec::with_capacity(alloc, names.len())?;
     let mut classes = ClassFileList::new(alloc);
     for name in names {
-        let (file, class) = read_file(alloc, host, root, name)?;
+        let read = files.len() as u64;
+        let (file, class) = read_file(alloc, host, root, name, Progress::Input { read, of })?;
         files.push(file)?;
         if let Some(class) = class {
             classes.push(class)?;
@@ -195,12 +198,13 @@ fn read_files<H: Host>(
     Ok((files, classes))
 }
 
-/// The file with this name, which the folder has, and its class where it is a class file.
+/// The file with this name, which the folder has, and its class where it is a class file. It shows the progress before it.
 fn read_file<H: Host>(
     alloc: Global,
     host: &mut H,
     root: &str,
     name: FileName,
+    progress: Progress,
 ) -> Result<(NamedFile, Option<ClassFile>), ReadStop>
     requires { IsTrue H.tells → IsSome (H.file host.old root.now name) }
     ensures files { IsTrue H.tells → SameFiles (H.file host.old) (H.file host.new) }
@@ -213,6 +217,7 @@ fn read_file<H: Host>(
         → (call ≡ HostCall.Read)
         × Rose (H.faults host.old HostCall.Read) (H.faults host.new HostCall.Read) }
 {
+    show_read(host, progress);
     let bytes = read_bytes(alloc, host, root, name.as_str())?;
     file_of(alloc, name, bytes)
 }
@@ -359,23 +364,27 @@ fn read_library<H: Host>(
         → (call ≡ HostCall.Read)
         × Rose (H.faults host.old HostCall.Read) (H.faults host.new HostCall.Read) }
 {
+    let of = names.len() as u64;
     let mut headers = HeaderList::new(alloc);
     let mut texts = SharedTexts::new(alloc)?;
     for name in names {
         if is_class_file(&name) {
-            headers.push(read_library_file(alloc, host, root, name, &mut texts)?)?;
+            let read = headers.len() as u64;
+            let progress = Progress::Library { read, of };
+            headers.push(read_library_file(alloc, host, root, name, &mut texts, progress)?)?;
         }
     }
     Ok(headers)
 }
 
-/// The header of the class file of this name, which the library has.
+/// The header of the class file of this name, which the library has. It shows the progress before it.
 fn read_library_file<H: Host>(
     alloc: Global,
     host: &mut H,
     root: &str,
     name: FileName,
     texts: &mut SharedTexts,
+    progress: Progress,
 ) -> Result<Header, ReadStop>
     requires there { IsTrue H.tells → IsSome (H.file host.old root.now name) }
     requires named { IsTrue (names_class_file name) }
@@ -389,6 +398,7 @@ fn read_library_file<H: Host>(
         → (call ≡ HostCall.Read)
         × Rose (H.faults host.old HostCall.Read) (H.faults host.new HostCall.Read) }
 {
+    show_read(host, progress);
     let bytes = read_bytes(alloc, host, root, name.as_str())?;
     header_of(alloc, name, bytes, texts)
 }

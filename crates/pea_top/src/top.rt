@@ -21,6 +21,7 @@ use crate::explaining::{
 use crate::folder::NamedFile;
 use crate::lines::refusal;
 use crate::linking::{link, link_status};
+use crate::progress::show_verifying;
 use crate::reading::{Input, read_input, status_of};
 use crate::script::script_status;
 use crate::status::Status;
@@ -240,6 +241,7 @@ fn verify<H: Host>(
         → IsStop words (H.file host.old) (H.file host.new) (H.printed host.old) (H.printed host.new)
         (ended result) }
 {
+    show_verifying(host, tree);
     match verify_for(alloc, tree, work) {
         Ok(typed) => carry_out(alloc, host, tree, typed.as_ref(), files, work),
         Err(fault) => {

@@ -14,6 +14,10 @@ ghost use Rattle.pool_bytes.specs.Texts.{HasTexts};
 
 use crate::kinds::{Checker, KnownText};
 use crate::raw::{RawConst, RawForm, RawPool};
+use class_model::reference_kinds::{
+    REF_GET_FIELD, REF_INVOKE_INTERFACE, REF_INVOKE_SPECIAL, REF_INVOKE_STATIC, REF_INVOKE_VIRTUAL,
+    REF_NEW_INVOKE_SPECIAL, REF_PUT_STATIC,
+};
 use class_model::{
     CLINIT, ClassFault, Const, FileRule, INIT, is_field_name, is_method_name, is_modified_utf8,
     is_reference_name, is_unqualified_name,
@@ -311,15 +315,20 @@ impl Checker<'_> {
             return false;
         };
         match constant.form() {
-            RawForm::Constant(Const::Fieldref(..)) => matches!(kind, 1..=4),
+            RawForm::Constant(Const::Fieldref(..)) => matches!(
+                kind,
+                REF_GET_FIELD..=REF_PUT_STATIC
+            ),
             RawForm::Constant(Const::Methodref(_, member)) => match kind {
-                5..=7 => self.has_other_name(*member),
-                8 => self.has_init_name(*member),
+                REF_INVOKE_VIRTUAL..=REF_INVOKE_SPECIAL => self.has_other_name(*member),
+                REF_NEW_INVOKE_SPECIAL => self.has_init_name(*member),
                 _ => false,
             },
             RawForm::Constant(Const::InterfaceMethodref(_, member)) => match kind {
-                6 | 7 => major == 52 && self.has_other_name(*member),
-                9 => self.has_other_name(*member),
+                REF_INVOKE_STATIC | REF_INVOKE_SPECIAL => {
+                    major == 52 && self.has_other_name(*member)
+                }
+                REF_INVOKE_INTERFACE => self.has_other_name(*member),
                 _ => false,
             },
             _ => false,

@@ -224,7 +224,7 @@ fn refuses(rt: &(impl Abort + AllocGlobal), host: &mut MemoryHost) -> Result<(),
 
 #[test]
 fn real_files(rt: HostRuntime) -> Result<(), Fail> {
-    let mut host = RealHost::new(rt);
+    let mut host = RealHost::new(rt, &rt.stderr());
     let _ = fs::remove_dir_all(&rt, ROOT);
     writes_and_reads(&rt, &mut host, ROOT)?;
     host.write(rt.alloc(), "", "tree_of_a_test/E.class", b"fourth")?;

@@ -15,6 +15,7 @@ pub mod NameAssignability
 pub mod TypeAssignability
 pub mod Pairwise
 pub mod LocalWalks
+pub mod ChangedLocals
 pub mod MappedSoFar
 pub mod OlderObjects
 pub mod StoredLocals

@@ -1,5 +1,5 @@
 -- An uninitialised this among types.
-use Rattle.std.proofs.Common.{◌≡◌, ◌≢◌, ◌⊎◌, inl, inr, true, false, List, [], ◌∷◌, refl, sym}
+use Rattle.std.proofs.Common.{◌≡◌, ◌≢◌, ◌⊎◌, inl, inr, ℕ, zero, suc, true, false, List, [], ◌∷◌, Some, slice_get, refl, sym, ap}
 use Rattle.std.proofs.lemmas.Bool.{false≢true}
 use Rattle.std.specs.List.{list_any}
 use Rattle.class_model.specs.declared.frame.VType.{VType}
@@ -37,3 +37,14 @@ first_there type types (inr other) none rest = rw other.1 rest
 pub none_there : (types : List VType) → NoUninitThis types → list_any is_uninit_this types ≡ false
 none_there [] none = refl
 none_there (type ∷ types) none = first_there type types (decide type) none.0 (none_there types none.1)
+
+first_at : (type : VType) (types : List VType) → Decided type → list_any is_uninit_this (type ∷ types) ≡ true → (list_any is_uninit_this types ≡ true → (at : ℕ) × (slice_get types at ≡ Some UninitThis)) → (at : ℕ) × (slice_get (type ∷ types) at ≡ Some UninitThis)
+first_at type types (inl this) any rest = (zero, ap Some this.0)
+first_at type types (inr other) any rest =
+    let found = rest (rw other.1 at any) in
+    (suc found.0, found.1)
+
+-- where it is
+pub found_at : (types : List VType) → list_any is_uninit_this types ≡ true → (at : ℕ) × (slice_get types at ≡ Some UninitThis)
+found_at [] any = absurd (false≢true any)
+found_at (type ∷ types) any = first_at type types (decide type) any (found_at types)

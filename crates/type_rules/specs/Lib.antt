@@ -3,6 +3,7 @@ pub mod TypedFrames
 pub mod Stated
 pub mod Handlers
 pub mod MethodBodies
+pub mod Changes
 pub mod Checks
 pub mod Typed
 pub mod Verified

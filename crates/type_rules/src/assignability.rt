@@ -1,5 +1,5 @@
 //! Assignability of types and of frames (JVM Specification SE 8, 4.10.1.2).
-ghost use Rattle.std.specs.Prelude.{◌≡◌, ◌≤◌, ◌↔◌, length, take, slice_get, IsTrue};
+ghost use Rattle.std.specs.Prelude.{◌≡◌, ◌≤◌, ◌↔◌, List, length, take, slice_get, IsTrue};
 ghost use Rattle.std.specs.List.{list_any};
 ghost use Rattle.std.specs.Option.{option_copied};
 ghost use Rattle.class_model.specs.Code.{verification_type};
@@ -8,6 +8,8 @@ ghost use Rattle.class_tree.specs.Subtype.{IsReferenceComponent};
 ghost use Rattle.member_link.specs.Assignability.{IsAssignable, IsNameAssignable};
 ghost use Rattle.member_link.specs.Forms.{IsInterfaceNamed};
 ghost use Rattle.member_link.specs.Rows.FrameAssignability.{AreAssignable, IsFrameAssignable, is_uninit_this};
+ghost use Rattle.type_rules.specs.Changes.{AreSameBut};
+ghost use Rattle.type_rules.specs.Inner.Changes.{IsUnitAssignable};
 
 use class_model::{ACC_INTERFACE, FieldType, Frame, Header, LocalTypeList, VType, has};
 use class_tree::{Tree, a_tree_is_a_hierarchy, innermost, is_above_arrays, is_array, is_below};
@@ -101,6 +103,41 @@ pub fn frame_assignable(tree: &Tree, from: &Frame, to: &Frame) -> bool
     are_locals_assignable(tree, &from.locals, &to.locals)
         && are_assignable(tree, from.stack.as_slice(), to.stack.as_slice())
         && (!has_uninit_this(&from.locals) || has_uninit_this(&to.locals))
+}
+
+/// Whether locals are known to fit a stated frame, where locals do that are the same but for the units from one number up
+/// to before another. Only these are looked at. Where the answer is no, `frame_assignable` decides. It takes no memory.
+pub fn are_changed_locals_assignable(
+    tree: &Tree,
+    locals: &LocalTypeList,
+    to: &Frame,
+    from: usize,
+    end: usize,
+) -> bool
+    ensures { IsTrue result
+        → (before : List VType) (stack : List VType)
+        → AreSameBut from end before locals.now
+        → IsFrameAssignable (headers_of tree.now)
+        (record { locals = before; stack = stack }) to.now
+        → IsFrameAssignable (headers_of tree.now)
+        (record { locals = locals.now; stack = stack }) to.now }
+{
+    for at in from..end.min(locals.len()) {
+        if !is_unit_assignable(tree, locals, &to.locals, at) {
+            return false;
+        }
+    }
+    true
+}
+
+// Whether a unit is assignable to the one in its place, and where it is an uninitialised this one is among the others too.
+fn is_unit_assignable(tree: &Tree, from: &LocalTypeList, to: &LocalTypeList, at: usize) -> bool
+    ensures { IsTrue result → IsUnitAssignable (headers_of tree.now) from.now to.now at }
+{
+    let (Some(low), Some(high)) = (from.get(at), to.get(at)) else {
+        return false;
+    };
+    assignable(tree, low, high) && (!is_uninit_this(from, at) || has_uninit_this(to))
 }
 
 // Whether stacks are as deep as one another, and each entry is assignable to the one in its place.

@@ -1,8 +1,9 @@
-//! Instructions that leave the frame before them, or its locals, as they are.
+//! Instructions that leave the frame before them, or its locals or all but a few, as they are.
 ghost use Rattle.std.specs.Prelude.{◌≡◌, ℕ, [], Some, Ok, IsTrue};
 ghost use Rattle.class_model.specs.declared.frame.Frame.{Frame as frame};
 ghost use Rattle.member_link.specs.RowScope.{RowScope};
 ghost use Rattle.member_link.specs.Rows.Table.{row_of};
+ghost use Rattle.type_rules.specs.Changes.{AreBehind};
 ghost use Rattle.type_rules.specs.Inner.Keeping.{is_known_to_leave};
 ghost use Rattle.type_rules.specs.Rule.{Rules};
 
@@ -29,13 +30,32 @@ impl MethodRules<'_> {
     }
 }
 
-/// Whether the locals behind an instruction are known to be those before it, whatever the frame (JVM Specification SE 8,
-/// 4.10.1.9). The answer is no for stores, `new` and `invokespecial`.
-pub fn leaves_locals(instr: &Instr) -> bool
-    ensures { IsTrue result → (s : RowScope) (before : frame) (at : ℕ)
-        → (row_of s before at instr.now).locals ≡ before.locals }
+/// The local units, counted from 0, that may have other types behind an instruction than before it.
+#[derive(Clone, Copy, Debug, PartialEq, Eq)]
+pub enum LocalChanges {
+    /// None.
+    Nowhere,
+    /// Those from one number up to before another.
+    Within { from: usize, end: usize },
+    /// Any.
+    Anywhere,
+}
+
+/// The local units whose types an instruction may change, whatever the frame before it (JVM Specification SE 8, 4.10.1.9):
+/// for a store those that it writes, and the one before them, since a long or double there is cut. For a `new` and an
+/// `invokespecial` the answer is any.
+pub fn local_changes(instr: &Instr) -> LocalChanges
+    ensures { (s : RowScope) (before : frame) (at : ℕ)
+        → AreBehind result before.locals (row_of s before at instr.now).locals }
 {
-    is_known_to_leave(instr)
+    match instr {
+        Instr::Store(_, local) => LocalChanges::Within {
+            from: usize::from(*local).saturating_sub(1),
+            end: usize::from(*local) + 2,
+        },
+        other if is_known_to_leave(other) => LocalChanges::Nowhere,
+        _ => LocalChanges::Anywhere,
+    }
 }
 
 // Whether an instruction is neither a store, nor a `new`, nor a call that may initialise an object.

@@ -32,10 +32,10 @@ mod step;
 mod table;
 mod typed;
 
-pub use assignability::{assignable, frame_assignable};
+pub use assignability::{are_changed_locals_assignable, assignable, frame_assignable};
 pub use code::{code_of, has_code};
 pub use fault::{RuleFault, TypeRule, VerifyFault};
-pub use keeping::leaves_locals;
+pub use keeping::{LocalChanges, local_changes};
 pub use laws::{
     a_failing_method_has_no_frames, a_method_has_one_typing, a_method_stands_in_order,
     a_typed_body_goes_to_stated_frames, a_typed_folder_types_each_method,

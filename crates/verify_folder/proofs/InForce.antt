@@ -1,6 +1,6 @@
 -- The exception handlers in force, from one instruction to the next.
 use Rattle.std.proofs.Common.{◌≡◌, ◌⊎◌, ◌+◌, ◌<◌, ◌≤◌, ℕ, zero, suc, Bool, true, false, List, [], ◌∷◌, ◌++◌, length, get_or, slice_get, Option, Some, None, Contains, IsPermutation, refl, sym, ap, subst, ◌∙◌, inl, inr, arith, le-leb, leb-true, lt-ltb, ltb-true, suc-le-suc, take}
-use Rattle.std.specs.Prelude.{nat_le, nat_lt, IsTrue, if◌then◌else◌}
+use Rattle.std.specs.Prelude.{nat_le, nat_lt, if◌then◌else◌}
 use Rattle.std.specs.List.Sorted.{IsNonDecreasingBy}
 use Rattle.std.proofs.lemmas.Bool.{and_from, and_parts, both_ways, cases_lt}
 use Rattle.std.proofs.lemmas.List.Elements.{Contains-push, Contains-push_cases, Contains-append_left}
@@ -19,8 +19,10 @@ use Rattle.type_rules.specs.Inner.Handlers.{caught_frame}
 use Rattle.type_rules.specs.MethodBodies.{body_of}
 use Rattle.type_rules.specs.Stated.{stated_at}
 use Rattle.type_rules.specs.declared.fault.TypeRule.{TypeRule}
+use Rattle.type_rules.specs.declared.keeping.LocalChanges.{LocalChanges}
+use Rattle.type_rules.specs.declared.keeping.LocalChanges.TheVariants.{Nowhere, Within, Anywhere}
 use Rattle.verify_folder.specs.declared.active.ActiveHandlers.{ActiveHandlers}
-use Rattle.verify_folder.specs.Inner.Active.{Activates, AreCheckedAt, AreInForce, AreStill, HasBegun, HasSkipped, IsChecked, IsCheckedAgain, IsLater, IsRestart, IsSame, MayCatch, MayCatchLast, NoneBegins, OneFails, OneStops, StandsFor}
+use Rattle.verify_folder.specs.Inner.Active.{Activates, AreCheckedAt, AreInForce, AreStill, HasBegun, HasSkipped, AreKnown, AreReached, IsChecked, IsCheckedAgain, IsLater, IsRestart, MayCatch, MayCatchLast, AllMightCatch, MightCatch, NoneBegins, OneFails, OneStops, StandsFor}
 
 -- ---- the range of a handler
 
@@ -163,26 +165,41 @@ none_begun s a table by_start begun active = record {
   by_start = by_start;
   begun = λ number handler below found goes_on. absurd (omega (arith, below, begun));
   active = λ handler found. absurd (none handler (subst (λ (l : List Handler). Contains l handler) active found));
+  may = λ handler found goes_on. absurd (none handler (subst (λ (l : List Handler). Contains l handler) active found));
 }
   where
     none : (handler : Handler) → Contains [] handler → ⊥
     none handler found = omega (arith, found.1)
 
 -- whatever is known of the locals at hand
-pub in_force_anyway : (s : Scope) (a : ActiveHandlers) (same : Bool) → AreInForce s a → AreInForce s (record a { same = same })
-in_force_anyway s a same are = record {
+pub in_force_anyway : (s : Scope) (a : ActiveHandlers) (changes : LocalChanges) → AreInForce s a → AreInForce s (record a { changes = changes })
+in_force_anyway s a changes are = record {
   table = are.table;
   by_start = are.by_start;
   begun = λ number handler below found goes_on.
       let was = are.begun number handler below found goes_on in
       record { stands = was.stands; may = was.may };
   active = are.active;
+  may = are.may;
 }
 
 pub restarted : (s : Scope) (old new : ActiveHandlers) → AreInForce s old → IsRestart old new → AreInForce s new
 restarted s old new are is =
     none_begun s new (subst (IsPermutation s.part.handlers) (sym is.table) are.table)
     (subst (IsNonDecreasingBy (λ (handler : Handler). handler.start)) (sym is.table) are.by_start) is.begun is.active
+
+-- active handlers might begin before the locals changed
+pub might_catch : (s : Scope) (locals : List VType) (at : ℕ) (a : ActiveHandlers) → AreInForce s a → a.at ≤ at
+    → AreReached a.changes a.locals locals → AllMightCatch s a.changes locals at a.active.items
+might_catch s locals at a are later reached handler found goes_on =
+    one a.changes a.locals reached (are.may handler found (omega (arith, later, goes_on)))
+  where
+    one : (changes : LocalChanges) (last : Option (List VType)) → AreReached changes last locals → MayCatchLast s last handler
+        → MightCatch s changes locals handler
+    one Nowhere last reached may = tt
+    one (Within from end) None reached may = absurd reached
+    one (Within from end) (Some last) reached may = (last, reached, may)
+    one Anywhere last reached may = tt
 
 -- an active handler fails
 pub active_fails : (s : Scope) (locals : List VType) (at : ℕ) (a : ActiveHandlers) → AreInForce s a → a.at ≤ at
@@ -203,8 +220,10 @@ module _ (s : Scope) (locals : List VType) (at : ℕ) (old new : ActiveHandlers)
       are.begun number handler (omega (arith, below, begun)) (subst (λ (l : List Handler). slice_get l number ≡ Some handler) table found) (omega (arith, later, at_is, goes_on))
 
   made : ((number : ℕ) (handler : Handler) → number < new.begun → slice_get new.table.items number ≡ Some handler → new.at < handler.end → IsChecked s new handler)
-      → ((handler : Handler) → Contains new.active.items handler → Contains old.active.items handler) → AreCheckedAt s locals at new
-  made checked from = record {
+      → ((handler : Handler) → Contains new.active.items handler → Contains old.active.items handler)
+      → ((handler : Handler) → Contains new.active.items handler → at < handler.end → MayCatchLast s new.locals handler)
+      → AreCheckedAt s locals at new
+  made checked from may = record {
     in_force = record {
       table = subst (IsPermutation s.part.handlers) (sym table) are.table;
       by_start = subst (IsNonDecreasingBy (λ (handler : Handler). handler.start)) (sym table) are.by_start;
@@ -212,6 +231,7 @@ module _ (s : Scope) (locals : List VType) (at : ℕ) (old new : ActiveHandlers)
       active = λ handler found.
           let was = are.active handler (from handler found) in
           (was.0, omega (arith, later, at_is, was.1));
+      may = λ handler found goes_on. may handler found (omega (arith, at_is, goes_on));
     };
     locals_are = locals_are;
     at_is = at_is;
@@ -228,6 +248,9 @@ module _ (s : Scope) (locals : List VType) (at : ℕ) (old new : ActiveHandlers)
         may = subst (λ (l : Option (List VType)). MayCatchLast s l handler) (last ∙ sym locals_are) was.may;
       })
       (λ handler found. subst (λ (l : List Handler). Contains l handler) active found)
+      (λ handler found goes_on.
+      subst (λ (l : Option (List VType)). MayCatchLast s l handler) (last ∙ sym locals_are)
+      (are.may handler (subst (λ (l : List Handler). Contains l handler) active found) (omega (arith, later, goes_on))))
 
   -- all were asked again
   other_locals : AreStill s locals at old.active.items new.active.items → AreCheckedAt s locals at new
@@ -241,6 +264,7 @@ module _ (s : Scope) (locals : List VType) (at : ℕ) (old new : ActiveHandlers)
         may = subst (λ (l : Option (List VType)). MayCatchLast s l handler) (sym locals_are) (checked_last s locals old.locals was.stands.own handler was.stands.same_target (still.may was.stands.own own) was.may);
       })
       still.from
+      (λ handler found goes_on. subst (λ (l : Option (List VType)). MayCatchLast s l handler) (sym locals_are) (still.may handler found))
 
 pub went_on : (s : Scope) (locals : List VType) (at : ℕ) (old new : ActiveHandlers) → AreInForce s old → old.at ≤ at
     → IsLater old at new → old.locals ≡ Some locals → AreCheckedAt s locals at new
@@ -271,17 +295,23 @@ module _ (s : Scope) (locals : List VType) (at : ℕ) (old new : ActiveHandlers)
 
   begins : ((number : ℕ) (handler : Handler) → number < new.begun → slice_get new.table.items number ≡ Some handler → new.at < handler.end → IsChecked s new handler)
       → ((handler : Handler) → Contains new.active.items handler → Contains s.part.handlers handler × (handler.start ≤ new.at))
+      → ((handler : Handler) → Contains new.active.items handler → new.at < handler.end → MayCatchLast s new.locals handler)
       → AreCheckedAt s locals at new
-  begins checked active = record {
+  begins checked active may = record {
     in_force = record {
       table = subst (IsPermutation s.part.handlers) (sym table) are.in_force.table;
       by_start = subst (IsNonDecreasingBy (λ (handler : Handler). handler.start)) (sym table) are.in_force.by_start;
       begun = checked;
       active = active;
+      may = may;
     };
     locals_are = locals_are ∙ are.locals_are;
     at_is = at_is ∙ are.at_is;
   }
+
+  was_caught : (handler : Handler) → Contains old.active.items handler → new.at < handler.end → MayCatchLast s new.locals handler
+  was_caught handler in_old goes_on =
+      subst (λ (l : Option (List VType)). MayCatchLast s l handler) (sym locals_are) (are.in_force.may handler in_old (omega (arith, at_is, goes_on)))
 
   -- one whose range has ended
   is_over : new.active.items ≡ old.active.items → next.end ≤ at → AreCheckedAt s locals at new
@@ -301,6 +331,7 @@ module _ (s : Scope) (locals : List VType) (at : ℕ) (old new : ActiveHandlers)
       (λ handler in_new.
       let was = are.in_force.active handler (subst (λ (l : List Handler). Contains l handler) active in_new) in
       (was.0, omega (arith, was.1, at_is)))
+      (λ handler in_new goes_on. was_caught handler (subst (λ (l : List Handler). Contains l handler) active in_new) goes_on)
 
   -- one that becomes active
   is_begun : Activates old.active.items next new.active.items → next.start ≤ at → MayCatch s locals next → AreCheckedAt s locals at new
@@ -325,6 +356,11 @@ module _ (s : Scope) (locals : List VType) (at : ℕ) (old new : ActiveHandlers)
       elim (added.from handler in_new) [
         | inl was_in ↦ ((are.in_force.active handler was_in).0, omega (arith, (are.in_force.active handler was_in).1, at_is))
         | inr is ↦ subst (λ (h : Handler). Contains s.part.handlers h × (h.start ≤ new.at)) (sym is) (in_table next found, omega (arith, from, at_is, are.at_is))
+      ])
+      (λ handler in_new goes_on.
+      elim (added.from handler in_new) [
+        | inl was_in ↦ was_caught handler was_in goes_on
+        | inr is ↦ subst (MayCatchLast s new.locals) (sym is) (subst (λ (l : Option (List VType)). MayCatchLast s l next) (sym (locals_are ∙ are.locals_are)) may)
       ])
     where
       in_table : (handler : Handler) → slice_get old.table.items old.begun ≡ Some handler → Contains s.part.handlers handler
@@ -391,6 +427,6 @@ module _ (s : Scope) (before : Frame) (at : ℕ) (a : ActiveHandlers) (are : Are
       (λ handler is_in covered. subst (λ (l : Option (List VType)). MayCatchLast s l handler) locals (has_begun handler is_in covered).may)
 
   -- none is, or they were
-  pub idle_holds : IsSame a (Some before) → (a.active.items ≡ []) ⊎ IsTrue a.same → AllHold all_checks
-  idle_holds same (inl active) = none_holds active
-  idle_holds same (inr known) = checked_hold (same known)
+  pub idle_holds : AreKnown a (Some before) → (a.active.items ≡ []) ⊎ (a.changes ≡ Nowhere) → AllHold all_checks
+  idle_holds known (inl active) = none_holds active
+  idle_holds known (inr none) = checked_hold (subst (λ (changes : LocalChanges). AreReached changes a.locals before.locals) none known)

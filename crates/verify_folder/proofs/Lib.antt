@@ -6,5 +6,6 @@ pub mod MethodWalk
 pub mod ClassWalk
 pub mod HandlerWalk
 pub mod InForce
-pub mod SameLocals
+pub mod KnownLocals
+pub mod SameUnits
 pub mod Passing

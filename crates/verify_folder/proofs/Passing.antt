@@ -1,6 +1,6 @@
 -- Frames are found one after the other, and not kept.
 use Rattle.std.proofs.Common.{◌≡◌, ◌⊎◌, ◌+◌, ◌<◌, ◌≤◌, ℕ, List, [], ◌∷◌, ◌++◌, length, drop, get_or, Option, Some, None, Ok, refl, sym, ap, subst, ◌∙◌}
-use Rattle.std.specs.Prelude.{IsTrue, if◌then◌else◌}
+use Rattle.std.specs.Prelude.{if◌then◌else◌}
 use Rattle.class_model.specs.Checks.{AllHold}
 use Rattle.class_model.specs.Instructions.{targets}
 use Rattle.class_model.specs.declared.frame.Frame.{Frame}
@@ -17,10 +17,11 @@ use Rattle.type_rules.specs.declared.ruled.Ruled.{Ruled}
 use Rattle.verify_folder.proofs.InForce.{idle_holds}
 use Rattle.verify_folder.proofs.Stepping.{is_typed}
 use Rattle.verify_folder.proofs.Walking.{IsOnWalk, all_typed, one_typed}
-use Rattle.verify_folder.specs.Inner.Active.{AreInForce, IsSame, NoneBegins}
+use Rattle.verify_folder.specs.Inner.Active.{AreInForce, AreKnown, NoneBegins}
 use Rattle.verify_folder.specs.Inner.Passing.{ArePassed, IsPassed}
 use Rattle.verify_folder.specs.Inner.Steps.{BeforeAnswers}
 use Rattle.verify_folder.specs.declared.active.ActiveHandlers.{ActiveHandlers}
+use Rattle.type_rules.specs.declared.keeping.LocalChanges.TheVariants.{Nowhere}
 
 -- ---- an instruction that hands on what flows into it
 
@@ -34,13 +35,13 @@ module _ (s : Scope) (frame : Frame) (placed : Placed) (nop : placed.instr ≡ N
   goes_on : Some frame ≡ (if falls_through placed.instr then Some frame else None)
   goes_on = subst (λ (instr : Instr). Some frame ≡ (if falls_through instr then Some frame else None)) (sym nop) refl
 
-  pub handed_on : (a : ActiveHandlers) → AreInForce s a → a.at ≤ placed.at → NoneBegins a placed.at → IsSame a (Some frame) → (a.active.items ≡ []) ⊎ IsTrue a.same → Rules s placed frame (Ok (record { next = Some frame; thrown = record { locals = frame.locals; stack = [] } })) → IsPassed s (Some frame) placed (Some frame)
-  handed_on a in_force later begins same checked rule =
+  pub handed_on : (a : ActiveHandlers) → AreInForce s a → a.at ≤ placed.at → NoneBegins a placed.at → AreKnown a (Some frame) → (a.active.items ≡ []) ⊎ (a.changes ≡ Nowhere) → Rules s placed frame (Ok (record { next = Some frame; thrown = record { locals = frame.locals; stack = [] } })) → IsPassed s (Some frame) placed (Some frame)
+  handed_on a in_force later begins known checked rule =
       let next = ap (λ (ruled : Ruled). ruled.next) rule.1 in
       record {
         before = frame;
         told = (
-          is_typed s (Some frame) placed frame found (Some frame) next (idle_holds s frame placed.at a in_force later begins same checked) rule.0 no_targets,
+          is_typed s (Some frame) placed frame found (Some frame) next (idle_holds s frame placed.at a in_force later begins known checked) rule.0 no_targets,
           goes_on ∙ ap (λ (behind : Option Frame). if falls_through placed.instr then behind else None) next,
         );
       }

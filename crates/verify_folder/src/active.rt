@@ -4,11 +4,13 @@ ghost use Rattle.std.specs.List.Sorted.{IsNonDecreasingBy};
 ghost use Rattle.class_model.specs.declared.class_file.Handler.{Handler as entry};
 ghost use Rattle.class_model.specs.declared.frame.Frame.{Frame};
 ghost use Rattle.member_link.specs.Scope.{Scope};
-ghost use Rattle.verify_folder.specs.Inner.Active.{Activates, AreInForce, AreNew, HasBegun, HasSkipped, IsCheckedAgain, IsLater, IsOfTarget, IsRestart, IsSame, IsSameIf, NoneBegins};
+ghost use Rattle.type_rules.specs.Changes.{AreSameBut};
+ghost use Rattle.type_rules.specs.declared.keeping.LocalChanges.TheVariants.{Nowhere, Anywhere};
+ghost use Rattle.verify_folder.specs.Inner.Active.{Activates, AreInForce, AreKnown, AreNew, AreReached, HasBegun, HasChanged, HasSkipped, IsCheckedAgain, IsLater, IsOfTarget, IsRestart, NoneBegins, both_changes};
 
 use class_model::{Handler, LocalTypeList, NoMemory};
 use std::alloc::Global;
-use type_rules::MethodRules;
+use type_rules::{LocalChanges, MethodRules};
 
 /// The exception handlers of a method that are in force at an instruction. It is fast where instructions come by offset.
 #[derive(Drop)]
@@ -19,8 +21,8 @@ pub(crate) struct ActiveHandlers {
     // The offset, in bytes, and the locals that the active handlers were last checked with.
     at: u32,
     locals: Option<LocalTypeList>,
-    /// Whether the locals at hand are known to be these.
-    pub(crate) same: bool,
+    /// In which units the locals at hand may differ from these.
+    pub(crate) changes: LocalChanges,
     /// Of the handlers whose range has begun, for each target the one whose range ends last. A range that has ended may be
     /// among them.
     pub(crate) active: Vec<Handler>,
@@ -47,7 +49,7 @@ impl ActiveHandlers {
             active: Vec::new(alloc),
             hints: vec![in alloc; 0; targets]?,
             locals: None,
-            same: false,
+            changes: LocalChanges::Anywhere,
         })
     }
 
@@ -55,7 +57,7 @@ impl ActiveHandlers {
     pub(crate) fn come_to(&mut self, at: u32)
         ensures later { self.new.at ≤ at }
         ensures kept { (s : Scope) → AreInForce s self.old → AreInForce s self.new }
-        ensures same { (flows : Option Frame) → IsSame self.old flows → IsSame self.new flows }
+        ensures known { (flows : Option Frame) → AreKnown self.old flows → AreKnown self.new flows }
     {
         if at < self.at {
             self.restart();
@@ -70,23 +72,38 @@ impl ActiveHandlers {
         self.at = 0;
         self.active.clear();
         self.locals = None;
-        self.same = false;
+        self.changes = LocalChanges::Anywhere;
     }
 
     /// Whether nothing is to be checked at an offset: none begins there or before it, and none is active or the locals at
     /// hand are known to be those that the active ones were last checked with.
     pub(crate) fn is_idle(&self, at: u32) -> bool
-        ensures checked { IsTrue result → (self.now.active.items ≡ []) ⊎ IsTrue self.now.same }
+        ensures checked { IsTrue result
+            → (self.now.active.items ≡ []) ⊎ (self.now.changes ≡ Nowhere) }
         ensures none { IsTrue result → NoneBegins self.now at }
     {
-        (self.same || self.active.is_empty()) && self.next(at).is_none()
+        (self.is_unchanged() || self.active.is_empty()) && self.next(at).is_none()
     }
 
-    /// The locals at hand are known to be the same where they were, and this holds.
-    pub(crate) fn same_if(&mut self, holds: bool)
-        ensures { IsSameIf self.old holds self.new }
+    // Whether the locals at hand are known to be those of the last check.
+    fn is_unchanged(&self) -> bool
+        ensures { IsTrue result → self.now.changes ≡ Nowhere }
     {
-        self.same = self.same && holds;
+        matches!(self.changes, LocalChanges::Nowhere)
+    }
+
+    /// Other locals are at hand, of which nothing is known.
+    pub(crate) fn forget(&mut self)
+        ensures { HasChanged self.old Anywhere self.new }
+    {
+        self.changes = LocalChanges::Anywhere;
+    }
+
+    /// The locals at hand are those behind an instruction that changes these units.
+    pub(crate) fn note(&mut self, changes: LocalChanges)
+        ensures { HasChanged self.old (both_changes self.old.changes changes) self.new }
+    {
+        self.changes = both_changes(self.changes, changes);
     }
 
     /// The next handler whose range begins at an offset or before it.
@@ -103,15 +120,16 @@ impl ActiveHandlers {
 
     /// Whether these locals, those at hand, are the ones that the active handlers were last checked with.
     pub(crate) fn were_checked_with(&self, locals: &LocalTypeList) -> bool
-        requires { IsTrue self.now.same → self.now.locals ≡ Some locals.now }
+        requires { AreReached self.now.changes self.now.locals locals.now }
         ensures { IsTrue result → self.now.locals ≡ Some locals.now }
     {
-        if self.same {
-            return true;
-        }
-        match &self.locals {
-            Some(last) => is_same(last, locals),
-            None => false,
+        match (self.changes, &self.locals) {
+            (LocalChanges::Nowhere, _) => true,
+            (LocalChanges::Within { from, end }, Some(last)) => is_same_within(
+                last, locals, from, end,
+            ),
+            (LocalChanges::Anywhere, Some(last)) => is_same(last, locals),
+            _ => false,
         }
     }
 
@@ -122,7 +140,7 @@ impl ActiveHandlers {
         self.active = active;
         self.locals = Some(locals);
         self.at = at;
-        self.same = true;
+        self.changes = LocalChanges::Nowhere;
     }
 
     /// The active handlers were checked at an offset, with the same locals.
@@ -130,7 +148,7 @@ impl ActiveHandlers {
         ensures { IsLater self.old at self.new }
     {
         self.at = at;
-        self.same = true;
+        self.changes = LocalChanges::Nowhere;
     }
 
     /// The next handler, whose range has ended already, has begun.
@@ -150,6 +168,29 @@ impl ActiveHandlers {
         self.begun += 1;
         Ok(())
     }
+}
+
+// The units that change where these change and then those.
+fn both_changes(first: LocalChanges, then: LocalChanges) -> LocalChanges
+    ensures { result ≡ both_changes first then }
+{
+    match (first, then) {
+        (LocalChanges::Nowhere, _) => then,
+        (_, LocalChanges::Nowhere) => first,
+        _ => LocalChanges::Anywhere,
+    }
+}
+
+// Whether locals that may differ from others only in the units from one number up to before another are the same.
+fn is_same_within(last: &LocalTypeList, locals: &LocalTypeList, from: usize, end: usize) -> bool
+    ensures { IsTrue result → AreSameBut from end last.now locals.now → last.now ≡ locals.now }
+{
+    for at in from..end {
+        if last.get(at) != locals.get(at) {
+            return false;
+        }
+    }
+    true
 }
 
 // Whether locals have the same types.

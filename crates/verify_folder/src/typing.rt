@@ -13,7 +13,7 @@ ghost use Rattle.type_rules.specs.MethodBodies.{body_of};
 ghost use Rattle.type_rules.specs.Rule.{FitsPool};
 ghost use Rattle.member_link.specs.Scope.{row_scope};
 ghost use Rattle.type_rules.specs.Stated.{stated_at};
-ghost use Rattle.verify_folder.specs.Inner.Active.{AreCheckedAt, AreInForce, AreNew, AreStill, IsSame, IsSameAt, NoneBegins, OneFails, OneStops};
+ghost use Rattle.verify_folder.specs.Inner.Active.{AreCheckedAt, AreInForce, AreNew, AllMightCatch, AreStill, AreKnown, AreKnownAt, MayCatch, MightCatch, NoneBegins, OneFails, OneStops};
 ghost use Rattle.verify_folder.specs.Inner.Passing.{ArePassed, IsPassed, IsTypable};
 ghost use Rattle.verify_folder.specs.Inner.Steps.{BeforeAnswers, ChecksAnswer, RowAnswers, StepAnswers, TypingAnswers, WalkAnswers};
 
@@ -26,7 +26,8 @@ use class_tree::THROWABLE;
 use std::alloc::Global;
 use std::marker::Model;
 use type_rules::{
-    MethodRules, RuleFault, Ruled, TypeRule, TypedMethod, frame_assignable, leaves_locals,
+    LocalChanges, MethodRules, RuleFault, Ruled, TypeRule, TypedMethod,
+    are_changed_locals_assignable, frame_assignable, local_changes,
 };
 
 /// Finds the frames that type a method.
@@ -167,28 +168,28 @@ impl Typing<'_> {
     ) -> Result<(Frame, Option<Frame>), Stop>
         requires fits { FitsPool self.now placed.now.instr }
         requires in_force { AreInForce self.now active.old }
-        requires same { IsSame active.old flows }
+        requires known { AreKnown active.old flows }
         ensures told { StepAnswers self.now flows placed.now result }
         ensures in_force { OnOk result (AreInForce self.now active.new) }
-        ensures same { IfOk result (λ typed. IsSame active.new typed.1) }
+        ensures known { IfOk result (λ typed. AreKnown active.new typed.1) }
     {
         self.meet(active, placed.at);
         let before = self.before(flows, placed.at)?;
         self.check_handlers(active, placed.at, &before)?;
         let ruled = self.rule(placed, &before)?;
         self.check_targets(placed, ruled.next.as_ref())?;
-        active.same_if(leaves_locals(&placed.instr));
+        active.note(local_changes(&placed.instr));
         Ok((before, flows_on(placed, ruled.next)))
     }
 
-    // Comes to an offset. Where a frame is stated there, its locals are not known to be the same.
+    // Comes to an offset. Where a frame is stated there, nothing is known of its locals.
     fn meet(&self, active: &mut ActiveHandlers, at: u32)
         ensures kept { AreInForce self.now active.old → AreInForce self.now active.new }
-        ensures same { (flows : Option frame)
-            → IsSame active.old flows → IsSameAt self.now active.new flows at }
+        ensures known { (flows : Option frame)
+            → AreKnown active.old flows → AreKnownAt self.now active.new flows at }
     {
-        if active.same {
-            active.same_if(self.rules.stated_at(at).is_none());
+        if self.rules.stated_at(at).is_some() {
+            active.forget();
         }
     }
 
@@ -201,10 +202,10 @@ impl Typing<'_> {
     ) -> Result<Option<Frame>, Stop>
         requires fits { FitsPool self.now placed.now.instr }
         requires in_force { AreInForce self.now active.old }
-        requires same { IsSame active.old flows }
+        requires known { AreKnown active.old flows }
         ensures told { IfOk result (IsPassed self.now flows placed.now) }
         ensures in_force { OnOk result (AreInForce self.now active.new) }
-        ensures same { IfOk result (IsSame active.new) }
+        ensures known { IfOk result (AreKnown active.new) }
     {
         active.come_to(placed.at);
         if self.hands_on(active, flows.as_ref(), placed) {
@@ -219,7 +220,7 @@ impl Typing<'_> {
     fn hands_on(&self, active: &ActiveHandlers, flows: Option<&Frame>, placed: &Placed) -> bool
         requires in_force { AreInForce self.now active.now }
         requires later { active.now.at ≤ placed.now.at }
-        requires same { IsSame active.now (option_copied flows) }
+        requires known { AreKnown active.now (option_copied flows) }
         ensures { IsTrue result → IsPassed self.now
             (option_copied flows.entry) placed.now (option_copied flows.entry) }
     {
@@ -258,12 +259,12 @@ impl Typing<'_> {
         before: &Frame,
     ) -> Result<(), Stop>
         requires in_force { AreInForce self.now active.old }
-        requires same { IsSame active.old (Some before.now) }
+        requires known { AreKnown active.old (Some before.now) }
         ensures told { ChecksAnswer at
             (handler_checks (body_of self.now) before.now
             (catches_at self.now at self.now.part.handlers)) result }
         ensures in_force { OnOk result (AreInForce self.now active.new) }
-        ensures same { OnOk result (IsSame active.new (Some before.now)) }
+        ensures known { OnOk result (AreKnown active.new (Some before.now)) }
     {
         active.come_to(at);
         if active.is_idle(at) {
@@ -288,7 +289,7 @@ impl Typing<'_> {
     ) -> Result<bool, NoMemory>
         requires in_force { AreInForce self.now active.old }
         requires later { active.old.at ≤ at }
-        requires same { IsSame active.old (Some before.now) }
+        requires known { AreKnown active.old (Some before.now) }
         ensures all { IfOk result (λ may.
             IsTrue may → AreCheckedAt self.now before.now.locals at active.new) }
         ensures one { IfOk result (λ may. IsFalse may → OneFails self.now before.now.locals at) }
@@ -297,7 +298,14 @@ impl Typing<'_> {
             active.set_at(at);
             return Ok(true);
         }
-        let still = self.still_active(active.active.as_slice(), &mut active.hints, at, before)?;
+        let changes = active.changes;
+        let still = self.still_active(
+            active.active.as_slice(),
+            &mut active.hints,
+            at,
+            before,
+            changes,
+        )?;
         let Some(still) = still else {
             return Ok(false);
         };
@@ -305,14 +313,17 @@ impl Typing<'_> {
         Ok(true)
     }
 
-    // The active handlers whose range goes on at an offset, if all of them may begin with these locals.
+    // The active handlers whose range goes on at an offset, if all of them may begin with these locals. They might before
+    // the locals changed in some units.
     fn still_active(
         &self,
         active: &[Handler],
         hints: &mut Vec<usize>,
         at: u32,
         before: &Frame,
+        changes: LocalChanges,
     ) -> Result<Option<Vec<Handler>>, NoMemory>
+        requires { AllMightCatch self.now changes before.now.locals at active.now }
         ensures all { IfOk result (λ found. IfSome found (λ still.
             AreStill self.now before.now.locals at active.now still.items)) }
         ensures one { IfOk result (λ found. IfNone found
@@ -321,13 +332,49 @@ impl Typing<'_> {
         let mut still = Vec::new(self.alloc);
         for handler in active {
             if at < u32::from(handler.end) {
-                if !self.may_catch(before, handler)? {
+                if !self.may_still_catch(before, handler, changes)? {
                     return Ok(None);
                 }
                 push_active(&mut still, hints, *handler)?;
             }
         }
         Ok(Some(still))
+    }
+
+    // Whether a handler may begin with these locals, if it might before they changed in some units.
+    fn may_still_catch(
+        &self,
+        before: &Frame,
+        handler: &Handler,
+        changes: LocalChanges,
+    ) -> Result<bool, NoMemory>
+        requires { MightCatch self.now changes before.now.locals handler.now }
+        ensures { IfOk result (λ may.
+            IsTrue may ↔ MayCatch self.now before.now.locals handler.now) }
+    {
+        if self.accepts_changes(before, handler, changes) {
+            return Ok(true);
+        }
+        self.may_catch(before, handler)
+    }
+
+    // Whether a handler is known to begin with these locals, by the units alone that changed.
+    fn accepts_changes(&self, before: &Frame, handler: &Handler, changes: LocalChanges) -> bool
+        ensures { IsTrue result
+            → MightCatch self.now changes before.now.locals handler.now
+            → MayCatch self.now before.now.locals handler.now }
+    {
+        let stated = self.rules.stated_at(u32::from(handler.at));
+        match (changes, stated) {
+            (LocalChanges::Within { from, end }, Some(stated)) => are_changed_locals_assignable(
+                self.rules.tree(),
+                &before.locals,
+                stated,
+                from,
+                end,
+            ),
+            _ => false,
+        }
     }
 
     // Whether the handlers whose range begins up to an offset may begin with these locals. They become active.

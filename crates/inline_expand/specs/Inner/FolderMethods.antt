@@ -1,5 +1,5 @@
 -- The methods of a folder in buckets: those of one name and descriptor are in one.
-use Rattle.std.specs.Prelude.{◌≡◌, ◌<◌, ℕ, List, [], length, slice_get, slice_index_or, Some}
+use Rattle.std.specs.Prelude.{◌≡◌, ◌+◌, ◌*◌, ◌%◌, ◌<◌, ℕ, List, [], ◌∷◌, length, take, slice_get, slice_index_or, Some}
 use Rattle.std.specs.List.{AllByRecursion}
 use Rattle.class_model.specs.declared.header.Header.{Header}
 use Rattle.class_model.specs.declared.header.Member.{Member}
@@ -7,8 +7,22 @@ use Rattle.class_tree.specs.Headers.{Headers}
 use Rattle.member_link.specs.Declarations.{IsFolderMethod}
 use Rattle.member_link.specs.DeclaredMembers.{Declared, declared}
 use Rattle.member_link.specs.Found.{IsMethodFound}
-use Rattle.member_link.specs.Inner.FinalMarks.{slot_of}
 use Rattle.member_link.specs.declared.found.Found.{Found}
+
+-- ---- keys
+
+-- a key of bytes, which goes on from that of others
+abbrev pub key : ℕ → List ℕ → ℕ
+key start [] = start
+key start (byte ∷ bytes) = key ((start * 31 + byte) % 4294967296) bytes
+
+-- the bytes at the front of a descriptor, which make its key
+abbrev pub front : List ℕ → List ℕ
+front desc = take 1024 desc
+
+-- the slot of a method among so many
+abbrev pub slot_of : ℕ → Member → ℕ
+slot_of count member = key (key 0 member.name) (front member.desc) % count
 
 -- ---- buckets
 

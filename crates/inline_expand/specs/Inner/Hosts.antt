@@ -7,8 +7,6 @@ use Rattle.class_model.specs.declared.frame.VType.{VType}
 use Rattle.class_model.specs.declared.frame.VType.TheVariants.{Uninit}
 use Rattle.class_model.specs.declared.instr.Placed.{Placed}
 use Rattle.flow_code.specs.FlatCode.{HasLocal}
-use Rattle.inline_expand.specs.Alone.{handlers_at}
-use Rattle.inline_expand.specs.declared.handlers.Around.{Around}
 use Rattle.member_link.specs.Machine.Codes.{covers}
 use Rattle.member_link.specs.Scope.{Scope, instructions}
 
@@ -31,8 +29,3 @@ uninit_of type = None
 abbrev pub CoversAlike : ℕ → ℕ → Handler → Type 0
 CoversAlike at until handler =
     (later : ℕ) → at ≤ later → later < until → covers handler later ≡ covers handler at
-
--- the handlers between its two offsets
-abbrev pub AreAround : Scope → Around → Type 0
-AreAround s around =
-    (at : ℕ) → around.from ≤ at → at < around.until → handlers_at s at ≡ around.handlers

@@ -12,8 +12,10 @@ use Rattle.inline_expand.specs.declared.ready.HostClass.{HostClass}
 use Rattle.member_link.specs.Scope.{instructions}
 use Rattle.type_rules.specs.TypedFrames.{FolderFrames}
 
-abbrev pub IsHostClass : HostClass → Type 0
-IsHostClass host = slice_get host.tree.now.folder host.number ≡ Some host.class.now
+-- the class of that number, and the methods of the same folder
+pub record IsHostClass (host : HostClass) : Type 0 where
+  pub is : slice_get host.tree.now.folder host.number ≡ Some host.class.now
+  pub methods : host.methods.now ≡ host.tree.now
 
 -- the one method that a call runs, with its code and frames, if it can be ready
 pub record IsTheCallee (classes : Classes) (typed : FolderFrames) (from : MethodAt) (at : ℕ)

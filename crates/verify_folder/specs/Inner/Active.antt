@@ -1,5 +1,5 @@
 -- The exception handlers in force along the code of a method.
-use Rattle.std.specs.Prelude.{◌≡◌, ◌⊎◌, ◌+◌, ◌<◌, ◌≤◌, ℕ, Bool, true, false, List, [], slice_get, Option, Some, None, IsPermutation, IsTrue}
+use Rattle.std.specs.Prelude.{◌≡◌, ◌⊎◌, ◌+◌, ◌<◌, ◌≤◌, ℕ, true, List, [], slice_get, Option, Some, None, IsPermutation}
 use Rattle.std.specs.List.{Contains}
 use Rattle.std.specs.List.Sorted.{IsNonDecreasingBy}
 use Rattle.class_model.specs.declared.class_file.Handler.{Handler}
@@ -7,10 +7,13 @@ use Rattle.class_model.specs.declared.frame.Frame.{Frame}
 use Rattle.class_model.specs.declared.frame.VType.{VType}
 use Rattle.member_link.specs.BodyTyping.{MayGoTo}
 use Rattle.member_link.specs.Scope.{Scope, row_scope}
+use Rattle.type_rules.specs.Changes.{AreSameBut}
 use Rattle.type_rules.specs.Checks.{frame_before}
 use Rattle.type_rules.specs.Handlers.{covers}
 use Rattle.type_rules.specs.Inner.Handlers.{caught_frame}
 use Rattle.type_rules.specs.Stated.{stated_at}
+use Rattle.type_rules.specs.declared.keeping.LocalChanges.{LocalChanges}
+use Rattle.type_rules.specs.declared.keeping.LocalChanges.TheVariants.{Nowhere, Within, Anywhere}
 use Rattle.verify_folder.specs.declared.active.ActiveHandlers.{ActiveHandlers}
 
 -- ---- one handler
@@ -25,6 +28,20 @@ MayCatch s locals handler =
 abbrev pub MayCatchLast : Scope → Option (List VType) → Handler → Type 0
 MayCatchLast s None handler = ⊥
 MayCatchLast s (Some locals) handler = MayCatch s locals handler
+
+-- a handler might begin with locals that these are but for units that changed
+abbrev pub MightCatch : Scope → LocalChanges → List VType → Handler → Type 0
+MightCatch s (Within from end) locals handler =
+    (last : List VType) × AreSameBut from end last locals × MayCatch s last handler
+MightCatch s other locals handler = Unit {0}
+
+-- so might each of these whose range goes on at an offset
+abbrev pub AllMightCatch : Scope → LocalChanges → List VType → ℕ → List Handler → Type 0
+AllMightCatch s changes locals at handlers =
+    (handler : Handler)
+    → Contains handlers handler
+    → at < handler.end
+    → MightCatch s changes locals handler
 
 -- a handler of the method whose range has an offset may not begin with these locals
 pub record OneFails (s : Scope) (locals : List VType) (at : ℕ) : Type 0 where
@@ -90,11 +107,15 @@ pub record AreInForce (s : Scope) (a : ActiveHandlers) : Type 0 where
   pub active : (handler : Handler)
       → Contains a.active.items handler
       → Contains s.part.handlers handler × (handler.start ≤ a.at)
+  pub may : (handler : Handler)
+      → Contains a.active.items handler
+      → a.at < handler.end
+      → MayCatchLast s a.locals handler
 
 -- those of the method before any instruction
 pub record AreNew (s : Scope) (a : ActiveHandlers) : Type 0 where
   pub in_force : AreInForce s a
-  pub not_same : a.same ≡ false
+  pub none_known : a.changes ≡ Anywhere
 
 -- they were checked with these locals at an offset
 pub record AreCheckedAt (s : Scope) (locals : List VType) (at : ℕ) (a : ActiveHandlers) : Type 0 where
@@ -102,25 +123,39 @@ pub record AreCheckedAt (s : Scope) (locals : List VType) (at : ℕ) (a : Active
   pub locals_are : a.locals ≡ Some locals
   pub at_is : a.at ≡ at
 
--- where the locals of a frame are known to be those that were checked last, they are
-abbrev pub IsSame : ActiveHandlers → Option Frame → Type 0
-IsSame a None = Unit {0}
-IsSame a (Some frame) = IsTrue a.same → a.locals ≡ Some frame.locals
+-- these locals are the ones that were checked last, but for units that changed
+abbrev pub AreReached : LocalChanges → Option (List VType) → List VType → Type 0
+AreReached Nowhere last locals = last ≡ Some locals
+AreReached (Within from end) None locals = ⊥
+AreReached (Within from end) (Some last) locals = AreSameBut from end last locals
+AreReached Anywhere last locals = Unit {0}
+
+-- what is known of the locals of a frame is so
+abbrev pub AreKnown : ActiveHandlers → Option Frame → Type 0
+AreKnown a None = Unit {0}
+AreKnown a (Some frame) = AreReached a.changes a.locals frame.locals
 
 -- so it is with the frame before an instruction at an offset, behind what flows into it
-abbrev pub IsSameAt : Scope → ActiveHandlers → Option Frame → ℕ → Type 0
-IsSameAt s a flows at =
-    (before : Frame) → frame_before flows (stated_at s at) ≡ Some before → IsSame a (Some before)
+abbrev pub AreKnownAt : Scope → ActiveHandlers → Option Frame → ℕ → Type 0
+AreKnownAt s a flows at =
+    (before : Frame)
+    → frame_before flows (stated_at s at) ≡ Some before
+    → AreKnown a (Some before)
 
 -- ---- changes
 
--- the locals are known to be the same where they were, and a test holds
-pub record IsSameIf (old : ActiveHandlers) (test : Bool) (new : ActiveHandlers) : Type 0 where
+-- units that change, and then others
+abbrev pub both_changes : LocalChanges → LocalChanges → LocalChanges
+both_changes Nowhere later = later
+both_changes (Within from end) Nowhere = Within from end
+both_changes (Within from end) later = Anywhere
+both_changes Anywhere later = Anywhere
+
+-- other locals are at hand, which may differ in these units
+pub record HasChanged (old : ActiveHandlers) (changes : LocalChanges) (new : ActiveHandlers) : Type 0 where
   pub kept : (s : Scope) → AreInForce s old → AreInForce s new
-  pub at_is : new.at ≡ old.at
   pub locals_are : new.locals ≡ old.locals
-  pub was : IsTrue new.same → IsTrue old.same
-  pub holds : IsTrue new.same → IsTrue test
+  pub changes_are : new.changes ≡ changes
 
 -- the same table before any instruction
 pub record IsRestart (old new : ActiveHandlers) : Type 0 where
@@ -128,7 +163,7 @@ pub record IsRestart (old new : ActiveHandlers) : Type 0 where
   pub begun : new.begun ≡ 0
   pub at_is : new.at ≡ 0
   pub active : new.active.items ≡ []
-  pub not_same : new.same ≡ false
+  pub none_known : new.changes ≡ Anywhere
 
 -- the same at an offset
 pub record IsLater (old : ActiveHandlers) (at : ℕ) (new : ActiveHandlers) : Type 0 where

@@ -1,8 +1,8 @@
 use Rattle.std.proofs.Common.{◌≡◌, take}
 use Rattle.inline_expand.specs.Alone.{alone_points}
-use Rattle.inline_expand.specs.Inner.Hosts.{AreAround}
+use Rattle.inline_expand.specs.Inner.Numbers.{AreAround}
 use Rattle.inline_expand.proofs.alone.points_of.Given as goal
 
 abbrev pub invariant-loop-number : goal.invariant-loop-number
 invariant-loop-number l =
-    (l.points.items ≡ alone_points l.host l.class (take l.number l.instrs) (take l.number l.frames)) × AreAround l.host l.around
+    (l.points.items ≡ alone_points l.host l.class (take l.number l.instrs) (take l.number l.frames)) × AreAround l.numbers l.around

@@ -8,30 +8,30 @@ use Rattle.inline_expand.proofs.called_methods.find_callee.Goals as goal
 
 pub returns-in_default : goal.returns-in_default
 returns-in_default c =
-    none_called c.args.tree.now c.args.typed.now (λ s at one other calls also. c.a_call_runs_one_method.ensures c.args.tree.now s at one other c.a_tree_is_a_hierarchy.ensures calls also) c.args.caller.now c.requires c.args.at
-    (subst (DecidesCall c.args.tree.now c.args.caller.now.host c.args.at) c.in_default.is c.in_ok-callee.ensures)
+    none_called c.args.host.tree.now c.args.host.typed.now (λ s at one other calls also. c.a_call_runs_one_method.ensures c.args.host.tree.now s at one other c.a_tree_is_a_hierarchy.ensures calls also) c.args.caller.now c.requires.stands c.args.at
+    (subst (DecidesCall c.args.host.tree.now c.args.caller.now.host c.args.at) c.in_default.is c.in_ok-callee.ensures)
 
 pub returns-in_default-2 : goal.returns-in_default-2
 returns-in_default-2 c =
-    none_short c.args.tree.now c.args.typed.now (λ s at one other calls also. c.a_call_runs_one_method.ensures c.args.tree.now s at one other c.a_tree_is_a_hierarchy.ensures calls also) c.args.caller.now c.requires c.args.at
-    c.in-Some.callee (subst (DecidesCall c.args.tree.now c.args.caller.now.host c.args.at) c.in-Some.is c.in_ok-callee.ensures)
-    (subst (IsShortCoded c.args.tree.now c.args.typed.now c.in-Some.callee) c.in_default-2.is c.in_ok-callee-2.ensures)
+    none_short c.args.host.tree.now c.args.host.typed.now (λ s at one other calls also. c.a_call_runs_one_method.ensures c.args.host.tree.now s at one other c.a_tree_is_a_hierarchy.ensures calls also) c.args.caller.now c.requires.stands c.args.at
+    c.in-Some.callee (subst (DecidesCall c.args.host.tree.now c.args.caller.now.host c.args.at) c.in-Some.is c.in_ok-callee.ensures)
+    (subst (IsShortCoded c.args.host.tree.now c.args.host.typed.now c.in-Some.callee) c.in_default-2.is c.in_ok-callee-2.ensures)
 
 pub says_at_most-requires : goal.says_at_most-requires
 says_at_most-requires c =
-    let short = subst (IsShortCoded c.args.tree.now c.args.typed.now c.in-Some.callee) c.in-Some-2.is c.in_ok-callee-2.ensures in
+    let short = subst (IsShortCoded c.args.host.tree.now c.args.host.typed.now c.in-Some.callee) c.in-Some-2.is c.in_ok-callee-2.ensures in
     c.a_method_of_a_tree_was_read.ensures c.in-Some-2.callee.at c.in-Some-2.callee.host short.1.is_scope
 
 pub returns-then-branch : goal.returns-then-branch
 returns-then-branch c =
-    it_says c.args.tree.now c.args.typed.now (λ s at one other calls also. c.a_call_runs_one_method.ensures c.args.tree.now s at one other c.a_tree_is_a_hierarchy.ensures calls also) c.args.caller.now c.requires c.args.at
-    c.in-Some.callee (subst (DecidesCall c.args.tree.now c.args.caller.now.host c.args.at) c.in-Some.is c.in_ok-callee.ensures)
-    c.in-Some-2.callee (subst (IsShortCoded c.args.tree.now c.args.typed.now c.in-Some.callee) c.in-Some-2.is c.in_ok-callee-2.ensures)
+    it_says c.args.host.tree.now c.args.host.typed.now (λ s at one other calls also. c.a_call_runs_one_method.ensures c.args.host.tree.now s at one other c.a_tree_is_a_hierarchy.ensures calls also) c.args.caller.now c.requires.stands c.args.at
+    c.in-Some.callee (subst (DecidesCall c.args.host.tree.now c.args.caller.now.host c.args.at) c.in-Some.is c.in_ok-callee.ensures)
+    c.in-Some-2.callee (subst (IsShortCoded c.args.host.tree.now c.args.host.typed.now c.in-Some.callee) c.in-Some-2.is c.in_ok-callee-2.ensures)
     (c.in_ok-says_at_most.ensures.0 c.if-branch.true)
 
 pub returns : goal.returns
 returns c =
-    it_says_not c.args.tree.now c.args.typed.now (λ s at one other calls also. c.a_call_runs_one_method.ensures c.args.tree.now s at one other c.a_tree_is_a_hierarchy.ensures calls also) c.args.caller.now c.requires c.args.at
-    c.in-Some.callee (subst (DecidesCall c.args.tree.now c.args.caller.now.host c.args.at) c.in-Some.is c.in_ok-callee.ensures)
-    c.in-Some-2.callee (subst (IsShortCoded c.args.tree.now c.args.typed.now c.in-Some.callee) c.in-Some-2.is c.in_ok-callee-2.ensures)
+    it_says_not c.args.host.tree.now c.args.host.typed.now (λ s at one other calls also. c.a_call_runs_one_method.ensures c.args.host.tree.now s at one other c.a_tree_is_a_hierarchy.ensures calls also) c.args.caller.now c.requires.stands c.args.at
+    c.in-Some.callee (subst (DecidesCall c.args.host.tree.now c.args.caller.now.host c.args.at) c.in-Some.is c.in_ok-callee.ensures)
+    c.in-Some-2.callee (subst (IsShortCoded c.args.host.tree.now c.args.host.typed.now c.in-Some.callee) c.in-Some-2.is c.in_ok-callee-2.ensures)
     (λ says. absurd (cc (sym c.if-branch.false ∙ c.in_ok-says_at_most.ensures.1 says)))

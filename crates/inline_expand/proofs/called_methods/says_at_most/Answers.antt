@@ -9,6 +9,8 @@ returns-in_ok-result_says_at_most-in-Some c =
     (IsTrue c.in_ok-result_says_at_most-in-Some.field-0) (sym c.frame_behind.ensures ∙ ap option_copied c.in-Some.is) c.in_ok-result_says_at_most-in-Some.ensures
 
 pub returns-in-None : goal.returns-in-None
-returns-in-None c =
-    (λ yes. says_nothing c.args.tree.now c.args.caller.now.host c.args.caller.now.frames.now c.args.at c.args.callee.now
-    (sym c.frame_behind.ensures ∙ ap option_copied c.in-None.is), λ each. refl)
+returns-in-None c = (
+  λ yes. says_nothing c.args.tree.now c.args.caller.now.host c.args.caller.now.frames.now c.args.at c.args.callee.now
+      (sym c.frame_behind.ensures ∙ ap option_copied c.in-None.is),
+  λ each. refl,
+)

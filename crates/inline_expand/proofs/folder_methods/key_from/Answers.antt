@@ -1,6 +1,6 @@
 use Rattle.std.proofs.Common.{sym, ap, ◌∙◌, arith}
 use Rattle.std.proofs.lemmas.List.{drop_more, drop_all}
-use Rattle.member_link.specs.Inner.FinalMarks.{key}
+use Rattle.inline_expand.specs.Inner.FolderMethods.{key}
 use Rattle.inline_expand.proofs.folder_methods.key_from.Goals as goal
 
 pub loop-byte-preserved : goal.loop-byte-preserved

@@ -1,5 +1,5 @@
 use Rattle.std.proofs.Common.{◌≡◌, ◌<◌, drop}
-use Rattle.member_link.specs.Inner.FinalMarks.{key}
+use Rattle.inline_expand.specs.Inner.FolderMethods.{key}
 use Rattle.inline_expand.proofs.folder_methods.key_from.Given as goal
 
 abbrev pub invariant-loop-byte : goal.invariant-loop-byte

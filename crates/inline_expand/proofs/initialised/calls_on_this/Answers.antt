@@ -6,6 +6,7 @@ pub returns-in-None : goal.returns-in-None
 returns-in-None c = (λ no. absurd (cc no), λ on. absurd (c.in-None.ensures This on.reference on.is))
 
 pub returns-in-Some : goal.returns-in-Some
-returns-in-Some c =
-    (λ yes. is_on_this c.args.method.now.host c.args.method.now.frames.now c.args.at c.in-Some.call c.in-Some.ensures (c.is_other_on_this.ensures.0 yes),
-    λ on. c.is_other_on_this.ensures.1 (on_this_is c.args.method.now.host c.args.method.now.frames.now c.args.at c.in-Some.call c.in-Some.ensures on))
+returns-in-Some c = (
+  λ yes. is_on_this c.args.method.now.host c.args.method.now.frames.now c.args.at c.in-Some.call c.in-Some.ensures (c.is_other_on_this.ensures.0 yes),
+  λ on. c.is_other_on_this.ensures.1 (on_this_is c.args.method.now.host c.args.method.now.frames.now c.args.at c.in-Some.call c.in-Some.ensures on),
+)

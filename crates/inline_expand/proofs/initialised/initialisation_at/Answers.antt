@@ -20,10 +20,10 @@ returns c =
     let named : call.reference.name ≡ init = search rules in
     let before : frame_before s frames c.args.at ≡ Some c.in-Some-frame_before.frame.now = sym c.frame_before.ensures ∙ ap option_copied c.in-Some-frame_before.is in
     let on : object_of (Some (receiver c.in-Some-frame_before.frame.now call.reference.desc)) ≡ Some c.in-Some-object_of.object =
-        ap (λ (desc : List ℕ). object_of (Some (receiver c.in-Some-frame_before.frame.now desc))) (sym c.bytes-2.ensures.same)
-        ∙ ap (λ (type : VType). object_of (Some type)) (sym c.receiver.ensures)
-        ∙ sym (top_is_none (option_copied c.receiver.result))
-        ∙ sym c.object_of.ensures ∙ c.in-Some-object_of.is in
+    ap (λ (desc : List ℕ). object_of (Some (receiver c.in-Some-frame_before.frame.now desc))) (sym c.bytes-2.ensures.same)
+    ∙ ap (λ (type : VType). object_of (Some type)) (sym c.receiver.ensures)
+    ∙ sym (top_is_none (option_copied c.receiver.result))
+    ∙ sym c.object_of.ensures ∙ c.in-Some-object_of.is in
     record {
       reference = call.reference;
       is = with_object s frames c.args.at call read c.in-Some-frame_before.frame.now c.in-Some-object_of.object special named before on;

@@ -13,6 +13,6 @@ may_stand_in-requires c =
 pub returns : goal.returns
 returns c =
     let short = subst (IsShortCoded c.args.host.tree.now c.args.host.typed.now c.args.at) c.in-Some.is c.in_ok-method.ensures in
-    has_needs c.args.host.tree.now c.args.host.typed.now c.args.host.number c.args.host.class.now c.args.at c.in-Some.method c.requires short.0 short.1
+    has_needs c.args.host.tree.now c.args.host.typed.now c.args.host.number c.args.host.class.now c.args.at c.in-Some.method c.requires.is short.0 short.1
     (c.in_ok-may_stand_in.ensures.0 c.if-not-branch.false)
     (option_map (λ (list : Vec MethodAt Global). list.items) c.in_ok-own_callees.field-0) c.in_ok-own_callees.ensures

@@ -8,8 +8,8 @@ use Rattle.inline_expand.proofs.ready.own_callees.Goals as goal
 
 pub loop-number-init : goal.loop-number-init
 loop-number-init c =
-    subst (CallsBefore c.args.tree.now c.args.typed.now c.args.method.now 0) (sym c.new-callees.ensures.items)
-    (none_before c.args.tree.now c.args.typed.now c.args.method.now)
+    subst (CallsBefore c.args.host.tree.now c.args.host.typed.now c.args.method.now 0) (sym c.new-callees.ensures.items)
+    (none_before c.args.host.tree.now c.args.host.typed.now c.args.method.now)
 
 pub loop-number-preserved : goal.loop-number-preserved
 loop-number-preserved c =
@@ -18,21 +18,21 @@ loop-number-preserved c =
     let placed = c.index-instrs-number.result in
     let within : number < length instrs = omega (arith, c.loop-number-test.true) in
     let placed_is = slice_get_read instrs (length instrs) number placed refl within c.index-instrs-number.is in
-    one_more_call c.args.tree.now c.args.typed.now c.args.method.now number c.loop-number.callees.items c.add_own_callee.new.callees.items placed
+    one_more_call c.args.host.tree.now c.args.host.typed.now c.args.method.now number c.loop-number.callees.items c.add_own_callee.new.callees.items placed
     (ap (λ (list : List Placed). slice_get list number) (sym c.instrs-instrs.ensures) ∙ placed_is)
     c.loop-number.invariant
-    (subst (AddsOwn c.args.tree.now c.args.typed.now c.args.method.now placed.at c.loop-number.callees.items c.add_own_callee.new.callees.items) c.if-not-branch.false
-    (subst (λ (p : Placed). AddsOwn c.args.tree.now c.args.typed.now c.args.method.now p.at c.loop-number.callees.items c.add_own_callee.new.callees.items c.in_ok-add_own_callee.field-0) (sym c.index-instrs-number.is) c.in_ok-add_own_callee.ensures))
+    (subst (AddsOwn c.args.host.tree.now c.args.host.typed.now c.args.method.now placed.at c.loop-number.callees.items c.add_own_callee.new.callees.items) c.if-not-branch.false
+    (subst (λ (p : Placed). AddsOwn c.args.host.tree.now c.args.host.typed.now c.args.method.now p.at c.loop-number.callees.items c.add_own_callee.new.callees.items c.in_ok-add_own_callee.field-0) (sym c.index-instrs-number.is) c.in_ok-add_own_callee.ensures))
 
 pub returns-then-not-branch : goal.returns-then-not-branch
 returns-then-not-branch c =
     let placed = c.index-instrs-number.result in
-    own_fails c.args.tree.now c.args.typed.now c.args.method.now c.requires placed.at
-    (subst (AddsOwn c.args.tree.now c.args.typed.now c.args.method.now placed.at c.loop-number.callees.items c.add_own_callee.new.callees.items) c.if-not-branch.true
-    (subst (λ (p : Placed). AddsOwn c.args.tree.now c.args.typed.now c.args.method.now p.at c.loop-number.callees.items c.add_own_callee.new.callees.items c.in_ok-add_own_callee.field-0) (sym c.index-instrs-number.is) c.in_ok-add_own_callee.ensures))
+    own_fails c.args.host.tree.now c.args.host.typed.now c.args.method.now c.requires.stands placed.at
+    (subst (AddsOwn c.args.host.tree.now c.args.host.typed.now c.args.method.now placed.at c.loop-number.callees.items c.add_own_callee.new.callees.items) c.if-not-branch.true
+    (subst (λ (p : Placed). AddsOwn c.args.host.tree.now c.args.host.typed.now c.args.method.now p.at c.loop-number.callees.items c.add_own_callee.new.callees.items c.in_ok-add_own_callee.field-0) (sym c.index-instrs-number.is) c.in_ok-add_own_callee.ensures))
 
 pub returns : goal.returns
 returns c =
     let all : c.loop-number.number ≡ length c.instrs-instrs.result.now = omega (arith, c.loop-number-test.false, c.loop-number.auto.number-end) in
-    calls_each c.args.tree.now c.args.typed.now c.args.method.now c.requires c.loop-number.number c.loop-number.callees.items
+    calls_each c.args.host.tree.now c.args.host.typed.now c.args.method.now c.requires.stands c.loop-number.number c.loop-number.callees.items
     (all ∙ ap (λ (list : List Placed). length list) c.instrs-instrs.ensures) c.loop-number.invariant

@@ -15,8 +15,8 @@ pub returns-then-is_none-clause-sites : goal.returns-then-is_none-clause-sites
 returns-then-is_none-clause-sites c =
     let none = is_none_there c.entry.result c.if-is_none.ensures in
     let there = ap (λ (n : ℕ). joined (slice_get c.args.sites.now.items n)) (sym c.number-number.ensures)
-        ∙ ap (λ (list : List (Option Name)). joined (slice_get list c.number-number.result)) (sym c.as_slice.ensures.value)
-        ∙ sym c.entry.ensures ∙ ap option_copied none in
+    ∙ ap (λ (list : List (Option Name)). joined (slice_get list c.number-number.result)) (sym c.as_slice.ensures.value)
+    ∙ sym c.entry.ensures ∙ ap option_copied none in
     no_site_stays c.args.place.class.tree.now c.args.place.class.typed.now (host_of c.args.place.line.now) (chain_of c.args.place.line.now) c.args.method.now c.args.at c.args.sites.now.items
     c.in-Some.new c.in-Some.ensures.0 c.in-Some.ensures.1 there
 
@@ -28,8 +28,8 @@ returns-then-branch-clause-sites c =
 pub returns-clause-sites : goal.returns-clause-sites
 returns-clause-sites c =
     let there = ap (λ (n : ℕ). joined (slice_get c.args.sites.now.items n)) (sym c.number-number.ensures)
-        ∙ ap (λ (list : List (Option Name)). joined (slice_get list c.number-number.result)) (sym c.as_slice.ensures.value)
-        ∙ sym c.entry.ensures in
+    ∙ ap (λ (list : List (Option Name)). joined (slice_get list c.number-number.result)) (sym c.as_slice.ensures.value)
+    ∙ sym c.entry.ensures in
     subst (λ (n : ℕ). SpoilsAt c.args.place.class.tree.now c.args.place.class.typed.now (host_of c.args.place.line.now) (chain_of c.args.place.line.now) c.args.method.now c.args.at c.args.sites.now.items (slice_set c.args.sites.now.items n None))
     (sym c.number-number.ensures)
     (one_falls c.args.place.class.tree.now c.args.place.class.typed.now (host_of c.args.place.line.now) (chain_of c.args.place.line.now) c.args.method.now c.args.at c.args.sites.now.items

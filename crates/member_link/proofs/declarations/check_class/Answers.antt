@@ -1,5 +1,5 @@
-use Rattle.std.proofs.Common.{sym, subst, ◌∙◌}
-use Rattle.std.proofs.lemmas.Option.{same_Some}
+use Rattle.std.proofs.Common.{sym, subst, ◌∙◌, arith}
+use Rattle.std.proofs.lemmas.Option.{same_Some, slice_get_within}
 use Rattle.std.proofs.lemmas.Result.{err_from_is_err_and}
 use Rattle.class_model.specs.Checks.{asked_each}
 use Rattle.class_model.specs.Laws.Checks.{all_remain, passes, remain}
@@ -7,6 +7,7 @@ use Rattle.class_model.specs.declared.header.Header.{Header}
 use Rattle.class_tree.specs.Answers.{Answers}
 use Rattle.class_tree.specs.Headers.{headers_of}
 use Rattle.class_tree.specs.Laws.Links.{refused, answered}
+use Rattle.class_tree.specs.declared.place.Place.TheVariants.{Folder}
 use Rattle.member_link.specs.Declarations.{declaration_checks, declared_field_checks, declared_method_checks}
 use Rattle.member_link.proofs.declarations.check_class.Goals as goal
 
@@ -20,7 +21,11 @@ returns-in_err-check_fields c = λ header at.
     subst (λ (header : Header). Answers (declaration_checks headers header) c.from_residual-in_err-check_fields.result) (same_Some class header (c.in-Some.ensures ∙ at)) (rw (p.1, p.2) told)
 
 pub check_methods-requires-clause-place : goal.check_methods-requires-clause-place
-check_methods-requires-clause-place c = c.a_tree_is_a_hierarchy.ensures.of_place c.args.place c.in-Some.header.now (sym c.in-Some.ensures)
+check_methods-requires-clause-place c = c.a_tree_is_a_hierarchy.ensures.of_place (Folder c.args.index) c.in-Some.header.now (sym c.in-Some.ensures)
+
+pub bounds-known-index : goal.bounds-known-index
+bounds-known-index c =
+    omega (arith, slice_get_within (headers_of c.args.tree.now).folder c.args.index c.in-Some.header.now (sym c.in-Some.ensures), c.requires.len)
 
 pub returns : goal.returns
 returns c = λ header at.

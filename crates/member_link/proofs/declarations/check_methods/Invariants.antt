@@ -8,4 +8,5 @@ use Rattle.member_link.proofs.declarations.check_methods.Given as goal
 abbrev pub invariant-loop-member : goal.invariant-loop-member
 invariant-loop-member l =
     (l.descriptors ≡ headers_of l.tree)
+    × (l.index ≡ l.member-index)
     × Remain (asked_each (declared_method_checks (headers_of l.tree) l.header) l.header.methods) (asked_each (declared_method_checks (headers_of l.tree) l.header) (drop l.member-index l.member-items))

@@ -1,10 +1,9 @@
 use Rattle.std.proofs.Common.{◌≡◌, ◌∙◌, ◌<◌, ℕ, List, [], length, refl, ap, subst, arith}
 use Rattle.std.proofs.lemmas.Option.{get_or_from_slice_get, slice_get_read}
 use Rattle.class_tree.specs.Headers.{Classes, headers_of}
-use Rattle.inline_expand.specs.Inner.FolderMethods.{AreAlike, bucket_at}
+use Rattle.inline_expand.specs.Inner.FolderMethods.{AreAlike, bucket_at, slot_of}
 use Rattle.inline_expand.proofs.MethodBuckets.{bucket_is_alike}
 use Rattle.inline_expand.proofs.folder_methods.FolderMethods.alike.Goals as goal
-use Rattle.member_link.specs.Inner.FinalMarks.{slot_of}
 use Rattle.member_link.specs.declared.found.Found.{Found}
 
 pub returns : goal.returns

@@ -1,25 +1,26 @@
 use Rattle.std.proofs.Common.{Some, arith}
 use Rattle.verify_folder.specs.Inner.Active.{OneFails}
 use Rattle.verify_folder.proofs.InForce.{checked_hold, idle_holds, none_fails}
+use Rattle.verify_folder.proofs.KnownLocals.{reached_itself}
 use Rattle.verify_folder.proofs.typing.Typing.check_handlers.Goals as goal
 use Rattle.verify_folder.proofs.typing.Typing.check_handlers.Goals.{else-branch-via-then-branch+in_ok-begin+else-branch-2, else-branch-via-else-branch}
 
 pub returns-then-is_idle-clause-told : goal.returns-then-is_idle-clause-told
 returns-then-is_idle-clause-told c =
     idle_holds c.args.self.now c.args.before.now c.args.at c.come_to.new.self (c.come_to.ensures.kept c.args.self.now c.requires.in_force) c.come_to.ensures.later
-    (c.is_idle.ensures.none c.if-is_idle.true) (c.come_to.ensures.same (Some c.args.before.now) c.requires.same) (c.is_idle.ensures.checked c.if-is_idle.true)
+    (c.is_idle.ensures.none c.if-is_idle.true) (c.come_to.ensures.known (Some c.args.before.now) c.requires.known) (c.is_idle.ensures.checked c.if-is_idle.true)
 
 pub returns-then-is_idle-clause-in_force : goal.returns-then-is_idle-clause-in_force
 returns-then-is_idle-clause-in_force c = c.come_to.ensures.kept c.args.self.now c.requires.in_force
 
-pub returns-then-is_idle-clause-same : goal.returns-then-is_idle-clause-same
-returns-then-is_idle-clause-same c = c.come_to.ensures.same (Some c.args.before.now) c.requires.same
+pub returns-then-is_idle-clause-known : goal.returns-then-is_idle-clause-known
+returns-then-is_idle-clause-known c = c.come_to.ensures.known (Some c.args.before.now) c.requires.known
 
 pub recheck-requires-clause-in_force : goal.recheck-requires-clause-in_force
 recheck-requires-clause-in_force c = c.come_to.ensures.kept c.args.self.now c.requires.in_force
 
-pub recheck-requires-clause-same : goal.recheck-requires-clause-same
-recheck-requires-clause-same c = c.come_to.ensures.same (Some c.args.before.now) c.requires.same
+pub recheck-requires-clause-known : goal.recheck-requires-clause-known
+recheck-requires-clause-known c = c.come_to.ensures.known (Some c.args.before.now) c.requires.known
 
 pub returns-then-branch-2-clause-told : goal.returns-then-branch-2-clause-told
 returns-then-branch-2-clause-told c =
@@ -37,3 +38,7 @@ unreachable-requires c =
     ]
     in
     none_fails s before c.args.at fails c.in-Ok.ensures
+
+pub returns-then-branch-2-clause-known : goal.returns-then-branch-2-clause-known
+returns-then-branch-2-clause-known c =
+    reached_itself c.begin.new.active.changes c.begin.new.active.locals c.args.before.now.locals (c.in_ok-begin.ensures.all c.if-branch-2.true).locals_are

@@ -5,7 +5,7 @@ use Rattle.member_link.specs.Scope.{Scope}
 use Rattle.type_rules.specs.Rule.{Rules}
 use Rattle.type_rules.specs.Stated.{stated_at}
 use Rattle.verify_folder.proofs.Passing.{handed_on}
-use Rattle.verify_folder.specs.Inner.Active.{IsSame}
+use Rattle.verify_folder.specs.Inner.Active.{AreKnown}
 use Rattle.verify_folder.specs.Inner.Passing.{IsPassed}
 use Rattle.verify_folder.proofs.typing.Typing.hands_on.Goals as goal
 
@@ -15,7 +15,7 @@ returns-in-None c =
     let placed = c.args.placed.now in
     let frame = c.in-Nop-Some.frame.now in
     let none : stated_at s placed.at ≡ None = subst (λ (of : Scope). stated_at of placed.at ≡ None) c.self.view_is (sym c.stated_at.ensures ∙ ap option_copied c.in-None.is) in
-    let same : IsSame c.args.active.now (Some frame) = subst (IsSame c.args.active.now) (ap option_copied c.in-Nop-Some.is-1) c.requires.same in
+    let same : AreKnown c.args.active.now (Some frame) = subst (AreKnown c.args.active.now) (ap option_copied c.in-Nop-Some.is-1) c.requires.known in
     λ yes.
     let rule = subst (λ (of : Scope). Rules of placed frame (Ok (record { next = Some frame; thrown = record { locals = frame.locals; stack = [] } }))) c.self.view_is (c.keeps.ensures yes) in
     subst (λ (flows : Option Frame). IsPassed s flows placed flows) (sym (ap option_copied c.in-Nop-Some.is-1))

@@ -1,4 +1,4 @@
 use Rattle.verify_folder.proofs.typing.Typing.meet.Goals as goal
 
-pub returns-then-active-clause-kept : goal.returns-then-active-clause-kept
-returns-then-active-clause-kept c = c.same_if.ensures.kept c.args.self.now
+pub returns-then-is_some-clause-kept : goal.returns-then-is_some-clause-kept
+returns-then-is_some-clause-kept c = c.forget.ensures.kept c.args.self.now

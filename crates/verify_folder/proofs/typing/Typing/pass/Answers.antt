@@ -9,8 +9,8 @@ step-requires-clause-in_force c = c.come_to.ensures.kept c.args.self.now c.requi
 pub returns-then-hands_on-clause-in_force : goal.returns-then-hands_on-clause-in_force
 returns-then-hands_on-clause-in_force c = c.come_to.ensures.kept c.args.self.now c.requires.in_force
 
-pub step-requires-clause-same : goal.step-requires-clause-same
-step-requires-clause-same c = c.come_to.ensures.same c.args.flows c.requires.same
+pub step-requires-clause-known : goal.step-requires-clause-known
+step-requires-clause-known c = c.come_to.ensures.known c.args.flows c.requires.known
 
-pub returns-then-hands_on-clause-same : goal.returns-then-hands_on-clause-same
-returns-then-hands_on-clause-same c = c.come_to.ensures.same c.args.flows c.requires.same
+pub returns-then-hands_on-clause-known : goal.returns-then-hands_on-clause-known
+returns-then-hands_on-clause-known c = c.come_to.ensures.known c.args.flows c.requires.known

@@ -5,7 +5,7 @@ pub loop-placed-preserved : goal.loop-placed-preserved
 loop-placed-preserved c = (
   one_passed c.args.self.now c.loop-placed.flows c.as_slice-placed-items.result.now c.loop-placed.placed-index c.loop-placed.invariant.0 c.placed-item.result c.loop-placed-test.true c.placed-item.is c.in_ok-flows.flows c.in_ok-flows.ensures.told,
   c.in_ok-flows.ensures.in_force,
-  c.in_ok-flows.ensures.same,
+  c.in_ok-flows.ensures.known,
 )
 
 pub returns : goal.returns

@@ -1,7 +1,7 @@
-use Rattle.std.proofs.Common.{List, Vec, Option, Global, IfNone, IfSome, Some, ap, subst, ◌∙◌}
+use Rattle.std.proofs.Common.{List, Vec, Option, Global, IfNone, IfSome, Some, sym, ap, subst, ◌∙◌}
 use Rattle.class_model.specs.declared.class_file.Handler.{Handler}
-use Rattle.verify_folder.specs.Inner.Active.{AreStill, IsCheckedAgain, OneStops}
-use Rattle.verify_folder.proofs.InForce.{active_fails, asked_again, went_on}
+use Rattle.verify_folder.specs.Inner.Active.{AreStill, IsCheckedAgain, AllMightCatch, OneStops}
+use Rattle.verify_folder.proofs.InForce.{active_fails, asked_again, might_catch, went_on}
 use Rattle.verify_folder.proofs.typing.Typing.recheck.Goals as goal
 
 pub returns-then-were_checked_with-clause-all : goal.returns-then-were_checked_with-clause-all
@@ -28,3 +28,8 @@ returns-clause-all c =
       at_is = c.set_checked.ensures.at_is;
     } in
     λ yes. asked_again s locals c.args.at c.args.active.now c.set_checked.new.self c.in-Some.still.items c.requires.in_force c.requires.later again (subst (λ (active : List Handler). AreStill s locals c.args.at active c.in-Some.still.items) c.as_slice.ensures.value are)
+
+pub still_active-requires : goal.still_active-requires
+still_active-requires c =
+    subst (AllMightCatch c.args.self.now c.args.active.now.changes c.args.before.now.locals c.args.at) (sym c.as_slice.ensures.value)
+    (might_catch c.args.self.now c.args.before.now.locals c.args.at c.args.active.now c.requires.in_force c.requires.later c.requires.known)

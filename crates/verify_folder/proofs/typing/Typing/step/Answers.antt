@@ -4,7 +4,7 @@ use Rattle.std.specs.Option.{option_copied}
 use Rattle.std.proofs.lemmas.Result.{err_from_is_err_and}
 use Rattle.member_link.specs.Bodies.{falls_through}
 use Rattle.type_rules.specs.declared.ruled.Ruled.{Ruled}
-use Rattle.verify_folder.proofs.SameLocals.{gone_on}
+use Rattle.verify_folder.proofs.KnownLocals.{gone_on}
 use Rattle.verify_folder.proofs.Stepping.{handlers_fail, row_fails, targets_fail, is_typed}
 use Rattle.verify_folder.proofs.typing.Typing.step.Goals as goal
 
@@ -32,14 +32,14 @@ returns-clause-told c =
       c.flows_on.ensures ∙ ap (λ frame. if falls_through c.args.placed.now.instr then frame else None) next,
     )
 
-pub check_handlers-requires-clause-same : goal.check_handlers-requires-clause-same
-check_handlers-requires-clause-same c = c.meet.ensures.same c.args.flows c.requires.same c.in_ok-before.before c.in_ok-before.ensures.0
+pub check_handlers-requires-clause-known : goal.check_handlers-requires-clause-known
+check_handlers-requires-clause-known c = c.meet.ensures.known c.args.flows c.requires.known c.in_ok-before.before c.in_ok-before.ensures.0
 
-pub returns-clause-same : goal.returns-clause-same
-returns-clause-same c =
+pub returns-clause-known : goal.returns-clause-known
+returns-clause-known c =
     let next = ap (λ (ruled : Ruled). ruled.next) c.in_ok-ruled.ensures.1 in
     let is = c.flows_on.ensures ∙ ap (λ frame. if falls_through c.args.placed.now.instr then frame else None) next in
-    gone_on c.check_handlers.new.active c.same_if.new.self c.leaves_locals.result c.same_if.ensures c.args.self.now c.args.placed.now c.in_ok-before.before c.in_ok-check_handlers.ensures.same c.leaves_locals.ensures c.flows_on.result is
+    gone_on c.check_handlers.new.active c.note.new.self c.local_changes.result c.note.ensures c.args.self.now c.args.placed.now c.in_ok-before.before c.in_ok-check_handlers.ensures.known c.local_changes.ensures c.flows_on.result is
 
 pub returns-clause-in_force : goal.returns-clause-in_force
-returns-clause-in_force c = c.same_if.ensures.kept c.args.self.now c.in_ok-check_handlers.ensures.in_force
+returns-clause-in_force c = c.note.ensures.kept c.args.self.now c.in_ok-check_handlers.ensures.in_force

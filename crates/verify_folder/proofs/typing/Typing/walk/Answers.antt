@@ -10,7 +10,7 @@ loop-placed-preserved c =
     let i = c.loop-placed.placed-index in
     let on = subst (λ frames. IsOnWalk s frames c.in_ok-before.next (drop (i + 1) instrs)) (sym c.in_ok-push.ensures.ok)
     (one_typed s c.loop-placed.frames c.loop-placed.flows instrs i c.loop-placed.invariant.0 c.placed-item.result c.loop-placed-test.true c.placed-item.is c.in_ok-before.before c.in_ok-before.next c.in_ok-before.ensures.told) in
-    (on, c.in_ok-before.ensures.in_force, c.in_ok-before.ensures.same)
+    (on, c.in_ok-before.ensures.in_force, c.in_ok-before.ensures.known)
 
 pub returns-in-None : goal.returns-in-None
 returns-in-None c =

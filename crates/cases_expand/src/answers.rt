@@ -1,0 +1,112 @@
+//! What is answered to a question, as a text.
+use crate::flats::{flat_answer, handlers_answer, typed_answer};
+use cases_notation::{Setting, word_and_rest};
+use class_model::{MethodAt, Text};
+use class_tree::{Place, Tree};
+use flow_code::{Flat, KeptFault};
+use inline_expand::{callee, candidate, expand};
+use member_link::check_links;
+use std::alloc::Global;
+use type_rules::TypedFolder;
+use verify_folder::verify_all;
+
+/// What is answered to a question. None where it is none, or memory runs out.
+pub(crate) fn answer(alloc: Global, setting: &Setting<'_>, question: &str) -> Option<String> {
+    let tree = setting.tree_with(alloc, setting.folder)?;
+    let Ok(()) = check_links(alloc, &tree) else {
+        return None;
+    };
+    let typed = verify_all(alloc, &tree).ok()?;
+    let (call, about) = word_and_rest(question);
+    let words = about.split(' ').collect::<Vec<&str>>(alloc).ok()?;
+    match (call, words.as_slice()) {
+        ("candidate", [name]) => candidate_answer(alloc, &tree, name),
+        ("callee", [host, class, method, at]) => {
+            let host = class_number(alloc, &tree, host)?;
+            let from = method_at(alloc, &tree, class, method)?;
+            callee_answer(alloc, &tree, &typed, host, from, at.parse::<u32>().ok()?)
+        }
+        ("expand", [class, method]) => {
+            let flat = expand(
+                alloc,
+                &tree,
+                &typed,
+                method_at(alloc, &tree, class, method)?,
+            );
+            expand_answer(alloc, &tree, &flat)
+        }
+        (_, [class, method, point]) => {
+            let flat = expand(
+                alloc,
+                &tree,
+                &typed,
+                method_at(alloc, &tree, class, method)?,
+            )
+            .ok()?;
+            point_answer(alloc, &flat, call, point.parse::<usize>().ok()?)
+        }
+        _ => None,
+    }
+}
+
+fn candidate_answer(alloc: Global, tree: &Tree, name: &str) -> Option<String> {
+    let name = Text::of_bytes(alloc, name.as_bytes()).ok()?;
+    let is_candidate = candidate(alloc, tree, &name).ok()?;
+    format!(in alloc; "{is_candidate}").ok()
+}
+
+fn callee_answer(
+    alloc: Global,
+    tree: &Tree,
+    typed: &TypedFolder,
+    host: usize,
+    from: MethodAt,
+    at: u32,
+) -> Option<String> {
+    match callee(alloc, tree, typed, host, from, at).ok()? {
+        Some(found) => method_text(alloc, tree, found),
+        None => String::from_str(alloc, "-").ok(),
+    }
+}
+
+fn expand_answer(alloc: Global, tree: &Tree, flat: &Result<Flat, KeptFault>) -> Option<String> {
+    match flat {
+        Ok(flat) => flat_answer(alloc, tree, flat),
+        Err(KeptFault::Kept(reason)) => format!(in alloc; "{:?}", reason).ok(),
+        Err(KeptFault::NoMemory) => None,
+    }
+}
+
+fn point_answer(alloc: Global, flat: &Flat, call: &str, point: usize) -> Option<String> {
+    match call {
+        "typed" => typed_answer(alloc, flat, point),
+        "handlers" => handlers_answer(alloc, flat, point),
+        _ => None,
+    }
+}
+
+// The number of the class of a name in the folder.
+fn class_number(alloc: Global, tree: &Tree, name: &str) -> Option<usize> {
+    match tree.place(&Text::of_bytes(alloc, name.as_bytes()).ok()?) {
+        Some(Place::Folder(class)) => Some(class),
+        _ => None,
+    }
+}
+
+// The method of a class and a number.
+fn method_at(alloc: Global, tree: &Tree, class: &str, method: &str) -> Option<MethodAt> {
+    Some(MethodAt {
+        class: class_number(alloc, tree, class)?,
+        method: method.parse::<usize>().ok()?,
+    })
+}
+
+// The class, name and descriptor of a method.
+fn method_text(alloc: Global, tree: &Tree, at: MethodAt) -> Option<String> {
+    let header = tree.header(Place::Folder(at.class))?;
+    let member = header.methods.get(at.method)?;
+    let class = str::from_utf8(header.name.bytes()).ok()?;
+    let name = str::from_utf8(member.name.bytes()).ok()?;
+    let desc = str::from_utf8(member.desc.bytes()).ok()?;
+    format!(in alloc; "{class} {name} {desc}").ok()
+}

@@ -1,0 +1,17 @@
+use Rattle.std.proofs.Common.{◌++◌, List, sym, ap, ◌∙◌}
+use Rattle.std.proofs.lemmas.Result.{on_ok_weaker}
+use Rattle.class_model.specs.declared.frame.Frame.{Frame}
+use Rattle.flow_code.specs.declared.point.Point.{Point}
+use Rattle.inline_expand.proofs.MethodParts.{own-callee, own-host, own-return}
+use Rattle.inline_expand.proofs.expanded.points.push_own.Goals as goal
+use Rattle.inline_expand.specs.Inner.Settings.{own_point, setting_of}
+
+pub returns-in-None : goal.returns-in-None
+returns-in-None c =
+    let t = setting_of c.args.setting.now in
+    let before = c.args.points.now.items in
+    let placed = c.args.placed.now in
+    on_ok_weaker c.push_set.result (λ pushed spot.
+    pushed spot
+    ∙ ap (λ (typed : Frame). before ++ own_point t placed typed) c.in_ok-typed.ensures
+    ∙ ap (λ (points : List Point). before ++ points) (sym (own-host c.args.setting.now placed c.args.frame.now c.in-None.is))) c.push_set.ensures

@@ -1,0 +1,9 @@
+//! Flat code in which callees stand in place of their calls.
+pub(crate) mod entries;
+pub(crate) mod frames;
+pub(crate) mod layouts;
+pub(crate) mod places;
+pub(crate) mod points;
+pub(crate) mod returns;
+pub(crate) mod settings;
+pub(crate) mod shapes;

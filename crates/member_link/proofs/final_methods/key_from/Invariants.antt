@@ -1,6 +1,0 @@
-use Rattle.std.proofs.Common.{◌≡◌, ◌<◌, drop}
-use Rattle.member_link.specs.Inner.FinalMarks.{key}
-use Rattle.member_link.proofs.final_methods.key_from.Given as goal
-
-abbrev pub invariant-loop-byte : goal.invariant-loop-byte
-invariant-loop-byte l = (key l.key (drop l.byte-index l.bytes) ≡ key l.fn.start l.bytes) × (l.key < 4294967296)
