@@ -12,6 +12,7 @@ mod FoundCallees
 mod FoundMethods
 mod Founding
 mod FrameParts
+mod GrownSteps
 mod HostCodes
 mod Initialisations
 mod LayoutParts

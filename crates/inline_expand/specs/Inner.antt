@@ -8,6 +8,7 @@ pub mod FolderMethods
 pub mod Found
 pub mod Founded
 pub mod Frames
+pub mod Growths
 pub mod Hosts
 pub mod Initialised
 pub mod Layouts

@@ -5,13 +5,29 @@ ghost use Rattle.inline_expand.specs.Candidates.{IsCandidate};
 use class_model::{NoMemory, Text};
 use class_tree::Tree;
 use std::alloc::Global;
+use std::marker::Model;
 
-/// Whether a class is a candidate.
-pub(crate) fn is_candidate(alloc: Global, tree: &Tree, class: &Text) -> Result<bool, NoMemory>
-    ensures { IfOk result (λ yes. IsTrue yes ↔ IsCandidate tree.now class.now) }
-{
-    let _ = alloc;
-    let _ = tree;
-    let _ = class;
-    Err(NoMemory)
+/// The classes of a folder whose objects may be kept in local variables. Contracts see the classes of the tree.
+#[derive(Drop)]
+pub struct Candidates<'t> {
+    tree: &'t Tree,
+}
+
+impl<'t> Model for Candidates<'t> {
+    ghost use Rattle.class_tree.specs.Headers.{Classes};
+
+    ghost Value = { Classes };
+
+    ghost view = { λ candidates. candidates.tree.now };
+}
+
+impl<'t> Candidates<'t> {
+    /// Whether the objects of a class may be kept in local variables.
+    pub fn is_candidate(&self, alloc: Global, class: &Text) -> Result<bool, NoMemory>
+        ensures { IfOk result (λ is. IsTrue is ↔ IsCandidate self.now class.now) }
+    {
+        let _ = alloc;
+        let _ = class;
+        Err(NoMemory)
+    }
 }
