@@ -237,7 +237,7 @@ fn replace<'t>(
     let Some(steps) = steps_of(alloc, candidates, inner, &callee, growth)? else {
         return Ok(None);
     };
-    let number = growth.bodies.len();
+    let number = growth.bodies.as_slice().len();
     growth.bodies.push(body_of(callee, steps))?;
     Ok(Some(Step::Replaced(number)))
 }

@@ -8,6 +8,8 @@ use Rattle.inline_expand.specs.Inner.Places.{chain_of, host_of}
 use Rattle.inline_expand.specs.Inner.Replacements.{IsReplacementFound}
 use Rattle.inline_expand.specs.Inner.Steps.{callees_of, expansion_by}
 use Rattle.inline_expand.specs.declared.coded.CodedMethod.{CodedMethod}
+use Rattle.inline_expand.specs.declared.expansions.Body.{Body}
+use Rattle.inline_expand.specs.declared.expansions.Growth.{Growth}
 use Rattle.inline_expand.specs.declared.expansions.Step.{Step}
 use Rattle.member_link.specs.Scope.{instructions}
 use Rattle.inline_expand.proofs.expansions.+expansion.Goals as goal
@@ -38,7 +40,7 @@ steps_of-loop-number-preserved t c =
           (ap (λ (list : List Placed). slice_get list number) (sym c.instrs-instrs.ensures) ∙ placed_is)
           c.in_ok-found.ensures.growth.same
           (subst (IsStepFound c.args.place.class.tree.now c.args.place.class.typed.now (host_of c.args.place.line.now) (chain_of c.args.place.line.now) c.args.method.now.at placed c.loop-number.growth c.step_at.new.growth) c.in-Some.is c.in_ok-found.ensures.step)
-          c.in_ok-push.ensures;
+          c.in_ok-push.ensures.ok;
       grown = grown_on c.args.place.class c.args.growth.now c.loop-number.growth c.step_at.new.growth c.loop-number.invariant.grown c.in_ok-found.ensures.growth;
     }
 
@@ -72,7 +74,7 @@ replace-returns-clause-step t c =
         c.args.callee c.args.growth.now c.steps_of.new.growth (Some steps) line
         (subst (AreStepsFound c.args.place.class.tree.now c.args.place.class.typed.now (host_of c.as_slice.result.now) (chain_of c.as_slice.result.now) c.args.callee c.args.growth.now c.steps_of.new.growth) c.in-Some.is c.in_ok-steps.ensures.steps) in
     (expansion_by callees steps,
-    pushed_last c.steps_of.new.growth.bodies.items c.push.new.self.items c.body_of.result c.len-number.result c.in_ok-push.ensures.items c.len-number.ensures
+    pushed_last c.steps_of.new.growth.bodies.items c.push.new.self.items c.body_of.result (length c.as_slice-number.result.now) c.in_ok-push.ensures.items (ap (λ (list : List Body). length list) c.as_slice-number.ensures.value)
     ∙ ap Some (callee_of_body callees c.body_of.result c.args.callee steps c.body_of.ensures.at c.body_of.ensures.host c.body_of.ensures.frames c.body_of.ensures.steps),
     record { frames = c.requires.callee; expands = found.expands; counted = found.counted })
 
@@ -80,7 +82,7 @@ pub replace-returns-clause-growth : goal.replace-returns-clause-growth
 replace-returns-clause-growth t c =
     let steps = c.in-Some.steps in
     let found = subst (AreStepsFound c.args.place.class.tree.now c.args.place.class.typed.now (host_of c.as_slice.result.now) (chain_of c.as_slice.result.now) c.args.callee c.args.growth.now c.steps_of.new.growth) c.in-Some.is c.in_ok-steps.ensures.steps in
-    let last = record { verdicts = c.steps_of.new.growth.verdicts; bodies = c.push.new.self; left = c.steps_of.new.growth.left } in
+    let last : Growth = record { verdicts = c.steps_of.new.growth.verdicts; bodies = c.push.new.self; left = c.steps_of.new.growth.left } in
     grown_on c.args.place.class c.args.growth.now c.steps_of.new.growth last c.in_ok-steps.ensures.growth
     (grown_by_body c.args.place.class c.steps_of.new.growth last c.body_of.result c.in_ok-steps.ensures.growth.grown
     (whole_of_body c.args.place.class.tree.now c.args.place.class.typed.now c.body_of.result c.args.callee steps c.body_of.ensures.at c.body_of.ensures.host c.body_of.ensures.frames c.body_of.ensures.steps c.requires.callee found.long)
