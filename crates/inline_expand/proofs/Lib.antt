@@ -19,6 +19,7 @@ mod FoundMethods
 mod Founding
 mod FrameParts
 mod FreeConstructors
+mod GrownSteps
 mod HandledLists
 mod HostCodes
 mod Initialisations
@@ -51,6 +52,7 @@ mod RenumberedShuffles
 mod RenumberedTable
 mod RenumberedTargets
 mod RenumberedTypes
+mod ReplacedCalls
 mod ResultTexts
 mod Seeing
 mod SettingParts

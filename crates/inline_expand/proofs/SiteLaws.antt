@@ -93,7 +93,7 @@ module _ {X : Type 0} where
   set_apart (first ∷ xs) (suc number) zero x apart = refl
   set_apart (first ∷ xs) (suc number) (suc other) x apart = set_apart xs number other x (λ e. apart (ap suc e))
 
-uninit_same : (one other : ℕ) → Uninit one ≡ Uninit other → one ≡ other
+pub uninit_same : (one other : ℕ) → Uninit one ≡ Uninit other → one ≡ other
 uninit_same one other e = cc
 
 -- ---- candidates

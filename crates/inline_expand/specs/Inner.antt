@@ -10,6 +10,7 @@ pub mod FolderMethods
 pub mod Found
 pub mod Founded
 pub mod Frames
+pub mod Growths
 pub mod Hosts
 pub mod Initialised
 pub mod Layouts
@@ -23,6 +24,7 @@ pub mod QuietWords
 pub mod Ready
 pub mod ReadyCallees
 pub mod References
+pub mod Replacements
 pub mod SeenMethods
 pub mod Settings
 pub mod SiteNumbers

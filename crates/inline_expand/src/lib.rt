@@ -31,6 +31,7 @@ mod ready;
 mod references;
 mod referred;
 mod renumbered;
+mod replaced;
 mod shallow;
 mod sites;
 mod standing;

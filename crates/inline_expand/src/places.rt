@@ -20,15 +20,15 @@ const MOST_METHODS: usize = 7;
 
 /// Where a method stands: in the code of a host, behind a chain of callees.
 #[derive(Clone, Copy)]
-pub(crate) struct Place<'a> {
+pub(crate) struct Place<'t, 'l> {
     /// The class of the host.
-    pub(crate) class: HostClass<'a>,
+    pub(crate) class: HostClass<'t>,
     /// The host, and behind it the chain, the innermost callee first.
-    pub(crate) line: &'a [MethodAt],
+    pub(crate) line: &'l [MethodAt],
 }
 
 /// Whether a callee may follow the chain of a place.
-pub(crate) fn may_follow(place: Place<'_>, callee: MethodAt) -> bool
+pub(crate) fn may_follow(place: Place<'_, '_>, callee: MethodAt) -> bool
     requires { IsPlace place }
     ensures { IsTrue result
         ↔ MayFollow (host_of place.entry.line.now) (chain_of place.entry.line.now) callee }
@@ -43,7 +43,7 @@ pub(crate) fn may_follow(place: Place<'_>, callee: MethodAt) -> bool
 /// `NoMemory`, where memory runs out.
 pub(crate) fn constructs_at(
     alloc: Global,
-    place: Place<'_>,
+    place: Place<'_, '_>,
     verdicts: &mut Verdicts,
     method: &CodedMethod<'_>,
     at: u32,

@@ -7,13 +7,12 @@ ghost use Rattle.inline_expand.specs.Inner.SiteTables.{AreCandidates, AreSites, 
 ghost use Rattle.inline_expand.specs.Inner.Walks.{AreRight};
 ghost use Rattle.member_link.specs.Scope.{instructions};
 
-use crate::candidates::candidate;
+use crate::candidates::Candidates;
 use crate::coded::CodedMethod;
 use crate::initialised::{Object, initialisation_at};
 use crate::places::{Place, constructs_at};
 use crate::verdicts::Verdicts;
 use class_model::{Instr, NoMemory, Text};
-use class_tree::Tree;
 use std::alloc::Global;
 
 /// The candidate sites of a method in a place: for each instruction the class of the object that it makes, if it is one.
@@ -22,11 +21,13 @@ use std::alloc::Global;
 /// `NoMemory`, where memory runs out.
 pub(crate) fn sites_of(
     alloc: Global,
-    place: Place<'_>,
+    candidates: &Candidates<'_>,
+    place: Place<'_, '_>,
     verdicts: &mut Verdicts,
     method: &CodedMethod<'_>,
 ) -> Result<Vec<Option<Text>>, NoMemory>
     requires place { IsPlace place }
+    requires classes { candidates.now ≡ place.class.tree.now }
     requires right { AreRight place.class.tree.now place.class.typed.now place.class.number
         verdicts.old }
     requires method { Stands place.class.tree.now place.class.typed.now method.now }
@@ -37,7 +38,7 @@ pub(crate) fn sites_of(
         place.entry.class.number verdicts.new) }
 {
     let instrs = method.host.instrs();
-    let mut sites = candidates_of(alloc, place.class.tree, method)?;
+    let mut sites = candidates_of(alloc, candidates, method)?;
     for number in 0..instrs.len() {
         spoil(
             alloc,
@@ -54,16 +55,16 @@ pub(crate) fn sites_of(
 // For each instruction the class of the object that it makes, if that is a candidate.
 fn candidates_of(
     alloc: Global,
-    tree: &Tree,
+    candidates: &Candidates<'_>,
     method: &CodedMethod<'_>,
 ) -> Result<Vec<Option<Text>>, NoMemory>
-    ensures { IfOk result (λ classes. AreCandidates tree.now method.now.host
+    ensures { IfOk result (λ classes. AreCandidates candidates.now method.now.host
         (length (instructions method.now.host)) classes.items) }
 {
     let instrs = method.host.instrs();
     let mut classes = Vec::with_capacity(alloc, instrs.len())?;
     for number in 0..instrs.len() {
-        classes.push(candidate_of(alloc, tree, method, &instrs[number].instr)?)?;
+        classes.push(candidate_of(alloc, candidates, method, &instrs[number].instr)?)?;
     }
     Ok(classes)
 }
@@ -71,16 +72,16 @@ fn candidates_of(
 // The class of the object that an instruction makes, if that is a candidate.
 fn candidate_of(
     alloc: Global,
-    tree: &Tree,
+    candidates: &Candidates<'_>,
     method: &CodedMethod<'_>,
     instr: &Instr,
 ) -> Result<Option<Text>, NoMemory>
-    ensures { IfOk result (IsCandidateOf tree.now (class_made method.now.host instr.now)) }
+    ensures { IfOk result (IsCandidateOf candidates.now (class_made method.now.host instr.now)) }
 {
     let Some(class) = class_made(method, instr) else {
         return Ok(None);
     };
-    if candidate(alloc, tree, class)? {
+    if candidates.has_candidate(alloc, class)? {
         Ok(Some(class.copy()?))
     } else {
         Ok(None)
@@ -100,7 +101,7 @@ fn class_made<'a>(method: &CodedMethod<'a>, instr: &Instr) -> Option<&'a Text>
 // Takes a site away if the call at an offset is of an initialiser on its object and is not replaced.
 fn spoil(
     alloc: Global,
-    place: Place<'_>,
+    place: Place<'_, '_>,
     verdicts: &mut Verdicts,
     method: &CodedMethod<'_>,
     at: u32,
@@ -163,7 +164,7 @@ fn entry(sites: &[Option<Text>], number: usize) -> Option<&Text>
 
 /// The class of the candidate site at an offset, by the table of a method's sites.
 pub(crate) fn site_at<'s>(
-    place: Place<'_>,
+    place: Place<'_, '_>,
     method: &CodedMethod<'_>,
     sites: &'s [Option<Text>],
     at: u32,

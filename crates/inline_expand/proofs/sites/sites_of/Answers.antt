@@ -1,16 +1,18 @@
 use Rattle.std.proofs.Common.{◌≡◌, ◌<◌, ℕ, List, length, slice_get, refl, sym, ap, ◌∙◌, subst, arith}
 use Rattle.std.proofs.lemmas.Option.{slice_get_read}
 use Rattle.class_model.specs.declared.instr.Placed.{Placed}
+use Rattle.class_tree.specs.Headers.{Classes}
 use Rattle.inline_expand.proofs.SiteLaws.{sites_begin, sites_more}
 use Rattle.inline_expand.specs.Inner.Places.{chain_of, host_of}
-use Rattle.inline_expand.specs.Inner.SiteTables.{AreSites, SpoilsAt}
+use Rattle.inline_expand.specs.Inner.SiteTables.{AreCandidates, AreSites, SpoilsAt}
 use Rattle.member_link.specs.Scope.{instructions}
 use Rattle.inline_expand.proofs.sites.sites_of.Goals as goal
 
 pub loop-number-init : goal.loop-number-init
 loop-number-init c = record {
   sites = sites_begin c.args.place.class.tree.now c.args.place.class.typed.now (host_of c.args.place.line.now) (chain_of c.args.place.line.now) c.args.method.now c.requires.method
-      (length (instructions c.args.method.now.host)) c.in_ok-sites.sites.items refl c.in_ok-sites.ensures;
+      (length (instructions c.args.method.now.host)) c.in_ok-sites.sites.items refl
+      (subst (λ (classes : Classes). AreCandidates classes c.args.method.now.host (length (instructions c.args.method.now.host)) c.in_ok-sites.sites.items) c.requires.classes c.in_ok-sites.ensures);
   right = c.requires.right;
 }
 

@@ -1,0 +1,16 @@
+use Rattle.std.proofs.Common.{◌≡◌, ℕ, List, [], ◌∷◌, Option, None, sym, subst, ◌∙◌, arith}
+use Rattle.inline_expand.proofs.GrownSteps.{kept_within, other_line}
+use Rattle.inline_expand.specs.Inner.Growths.{AreStepsFound}
+use Rattle.inline_expand.specs.Inner.Places.{chain_of, host_of}
+use Rattle.inline_expand.specs.declared.expansions.Growth.{Growth}
+use Rattle.inline_expand.specs.declared.expansions.Step.{Step}
+use Rattle.member_link.specs.Scope.{instructions}
+use Rattle.inline_expand.proofs.expansions.expansion_of.Goals as goal
+
+pub returns-in_default-2 : goal.returns-in_default-2
+returns-in_default-2 c expansion is =
+    let before : Growth = record { verdicts = c.new.result; bodies = c.new-2.result; left = c.args.most } in
+    let none = c.in_default-2.is in
+    let found = other_line c.args.tree.now c.args.typed.now c.as_slice.result.now c.args.host.at [] c.args.host before c.steps_of.new.growth None (c.as_slice.ensures.value ∙ c.in_ok-line.ensures.items)
+    (subst (AreStepsFound c.args.tree.now c.args.typed.now (host_of c.as_slice.result.now) (chain_of c.as_slice.result.now) c.args.host before c.steps_of.new.growth) none c.in_ok-steps.ensures.steps) in
+    omega (arith, found expansion is, kept_within c.args.tree.now c.args.typed.now c.args.host.at [] c.args.host.at (instructions c.args.host.host) expansion is None)
