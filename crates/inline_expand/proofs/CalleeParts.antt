@@ -1,11 +1,11 @@
 -- Callees among bodies.
-use Rattle.std.proofs.Common.{◌≡◌, ◌+◌, ◌≤◌, ◌<◌, ℕ, zero, suc, List, [], ◌∷◌, ◌++◌, drop, length, slice_get, take, Option, Some, None, refl, sym, ap, subst, ◌∙◌, arith, append-nil, append_assoc, length-append}
+use Rattle.std.proofs.Common.{◌≡◌, ◌+◌, ◌≤◌, ◌<◌, ℕ, zero, suc, List, [], ◌∷◌, ◌++◌, drop, length, slice_get, take, Some, None, refl, sym, ap, subst, ◌∙◌, arith, append-nil, append_assoc}
 use Rattle.std.proofs.lemmas.List.{length-take-le, take-append-drop}
 use Rattle.std.proofs.lemmas.Option.{same_Some}
 use Rattle.std.specs.List.{AllByRecursion}
-use Rattle.class_model.specs.Laws.Lists.{at_index, drop_item}
-use Rattle.inline_expand.specs.Inner.Layouts.{AreLayouts, IsLayout, replacing}
-use Rattle.inline_expand.specs.Inner.CalleePlaces.{AreReady, IsFound}
+use Rattle.class_model.specs.Laws.Lists.{drop_item}
+use Rattle.inline_expand.specs.Inner.Layouts.{AreLayouts, IsLayout}
+use Rattle.inline_expand.specs.Inner.CalleePlaces.{AreReady}
 use Rattle.inline_expand.specs.Inner.Steps.{Callee, IsBody, callee_by, callees_behind, callees_of}
 use Rattle.inline_expand.specs.declared.expanded.layouts.Layout.{Layout}
 use Rattle.inline_expand.specs.declared.expansions.Body.{Body}

@@ -1,5 +1,5 @@
 -- Stores, and frames behind them.
-use Rattle.std.proofs.Common.{◌≡◌, ◌∷◌, ◌++◌, ◌+◌, ◌-◌, ℕ, zero, suc, Bool, true, false, List, [], length, map, reverse, take, drop, slice_get, slice_set, Some, refl, sym, ap, ◌∙◌, arith, if◌then◌else◌}
+use Rattle.std.proofs.Common.{◌≡◌, ◌∷◌, ◌+◌, ℕ, Bool, true, false, List, [], map, reverse, take, slice_get, slice_set, Some, refl, ap, ◌∙◌, if◌then◌else◌}
 use Rattle.std.proofs.lemmas.List.{map-append, reverse-append}
 use Rattle.class_model.specs.Frames.{is_wide, units}
 use Rattle.class_model.specs.Laws.Lists.{take_item}

@@ -1,5 +1,5 @@
 -- The numbers of points and of local units, counted one after the other.
-use Rattle.std.proofs.Common.{◌≡◌, ◌+◌, ◌≤◌, ◌<◌, min, ℕ, zero, suc, List, [], ◌∷◌, ◌++◌, drop, get_or, length, map, slice_get, Option, Some, None, refl, sym, ap, ◌∙◌, arith, append_assoc}
+use Rattle.std.proofs.Common.{◌≡◌, ◌+◌, ◌≤◌, ℕ, zero, suc, List, [], ◌∷◌, ◌++◌, get_or, length, map, slice_get, Option, Some, None, refl, sym, ap, ◌∙◌, arith, append_assoc}
 use Rattle.class_model.specs.declared.instr.Instr.{Instr}
 use Rattle.class_model.specs.declared.instr.Placed.{Placed}
 use Rattle.inline_expand.specs.Expanded.{own_points, points_before, points_of, points_of_callee, units_in}
@@ -208,3 +208,14 @@ layout-is callee layout before own inner shape starts long before_is own_is poin
       points = omega (arith, points, before_is, last);
       units = omega (arith, units, inner_is);
     }
+
+-- how many points there are, by the last number
+pub points-by : (method : Option Scope) (starts : List ℕ) (instrs : List Placed) (expansion : Expansion) (points : ℕ)
+    → starts ≡ map capped (starts_from method 0 instrs expansion)
+    → IsAsLong instrs expansion
+    → points ≡ get_or starts (length instrs) 0
+    → points ≡ capped (points_of method instrs expansion)
+points-by method starts instrs expansion points are long is =
+    let all = starts_from method 0 instrs expansion in
+    let none : 0 + points_of method instrs expansion ≡ points_of method instrs expansion = omega arith in
+    is ∙ ap (λ (items : List ℕ). get_or items (length instrs) 0) are ∙ capped-item all (length instrs) ∙ ap capped (last-start method 0 instrs expansion long ∙ none)

@@ -1,5 +1,5 @@
 -- The numbers of a callee's points in its place.
-use Rattle.std.proofs.Common.{◌≡◌, ◌==◌, ◌+◌, ◌-◌, ◌≤◌, ◌<◌, ℕ, zero, suc, Bool, true, false, List, [], ◌∷◌, drop, get_or, length, map, slice_get, Option, Some, None, option_map, refl, sym, ap, subst, ◌∙◌, arith, if◌then◌else◌}
+use Rattle.std.proofs.Common.{◌≡◌, ◌==◌, ◌+◌, ◌-◌, ◌≤◌, ℕ, zero, suc, Bool, true, false, List, [], ◌∷◌, drop, get_or, length, map, slice_get, Option, Some, None, option_map, refl, sym, ap, ◌∙◌, arith, if◌then◌else◌}
 use Rattle.std.proofs.lemmas.List.{length-map}
 use Rattle.std.proofs.lemmas.Option.{same_Some}
 use Rattle.class_model.specs.declared.frame.VType.{VType}
@@ -10,10 +10,10 @@ use Rattle.inline_expand.proofs.LayoutParts.{IsAsLong, as-long, capped-few}
 use Rattle.inline_expand.specs.Alone.{number_in}
 use Rattle.inline_expand.specs.Expanded.{Argument, arguments, number_from, own_points, points_before, points_of, points_of_callee}
 use Rattle.inline_expand.specs.Expansions.{Expansion, no_more, replaced, site, stays}
-use Rattle.inline_expand.specs.Inner.Layouts.{argument_from, capped, starts_from}
+use Rattle.inline_expand.specs.Inner.Layouts.{IsLayout, argument_from, capped, starts_from}
 use Rattle.inline_expand.specs.Inner.Numbers.{placed_by}
-use Rattle.inline_expand.specs.Inner.CalleePlaces.{CanEnter, callee_in}
-use Rattle.inline_expand.specs.Inner.Steps.{callees_of}
+use Rattle.inline_expand.specs.Inner.CalleePlaces.{callee_in}
+use Rattle.inline_expand.specs.Inner.Steps.{IsBody, callees_of}
 use Rattle.inline_expand.specs.declared.expanded.places.Found.{Found}
 use Rattle.member_link.specs.Machine.Programs.{number_of_first}
 use Rattle.member_link.specs.Rows.Operands.{lowest_of}
@@ -126,7 +126,7 @@ lowest-none count stack is = rw is refl
 
 -- ---- a callee's place
 
-module _ (found : Found) (start unit : ℕ) (can : CanEnter found start unit) where
+module _ (found : Found) (start : ℕ) (body : IsBody found.body.now) (layout : IsLayout (callee_in found) found.layout.now) (few : start + points_of_callee (callee_in found).coded (callee_in found).inner ≤ 65535) where
   abbrev own : Scope
   own = found.body.now.host
 
@@ -134,20 +134,20 @@ module _ (found : Found) (start unit : ℕ) (can : CanEnter found start unit) wh
   inner = (callee_in found).inner
 
   pub exact-starts : found.layout.now.starts.items ≡ starts_from (Some own) 0 (instructions own) inner
-  exact-starts = can.layout.starts ∙ few-starts (Some own) 0 (instructions own) inner (omega (arith, can.points))
+  exact-starts = layout.starts ∙ few-starts (Some own) 0 (instructions own) inner (omega (arith, few))
 
   pub exact-points : found.layout.now.points ≡ points_of_callee (callee_in found).coded inner
-  exact-points = can.layout.points ∙ capped-few (points_of_callee (callee_in found).coded inner) (omega (arith, can.points))
+  exact-points = layout.points ∙ capped-few (points_of_callee (callee_in found).coded inner) (omega (arith, few))
 
   pub exact-before : (count : ℕ) → count ≡ capped (points_before own) → count ≡ points_before own
-  exact-before count is = is ∙ capped-few (points_before own) (omega (arith, can.points))
+  exact-before count is = is ∙ capped-few (points_before own) (omega (arith, few))
 
   pub its-number : (starts : List ℕ) (base : ℕ) → starts ≡ found.layout.now.starts.items → base ≡ start + points_before own → (at : ℕ)
       → placed_by starts base (number_in (instructions own) at) ≡ number_from (Some own) (start + points_before own) (instructions own) inner at
   its-number starts base starts_are base_is at =
       ap (λ (all : List ℕ). placed_by all base (number_in (instructions own) at)) (starts_are ∙ exact-starts)
       ∙ ap (λ (n : ℕ). placed_by (starts_from (Some own) 0 (instructions own) inner) n (number_in (instructions own) at)) base_is
-      ∙ number-placed (Some own) (start + points_before own) (instructions own) inner at (as-long (callees_of found.bodies.now) (instructions own) found.body.now.steps can.body.steps)
+      ∙ number-placed (Some own) (start + points_before own) (instructions own) inner at (as-long (callees_of found.bodies.now) (instructions own) found.body.now.steps body.steps)
 
-  pub many-arguments : length (arguments own unit) ≡ length found.layout.now.shape.parameters.items
-  many-arguments = ap (λ (all : List Argument). length all) (can.layout.shape.arguments unit) ∙ length-map found.layout.now.shape.parameters.items (argument_from unit)
+  pub many-arguments : (unit : ℕ) → length (arguments own unit) ≡ length found.layout.now.shape.parameters.items
+  many-arguments unit = ap (λ (all : List Argument). length all) (layout.shape.arguments unit) ∙ length-map found.layout.now.shape.parameters.items (argument_from unit)

@@ -1,5 +1,5 @@
 -- Words of the tree of callees, as it is kept: bodies in one list, each behind those of its callees.
-use Rattle.std.specs.Prelude.{◌≡◌, ◌≤◌, ℕ, List, [], ◌∷◌, ◌++◌, length, slice_get, Option, Some, None}
+use Rattle.std.specs.Prelude.{◌≡◌, ◌≤◌, List, [], ◌∷◌, ◌++◌, length, slice_get, Option, Some, None}
 use Rattle.class_model.specs.Methods.{units_at_call}
 use Rattle.code_bytes.specs.Codes.{IsReadMethod}
 use Rattle.inline_expand.specs.Expansions.{Coded, Expansion, no_more, replaced, site, stays}

@@ -1,12 +1,11 @@
 use Rattle.std.proofs.Common.{◌≡◌, ◌∷◌, ◌++◌, ◌+◌, ◌<◌, List, [], length, refl, sym, ap, subst, ◌∙◌, take, arith}
 use Rattle.std.proofs.lemmas.Option.{slice_get_read}
-use Rattle.class_model.specs.Laws.Lists.{at_index, take_item}
+use Rattle.class_model.specs.Laws.Lists.{take_item}
 use Rattle.inline_expand.proofs.LayoutParts.{behind-more, layouts-more}
 use Rattle.inline_expand.proofs.expanded.layouts.layouts_of.Goals as goal
 use Rattle.inline_expand.specs.Inner.Layouts.{AreLayouts}
 use Rattle.inline_expand.specs.Inner.Steps.{Callee, callees_of, callee_by}
 use Rattle.inline_expand.specs.declared.expanded.layouts.Layout.{Layout}
-use Rattle.inline_expand.specs.declared.expansions.Body.{Body}
 
 pub loop-body-preserved : goal.loop-body-preserved
 loop-body-preserved c =

@@ -1,5 +1,4 @@
-use Rattle.std.proofs.Common.{◌≡◌, List, Option, Some, None, sym, ap, subst, ◌∙◌}
-use Rattle.std.specs.Option.{option_copied}
+use Rattle.std.proofs.Common.{◌≡◌, Option, Some, None, sym, ap, subst, ◌∙◌}
 use Rattle.inline_expand.proofs.LayoutParts.{HasLayout, has-layout, layout-points, no-points}
 use Rattle.inline_expand.proofs.expanded.layouts.step_points.Goals as goal
 use Rattle.inline_expand.specs.Inner.Layouts.{capped, replacing}

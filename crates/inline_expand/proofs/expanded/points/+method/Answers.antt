@@ -1,12 +1,11 @@
-use Rattle.std.proofs.Common.{Vec, Global, ◌≡◌, ◌∷◌, ◌++◌, ◌+◌, ◌<◌, ◌≤◌, ℕ, List, Some, None, drop, get_or, length, refl, sym, ap, subst, ◌∙◌, arith}
+use Rattle.std.proofs.Common.{Vec, Global, ◌≡◌, ◌++◌, ◌+◌, ◌<◌, ℕ, List, Some, None, get_or, length, refl, sym, ap, subst, ◌∙◌, arith}
 use Rattle.std.proofs.lemmas.Option.{slice_get_read}
 use Rattle.std.proofs.lemmas.Result.{on_ok_weaker}
-use Rattle.class_model.specs.Laws.Lists.{AllByRecursion-weaker, drop_item}
+use Rattle.class_model.specs.Laws.Lists.{drop_item}
 use Rattle.class_model.specs.declared.frame.Frame.{Frame}
 use Rattle.class_model.specs.declared.instr.Placed.{Placed}
 use Rattle.flow_code.specs.declared.point.Point.{Point}
 use Rattle.inline_expand.proofs.CalleeParts.{length-layouts}
-use Rattle.inline_expand.proofs.LayoutParts.{capped-few}
 use Rattle.inline_expand.proofs.MethodParts.{HasDone, callee-done, done-callee, done-own, room-points, room-units}
 use Rattle.inline_expand.proofs.expanded.points.+method.Goals as goal
 use Rattle.inline_expand.proofs.expanded.points.+method.Goals.{push_method-in-None+in_ok-push_own-in-None, push_method-in-Some+in_ok-entry-in-Some+in_ok-push_callee-in-Some}

@@ -2,7 +2,7 @@ use Rattle.std.proofs.Common.{◌++◌, List, sym, ap, ◌∙◌}
 use Rattle.std.proofs.lemmas.Result.{on_ok_weaker}
 use Rattle.class_model.specs.declared.frame.Frame.{Frame}
 use Rattle.flow_code.specs.declared.point.Point.{Point}
-use Rattle.inline_expand.proofs.MethodParts.{own-callee, own-host, own-return}
+use Rattle.inline_expand.proofs.MethodParts.{own-host}
 use Rattle.inline_expand.proofs.expanded.points.push_own.Goals as goal
 use Rattle.inline_expand.specs.Inner.Settings.{own_point, setting_of}
 

@@ -1,0 +1,10 @@
+use Rattle.std.proofs.Common.{◌≡◌, ◌≤◌, drop, max}
+use Rattle.inline_expand.specs.ExpandAnswers.{greatest_depth}
+use Rattle.inline_expand.specs.Inner.WideWords.{counted}
+use Rattle.inline_expand.proofs.expanded.wide.greatest_depth.Given as goal
+
+abbrev pub invariant-loop-at : goal.invariant-loop-at
+invariant-loop-at l = record {
+  few : l.greatest ≤ 18446744073709551615;
+  all : counted (max l.greatest (greatest_depth (drop l.at l.flat.points))) ≡ counted (greatest_depth l.flat.points);
+}
