@@ -117,13 +117,6 @@ impl<'t> Candidates<'t> {
         self.is_sound(alloc, class)
     }
 
-    /// The same, found anew, so that nothing is kept of it.
-    pub(crate) fn has_candidate(&self, alloc: Global, class: &Text) -> Result<bool, NoMemory>
-        ensures { IfOk result (λ is. IsTrue is ↔ IsCandidate self.now class.now) }
-    {
-        candidate(alloc, self.tree, class)
-    }
-
     // Whether the classes of a chain are fit, and the fields narrow.
     fn is_sound(&mut self, alloc: Global, class: &Text) -> Result<bool, NoMemory>
         requires { IsThere (headers_of self.old) class.now }

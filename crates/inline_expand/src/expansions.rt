@@ -65,17 +65,18 @@ pub(crate) struct Growth<'t> {
 /// `NoMemory`, where memory runs out.
 pub(crate) fn expansion_of<'t>(
     alloc: Global,
-    candidates: &Candidates<'_>,
+    candidates: &mut Candidates<'_>,
     methods: &'t FolderMethods<'t>,
     tree: &'t Tree,
     typed: &'t TypedFolder,
     host: CodedMethod<'t>,
     most: usize,
 ) -> Result<Option<HostBodies<'t>>, NoMemory>
-    requires classes { candidates.now ≡ tree.now }
+    requires classes { candidates.old ≡ tree.now }
     requires methods { methods.now ≡ tree.now }
     requires host { Stands tree.now typed.now host }
-    ensures { IfOk result (IsExpansionFound tree.now typed.now host.entry most) }
+    ensures expansion { IfOk result (IsExpansionFound tree.now typed.now host.entry most) }
+    ensures classes { candidates.new ≡ candidates.old }
 {
     let Some(class) = tree.folder().get(host.at.class) else {
         unreachable!()
@@ -126,19 +127,20 @@ fn body_of(method: CodedMethod<'_>, steps: ListOf<Step>) -> Body<'_>
 #[cycle(expansion)]
 fn steps_of<'t>(
     alloc: Global,
-    candidates: &Candidates<'_>,
+    candidates: &mut Candidates<'_>,
     place: Place<'t, '_>,
     method: &CodedMethod<'_>,
     growth: &mut Growth<'t>,
 ) -> Result<Option<ListOf<Step>>, NoMemory>
     requires place { IsPlace place }
-    requires classes { candidates.now ≡ place.class.tree.now }
+    requires classes { candidates.old ≡ place.class.tree.now }
     requires growth { MayGrow place.class growth.old }
     requires method { Stands place.class.tree.now place.class.typed.now method.now }
     ensures steps { IfOk result (AreStepsFound place.entry.class.tree.now
         place.entry.class.typed.now (host_of place.entry.line.now) (chain_of place.entry.line.now)
         method.now growth.old growth.new) }
     ensures growth { OnOk result (HasGrown place.entry.class growth.old growth.new) }
+    ensures classes { candidates.new ≡ candidates.old }
 {
     a_tree_is_a_hierarchy(place.class.tree);
     a_call_runs_one_method();
@@ -168,7 +170,7 @@ fn steps_of<'t>(
 #[cycle(expansion)]
 fn step_at<'t>(
     alloc: Global,
-    candidates: &Candidates<'_>,
+    candidates: &mut Candidates<'_>,
     place: Place<'t, '_>,
     method: &CodedMethod<'_>,
     sites: &[Option<Text>],
@@ -176,7 +178,7 @@ fn step_at<'t>(
     growth: &mut Growth<'t>,
 ) -> Result<Option<Step>, NoMemory>
     requires place { IsPlace place }
-    requires classes { candidates.now ≡ place.class.tree.now }
+    requires classes { candidates.old ≡ place.class.tree.now }
     requires growth { MayGrow place.class growth.old }
     requires method { Stands place.class.tree.now place.class.typed.now method.now }
     requires sites { AreSites place.class.tree.now place.class.typed.now
@@ -186,6 +188,7 @@ fn step_at<'t>(
         place.entry.class.typed.now (host_of place.entry.line.now) (chain_of place.entry.line.now)
         method.now.at placed.now growth.old growth.new) }
     ensures growth { OnOk result (HasGrown place.entry.class growth.old growth.new) }
+    ensures classes { candidates.new ≡ candidates.old }
 {
     a_tree_is_a_hierarchy(place.class.tree);
     a_call_runs_one_method();
@@ -208,19 +211,20 @@ fn step_at<'t>(
 #[cycle(expansion)]
 fn replace<'t>(
     alloc: Global,
-    candidates: &Candidates<'_>,
+    candidates: &mut Candidates<'_>,
     place: Place<'t, '_>,
     callee: CodedMethod<'t>,
     growth: &mut Growth<'t>,
 ) -> Result<Option<Step>, NoMemory>
     requires place { IsPlace place }
-    requires classes { candidates.now ≡ place.class.tree.now }
+    requires classes { candidates.old ≡ place.class.tree.now }
     requires growth { MayGrow place.class growth.old }
     requires callee { Stands place.class.tree.now place.class.typed.now callee }
     requires short { length place.line.now ≤ 6 }
     ensures step { IfOk result (IsBodyFound place.entry.class.tree.now place.entry.class.typed.now
         (host_of place.entry.line.now) (chain_of place.entry.line.now) callee.entry growth.old growth.new) }
     ensures growth { OnOk result (HasGrown place.entry.class growth.old growth.new) }
+    ensures classes { candidates.new ≡ candidates.old }
 {
     let line = line_behind(alloc, place.line, callee.at)?;
     let inner = Place {

@@ -21,13 +21,13 @@ use std::alloc::Global;
 /// `NoMemory`, where memory runs out.
 pub(crate) fn sites_of(
     alloc: Global,
-    candidates: &Candidates<'_>,
+    candidates: &mut Candidates<'_>,
     place: Place<'_, '_>,
     verdicts: &mut Verdicts,
     method: &CodedMethod<'_>,
 ) -> Result<Vec<Option<Text>>, NoMemory>
     requires place { IsPlace place }
-    requires classes { candidates.now ≡ place.class.tree.now }
+    requires classes { candidates.old ≡ place.class.tree.now }
     requires right { AreRight place.class.tree.now place.class.typed.now place.class.number
         verdicts.old }
     requires method { Stands place.class.tree.now place.class.typed.now method.now }
@@ -36,6 +36,7 @@ pub(crate) fn sites_of(
         method.now (length (instructions method.now.host)) sites.items) }
     ensures right { OnOk result (AreRight place.entry.class.tree.now place.entry.class.typed.now
         place.entry.class.number verdicts.new) }
+    ensures classes { candidates.new ≡ candidates.old }
 {
     let instrs = method.host.instrs();
     let mut sites = candidates_of(alloc, candidates, method)?;
@@ -55,11 +56,12 @@ pub(crate) fn sites_of(
 // For each instruction the class of the object that it makes, if that is a candidate.
 fn candidates_of(
     alloc: Global,
-    candidates: &Candidates<'_>,
+    candidates: &mut Candidates<'_>,
     method: &CodedMethod<'_>,
 ) -> Result<Vec<Option<Text>>, NoMemory>
-    ensures { IfOk result (λ classes. AreCandidates candidates.now method.now.host
+    ensures found { IfOk result (λ classes. AreCandidates candidates.old method.now.host
         (length (instructions method.now.host)) classes.items) }
+    ensures classes { candidates.new ≡ candidates.old }
 {
     let instrs = method.host.instrs();
     let mut classes = Vec::with_capacity(alloc, instrs.len())?;
@@ -72,16 +74,18 @@ fn candidates_of(
 // The class of the object that an instruction makes, if that is a candidate.
 fn candidate_of(
     alloc: Global,
-    candidates: &Candidates<'_>,
+    candidates: &mut Candidates<'_>,
     method: &CodedMethod<'_>,
     instr: &Instr,
 ) -> Result<Option<Text>, NoMemory>
-    ensures { IfOk result (IsCandidateOf candidates.now (class_made method.now.host instr.now)) }
+    ensures found { IfOk result
+        (IsCandidateOf candidates.old (class_made method.now.host instr.now)) }
+    ensures classes { candidates.new ≡ candidates.old }
 {
     let Some(class) = class_made(method, instr) else {
         return Ok(None);
     };
-    if candidates.has_candidate(alloc, class)? {
+    if candidates.is_candidate(alloc, class)? {
         Ok(Some(class.copy()?))
     } else {
         Ok(None)

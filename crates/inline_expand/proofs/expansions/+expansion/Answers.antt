@@ -2,7 +2,7 @@ use Rattle.std.proofs.Common.{◌≡◌, ◌<◌, ℕ, List, ◌∷◌, Option, 
 use Rattle.std.proofs.lemmas.Option.{slice_get_read}
 use Rattle.class_model.specs.declared.class_file.MethodAt.{MethodAt}
 use Rattle.class_model.specs.declared.instr.Placed.{Placed}
-use Rattle.inline_expand.proofs.GrownSteps.{callee_of_body, grown_by_body, grown_by_none, grown_on, other_line, pushed_last, so_far_counted, so_far_expands, so_far_more, so_far_none, step_of_body, whole_of_body}
+use Rattle.inline_expand.proofs.GrownSteps.{callee_of_body, grown_by_body, grown_by_none, grown_on, other_line, pushed_last, so_far_counted, so_far_expands, so_far_fails, so_far_more, so_far_none, step_of_body, whole_of_body}
 use Rattle.inline_expand.specs.Inner.Growths.{AreStepsFound, IsStepFound}
 use Rattle.inline_expand.specs.Inner.Places.{chain_of, host_of}
 use Rattle.inline_expand.specs.Inner.Replacements.{IsReplacementFound}
@@ -24,6 +24,7 @@ steps_of-loop-number-init t c = record {
     grown = record { right = c.in_ok-sites.ensures.right; whole = c.requires.growth.whole };
     same = λ number callee got. got;
   };
+  classes = c.in_ok-sites.ensures.classes;
 }
 
 pub steps_of-loop-number-preserved : goal.steps_of-loop-number-preserved
@@ -42,7 +43,20 @@ steps_of-loop-number-preserved t c =
           (subst (IsStepFound c.args.place.class.tree.now c.args.place.class.typed.now (host_of c.args.place.line.now) (chain_of c.args.place.line.now) c.args.method.now.at placed c.loop-number.growth c.step_at.new.growth) c.in-Some.is c.in_ok-found.ensures.step)
           c.in_ok-push.ensures.ok;
       grown = grown_on c.args.place.class c.args.growth.now c.loop-number.growth c.step_at.new.growth c.loop-number.invariant.grown c.in_ok-found.ensures.growth;
+      classes = c.in_ok-found.ensures.classes ∙ c.loop-number.invariant.classes;
     }
+
+pub steps_of-returns-in_default-clause-steps : goal.steps_of-returns-in_default-clause-steps
+steps_of-returns-in_default-clause-steps t c =
+    let instrs = c.instrs-instrs.result.now in
+    let number = c.loop-number.number in
+    let placed = c.index-instrs-number.result in
+    let within : number < length instrs = omega (arith, c.loop-number-test.true) in
+    let placed_is = slice_get_read instrs (length instrs) number placed refl within c.index-instrs-number.is in
+    so_far_fails c.args.place.class.tree.now c.args.place.class.typed.now (host_of c.args.place.line.now) (chain_of c.args.place.line.now) c.args.method.now.at (instructions c.args.method.now.host)
+    number (callees_of c.loop-number.growth.bodies.items) c.loop-number.steps placed c.args.growth.now.left c.loop-number.growth.left c.loop-number.invariant.far
+    (ap (λ (list : List Placed). slice_get list number) (sym c.instrs-instrs.ensures) ∙ placed_is)
+    (subst (IsStepFound c.args.place.class.tree.now c.args.place.class.typed.now (host_of c.args.place.line.now) (chain_of c.args.place.line.now) c.args.method.now.at placed c.loop-number.growth c.step_at.new.growth) c.in_default.is c.in_ok-found.ensures.step)
 
 pub steps_of-returns-clause-steps : goal.steps_of-returns-clause-steps
 steps_of-returns-clause-steps t c =

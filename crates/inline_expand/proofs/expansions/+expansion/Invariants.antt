@@ -1,4 +1,4 @@
-use Rattle.std.proofs.Common.{ℕ, ◌+◌, ◌-◌, ◌*◌, length}
+use Rattle.std.proofs.Common.{◌≡◌, ℕ, ◌+◌, ◌-◌, ◌*◌, length}
 use Rattle.inline_expand.proofs.GrownSteps.{SoFar}
 use Rattle.inline_expand.specs.Inner.Growths.{HasGrown}
 use Rattle.inline_expand.specs.Inner.Places.{chain_of, host_of}
@@ -20,4 +20,5 @@ invariant-steps_of-loop-number l = record {
   far : SoFar l.place.class.tree.now l.place.class.typed.now (host_of l.place.line.now) (chain_of l.place.line.now) l.method.at (instructions l.method.host)
       l.number (callees_of l.growth.bodies.items) l.steps l.fn.growth.left l.growth.left;
   grown : HasGrown l.place.class l.fn.growth l.growth;
+  classes : l.candidates ≡ l.fn.candidates;
 }

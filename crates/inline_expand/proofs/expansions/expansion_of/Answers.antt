@@ -7,8 +7,8 @@ use Rattle.inline_expand.specs.declared.expansions.Step.{Step}
 use Rattle.member_link.specs.Scope.{instructions}
 use Rattle.inline_expand.proofs.expansions.expansion_of.Goals as goal
 
-pub returns-in_default-2 : goal.returns-in_default-2
-returns-in_default-2 c expansion is =
+pub returns-in_default-2-clause-expansion : goal.returns-in_default-2-clause-expansion
+returns-in_default-2-clause-expansion c expansion is =
     let before : Growth = record { verdicts = c.new.result; bodies = c.new-2.result; left = c.args.most } in
     let none = c.in_default-2.is in
     let found = other_line c.args.tree.now c.args.typed.now c.as_slice.result.now c.args.host.at [] c.args.host before c.steps_of.new.growth None (c.as_slice.ensures.value ∙ c.in_ok-line.ensures.items)

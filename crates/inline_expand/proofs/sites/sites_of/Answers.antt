@@ -12,7 +12,7 @@ pub loop-number-init : goal.loop-number-init
 loop-number-init c = record {
   sites = sites_begin c.args.place.class.tree.now c.args.place.class.typed.now (host_of c.args.place.line.now) (chain_of c.args.place.line.now) c.args.method.now c.requires.method
       (length (instructions c.args.method.now.host)) c.in_ok-sites.sites.items refl
-      (subst (λ (classes : Classes). AreCandidates classes c.args.method.now.host (length (instructions c.args.method.now.host)) c.in_ok-sites.sites.items) c.requires.classes c.in_ok-sites.ensures);
+      (subst (λ (classes : Classes). AreCandidates classes c.args.method.now.host (length (instructions c.args.method.now.host)) c.in_ok-sites.sites.items) c.requires.classes c.in_ok-sites.ensures.found);
   right = c.requires.right;
 }
 
