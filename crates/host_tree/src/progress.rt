@@ -16,8 +16,10 @@ pub enum Progress {
     Library { read: u64, of: u64 },
     /// So many classes of the input are about to be linked with so many of the library.
     Linking { classes: u64, library: u64 },
-    /// So many classes of the input are about to be verified.
-    Verifying { classes: u64 },
+    /// So many classes of the input were linked.
+    Linked { linked: u64, of: u64 },
+    /// So many classes of the input were verified.
+    Verified { verified: u64, of: u64 },
 }
 
 impl Display for Progress {
@@ -28,7 +30,12 @@ impl Display for Progress {
             Progress::Linking { classes, library } => {
                 write!(f, "linking {classes} classes of IN with {library} of LIB")
             }
-            Progress::Verifying { classes } => write!(f, "verifying {classes} classes"),
+            Progress::Linked { linked, of } => {
+                write!(f, "{linked} of {of} classes of IN are linked")
+            }
+            Progress::Verified { verified, of } => {
+                write!(f, "{verified} of {of} classes of IN are verified")
+            }
         }
     }
 }

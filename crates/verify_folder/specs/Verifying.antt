@@ -1,5 +1,5 @@
 -- How a folder fails first, and what verification answers.
-use Rattle.std.specs.Prelude.{◌≡◌, ◌⊎◌, ℕ, List, [], ◌∷◌, slice_get, Option, Some, None, Result, Ok, Err}
+use Rattle.std.specs.Prelude.{◌≡◌, ◌⊎◌, ℕ, List, [], ◌∷◌, take, slice_get, Option, Some, None, Result, Ok, Err}
 use Rattle.class_model.specs.Header.{header_of}
 use Rattle.class_model.specs.declared.class_file.ClassFile.{ClassFile}
 use Rattle.class_model.specs.declared.class_file.Method.{Method}
@@ -11,7 +11,7 @@ use Rattle.class_tree.specs.Headers.{Name, Classes, Headers, headers_of}
 use Rattle.member_link.specs.Scope.{Scope, scope_at, scope_of}
 use Rattle.type_rules.specs.Typed.{IsFirstFailure}
 use Rattle.type_rules.specs.TypedFrames.{FolderFrames}
-use Rattle.type_rules.specs.Verified.{AreTypedMethods, TypesFolder, TypesMethod}
+use Rattle.type_rules.specs.Verified.{AreTypedClasses, AreTypedMethods, TypesFolder, TypesMethod}
 use Rattle.type_rules.specs.declared.fault.TypeRule.{TypeRule}
 use Rattle.type_rules.specs.declared.fault.VerifyFault.{VerifyFault}
 use Rattle.type_rules.specs.declared.fault.VerifyFault.TheVariants as faults
@@ -86,3 +86,24 @@ FolderIsTyped classes (Ok done) = (typed : FolderFrames) × TypesFolder classes 
 FolderIsTyped classes (Err (faults.Unverified class method offset rule)) =
     ClassesFail (headers_of classes) classes.folder (failure_of class method offset rule)
 FolderIsTyped classes (Err faults.NoMemory) = Unit {0}
+
+-- ---- a folder, class by class
+
+-- frames of the first so many classes type them
+abbrev pub TypesFirst : Classes → ℕ → FolderFrames → Type 0
+TypesFirst classes count typed =
+    AreTypedClasses (headers_of classes) (take count classes.folder) typed
+
+-- frames type the first so many classes
+abbrev pub AreFirstTyped : Classes → ℕ → Type 0
+AreFirstTyped classes count = (typed : FolderFrames) × TypesFirst classes count typed
+
+-- what verifying the first so many classes answers: these are their frames, or the folder fails first in one of them
+abbrev pub FirstVerify : Classes → ℕ → FolderFrames → Result Unit VerifyFault → Type 0
+FirstVerify classes count typed (Ok done) = TypesFirst classes count typed
+FirstVerify classes count typed (Err fault) = FolderVerifies classes (Err fault)
+
+-- the same, where their frames are not kept
+abbrev pub FirstAreTyped : Classes → ℕ → Result Unit VerifyFault → Type 0
+FirstAreTyped classes count (Ok done) = AreFirstTyped classes count
+FirstAreTyped classes count (Err fault) = FolderIsTyped classes (Err fault)

@@ -1,9 +1,9 @@
 //! A folder verifies.
-ghost use Rattle.std.specs.Prelude.{◌≡◌, is_some, slice_get, Some};
+ghost use Rattle.std.specs.Prelude.{◌≡◌, ◌<◌, ◌+◌, length, is_some, slice_get, Some};
 ghost use Rattle.class_model.specs.MethodCode.{code_of};
 ghost use Rattle.class_tree.specs.Headers.{headers_of};
 ghost use Rattle.member_link.specs.Linked.{IsLinked};
-ghost use Rattle.verify_folder.specs.Verifying.{FolderIsTyped, FolderVerifies};
+ghost use Rattle.verify_folder.specs.Verifying.{FolderIsTyped, FolderVerifies, TypesFirst, AreFirstTyped, FirstVerify, FirstAreTyped};
 ghost use Rattle.verify_folder.specs.Inner.Verifying.{ClassIsTyped, ClassVerifies};
 
 use crate::method::{check_method, verify_method};
@@ -23,8 +23,8 @@ pub fn verify_all(alloc: Global, tree: &Tree) -> Result<TypedFolder, VerifyFault
     ensures { FolderVerifies tree.now result }
 {
     let mut typed = TypedFolder::new(alloc);
-    for (place, class) in tree.folder().as_slice().iter().enumerate() {
-        typed.push(verify_class(alloc, tree, place, class)?)?;
+    for place in 0..tree.folder().len() {
+        verify_next(alloc, tree, place, &mut typed)?;
     }
     Ok(typed)
 }
@@ -37,10 +37,45 @@ pub fn check_all(alloc: Global, tree: &Tree) -> Result<(), VerifyFault>
     requires { IsLinked tree.now }
     ensures { FolderIsTyped tree.now result }
 {
-    for (place, class) in tree.folder().as_slice().iter().enumerate() {
-        check_class(alloc, tree, place, class)?;
+    for place in 0..tree.folder().len() {
+        check_next(alloc, tree, place)?;
     }
     Ok(())
+}
+
+/// Verifies one class of a linked folder, behind those before it, and appends its frames to theirs: a step of `verify_all`, for a
+/// caller that does something else between two classes.
+///
+/// # Errors
+/// As `verify_all`: the first failure of the folder is in this class.
+pub fn verify_next(
+    alloc: Global,
+    tree: &Tree,
+    place: usize,
+    typed: &mut TypedFolder,
+) -> Result<(), VerifyFault>
+    requires linked { IsLinked tree.now }
+    requires within { place < length tree.now.folder }
+    requires typed { TypesFirst tree.now place typed.old }
+    ensures { FirstVerify tree.now (place + 1) typed.new result }
+{
+    let class = &tree.folder().as_slice()[place];
+    typed.push(verify_class(alloc, tree, place, class)?)?;
+    Ok(())
+}
+
+/// Verifies one class of a linked folder, as `verify_next`, and keeps no frames: a step of `check_all`.
+///
+/// # Errors
+/// As `verify_next`.
+pub fn check_next(alloc: Global, tree: &Tree, place: usize) -> Result<(), VerifyFault>
+    requires linked { IsLinked tree.now }
+    requires within { place < length tree.now.folder }
+    requires typed { AreFirstTyped tree.now place }
+    ensures { FirstAreTyped tree.now (place + 1) result }
+{
+    let class = &tree.folder().as_slice()[place];
+    check_class(alloc, tree, place, class)
 }
 
 // Verifies each method with code of the class at a place. Their frames are not kept.

@@ -13,6 +13,6 @@ mod stop;
 mod typing;
 
 pub use before::{FrameBefore, frame_before};
-pub use folder::{check_all, verify_all};
+pub use folder::{check_all, check_next, verify_all, verify_next};
 pub use laws::a_folder_fails_once;
 pub use method::verify_method;

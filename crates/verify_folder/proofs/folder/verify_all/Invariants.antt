@@ -1,6 +1,5 @@
-use Rattle.class_tree.specs.Headers.{headers_of}
-use Rattle.verify_folder.proofs.ClassWalk.{SoFar}
+use Rattle.verify_folder.specs.Verifying.{TypesFirst}
 use Rattle.verify_folder.proofs.folder.verify_all.Given as goal
 
 abbrev pub invariant-loop-place : goal.invariant-loop-place
-invariant-loop-place l = SoFar (headers_of l.tree) l.class-items l.place l.typed
+invariant-loop-place l = TypesFirst l.tree l.place l.typed
