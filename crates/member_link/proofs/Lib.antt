@@ -3,6 +3,7 @@ pub mod FolderClasses
 pub mod MethodUses
 pub mod CodeChecks
 pub mod EachUse
+pub mod FirstLinks
 pub mod OwnMembers
 pub mod ByPlace
 pub mod FieldsOnce

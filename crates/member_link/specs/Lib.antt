@@ -18,6 +18,7 @@ pub mod CodedMethods
 pub mod Bodies
 pub mod Uses
 pub mod Linked
+pub mod LinkedFirst
 pub mod LinkedPlaces
 pub mod Assignability
 pub mod Signatures

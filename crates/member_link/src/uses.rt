@@ -1,8 +1,9 @@
 //! What the references of a folder's methods are asked to be linked.
-ghost use Rattle.std.specs.Prelude.{◌≡◌};
+ghost use Rattle.std.specs.Prelude.{◌≡◌, ◌<◌, length, slice_get, Some};
 ghost use Rattle.class_model.specs.Checks.{asked_each};
 ghost use Rattle.class_model.specs.Header.{header_of};
 ghost use Rattle.class_model.specs.Methods.{home_of};
+ghost use Rattle.class_model.specs.declared.class_file.ClassFile.{ClassFile};
 ghost use Rattle.class_tree.specs.Answers.{Answers};
 ghost use Rattle.class_tree.specs.Headers.{headers_of};
 ghost use Rattle.member_link.specs.Inner.Resolving.{resolved_scope};
@@ -16,19 +17,20 @@ use class_tree::{LinkFault, Place, Tree};
 use code_bytes::a_class_file_has_read_methods;
 use std::alloc::Global;
 
-/// Asks of each method of the folder that its instructions, its exception table and its stated frames refer to what is
-/// there, of the right form and accessible.
-pub(crate) fn check_uses(alloc: Global, tree: &Tree) -> Result<(), LinkFault>
-    ensures { Answers (asked_each (use_checks (headers_of tree.now)) tree.now.folder) result }
+/// Asks of each method of the class at a place of the folder that its instructions, its exception table and its stated frames
+/// refer to what is there, of the right form and accessible.
+pub(crate) fn check_uses(alloc: Global, tree: &Tree, place: usize) -> Result<(), LinkFault>
+    requires { place < length tree.now.folder }
+    ensures { (class : ClassFile)
+        → slice_get tree.now.folder place ≡ Some class
+        → Answers (use_checks (headers_of tree.now) class) result }
 {
     a_class_file_has_read_methods();
-    for (place, class) in tree.folder().as_slice().iter().enumerate() {
-        let Some(header) = tree.header(Place::Folder(place)) else {
-            unreachable!()
-        };
-        check_class_uses(alloc, tree, class, header)?;
-    }
-    Ok(())
+    let class = &tree.folder().as_slice()[place];
+    let Some(header) = tree.header(Place::Folder(place)) else {
+        unreachable!()
+    };
+    check_class_uses(alloc, tree, class, header)
 }
 
 // Asks the same of the methods of a class file, which has this header.
