@@ -60,7 +60,7 @@ pub use laws_linked::{
     a_named_class_passes,
 };
 pub use laws_links::a_hierarchy_has_links;
-pub use links::check_links;
+pub use links::{check_declared_links, check_links, check_next_links};
 pub use methods::find_method;
 pub use overriding::overrides;
 pub use packages::is_same_package;

@@ -12,6 +12,7 @@ mod script;
 mod sharing;
 mod status;
 mod top;
+mod verifying;
 mod words;
 mod work;
 mod writing;

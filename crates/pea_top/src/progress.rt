@@ -4,22 +4,25 @@ ghost use Rattle.host_tree.specs.declared.call.HostCall.{HostCall};
 ghost use Rattle.host_tree.specs.Host.{SameFiles};
 
 use crate::reading::Input;
-use class_tree::Tree;
 use host_tree::{Host, Progress};
 
-/// Of so many files that are read, one shows the progress.
-const FILES_A_TURN: u64 = 64;
+/// Of so many files that are read, and of so many classes that are linked or verified, one shows the progress.
+const ITEMS_A_TURN: u64 = 64;
 
-/// Shows how much was read, at each turn.
-pub(crate) fn show_read<H: Host>(host: &mut H, progress: Progress)
+/// Shows how much is done of what is counted, at each turn.
+pub(crate) fn show_done<H: Host>(host: &mut H, progress: Progress)
     ensures files { IsTrue H.tells → SameFiles (H.file host.old) (H.file host.new) }
     ensures printed { IsTrue H.tells → H.printed host.new ≡ H.printed host.old }
     ensures counts { (call : HostCall) → H.faults host.new call ≡ H.faults host.old call }
 {
-    if let Progress::Input { read, .. } | Progress::Library { read, .. } = progress {
-        if read % FILES_A_TURN == 0 {
-            host.show_progress(progress);
-        }
+    let done = match progress {
+        Progress::Input { read, .. } | Progress::Library { read, .. } => read,
+        Progress::Linking { .. } => 0,
+        Progress::Linked { linked, .. } => linked,
+        Progress::Verified { verified, .. } => verified,
+    };
+    if done % ITEMS_A_TURN == 0 {
+        host.show_progress(progress);
     }
 }
 
@@ -35,12 +38,22 @@ pub(crate) fn show_linking<H: Host>(host: &mut H, input: &Input)
     });
 }
 
-/// Shows that what is linked is about to be verified.
-pub(crate) fn show_verifying<H: Host>(host: &mut H, tree: &Tree)
+/// Shows how many classes of the input are linked, at each turn.
+pub(crate) fn show_linked<H: Host>(host: &mut H, linked: usize, of: usize)
     ensures files { IsTrue H.tells → SameFiles (H.file host.old) (H.file host.new) }
     ensures printed { IsTrue H.tells → H.printed host.new ≡ H.printed host.old }
     ensures counts { (call : HostCall) → H.faults host.new call ≡ H.faults host.old call }
 {
-    let classes = tree.folder().len() as u64;
-    host.show_progress(Progress::Verifying { classes });
+    let (linked, of) = (linked as u64, of as u64);
+    show_done(host, Progress::Linked { linked, of });
+}
+
+/// Shows how many classes of the input are verified, at each turn.
+pub(crate) fn show_verified<H: Host>(host: &mut H, verified: usize, of: usize)
+    ensures files { IsTrue H.tells → SameFiles (H.file host.old) (H.file host.new) }
+    ensures printed { IsTrue H.tells → H.printed host.new ≡ H.printed host.old }
+    ensures counts { (call : HostCall) → H.faults host.new call ≡ H.faults host.old call }
+{
+    let (verified, of) = (verified as u64, of as u64);
+    show_done(host, Progress::Verified { verified, of });
 }

@@ -15,7 +15,7 @@ ghost use Rattle.pea_top.specs.Inner.ReadingSteps.{IsCallStop, IsFileOrWhy, IsHe
 ghost use Rattle.pea_top.specs.declared.reading.ReadStop.TheVariants.{NoMemory as no_memory};
 
 use crate::folder::{NamedFile, is_class_file};
-use crate::progress::show_read;
+use crate::progress::show_done;
 use crate::sharing::SharedTexts;
 use crate::status::Status;
 use class_bytes::{push_class, read_class, read_header};
@@ -217,7 +217,7 @@ fn read_file<H: Host>(
         → (call ≡ HostCall.Read)
         × Rose (H.faults host.old HostCall.Read) (H.faults host.new HostCall.Read) }
 {
-    show_read(host, progress);
+    show_done(host, progress);
     let bytes = read_bytes(alloc, host, root, name.as_str())?;
     file_of(alloc, name, bytes)
 }
@@ -398,7 +398,7 @@ fn read_library_file<H: Host>(
         → (call ≡ HostCall.Read)
         × Rose (H.faults host.old HostCall.Read) (H.faults host.new HostCall.Read) }
 {
-    show_read(host, progress);
+    show_done(host, progress);
     let bytes = read_bytes(alloc, host, root, name.as_str())?;
     header_of(alloc, name, bytes, texts)
 }

@@ -12,7 +12,6 @@ ghost use Rattle.pea_top.specs.Status.{ending};
 ghost use Rattle.pea_top.specs.Inner.Ended.{ended};
 ghost use Rattle.pea_top.specs.Answer.{HasCause};
 ghost use Rattle.pea_top.specs.Effects.{IsWriting, SpellNoWrite, Leaves};
-ghost use Rattle.pea_top.specs.Inner.Verifying.{IsVerifiedFor, verify_status};
 ghost use Rattle.pea_top.specs.Inner.Deciding.{AreInput, WritesFiles, IsPrepared, AreArranged, IsOutcome, IsStop};
 
 use crate::explaining::{
@@ -21,18 +20,16 @@ use crate::explaining::{
 use crate::folder::NamedFile;
 use crate::lines::refusal;
 use crate::linking::{link, link_status};
-use crate::progress::show_verifying;
 use crate::reading::{Input, read_input, status_of};
 use crate::script::script_status;
 use crate::status::Status;
+use crate::verifying::{verify_for, verify_status};
 use crate::words::{Command, command_of};
 use crate::work::{Work, carry_out, work_of};
 use class_tree::Tree;
 use explain::Outlines;
 use host_tree::{Host, HostFail};
 use std::alloc::Global;
-use type_rules::{TypedFolder, VerifyFault};
-use verify_folder::{check_all, verify_all};
 
 /// Does what the words behind the program's name ask for, on a host.
 ///
@@ -207,7 +204,7 @@ fn link_input<H: Host>(
         (ended result) }
 {
     let library = Outlines::of(alloc, input.headers.as_slice());
-    match link(alloc, input.classes, input.headers) {
+    match link(alloc, host, input.classes, input.headers) {
         Ok(tree) => verify(alloc, host, &tree, input.files.as_slice(), work),
         Err(stop) => {
             explain_linking(alloc, host, input.files.as_slice(), &library, &stop);
@@ -241,54 +238,12 @@ fn verify<H: Host>(
         → IsStop words (H.file host.old) (H.file host.new) (H.printed host.old) (H.printed host.new)
         (ended result) }
 {
-    show_verifying(host, tree);
-    match verify_for(alloc, tree, work) {
+    match verify_for(alloc, host, tree, work) {
         Ok(typed) => carry_out(alloc, host, tree, typed.as_ref(), files, work),
         Err(fault) => {
             explain_verifying(alloc, host, tree, &fault);
             Err(verify_status(fault))
         }
-    }
-}
-
-/// Verifies a hierarchy. The frames are kept for a run alone.
-fn verify_for(
-    alloc: Global,
-    tree: &Tree,
-    work: &Work<'_>,
-) -> Result<Option<TypedFolder>, VerifyFault>
-    requires { IsLinked tree.now }
-    ensures { IsVerifiedFor tree.now work.now result }
-{
-    match work {
-        Work::Run { .. } => match verify_all(alloc, tree) {
-            Ok(typed) => Ok(Some(typed)),
-            Err(fault) => Err(fault),
-        },
-        Work::Write { .. } | Work::Print { .. } => match check_all(alloc, tree) {
-            Ok(()) => Ok(None),
-            Err(fault) => Err(fault),
-        },
-    }
-}
-
-/// The status of a command whose class files do not verify.
-fn verify_status(fault: VerifyFault) -> Status
-    ensures { result ≡ verify_status fault }
-{
-    match fault {
-        VerifyFault::Unverified {
-            class,
-            method,
-            offset,
-            rule,
-        } => Status::Unverified {
-            class,
-            method,
-            offset,
-            rule,
-        },
-        VerifyFault::NoMemory => Status::NoMemory,
     }
 }
 

@@ -3,4 +3,4 @@ use Rattle.pea_top.proofs.reading.read_library_file.Goals as goal
 
 -- what was shown before left the folder
 pub returns-clause-found : goal.returns-clause-found
-returns-clause-found g c = λ told. c.header_of.ensures.found _ (rw (← c.as_str.ensures) (sym (c.show_read.ensures.files told _ _) ∙ c.in_ok-bytes.ensures.bytes told))
+returns-clause-found g c = λ told. c.header_of.ensures.found _ (rw (← c.as_str.ensures) (sym (c.show_done.ensures.files told _ _) ∙ c.in_ok-bytes.ensures.bytes told))
