@@ -1,17 +1,18 @@
 -- The classes of a folder, verified one after another.
-use Rattle.std.proofs.Common.{◌≡◌, ◌+◌, ◌≤◌, inl, inr, ℕ, List, [], ◌∷◌, ◌++◌, length, take, drop, slice_get, Option, Some, Result, Ok, Err, sym, subst}
-use Rattle.std.proofs.lemmas.List.{take-append-drop, take_all}
+use Rattle.std.proofs.Common.{◌≡◌, ◌+◌, ◌<◌, inl, inr, ℕ, List, [], ◌∷◌, ◌++◌, length, take, drop, get_or, slice_get, Option, Some, Result, Ok, Err, sym, subst}
+use Rattle.std.proofs.lemmas.List.{take-append-drop}
 use Rattle.class_model.specs.Header.{header_of}
 use Rattle.class_model.specs.Laws.Lists.{drop_item, take_item}
 use Rattle.class_model.specs.declared.class_file.ClassFile.{ClassFile}
 use Rattle.class_model.specs.declared.frame.Frame.{Frame}
 use Rattle.class_tree.specs.Headers.{Classes, Headers, headers_of}
 use Rattle.type_rules.specs.TypedFrames.{FolderFrames}
-use Rattle.type_rules.specs.Verified.{AreTypedClasses, AreTypedMethods, TypesFolder}
+use Rattle.type_rules.specs.Verified.{AreTypedClasses, AreTypedMethods}
 use Rattle.type_rules.specs.declared.fault.VerifyFault.{VerifyFault}
 use Rattle.type_rules.specs.declared.fault.VerifyFault.TheVariants as faults
 use Rattle.verify_folder.specs.Verifying.{Failure, failure_of, ClassesFail, FolderVerifies, MethodsFail, TypesFirst, AreFirstTyped, FirstAreTyped}
 use Rattle.verify_folder.specs.Inner.Verifying.{ClassIsTyped, ClassVerifies}
+use Rattle.verify_folder.proofs.MethodWalk.{item_at}
 
 -- ---- classes before others
 
@@ -27,6 +28,10 @@ fails_behind headers (class ∷ classes) others [] failure types fails = absurd 
 fails_behind headers (class ∷ classes) others (own ∷ typed) failure types fails = inr ((own, types.0), fails_behind headers classes others typed failure types.1 fails)
 
 -- ---- one class after the other
+
+-- the class at a place, which was read off these items
+pub class_at : (classes : Classes) (items : List ClassFile) (place : ℕ) (class : ClassFile) → items ≡ classes.folder → place < length classes.folder → class ≡ get_or items place class → slice_get classes.folder place ≡ Some class
+class_at classes items place class same within is = item_at classes.folder items place class class same (subst (λ folder. place < length folder) (sym same) within) is
 
 module _ (classes : Classes) (place : ℕ) (typed : FolderFrames) (class : ClassFile) (types : TypesFirst classes place typed) (found : slice_get classes.folder place ≡ Some class) where
   pub one_more : (own : List (Option (List Frame))) → AreTypedMethods (headers_of classes) class class.methods own → TypesFirst classes (place + 1) (typed ++ own ∷ [])
@@ -51,7 +56,3 @@ pub one_checked : (classes : Classes) (place : ℕ) (class : ClassFile) → AreF
 one_checked classes place class first found (Ok done) told = (first.0 ++ told.0 ∷ [], one_more classes place first.0 class first.1 found told.0 told.1)
 one_checked classes place class first found (Err (faults.Unverified name method offset rule)) told = stops classes place first.0 class first.1 found (failure_of name method offset rule) told
 one_checked classes place class first found (Err faults.NoMemory) told = tt
-
--- all of them
-pub all_typed : (classes : Classes) (place : ℕ) (typed : FolderFrames) → length classes.folder ≤ place → TypesFirst classes place typed → TypesFolder classes typed
-all_typed classes place typed past types = subst (λ all. AreTypedClasses (headers_of classes) all typed) (take_all place classes.folder past) types
