@@ -39,7 +39,7 @@ or_behind behind None = behind
 or_behind behind (Some number) = number
 
 -- the first point at a place is the first instruction there
-first-placed : (f : Placed → CodePoint) → ((p : Placed) → (f p).place ≡ p.at) → (at : ℕ) (instrs : List Placed)
+pub first-placed : (f : Placed → CodePoint) → ((p : Placed) → (f p).place ≡ p.at) → (at : ℕ) (instrs : List Placed)
     → number_of_first (λ (point : CodePoint). point.place == at) (map f instrs) ≡ number_of_first (λ (placed : Placed). placed.at == at) instrs
 first-placed f stands at [] = refl
 first-placed f stands at (placed ∷ instrs) = rw (stands placed, first-placed f stands at instrs) refl
@@ -55,7 +55,7 @@ first-within passes (item ∷ items) = more (passes item) (number_of_first passe
   more false (Some number) within = omega (arith, within)
 
 -- a point is found by its number
-first-numbered : (f : ℕ → FlatPoint → CodePoint) → ((n : ℕ) (p : FlatPoint) → (f n p).place ≡ n) → (first : ℕ) (points : List FlatPoint) (to : ℕ) → to ≤ length points
+pub first-numbered : (f : ℕ → FlatPoint → CodePoint) → ((n : ℕ) (p : FlatPoint) → (f n p).place ≡ n) → (first : ℕ) (points : List FlatPoint) (to : ℕ) → to ≤ length points
     → or_behind (length points) (number_of_first (λ (point : CodePoint). point.place == first + to) (map_numbered f first points)) ≡ to
 first-numbered f stands first [] to within = omega arith
 first-numbered f stands first (point ∷ points) zero within = rw (stands first point, eq-eqb first (first + 0) (omega arith)) refl
@@ -67,12 +67,12 @@ first-numbered f stands first (point ∷ points) (suc to) within =
       one-more None is = ap suc is
       one-more (Some number) is = ap suc is
 
-length-numbered : (f : ℕ → FlatPoint → CodePoint) (first : ℕ) (points : List FlatPoint) → length (map_numbered f first points) ≡ length points
+pub length-numbered : (f : ℕ → FlatPoint → CodePoint) (first : ℕ) (points : List FlatPoint) → length (map_numbered f first points) ≡ length points
 length-numbered f first [] = refl
 length-numbered f first (point ∷ points) = ap suc (length-numbered f (suc first) points)
 
 -- numbers of points and of instructions in these words
-found-point : (points : List CodePoint) (place : ℕ) (found : Option ℕ) → number_of_first (λ (point : CodePoint). point.place == place) points ≡ found → number_at points place ≡ or_behind (length points) found
+pub found-point : (points : List CodePoint) (place : ℕ) (found : Option ℕ) → number_of_first (λ (point : CodePoint). point.place == place) points ≡ found → number_at points place ≡ or_behind (length points) found
 found-point points place None is = rw is refl
 found-point points place (Some number) is = rw is refl
 

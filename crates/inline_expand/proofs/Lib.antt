@@ -54,6 +54,7 @@ mod RenumberedTargets
 mod RenumberedTypes
 mod ReplacedCalls
 mod ResultTexts
+mod Runs
 mod Seeing
 mod SettingParts
 mod ShallowCalls

@@ -41,4 +41,6 @@ mod visits;
 pub use alone::flat_alone;
 pub use callees::callee;
 pub use candidates::{Candidates, candidate};
-pub use laws::{a_flat_code_alone_is_typed, flat_codes_alone_run_equally};
+pub use laws::{
+    a_flat_code_alone_is_typed, expanded_flat_codes_run_equally, flat_codes_alone_run_equally,
+};

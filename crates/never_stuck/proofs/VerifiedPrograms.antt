@@ -174,7 +174,15 @@ module _ (laws : TypeLaws) (link_laws : LinkLaws) (classes : Classes) (P : Progr
             by_method file e (slice_get file.methods at.method) refl (sym
             (slice_get-map (run_method_of is.links (headers_of classes) file) file.methods at.method) ∙ m)
 
+  -- the frames of each method are those that type it
+  frames_same : (at : MethodAt) (frames : List Frame) → typed_frames_at verified.typed at ≡ Some frames → (T at).frames ≡ frames
+  frames_same at frames is_typed = by (scope_at classes at) refl (subst (TypesMethod (scope_at classes at)) is_typed (laws.methods classes verified.typed verified.types at)) where
+    by : (scope : Option Scope) → scope_at classes at ≡ scope → TypesMethod scope (Some frames) → (T at).frames ≡ frames
+    by None none types = absurd types
+    by (Some s) some types = rw (some, is_typed) refl
+
   pub program_typed : (T : Typings) × IsTypedProgram P T
+      × ((at : MethodAt) (frames : List Frame) → typed_frames_at verified.typed at ≡ Some frames → (T at).frames ≡ frames)
   program_typed = (
     T,
     record {
@@ -185,4 +193,5 @@ module _ (laws : TypeLaws) (link_laws : LinkLaws) (classes : Classes) (P : Progr
       methods = subst (λ (p : Program). (at : MethodAt) (method : RunMethod) (code : Code) → run_method p at ≡ Some method
           → code_run method ≡ Some code → IsTypedMethod p at method.member code (T at)) (sym is.same) methods_typed;
     },
+    frames_same,
   )

@@ -1,7 +1,10 @@
 //! The program of a folder that verifies.
-ghost use Rattle.std.specs.Prelude.{◌<◌, length};
+ghost use Rattle.std.specs.Prelude.{◌≡◌, ◌<◌, List, length, Some};
+ghost use Rattle.class_model.specs.declared.class_file.MethodAt.{MethodAt};
+ghost use Rattle.class_model.specs.declared.frame.Frame.{Frame};
 ghost use Rattle.machine_step.specs.Programs.{IsProgram};
 ghost use Rattle.member_link.specs.Machine.Programs.{Program};
+ghost use Rattle.type_rules.specs.TypedFrames.{typed_frames_at};
 ghost use Rattle.type_rules.specs.Verified.{IsVerified};
 ghost use Rattle.typed_runs.specs.TypedPrograms.{IsTypedProgram, Typings};
 
@@ -21,9 +24,13 @@ use type_rules::{
 pub fn a_verified_folder_is_a_typed_program(tree: &Tree)
     ensures { (P : Program)
         → IsProgram tree.now P
-        → IsVerified tree.now
+        → (verified : IsVerified tree.now)
         → 0 < length tree.now.folder
-        → (T : Typings) × IsTypedProgram P T }
+        → (T : Typings)
+        × IsTypedProgram P T
+        × ((at : MethodAt) (frames : List Frame)
+        → typed_frames_at verified.typed at ≡ Some frames
+        → (T at).frames ≡ frames) }
 {
     a_tree_is_a_hierarchy(tree);
     a_typed_folder_types_each_method();

@@ -1,5 +1,5 @@
 -- What instructions that move values, and those that go on elsewhere, give in two runs.
-use Rattle.std.specs.Prelude.{◌≡◌, ◌+◌, ◌≤◌, ℕ, ℤ, Bool, List, ◌∷◌, ◌++◌, length, map, slice_get, Option, Some, None}
+use Rattle.std.specs.Prelude.{◌≡◌, ◌⊎◌, ◌+◌, ◌≤◌, ℕ, ℤ, Bool, List, ◌∷◌, ◌++◌, length, map, slice_get, Option, Some, None}
 use Rattle.class_model.specs.declared.descriptor.Kind.{Kind}
 use Rattle.class_model.specs.declared.instr.Pair.{Pair}
 use Rattle.machine_values.specs.Frames.{MethodState}
@@ -42,6 +42,14 @@ pub record ShiftedUnits (names : Names) (base size : ℕ) (ones others : List (O
       → (also : Value) × (slice_get others (base + at) ≡ Some (Some also)) × SameValue names value also
   pub count : length ones ≤ size
   pub room : base + size ≤ length others
+
+-- Units outside of those from a base on stay: each value that lies there is there as before.
+pub record KeepsOutside (base size : ℕ) (before after : List (Option Value)) : Type 0 where
+  pub count : length after ≡ length before
+  pub stays : (at : ℕ) (value : Value)
+      → (at + width_of value ≤ base) ⊎ (base + size ≤ at)
+      → slice_get before at ≡ Some (Some value)
+      → slice_get after at ≡ Some (Some value)
 
 -- ---- operations of the frame alone
 
@@ -96,6 +104,7 @@ pub record Moves (P Q : Program) (c : Comparison) (names : Names) (base size : �
   pub goes : (place : ℕ) (ones others : List Value) (units units_also : List (Option Value))
       → SameValues names ones others
       → ShiftedUnits names base size units units_also
+      → KeepsOutside base size g.locals units_also
       → c.frames names (Method (record f { place = place; stack = ones; locals = units }) ∷ rest)
       (Method (record g { place = start place; stack = others ++ below; locals = units_also }) ∷ rest_also)
   pub unwinds : (more : Names)

@@ -47,7 +47,7 @@ abbrev members : List RunMethod → List Member
 members methods = map (λ method. method.member) methods
 
 -- the class of a number is the first of its name
-class_named_first : (name : Name) (library : List Header) (classes : List RunClass) (number : ℕ)
+pub class_named_first : (name : Name) (library : List Header) (classes : List RunClass) (number : ℕ)
     → number_of_first (is_class name) classes ≡ Some number
     → (class : RunClass) × (slice_get classes number ≡ Some class) × (named name (headers classes ++ library) ≡ Some class.header)
 class_named_first name library [] number is = absurd (none-some number is)

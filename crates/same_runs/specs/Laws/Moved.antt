@@ -17,14 +17,15 @@ use Rattle.member_link.specs.Machine.Throwables.{null_pointer}
 use Rattle.member_link.specs.Machine.Worlds.{World, going, stuck}
 use Rattle.same_runs.specs.Renamings.{Names, SameValue, same_int, same_long, same_float, same_double, same_null, same_reference, SameValues, no_values, and_value}
 use Rattle.same_runs.specs.SameMemories.{SameMemories}
-use Rattle.same_runs.specs.SameMoves.{IsMove, is_no_operation, is_load, is_store, is_increment, is_test, is_shuffle, is_jump_by_int, is_jump_by_ints, is_jump_by_references, is_jump_by_null, is_jump, is_table_switch, is_lookup_switch, LoadFits, moved, Moves, SameJumps, no_jump, have_jump, SameStacks, no_stack, have_stack, ShiftedUnits}
+use Rattle.same_runs.specs.SameMoves.{IsMove, is_no_operation, is_load, is_store, is_increment, is_test, is_shuffle, is_jump_by_int, is_jump_by_ints, is_jump_by_references, is_jump_by_null, is_jump, is_table_switch, is_lookup_switch, LoadFits, moved, Moves, SameJumps, no_jump, have_jump, SameStacks, no_stack, have_stack, KeepsOutside, ShiftedUnits}
 use Rattle.same_runs.specs.SamePrograms.{SameOp, same_op, SamePrograms}
 use Rattle.same_runs.specs.SameWorlds.{Comparison, Compares, SameAfter, both_go, SameSeen}
 use Rattle.same_runs.specs.Laws.LongerStacks.{jump_over, jump_of_int_over, jump_of_ints_over, jump_of_null_over, jump_of_references_over, shuffled_over}
-use Rattle.same_runs.specs.Laws.Moves.{renumbered_lookup, renumbered_table, same_jump_of_int, same_jump_of_ints, same_jump_of_null, same_jump_of_references, same_kind, same_shuffled}
+use Rattle.same_runs.specs.Laws.Moves.{renumbered_lookup, renumbered_table, same_jump_of_int, same_jump_of_ints, same_jump_of_null, same_jump_of_references, same_kind, same_shuffled, same_width}
 use Rattle.same_runs.specs.Laws.Names.{names_themselves}
 use Rattle.same_runs.specs.Laws.Performed.{raised_same}
-use Rattle.same_runs.specs.Laws.ShiftedUnits.{local_is, shifted_local, shifted_stored}
+use Rattle.same_runs.specs.Laws.ShiftedUnits.{local_is, outside_itself, shifted_local, shifted_stored, stored_outside}
+use Rattle.same_runs.specs.Laws.Stored.{stored_is}
 use Rattle.same_runs.specs.Laws.Units.{same_incremented}
 
 int_width : (value : Value) → has_kind kinds.Int value ≡ true → width_of value ≡ 1
@@ -74,12 +75,17 @@ module _ {P Q : Program} {c : Comparison} {names : Names} {first second : World}
       → place_also ≡ start place
       → SameValues names ones others
       → ShiftedUnits names base size units units_also
+      → KeepsOutside base size g.locals units_also
       → After (with_top first rest (record f { place = place; stack = ones; locals = units }))
       (with_top second rest_also (record g { place = place_also; stack = others ++ below; locals = units_also }))
-  goes_at place place_also ones others units units_also at are shifted =
+  goes_at place place_also ones others units units_also at are shifted outside =
       rw at
-      (both_go names (names_themselves names) (moves.goes place ones others units units_also are shifted) memories
+      (both_go names (names_themselves names) (moves.goes place ones others units units_also are shifted outside) memories
       (record { known = seen.known; events = seen.events }) goes goes_also)
+
+  -- the units stay as they are
+  same_units : KeepsOutside base size g.locals g.locals
+  same_units = outside_itself base size g.locals
 
   next_place : g.place + 1 ≡ start (f.place + 1)
   next_place = ap (λ (n : ℕ). n + 1) moves.place ∙ sym moves.next
@@ -87,7 +93,7 @@ module _ {P Q : Program} {c : Comparison} {names : Names} {first second : World}
   -- nothing but the place changes
   goes_next : After (with_top first rest (next_with f f.stack)) (with_top second rest_also (next_with g g.stack))
   goes_next =
-      rw moves.stack (goes_at (f.place + 1) (g.place + 1) f.stack moves.top f.locals g.locals next_place moves.same moves.units)
+      rw moves.stack (goes_at (f.place + 1) (g.place + 1) f.stack moves.top f.locals g.locals next_place moves.same moves.units same_units)
 
   shuffles : (opcode : ℕ) → (shuffle_step first f rest (shuffled opcode f.stack)).halt ≢ stuck
       → After (shuffle_step first f rest (shuffled opcode f.stack)) (shuffle_step second g rest_also (shuffled opcode g.stack))
@@ -101,7 +107,7 @@ module _ {P Q : Program} {c : Comparison} {names : Names} {first second : World}
         by (Some ones) None is goes_on none = elim none [ ]
         by (Some ones) (Some others) is goes_on (have_stack are) =
             rw (shuffled_over opcode moves.top below others is)
-            (goes_at (f.place + 1) (g.place + 1) ones others f.locals g.locals next_place are moves.units)
+            (goes_at (f.place + 1) (g.place + 1) ones others f.locals g.locals next_place are moves.units same_units)
 
   jumps : (to : ℕ) (one other over : Jump)
       → ((jump : Bool × List Value) → other ≡ Some jump → over ≡ Some (jump_over below jump))
@@ -114,8 +120,8 @@ module _ {P Q : Program} {c : Comparison} {names : Names} {first second : World}
         by : (b : Bool)
             → After (with_top first rest (record f { place = if b then to else f.place + 1; stack = ones }))
             (with_top second rest_also (record g { place = if b then start to else g.place + 1; stack = others ++ below }))
-        by true = goes_at to (start to) ones others f.locals g.locals refl are moves.units
-        by false = goes_at (f.place + 1) (g.place + 1) ones others f.locals g.locals next_place are moves.units
+        by true = goes_at to (start to) ones others f.locals g.locals refl are moves.units same_units
+        by false = goes_at (f.place + 1) (g.place + 1) ones others f.locals g.locals next_place are moves.units same_units
 
   switches : (target target_also : ℤ → ℕ) → ((key : ℤ) → target_also key ≡ start (target key))
       → (switch_step first f rest target f.stack).halt ≢ stuck
@@ -125,7 +131,7 @@ module _ {P Q : Program} {c : Comparison} {names : Names} {first second : World}
         → After (switch_step first f rest target ones) (switch_step second g rest_also target_also (others ++ below))
     by ones others no_values goes_on = absurd (goes_on refl)
     by ones others (and_value {ones = more} {others = more_also} (same_int {number = key}) are) goes_on =
-        goes_at (target key) (target_also key) more more_also f.locals g.locals (renumbered key) are moves.units
+        goes_at (target key) (target_also key) more more_also f.locals g.locals (renumbered key) are moves.units same_units
     by ones others (and_value same_long are) goes_on = absurd (goes_on refl)
     by ones others (and_value same_float are) goes_on = absurd (goes_on refl)
     by ones others (and_value same_double are) goes_on = absurd (goes_on refl)
@@ -145,7 +151,7 @@ module _ {P Q : Program} {c : Comparison} {names : Names} {first second : World}
         let found = shifted_local moves.units kind at value e (fits value e) in
         rw (found.1, moves.stack)
         (goes_at (f.place + 1) (g.place + 1) (value ∷ f.stack) (found.0 ∷ moves.top) f.locals g.locals next_place
-        (and_value found.2 moves.same) moves.units)
+        (and_value found.2 moves.same) moves.units same_units)
 
   stores_units : (at : ℕ) (value also : Value) (ones others : List Value) → SameValue names value also → SameValues names ones others
       → (store_units first f rest ones (stored at value f.locals)).halt ≢ stuck
@@ -157,7 +163,12 @@ module _ {P Q : Program} {c : Comparison} {names : Names} {first second : World}
     by None e goes_on = absurd (goes_on refl)
     by (Some units) e goes_on =
         let found = shifted_stored moves.units at value also units is e in
-        rw (found.1) (goes_at (f.place + 1) (g.place + 1) ones others units found.0 next_place are found.2)
+        let room = (stored_is at value f.locals units e).room in
+        let count = moves.units.count in
+        let wide = same_width is in
+        rw (found.1)
+        (goes_at (f.place + 1) (g.place + 1) ones others units found.0 next_place are found.2
+        (stored_outside base size at also g.locals found.0 (omega (arith, room, count, wide)) found.1))
 
   stores_kind : (kind : Kind) (at : ℕ) → (store_step first f rest kind at f.stack).halt ≢ stuck
       → After (store_step first f rest kind at f.stack) (store_step second g rest_also kind (base + at) g.stack)
@@ -248,7 +259,7 @@ module _ {P Q : Program} {c : Comparison} {names : Names} {first second : World}
       (jumps to (jump_of_null opcode f.stack) (jump_of_null opcode moves.top) (jump_of_null opcode (moves.top ++ below))
       (jump_of_null_over opcode moves.top below) (same_jump_of_null opcode moves.same) goes_on)
   moved_same op (is_jump {to = to}) fits goes_on =
-      rw moves.stack (goes_at to (start to) f.stack moves.top f.locals g.locals refl moves.same moves.units)
+      rw moves.stack (goes_at to (start to) f.stack moves.top f.locals g.locals refl moves.same moves.units same_units)
   moved_same op (is_table_switch {low = low} {other = other} {targets = targets}) fits goes_on =
       switches (table_target low other targets) (table_target low (start other) (map start targets))
       (renumbered_table start low other targets) goes_on

@@ -119,7 +119,7 @@ class_name {name = name} (nowhere there) = no_name name
 class_name (upwards header method there up) = upwards_name up
 class_name (in_interfaces header found there up over) = interfaces_name over
 
-method_name : {headers : Headers} {class : Name} {name desc : List ℕ} {found : Option Declared} → FindsMethod headers class name desc found
+pub method_name : {headers : Headers} {class : Name} {name desc : List ℕ} {found : Option Declared} → FindsMethod headers class name desc found
     → HasName name found
 method_name {headers = headers} {class = class} {name = name} {desc = desc} (initialiser is) = own_name headers class name desc
 method_name {headers = headers} {class = class} {name = name} (polymorphic is) =
@@ -173,7 +173,7 @@ chooses_name :
 chooses_name named (first_upwards method up) = let here = upwards_name up in named method (here.is method refl)
 chooses_name named (by_default choice up chooses) = by_default_name chooses
 
-selects_name : {headers : Headers} {receiver : Name} {resolved : Declared} {form : CallForm} {choice : Choice}
+pub selects_name : {headers : Headers} {receiver : Name} {resolved : Declared} {form : CallForm} {choice : Choice}
     → Selects headers receiver resolved form choice → ChoosesName resolved.member.name choice
 selects_name {resolved = resolved} (of_private private) = choice_name resolved.member.name resolved refl
 selects_name {resolved = resolved} (of_virtual choice not_private chooses) = chooses_name (choice_name resolved.member.name) chooses

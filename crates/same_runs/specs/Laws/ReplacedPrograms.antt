@@ -1,6 +1,6 @@
 -- A program in which some methods run other code, flags of fields are cleared, and instance initialisers are added is the same but for
 -- these.
-use Rattle.std.proofs.Common.{arith, ◌≡◌, ◌+◌, ◌*◌, ◌≤◌, ◌%◌, ◌^◌, ◌==◌, not, ℕ, zero, suc, Bool, true, false, List, [], ◌∷◌, ◌++◌, map, slice_get, bit_and, is_some, Option, Some, None, IsTrue, refl, sym, ap, subst, ◌∙◌}
+use Rattle.std.proofs.Common.{arith, ◌≡◌, ◌+◌, ◌*◌, ◌≤◌, ◌<◌, ◌%◌, ◌^◌, ◌==◌, not, ℕ, zero, suc, Bool, true, false, List, [], ◌∷◌, ◌++◌, map, slice_get, bit_and, is_some, Option, Some, None, IsTrue, refl, sym, ap, subst, ◌∙◌}
 use Rattle.std.specs.Int.{bit_at}
 use Rattle.std.specs.Int.Bits.{and_self, bit_xor, xor_add_and}
 use Rattle.std.specs.List.{AllByRecursion}
@@ -17,30 +17,32 @@ use Rattle.same_runs.specs.SamePrograms.{IsAdded, IsPlainStart, LinksNoInit, Sam
 
 -- ---- flags
 
--- a flag that is not cleared, or is neither private nor final, stays, by its bit
-pub flag_stays : (flags cleared k : ℕ) → bit_at (bit_and cleared (PRIVATE + FINAL)) k ≡ 0
-    → bit_at (without_flags flags cleared) k ≡ bit_at flags k
-flag_stays flags cleared k other = ap (λ (n : ℕ). bit_at n k) (sym differ) ∙ bit_at_xor flags taken k ∙ stays where
-  taken : ℕ
-  taken = bit_and flags (bit_and cleared (PRIVATE + FINAL))
+-- what is left of a flag, by its bit: what is cleared of it was set
+abbrev taken : ℕ → ℕ → ℕ
+taken flags cleared = bit_and flags (bit_and cleared (PRIVATE + FINAL))
 
-  -- what is cleared was set
-  within : bit_and flags taken ≡ taken
+flag_left : (flags cleared k : ℕ) → bit_at (without_flags flags cleared) k ≡ (bit_at flags k + bit_at (taken flags cleared) k) % 2
+flag_left flags cleared k = ap (λ (n : ℕ). bit_at n k) (sym differ) ∙ bit_at_xor flags (taken flags cleared) k where
+  within : bit_and flags (taken flags cleared) ≡ taken flags cleared
   within =
       sym (and_assoc (bit_and cleared (PRIVATE + FINAL)) flags flags)
       ∙ ap (λ (n : ℕ). bit_and n (bit_and cleared (PRIVATE + FINAL))) (and_self flags)
 
-  differ : bit_xor flags taken ≡ without_flags flags cleared
+  differ : bit_xor flags (taken flags cleared) ≡ without_flags flags cleared
   differ =
-      let less : taken ≤ flags = and_le_l flags (bit_and cleared (PRIVATE + FINAL)) in
-      omega (arith, xor_add_and flags taken, within, less)
+      let less : taken flags cleared ≤ flags = and_le_l flags (bit_and cleared (PRIVATE + FINAL)) in
+      omega (arith, xor_add_and flags (taken flags cleared), within, less)
 
-  untaken : bit_at taken k ≡ 0
+-- a flag that is not cleared, or is neither private nor final, stays, by its bit
+pub flag_stays : (flags cleared k : ℕ) → bit_at (bit_and cleared (PRIVATE + FINAL)) k ≡ 0
+    → bit_at (without_flags flags cleared) k ≡ bit_at flags k
+flag_stays flags cleared k other = flag_left flags cleared k ∙ stays where
+  untaken : bit_at (taken flags cleared) k ≡ 0
   untaken =
       let both = bit_at_and flags (bit_and cleared (PRIVATE + FINAL)) k in
       omega (arith, both, other)
 
-  stays : (bit_at flags k + bit_at taken k) % 2 ≡ bit_at flags k
+  stays : (bit_at flags k + bit_at (taken flags cleared) k) % 2 ≡ bit_at flags k
   stays = omega (arith, untaken, bit_at-lt flags k)
 
 -- a flag of a place is there where its bit is
@@ -68,6 +70,27 @@ final_stays flags cleared kept =
 
       uncleared : bit_at cleared 4 ≡ 0
       uncleared = omega (arith, and_pow cleared 4, nothing)
+
+-- a flag of a place is not there where its bit is 0
+no_bit : (flags k : ℕ) → bit_at flags k ≡ 0 → has flags (2 ^ k) ≡ false
+no_bit flags k none =
+    let nothing : 0 * 2 ^ k ≡ 0 = omega arith in
+    ap (λ (n : ℕ). not (n == 0)) (and_pow flags k ∙ ap (λ (n : ℕ). n * 2 ^ k) none ∙ nothing)
+
+one_bit : (flags k : ℕ) → has flags (2 ^ k) ≡ true → bit_at flags k ≡ 1
+one_bit flags k is = by (bit_at flags k) refl (bit_at-lt flags k) where
+  by : (bit : ℕ) → bit_at flags k ≡ bit → bit < 2 → bit ≡ 1
+  by zero e less = absurd (false≢true (sym (no_bit flags k e) ∙ is))
+  by (suc bit) e less = omega (arith, less)
+
+-- a final flag that is cleared is not left
+pub final_gone : (flags cleared : ℕ) → has cleared FINAL ≡ true → has (without_flags flags cleared) FINAL ≡ false
+final_gone flags cleared is =
+    let own = bit_at_and flags (bit_and cleared (PRIVATE + FINAL)) 4 in
+    let both = bit_at_and cleared (PRIVATE + FINAL) 4 in
+    let final : bit_at (PRIVATE + FINAL) 4 ≡ 1 = refl in
+    no_bit (without_flags flags cleared) 4
+    (flag_left flags cleared 4 ∙ omega (arith, own, both, final, one_bit cleared 4 is, bit_at-lt flags 4))
 
 -- ---- members
 

@@ -7,7 +7,7 @@ use Rattle.machine_values.specs.Values.{has_kind}
 use Rattle.machine_values.specs.declared.value.Value.{Value}
 use Rattle.member_link.specs.Machine.Locals.{local_value, stored, width_of}
 use Rattle.same_runs.specs.Renamings.{Names, NamesMore, no_value, has_value, SameUnits, no_units, and_unit, SameValue}
-use Rattle.same_runs.specs.SameMoves.{ShiftedUnits}
+use Rattle.same_runs.specs.SameMoves.{KeepsOutside, ShiftedUnits}
 use Rattle.same_runs.specs.Laws.Moves.{same_kind, same_width}
 use Rattle.same_runs.specs.Laws.Names.{value_more}
 use Rattle.same_runs.specs.Laws.Units.{same_size}
@@ -117,6 +117,26 @@ module _ {names : Names} {base size : ℕ} {ones others : Units} (units : Shifte
     clear : (n : ℕ) (v v_also : Value) → n + width_of v ≤ size → width_of v_also ≡ width_of v
         → IsClear (base + n) v_also at (at + width_of value)
     clear n v v_also fits width = inl (omega (arith, fits, width, past))
+
+-- ---- units outside
+
+pub outside_itself : (base size : ℕ) (units : Units) → KeepsOutside base size units units
+outside_itself base size units = record { count = refl; stays = λ at value clear is. is }
+
+-- a store within the units from a base on leaves those outside
+pub stored_outside : (base size at : ℕ) (value : Value) (before after : Units) → at + width_of value ≤ size
+    → stored (base + at) value before ≡ Some after
+    → KeepsOutside base size before after
+stored_outside base size at value before after fits is = record {
+  count = made.count;
+  stays = λ n v clear there. made.stays n v (clears n v clear) there;
+} where
+  made : IsStored (base + at) value before after
+  made = stored_is (base + at) value before after is
+
+  clears : (n : ℕ) (v : Value) → (n + width_of v ≤ base) ⊎ (base + size ≤ n) → IsClear n v (base + at) (base + at + width_of value)
+  clears n v (inl low) = inl (omega (arith, low))
+  clears n v (inr high) = inr (omega (arith, high, fits))
 
 -- ---- units with which a method begins
 

@@ -1,0 +1,202 @@
+-- A method of a folder that has code is not native.
+use Rattle.std.proofs.Common.{◌≡◌, ◌+◌, ◌==◌, ◌||◌, not, ℕ, zero, suc, Bool, true, false, cond, List, [], ◌∷◌, ◌++◌, length, map, slice_get, Option, Some, None, option_map, Ok, Err, IsTrue, refl, sym, ap, subst, ◌∙◌}
+use Rattle.std.specs.Prelude.{option_and_then}
+use Rattle.std.proofs.lemmas.Option.{none-some, same_Some}
+use Rattle.std.specs.List.{AllByRecursion}
+use Rattle.class_model.specs.Checks.{AllHold, Fault, fault}
+use Rattle.class_model.specs.ClassOf.{entered_attr, entered_method, methods_checks}
+use Rattle.class_model.specs.Cutting.{Cut, Rest, Version, attr_at, bytes_at, class_file_at, counted_at, field_at, many_at, method_at, pool_at, u2_at, u4_at}
+use Rattle.class_model.specs.Laws.Checks.{first_holds, others_hold}
+use Rattle.class_model.specs.Laws.ClassFiles.{methods_place, parts_hold}
+use Rattle.class_model.specs.Laws.Cuts.{bind_ok, same_done}
+use Rattle.class_model.specs.Laws.Lists.{at_index}
+use Rattle.class_model.specs.Members.{ABSTRACT, NATIVE, Signature, has, has_named, is_named}
+use Rattle.class_model.specs.MethodCode.{code_of}
+use Rattle.class_model.specs.Methods.{Home, code, home_of, method_checks, method_signature}
+use Rattle.class_model.specs.Pool.{Constants}
+use Rattle.class_model.specs.Spelling.{method_bytes}
+use Rattle.class_model.specs.Values.{IsRaw}
+use Rattle.class_model.specs.declared.class_file.Attr.{Attr}
+use Rattle.class_model.specs.declared.class_file.Attr.TheVariants.{Code, Raw}
+use Rattle.class_model.specs.declared.class_file.ClassFile.{ClassFile}
+use Rattle.class_model.specs.declared.class_file.CodePart.{CodePart}
+use Rattle.class_model.specs.declared.class_file.Method.{Method}
+use Rattle.class_model.specs.declared.class_file.MethodAt.{MethodAt}
+use Rattle.class_model.specs.declared.fault.FileRule.TheVariants as rules
+use Rattle.class_tree.specs.Headers.{Classes, IsClassFile, headers_of}
+use Rattle.class_tree.specs.Trees.{IsTree}
+use Rattle.member_link.specs.Scope.{Scope, scope_at, scope_of}
+
+-- ---- attributes are cut as bytes
+
+same_behind : {Y : Type 0} (test : Bool) (d : Fault) (x y : Y) → cond test (Ok x) (Err d) ≡ Ok y → x ≡ y
+same_behind true d x y e = cc
+same_behind false d x y e = absurd cc
+
+-- What a part cuts has a property.
+record Cuts {X : Type 0} (part : Rest → Cut X) (Holds : X → Type 0) : Type 0 where
+  each : (rest : Rest) (x : X × Rest) → part rest ≡ Ok x → Holds x.0
+
+many_cut : {X : Type 0} {part : Rest → Cut X} {Holds : X → Type 0} → Cuts part Holds → (count : ℕ)
+    → Cuts (many_at part count) (AllByRecursion Holds)
+unfolding many_at
+many_cut {X = X} {Holds = Holds} cuts zero = record {
+  each = λ rest x e. subst (λ (y : List X × Rest). AllByRecursion Holds y.0) (same_done ([], rest) x e) tt;
+}
+many_cut {X = X} {part = part} {Holds = Holds} cuts (suc count) = record {
+  each = λ rest x e.
+      let first = bind_ok (part rest) _ x e in
+      let others = bind_ok (many_at part count first.0.1) _ x first.2 in
+      subst (λ (y : List X × Rest). AllByRecursion Holds y.0) (same_done (first.0.0 ∷ others.0.0, others.0.1) x others.2)
+      (cuts.each rest first.0 first.1, (many_cut cuts count).each first.0.1 others.0 others.1);
+}
+
+counted_cut : {X : Type 0} {part : Rest → Cut X} {Holds : X → Type 0} → Cuts part Holds → Cuts (counted_at part) (AllByRecursion Holds)
+counted_cut cuts = record {
+  each = λ rest x e.
+      let count = bind_ok (u2_at rest) _ x e in
+      (many_cut cuts count.0.0).each count.0.1 x count.2;
+}
+
+attr_cut : Cuts attr_at IsRaw
+attr_cut = record {
+  each = λ rest x e.
+      let name = bind_ok (u2_at rest) _ x e in
+      let len = bind_ok (u4_at name.0.1) _ x name.2 in
+      let content = bind_ok (bytes_at len.0.0 len.0.1) _ x len.2 in
+      let attr : Attr = Raw name.0.0 content.0.0 in
+      subst (λ (y : Attr × Rest). IsRaw y.0) (same_done (attr, content.0.1) x content.2) tt;
+}
+
+abbrev AreRaw : Method → Type 0
+AreRaw method = AllByRecursion IsRaw method.attrs
+
+method_cut : Cuts method_at AreRaw
+method_cut = record {
+  each = λ rest x e.
+      let flags = bind_ok (u2_at rest) _ x e in
+      let name = bind_ok (u2_at flags.0.1) _ x flags.2 in
+      let desc = bind_ok (u2_at name.0.1) _ x name.2 in
+      let attrs = bind_ok (counted_at attr_at desc.0.1) _ x desc.2 in
+      let method : Method = record { flags = flags.0.0; name = name.0.0; desc = desc.0.0; attrs = attrs.0.0 } in
+      subst (λ (y : Method × Rest). AreRaw y.0) (same_done (method, attrs.0.1) x attrs.2)
+      ((counted_cut attr_cut).each desc.0.1 attrs.0 attrs.1);
+}
+
+class_cut : (version : Version) (rest : Rest) (class : ClassFile) → class_file_at version rest ≡ Ok class → AllByRecursion AreRaw class.methods
+class_cut version rest class e =
+    let pool = bind_ok (pool_at version.major rest) _ class e in
+    let flags = bind_ok (u2_at pool.0.1) _ class pool.2 in
+    let this = bind_ok (u2_at flags.0.1) _ class flags.2 in
+    let super = bind_ok (u2_at this.0.1) _ class this.2 in
+    let interfaces = bind_ok (counted_at u2_at super.0.1) _ class super.2 in
+    let fields = bind_ok (counted_at field_at interfaces.0.1) _ class interfaces.2 in
+    let methods = bind_ok (counted_at method_at fields.0.1) _ class fields.2 in
+    let attrs = bind_ok (counted_at attr_at methods.0.1) _ class methods.2 in
+    subst (λ (c : ClassFile). AllByRecursion AreRaw c.methods) (same_behind (length attrs.0.1.bytes == 0) (fault attrs.0.1.at rules.Extra) (record {
+      major = version.major;
+      minor = version.minor;
+      pool = pool.0.0;
+      flags = flags.0.0;
+      this_class = this.0.0;
+      super_class = super.0.0;
+      interfaces = interfaces.0.0;
+      fields = fields.0.0;
+      methods = methods.0.0;
+      attrs = attrs.0.0;
+    }) class attrs.2) ((counted_cut method_cut).each fields.0.1 methods.0 methods.1)
+
+-- ---- a method with code has an attribute of that name, and then it is not native
+
+named_code : (pool : Constants) (attrs : List Attr) (part : CodePart) → AllByRecursion IsRaw attrs
+    → code_of (map (entered_attr pool) attrs) ≡ Some part
+    → has_named pool code attrs ≡ true
+named_code pool [] part raw is = absurd (none-some part is)
+named_code pool (Code name own ∷ attrs) part raw is = absurd raw.0
+named_code pool (Raw name bytes ∷ attrs) part raw is = by (is_named pool code (Raw name bytes)) refl (named_code pool attrs part raw.1) where
+  by : (named : Bool) → is_named pool code (Raw name bytes) ≡ named
+      → (code_of (map (entered_attr pool) attrs) ≡ Some part → has_named pool code attrs ≡ true)
+      → has_named pool code (Raw name bytes ∷ attrs) ≡ true
+  by true e rest = rw (e) refl
+  by false e rest =
+      let behind : code_of (map (entered_attr pool) attrs) ≡ Some part = rw (e) at is in
+      rw (e) (rest behind)
+
+no_native : (abstract native named : Bool) → IsTrue (not (abstract || native) || not named) → named ≡ true → native ≡ false
+no_native abstract native false holds named = absurd cc
+no_native abstract false true holds named = refl
+no_native true true true holds named = absurd cc
+no_native false true true holds named = absurd cc
+
+methods_at : (home : Home) (before : List Signature) (at : ℕ) (methods : List Method) → AllByRecursion AreRaw methods
+    → AllHold (methods_checks home before at methods)
+    → (number : ℕ) (method : Method) (part : CodePart)
+    → slice_get (map (entered_method home.pool) methods) number ≡ Some method
+    → code_of method.attrs ≡ Some part
+    → has method.flags NATIVE ≡ false
+methods_at home before at [] raw hold number method part is coded = absurd cc
+methods_at home before at (first ∷ methods) raw hold zero method part is coded =
+    let own = first_holds (method_checks home before at first) (methods_checks home (before ++ method_signature first ∷ [])
+    (at + length (method_bytes first)) methods) hold in
+    let same : entered_method home.pool first ≡ method = same_Some (entered_method home.pool first) method is in
+    let named = named_code home.pool first.attrs part raw.0 (ap (λ (m : Method). code_of m.attrs) same ∙ coded) in
+    subst (λ (m : Method). has m.flags NATIVE ≡ false) same
+    (no_native (has first.flags ABSTRACT) (has first.flags NATIVE) (has_named home.pool code first.attrs) own.1.1.1.0 named)
+methods_at home before at (first ∷ methods) raw hold (suc number) method part is coded =
+    methods_at home (before ++ method_signature first ∷ []) (at + length (method_bytes first)) methods raw.1
+    (others_hold (method_checks home before at first) (methods_checks home (before ++ method_signature first ∷ [])
+    (at + length (method_bytes first)) methods) hold) number method part is coded
+
+file_method : (file : ClassFile) → IsClassFile file → (number : ℕ) (method : Method) (part : CodePart)
+    → slice_get file.methods number ≡ Some method
+    → code_of method.attrs ≡ Some part
+    → has method.flags NATIVE ≡ false
+file_method file read number method part is coded =
+    let c = read.cut in
+    methods_at (home_of c) [] (methods_place c + 2) c.methods (class_cut read.version read.rest c read.is_cut)
+    (parts_hold c read.holds).methods number method part
+    (ap (λ (f : ClassFile). slice_get f.methods number) (sym read.is) ∙ is) coded
+
+-- ---- what a method's scope has
+
+pub record IsScopeAt (classes : Classes) (at : MethodAt) (s : Scope) : Type 0 where
+  pub of_folder : slice_get classes.folder at.class ≡ Some s.class
+  pub of_class : slice_get s.class.methods at.method ≡ Some s.method
+  pub has_code : code_of s.method.attrs ≡ Some s.part
+  pub headers : s.headers ≡ headers_of classes
+
+module _ (classes : Classes) (at : MethodAt) (s : Scope) where
+  of_part : (file : ClassFile) → slice_get classes.folder at.class ≡ Some file
+      → (method : Method) → slice_get file.methods at.method ≡ Some method
+      → (part : Option CodePart) → code_of method.attrs ≡ part
+      → option_map (λ (part : CodePart). let own : Scope = record { headers = headers_of classes; class = file; method = method; part = part } in own) part
+      ≡ Some s
+      → IsScopeAt classes at s
+  of_part file of_folder method of_class None coded is = absurd (none-some s is)
+  of_part file of_folder method of_class (Some part) coded is =
+      let own : Scope = record { headers = headers_of classes; class = file; method = method; part = part } in
+      subst (IsScopeAt classes at) (same_Some own s is)
+      (record { of_folder = of_folder; of_class = of_class; has_code = coded; headers = refl })
+
+  of_method : (file : ClassFile) → slice_get classes.folder at.class ≡ Some file
+      → (method : Option Method) → slice_get file.methods at.method ≡ method
+      → option_and_then (scope_of (headers_of classes) file) method ≡ Some s
+      → IsScopeAt classes at s
+  of_method file of_folder None of_class is = absurd (none-some s is)
+  of_method file of_folder (Some method) of_class is = of_part file of_folder method of_class (code_of method.attrs) refl is
+
+  of_file : (file : Option ClassFile) → slice_get classes.folder at.class ≡ file
+      → option_and_then (λ (file : ClassFile). option_and_then (scope_of (headers_of classes) file) (slice_get file.methods at.method)) file
+      ≡ Some s
+      → IsScopeAt classes at s
+  of_file None of_folder is = absurd (none-some s is)
+  of_file (Some file) of_folder is = of_method file of_folder (slice_get file.methods at.method) refl is
+
+  pub scope_is_at : scope_at classes at ≡ Some s → IsScopeAt classes at s
+  scope_is_at is = of_file (slice_get classes.folder at.class) refl is
+
+  pub not_native : IsTree classes → scope_at classes at ≡ Some s → has s.method.flags NATIVE ≡ false
+  not_native tree is =
+      let known = scope_is_at is in
+      file_method s.class (at_index IsClassFile classes.folder at.class s.class tree.folder known.of_folder) at.method s.method s.part
+      known.of_class known.has_code
