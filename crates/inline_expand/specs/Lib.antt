@@ -8,4 +8,5 @@ pub mod Sites
 pub mod Expansions
 pub mod Expanded
 pub mod ExpandAnswers
+pub mod TypedClasses
 pub mod Inner
