@@ -1,5 +1,5 @@
 -- Expanded code is well formed: its targets, handlers and sites are points, and its locals are units that it has.
-use Rattle.std.proofs.Common.{◌≡◌, ◌==◌, ◌||◌, ◌+◌, ◌<◌, ◌≤◌, ◌∘◌, not, ℕ, Bool, true, false, List, [], ◌∷◌, ◌++◌, length, map, reverse, Option, Some, None, option_map, option_and_then, inl, inr, if◌then◌else◌, refl, sym, ap, subst, ◌∙◌, arith}
+use Rattle.std.proofs.Common.{◌≡◌, ◌==◌, ◌||◌, ◌+◌, ◌<◌, ◌≤◌, not, ℕ, Bool, true, false, List, [], ◌∷◌, ◌++◌, bytes_eq, length, map, reverse, Option, Some, None, option_map, option_and_then, inl, inr, if◌then◌else◌, refl, sym, ap, subst, ◌∙◌, arith}
 use Rattle.std.proofs.lemmas.Bool.{eq-eqb, eqb-true}
 use Rattle.std.proofs.lemmas.Option.{none-some, same_Some}
 use Rattle.std.proofs.lemmas.List.{reverse-append}
@@ -10,6 +10,7 @@ use Rattle.class_model.specs.Instructions.{targets}
 use Rattle.class_model.specs.Laws.Lists.{AllByRecursion-weaker}
 use Rattle.class_model.specs.Members.{STATIC, has}
 use Rattle.class_model.specs.Methods.{units_at_call}
+use Rattle.class_model.specs.Names.{init}
 use Rattle.class_model.specs.Pool.{constant_at}
 use Rattle.class_model.specs.PoolChecks.{class_at}
 use Rattle.class_model.specs.declared.class_file.Handler.{Handler}
@@ -22,10 +23,11 @@ use Rattle.class_model.specs.declared.frame.Frame.{Frame}
 use Rattle.class_model.specs.declared.instr.Instr.{Instr}
 use Rattle.class_model.specs.declared.instr.Instr.TheVariants.{Goto, Iinc, Invoke, Load, Return, Store}
 use Rattle.class_model.specs.declared.instr.Placed.{Placed}
+use Rattle.class_model.specs.declared.opcodes.TheConstants.{INVOKESPECIAL, INVOKESTATIC}
 use Rattle.class_tree.specs.Headers.{Classes, Name}
 use Rattle.flow_code.specs.FlatCode.{FitsFlat, HasLocal, IsFlat, IsPoint, NamesPoint}
 use Rattle.flow_code.specs.declared.handlers.FlatHandler.{FlatHandler}
-use Rattle.flow_code.specs.declared.point.FlatInstr.TheVariants.{Of}
+use Rattle.flow_code.specs.declared.point.FlatInstr.TheVariants.{NullTest, Of}
 use Rattle.flow_code.specs.declared.point.Point.{Point}
 use Rattle.inline_expand.proofs.AloneFlat.{all-append, all-mapped, local-kept, targets-to}
 use Rattle.inline_expand.proofs.CalledMethods.{placed_by_number}
@@ -45,7 +47,7 @@ use Rattle.member_link.specs.BodyTyping.{AreInOrder, IsPlaceOf}
 use Rattle.member_link.specs.CodedMethods.{placed_at}
 use Rattle.member_link.specs.Machine.Codes.{covers}
 use Rattle.member_link.specs.RowScope.{RowScope}
-use Rattle.member_link.specs.Rows.MemberRows.{call_row}
+use Rattle.member_link.specs.Rows.MemberRows.{PassesMethod, call_row, init_row, instance_row, receiver, special_row, static_row}
 use Rattle.member_link.specs.Rows.Row.{Row, either, row_frame}
 use Rattle.member_link.specs.References.{Reference}
 use Rattle.member_link.specs.Scope.{Scope, instructions, is_init, own_descriptor, row_scope}
@@ -60,7 +62,7 @@ use Rattle.type_rules.specs.TypedFrames.{FolderFrames}
 one-there : (here : Bool) (placed : Placed) (found : Option Placed) (at : ℕ) → placed.at == at ≡ here → (if here then Some placed else found) ≡ (if placed.at == at then Some placed else found)
 one-there here placed found at is = rw is refl
 
-IsThereIn : List Placed → Placed → Type 0
+abbrev IsThereIn : List Placed → Placed → Type 0
 IsThereIn instrs placed = placed_at instrs placed.at ≡ Some placed
 
 there-behind : (first : Placed) (instrs some : List Placed) → AllByRecursion (λ (placed : Placed). first.at < placed.at) some → AllByRecursion (IsThereIn instrs) some → AllByRecursion (IsThereIn (first ∷ instrs)) some
@@ -87,7 +89,10 @@ either-goes false one other goes also = also
 call-goes : (s : RowScope) (frame : Frame) (opcode : ℕ) (reference : Option Reference) → (call_row s frame opcode reference).goes_on ≡ true
 call-goes s frame opcode None = refl
 call-goes s frame opcode (Some reference) =
-    either-goes _ _ _ refl (either-goes _ _ _ (either-goes _ _ _ refl refl) refl)
+    let of_init = either (bytes_eq reference.name init) (init_row s frame reference) (special_row s frame reference) in
+    let of_object = instance_row frame reference (Unit {0}) (PassesMethod s reference (receiver frame reference.desc)) in
+    either-goes (opcode == INVOKESTATIC) (static_row frame reference) (either (opcode == INVOKESPECIAL) of_init of_object) refl
+    (either-goes (opcode == INVOKESPECIAL) of_init of_object (either-goes (bytes_eq reference.name init) (init_row s frame reference) (special_row s frame reference) refl refl) refl)
 
 -- a frame flows on behind a call
 call-flows : (s : Scope) (placed : Placed) (frame : Frame) (opcode index count : ℕ) → placed.instr ≡ Invoke opcode index count → flows_on (point_of s placed) frame ≡ None → ⊥
@@ -201,7 +206,7 @@ module _ (end locals : ℕ) where
   narrows-within t at frame (Some Byte) handlers = (point-within t at _ _ tt tt handlers, tt)
   narrows-within t at frame (Some Short) handlers = (point-within t at _ _ tt tt handlers, tt)
   narrows-within t at frame (Some Char) handlers = (point-within t at _ _ tt tt handlers, tt)
-  narrows-within t at frame (Some Boolean) handlers = (point-within t at _ _ tt tt handlers, point-within t at _ _ tt tt handlers, tt)
+  narrows-within t at frame (Some Boolean) handlers = (point-within t at _ _ tt tt handlers, (point-within t at _ _ tt tt handlers, tt))
   narrows-within t at frame (Some Int) handlers = tt
   narrows-within t at frame (Some Long) handlers = tt
   narrows-within t at frame (Some Float) handlers = tt
@@ -241,7 +246,7 @@ module _ (end locals : ℕ) where
 
   test-within : (t : Setting) (at : ℕ) (frame : Frame) (s : Scope) (unit : ℕ) → AllByRecursion BeginsWithin (t.handlers at) → IsCallable s → unit + s.part.max_locals ≤ locals → AllByRecursion (IsPoint end locals) (test_points t at frame s unit)
   test-within t at frame s unit handlers callable fits = by (tests_receiver s) refl where
-    by : (tests : Bool) → tests_receiver s ≡ tests → AllByRecursion (IsPoint end locals) (if tests then record { instr = _; typed = frame; handlers = t.handlers at } ∷ [] else [])
+    by : (tests : Bool) → tests_receiver s ≡ tests → AllByRecursion (IsPoint end locals) (if tests then record { instr = NullTest unit; typed = frame; handlers = t.handlers at } ∷ [] else [])
     by true is = (record { instr = receiver-fits locals unit s callable fits is; handlers = handlers }, tt)
     by false is = tt
 
@@ -355,7 +360,7 @@ expanded-is-flat classes typed each host expansion has expands =
     let locals = s.part.max_locals + units_in expansion in
     let end = points_of None instrs expansion in
     let long : length (expanded host expansion).points ≡ end = points-length classes typed host.at each [] host.at instrs expansion expands t 0 s.part.max_locals host.frames method.one_each in
-    let numbers : (at : ℕ) → IsPlaceOf (body_of s).points at → t.number at < end = λ at is. number-inside classes typed host.at each s [] host.at instrs expansion expands None 0 at is in
+    let numbers : (at : ℕ) → IsPlaceOf (body_of s).points at → t.number at < end = λ at is. omega (arith, number-inside classes typed host.at each s [] host.at instrs expansion expands None 0 at is) in
     let within : IsWithin end locals t s = record { numbers = numbers; behind = λ number none. absurd (none-some number none); units = omega arith } in
     let points : AllByRecursion (IsPoint end locals) (expanded host expansion).points =
     points-within classes typed host.at each end locals [] host.at instrs expansion expands t s host.frames has within

@@ -1,5 +1,5 @@
 -- How many points expanded code has, and which numbers are among them.
-use Rattle.std.proofs.Common.{◌≡◌, ◌==◌, ◌+◌, ◌<◌, ◌≤◌, ℕ, Bool, true, false, List, [], ◌∷◌, ◌++◌, length, map, reverse, Option, Some, None, inl, inr, if◌then◌else◌, refl, sym, ap, ◌∙◌, arith}
+use Rattle.std.proofs.Common.{◌≡◌, ◌==◌, ◌+◌, ◌<◌, ◌≤◌, ℕ, suc, Bool, true, false, List, [], ◌∷◌, ◌++◌, length, map, reverse, Option, Some, None, inl, inr, if◌then◌else◌, refl, sym, ap, ◌∙◌, arith}
 use Rattle.std.proofs.lemmas.Bool.{eq-eqb}
 use Rattle.std.proofs.lemmas.List.{length-append, length-map, length-reverse}
 use Rattle.std.specs.List.{AllByRecursion}
@@ -7,12 +7,14 @@ use Rattle.class_model.specs.Descriptors.{kind_of, parameters_of, units_of}
 use Rattle.class_model.specs.Members.{STATIC, has}
 use Rattle.class_model.specs.declared.class_file.MethodAt.{MethodAt}
 use Rattle.class_model.specs.declared.descriptor.FieldType.{FieldType}
+use Rattle.class_model.specs.declared.descriptor.Kind.TheVariants as kinds
 use Rattle.class_model.specs.declared.frame.Frame.{Frame}
 use Rattle.class_model.specs.declared.instr.Instr.{Instr}
 use Rattle.class_model.specs.declared.instr.Instr.TheVariants.{Return}
 use Rattle.class_model.specs.declared.instr.Placed.{Placed}
 use Rattle.class_tree.specs.Headers.{Classes, Headers}
 use Rattle.flow_code.specs.FlatCode.{NamesPoint}
+use Rattle.flow_code.specs.declared.point.FlatInstr.TheVariants.{NullTest}
 use Rattle.flow_code.specs.declared.point.Point.{Point}
 use Rattle.flow_code.specs.declared.point.Site.{Site}
 use Rattle.inline_expand.proofs.AloneFlat.{all-append}
@@ -40,13 +42,13 @@ returned-length t at frame behind =
 own-length : (t : Setting) (placed : Placed) (frame : Frame) → length (instr_points t placed frame) ≡ own_points (callee_of t) placed.instr
 own-length t placed frame = by t.behind refl placed.instr refl where
   by : (behind : Option ℕ) → t.behind ≡ behind → (instr : Instr) → placed.instr ≡ instr → length (instr_points t placed frame) ≡ own_points (callee_of t) placed.instr
-  by None none instr is = rw (none, is) refl
+  by None none instr is = rw none refl
   by (Some behind) some (Return kind) is = rw (some, is) (returned-length t placed.at (set_frame t frame) behind)
   by (Some behind) some instr is = rw (some, is) refl
 
 from-length : (unit : ℕ) (types : List FieldType) → length (arguments_from unit types) ≡ length types
 from-length unit [] = refl
-from-length unit (type ∷ types) = ap (λ (n : ℕ). n + 1) (from-length (unit + units_of (kind_of type)) types)
+from-length unit (type ∷ types) = ap suc (from-length (unit + units_of (kind_of type)) types)
 
 -- it does not matter where the units begin
 same-length : (s : Scope) (unit : ℕ) → length (arguments s unit) ≡ length (arguments s 0)
@@ -55,14 +57,14 @@ same-length s unit = by (has s.method.flags STATIC) where
   types = parameters_of (own_descriptor s)
 
   by : (static : Bool)
-      → length (if static then arguments_from unit types else record { kind = _; unit = unit } ∷ arguments_from (unit + 1) types)
-      ≡ length (if static then arguments_from 0 types else record { kind = _; unit = 0 } ∷ arguments_from (0 + 1) types)
+      → length (if static then arguments_from unit types else record { kind = kinds.Ref; unit = unit } ∷ arguments_from (unit + 1) types)
+      ≡ length (if static then arguments_from 0 types else record { kind = kinds.Ref; unit = 0 } ∷ arguments_from (0 + 1) types)
   by true = from-length unit types ∙ sym (from-length 0 types)
-  by false = ap (λ (n : ℕ). n + 1) (from-length (unit + 1) types ∙ sym (from-length (0 + 1) types))
+  by false = ap suc (from-length (unit + 1) types ∙ sym (from-length (0 + 1) types))
 
 stores-length : (t : Setting) (at : ℕ) (frame : Frame) (arguments : List Argument) → length (store_points t at frame arguments) ≡ length arguments
 stores-length t at frame [] = refl
-stores-length t at frame (argument ∷ others) = ap (λ (n : ℕ). n + 1) (stores-length t at (frame_stored frame argument) others)
+stores-length t at frame (argument ∷ others) = ap suc (stores-length t at (frame_stored frame argument) others)
 
 test-length : (tests : Bool) (point : Point) → length (if tests then point ∷ [] else []) ≡ (if tests then 1 else 0)
 test-length true point = refl
@@ -72,7 +74,8 @@ entry-length : (t : Setting) (at : ℕ) (frame : Frame) (callee : Scope) (unit :
 entry-length t at frame callee unit =
     let stores = reverse (arguments callee unit) in
     let both = length-append (store_points t at frame stores) (test_points t at (frame_behind_stores frame stores) callee unit) in
-    omega (arith, both, stores-length t at frame stores, length-reverse (arguments callee unit), same-length callee unit, test-length (tests_receiver callee) _)
+    let tests = test-length (tests_receiver callee) (record { instr = NullTest unit; typed = frame_behind_stores frame stores; handlers = t.handlers at }) in
+    omega (arith, both, stores-length t at frame stores, length-reverse (arguments callee unit), same-length callee unit, tests)
 
 -- ---- a typed code has an instruction
 

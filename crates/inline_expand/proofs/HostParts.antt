@@ -46,7 +46,7 @@ asks-one : (instr : Instr) → asks_float instr ≡ true → (opcode : ℕ) × (
 asks-one (FloatAsk opcode) asks = (opcode, refl)
 asks-one instr asks = absurd cc
 
-abbrev asks : Placed → Bool
+abbrev pub asks : Placed → Bool
 asks placed = asks_float placed.instr
 
 pub record Asking (instrs : List Placed) : Type 0 where

@@ -82,4 +82,5 @@ mod TypedAloneNumbers
 mod TypedAlonePoints
 mod TypedMethods
 mod Walking
+mod WholeParts
 mod WideParts

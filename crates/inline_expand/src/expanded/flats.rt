@@ -1,11 +1,12 @@
 //! The flat code of a host with its callees, unless it is kept.
-ghost use Rattle.std.specs.Prelude.{◌≡◌};
+ghost use Rattle.std.specs.Prelude.{◌≡◌, ◌≤◌};
+ghost use Rattle.inline_expand.specs.Inner.Measures.{IsMeasure};
 ghost use Rattle.inline_expand.specs.Inner.WholeCodes.{AnswersWhole, IsWholeCode, whole_of};
 
 use crate::candidates::Candidates;
 use crate::expanded::fields::with_fields;
 use crate::expanded::hosts::{host_points, host_sites};
-use crate::expanded::measures::measure_of;
+use crate::expanded::measures::{Measure, measure_of};
 use crate::expanded::wide::is_wide;
 use crate::expansions::HostBodies;
 use class_tree::Tree;
@@ -31,13 +32,31 @@ pub(crate) fn flat_of(
     ensures answers { AnswersWhole (whole_of bodies.now) result }
     ensures classes { candidates.new ≡ candidates.old }
 {
-    let host = &bodies.body;
-    let callees = bodies.callees.as_slice();
-    let measure = measure_of(alloc, callees, host)?;
+    let measure = measure_of(alloc, bodies.callees.as_slice(), &bodies.body)?;
     if measure.points > MOST_POINTS {
         return Err(KeptFault::Kept(Reason::Expanded));
     }
-    let news = host_sites(alloc, callees, host, &measure)?;
+    flat_by(alloc, candidates, tree, bodies, &measure)
+}
+
+// The flat code of a host whose points are few.
+fn flat_by(
+    alloc: Global,
+    candidates: &mut Candidates<'_>,
+    tree: &Tree,
+    bodies: &HostBodies<'_>,
+    measure: &Measure,
+) -> Result<Flat, KeptFault>
+    requires classes { candidates.old ≡ tree.now }
+    requires whole { IsWholeCode tree.now bodies.now }
+    requires measure { IsMeasure bodies.now.callees.items bodies.now.body measure.now }
+    requires few { measure.now.points ≤ 8000 }
+    ensures answers { AnswersWhole (whole_of bodies.now) result }
+    ensures classes { candidates.new ≡ candidates.old }
+{
+    let host = &bodies.body;
+    let callees = bodies.callees.as_slice();
+    let news = host_sites(alloc, callees, host, measure)?;
     if news.is_empty() {
         return Err(KeptFault::Kept(Reason::NoSite));
     }
@@ -47,7 +66,7 @@ pub(crate) fn flat_of(
         return Err(KeptFault::Kept(Reason::Wide));
     }
     let sites = with_fields(alloc, candidates, tree, news.as_slice())?;
-    let points = host_points(alloc, callees, host, &measure)?;
+    let points = host_points(alloc, callees, host, measure)?;
     let flat = Flat::of(host.at, locals, points, sites);
     if is_wide(&flat) {
         return Err(KeptFault::Kept(Reason::Wide));

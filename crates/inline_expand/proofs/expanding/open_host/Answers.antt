@@ -1,7 +1,6 @@
-use Rattle.std.proofs.Common.{◌≡◌, Bool, List, Option, Some, None, false, list_any, sym, ap, subst, ◌∙◌}
+use Rattle.std.proofs.Common.{sym, ap, subst, ◌∙◌}
 use Rattle.std.proofs.lemmas.Bool.{false≢true}
-use Rattle.class_model.specs.declared.class_file.MethodAt.{MethodAt}
-use Rattle.class_model.specs.declared.instr.Placed.{Placed}
+use Rattle.std.specs.List.{list_any}
 use Rattle.inline_expand.proofs.HostParts.{a-float, a-host, asks, initialises, no-float, no-host}
 use Rattle.inline_expand.proofs.expanding.open_host.Goals as goal
 use Rattle.inline_expand.specs.Inner.Coded.{IsCoded}
