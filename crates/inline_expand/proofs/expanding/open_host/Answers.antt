@@ -23,8 +23,7 @@ returns-then-has_float c =
     let method = c.in-Some.method in
     let coded = subst (IsCoded c.args.tree.now c.args.typed.now c.args.at) c.in-Some.is c.in_ok-method.ensures in
     let there = ap (scope_at c.args.tree.now) (sym coded.0) ∙ coded.1.is_scope in
-    let any = ap (list_any asks) (sym c.instrs.ensures) ∙ sym c.has_float.ensures ∙ c.if-has_float.true in
-    (
+    let any = ap (list_any asks) (sym c.instrs.ensures) ∙ sym c.has_float.ensures ∙ c.if-has_float.true in (
       a-host c.args.tree.now c.args.at method.host there (λ is. false≢true (sym c.if-is_initialiser.false ∙ c.is_initialiser.ensures.1 is)),
       a-float c.args.tree.now c.args.at method.host there any,
     )
@@ -34,8 +33,7 @@ returns c =
     let method = c.in-Some.method in
     let coded = subst (IsCoded c.args.tree.now c.args.typed.now c.args.at) c.in-Some.is c.in_ok-method.ensures in
     let there = ap (scope_at c.args.tree.now) (sym coded.0) ∙ coded.1.is_scope in
-    let none = ap (list_any asks) (sym c.instrs.ensures) ∙ sym c.has_float.ensures ∙ c.if-has_float.false in
-    (
+    let none = ap (list_any asks) (sym c.instrs.ensures) ∙ sym c.has_float.ensures ∙ c.if-has_float.false in (
       coded.0,
       coded.1,
       record {

@@ -38,8 +38,7 @@ returns-then-is_wide-clause-answers c =
     let locals : c.saturating_add-locals.result ≡ host.host.part.max_locals + units_in expansion =
     let off = c.if-locals.false in
     omega (arith, c.saturating_add-locals.ensures, c.max_locals.ensures, c.requires.measure.units, off) in
-    let same : c.of-flat.result ≡ whole_of bodies = c.of-flat.ensures ∙ (λ i. record { host = host.at; locals = locals i; points = points i; sites = sites i }) in
-    (
+    let same : c.of-flat.result ≡ whole_of bodies = c.of-flat.ensures ∙ (λ i. record { host = host.at; locals = locals i; points = points i; sites = sites i }) in (
       λ long. omega (arith, long, c.requires.whole.long, c.requires.measure.points, c.requires.few),
       λ none. false≢true (sym c.if-is_empty.false ∙ c.is_empty.ensures ∙ eq-eqb (vec_len c.in_ok-news.news) 0 (omega (arith, no-news host.host.headers c.in_ok-news.news.items (news ∙ none), c.in_ok-news.news.ok.0))),
       subst IsWide same (c.is_wide.ensures.0 c.if-is_wide.true),
