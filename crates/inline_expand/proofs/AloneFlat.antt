@@ -29,11 +29,11 @@ use Rattle.type_rules.specs.MethodBodies.{body_of, point_of}
 
 -- ---- lists
 
-all-append : {A : Type 0} (P : A → Type 0) (ones others : List A) → AllByRecursion P ones → AllByRecursion P others → AllByRecursion P (ones ++ others)
+pub all-append : {A : Type 0} (P : A → Type 0) (ones others : List A) → AllByRecursion P ones → AllByRecursion P others → AllByRecursion P (ones ++ others)
 all-append P [] others all also = also
 all-append P (one ∷ ones) others all also = (all.0, all-append P ones others all.1 also)
 
-all-mapped : {A B : Type 0} (P : B → Type 0) (f : A → B) (items : List A) → AllByRecursion (λ (item : A). P (f item)) items → AllByRecursion P (map f items)
+pub all-mapped : {A B : Type 0} (P : B → Type 0) (f : A → B) (items : List A) → AllByRecursion (λ (item : A). P (f item)) items → AllByRecursion P (map f items)
 all-mapped P f [] all = tt
 all-mapped P f (item ∷ items) all = (all.0, all-mapped P f items all.1)
 
@@ -43,7 +43,7 @@ pairs-to : (place : ℕ → ℕ) (pairs : List Pair) → map (λ (p : Pair). p.t
 pairs-to place [] = refl
 pairs-to place (pair ∷ pairs) = ap (λ (rest : List ℕ). place pair.to ∷ rest) (pairs-to place pairs)
 
-targets-to : (place : ℕ → ℕ) (instr : Instr) → targets (with_targets place instr) ≡ map place (targets instr)
+pub targets-to : (place : ℕ → ℕ) (instr : Instr) → targets (with_targets place instr) ≡ map place (targets instr)
 targets-to place (If opcode to) = refl
 targets-to place (If2 opcode to) = refl
 targets-to place (IfSame opcode to) = refl
@@ -53,7 +53,7 @@ targets-to place (Table low other to) = refl
 targets-to place (Lookup other pairs) = ap (λ (rest : List ℕ). place other ∷ rest) (pairs-to place pairs)
 targets-to place instr = refl
 
-local-kept : (place : ℕ → ℕ) (locals : ℕ) (instr : Instr) → HasLocal locals instr → HasLocal locals (with_targets place instr)
+pub local-kept : (place : ℕ → ℕ) (locals : ℕ) (instr : Instr) → HasLocal locals instr → HasLocal locals (with_targets place instr)
 local-kept place locals (If opcode to) has = tt
 local-kept place locals (If2 opcode to) has = tt
 local-kept place locals (IfSame opcode to) has = tt

@@ -123,7 +123,7 @@ named_more callees (steps.Replaced number ∷ others) step named last = (named.0
 
 -- ---- no more instructions stay in their place than there are points
 
-own_some : (callee : Option Scope) (instr : Instr) → 1 ≤ own_points callee instr
+pub own_some : (callee : Option Scope) (instr : Instr) → 1 ≤ own_points callee instr
 own_some (Some s) (Return kind) = omega arith
 own_some (Some s) other = omega arith
 own_some None instr = omega arith

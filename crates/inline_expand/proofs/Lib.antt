@@ -4,12 +4,16 @@ mod AloneCode
 mod AloneFlat
 mod AlonePoints
 mod AloneProgram
+mod CallUnits
 mod CalledMethods
 mod CalleeParts
 mod ConstructorLaws
 mod DecidedRuns
 mod DescriptorTexts
+mod ExpandedFlat
+mod ExpandedPoints
 mod FieldLists
+mod FieldTexts
 mod FinalClasses
 mod FlatPlaces
 mod FolderNames
@@ -22,6 +26,7 @@ mod FreeConstructors
 mod GrownSteps
 mod HandledLists
 mod HostCodes
+mod HostParts
 mod Initialisations
 mod JudgedChains
 mod JudgedClasses
@@ -32,6 +37,7 @@ mod MethodInstrs
 mod MethodLists
 mod MethodParts
 mod NumberedLocals
+mod OneExpansion
 mod OpenMembers
 mod Overlays
 mod OverridingMethods
@@ -55,6 +61,7 @@ mod RenumberedTypes
 mod ReplacedCalls
 mod ResultTexts
 mod Runs
+mod ScopeParts
 mod Seeing
 mod SettingParts
 mod ShallowCalls
@@ -74,5 +81,7 @@ mod TypedAloneLaw
 mod TypedAloneNews
 mod TypedAloneNumbers
 mod TypedAlonePoints
+mod TypedMethods
 mod Walking
+mod WholeParts
 mod WideParts

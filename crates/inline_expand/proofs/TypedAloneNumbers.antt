@@ -38,11 +38,11 @@ number_behind placed instrs at not = number_if placed instrs at false (ne_eqb pl
 
 -- ---- in order
 
-abbrev Ascend : List Placed → Type 0
+abbrev pub Ascend : List Placed → Type 0
 Ascend [] = Unit {0}
 Ascend (p ∷ ps) = AllByRecursion (λ (q : Placed). p.at < q.at) ps × Ascend ps
 
-ascend : (s : Scope) (ps : List Placed) → AreInOrder (map (point_of s) ps) → Ascend ps
+pub ascend : (s : Scope) (ps : List Placed) → AreInOrder (map (point_of s) ps) → Ascend ps
 ascend s [] order = tt
 ascend s (p ∷ []) order = (tt, tt)
 ascend s (p ∷ (q ∷ ps)) order =

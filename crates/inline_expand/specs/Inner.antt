@@ -6,6 +6,7 @@ pub mod CandidateWords
 pub mod Chains
 pub mod Coded
 pub mod ConstructorWords
+pub mod FieldTypes
 pub mod FolderMethods
 pub mod Found
 pub mod Founded
@@ -33,7 +34,9 @@ pub mod Stacks
 pub mod Standing
 pub mod Steps
 pub mod StoreWords
+pub mod TypedMethods
 pub mod Unseen
 pub mod Verdicts
 pub mod Walks
+pub mod WholeCodes
 pub mod WideWords

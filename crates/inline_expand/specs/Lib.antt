@@ -9,4 +9,5 @@ pub mod Expansions
 pub mod Expanded
 pub mod ExpandAnswers
 pub mod ExpandedPrograms
+pub mod TypedClasses
 pub mod Inner

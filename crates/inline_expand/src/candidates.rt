@@ -9,7 +9,7 @@ ghost use Rattle.class_tree.specs.Order.{place_of};
 ghost use Rattle.class_tree.specs.declared.place.Place.TheVariants.{Folder};
 ghost use Rattle.class_model.specs.Header.{header_of};
 ghost use Rattle.inline_expand.specs.Candidates.{IsCandidate, declares_finalizer};
-ghost use Rattle.inline_expand.specs.Inner.CandidateWords.{IsFileOf, IsFitAt, IsJudged, IsKept, IsKnown, IsLeft, IsSound, own_descs, units_of_all};
+ghost use Rattle.inline_expand.specs.Inner.CandidateWords.{IsFileOf, IsFitAt, IsJudged, IsKept, IsKnown, IsLeft, own_descs, units_of_all};
 
 use crate::field_constructors::has_free_constructor;
 use crate::final_stores::stored_finals;
@@ -114,14 +114,23 @@ impl<'t> Candidates<'t> {
         if has(header.flags, ACC_ABSTRACT) || has(header.flags, ACC_INTERFACE) {
             return Ok(false);
         }
-        self.is_sound(alloc, class)
+        let fields = self.fields_of(alloc, class)?;
+        Ok(fields.is_some())
     }
 
-    // Whether the classes of a chain are fit, and the fields narrow.
-    fn is_sound(&mut self, alloc: Global, class: &Text) -> Result<bool, NoMemory>
+    /// The descriptors of the instance fields of a class, those of the highest class first, if the classes of its chain are
+    /// fit and the fields narrow.
+    ///
+    /// # Errors
+    /// `NoMemory`, where memory runs out.
+    pub(crate) fn fields_of(
+        &mut self,
+        alloc: Global,
+        class: &Text,
+    ) -> Result<Option<TextList>, NoMemory>
         requires { IsThere (headers_of self.old) class.now }
         ensures same { self.new ≡ self.old }
-        ensures decides { IfOk result (λ is. IsTrue is ↔ IsSound self.old class.now) }
+        ensures judged { IfOk result (IsJudged self.old class.now) }
     {
         let Climbed {
             mut names,
@@ -131,7 +140,7 @@ impl<'t> Candidates<'t> {
             fields = self.judge(alloc, &name, fields)?;
             self.keep(alloc, &name, fields.as_ref())?;
         }
-        Ok(fields.is_some())
+        Ok(fields)
     }
 
     // The classes of a chain up to one that is judged.

@@ -1,5 +1,7 @@
 //! Flat code in which callees stand in place of their calls.
 pub(crate) mod entries;
+pub(crate) mod fields;
+pub(crate) mod flats;
 pub(crate) mod frames;
 pub(crate) mod hosts;
 pub(crate) mod layouts;

@@ -9,6 +9,7 @@ mod candidates;
 mod classes;
 mod coded;
 mod expanded;
+mod expanding;
 mod expansions;
 mod field_constructors;
 mod final_stores;
@@ -35,12 +36,14 @@ mod replaced;
 mod shallow;
 mod sites;
 mod standing;
+mod typed_methods;
 mod verdicts;
 mod visits;
 
 pub use alone::flat_alone;
 pub use callees::callee;
 pub use candidates::{Candidates, candidate};
+pub use expanding::{Expander, expand};
 pub use laws::{
     a_flat_code_alone_is_typed, expanded_flat_codes_run_equally, flat_codes_alone_run_equally,
 };

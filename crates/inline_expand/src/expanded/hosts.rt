@@ -1,8 +1,8 @@
 //! The points and the candidate sites of a host.
-ghost use Rattle.std.specs.Prelude.{◌≡◌, ◌+◌, None, IfOk};
+ghost use Rattle.std.specs.Prelude.{◌≡◌, ◌+◌, ◌≤◌, None, IfOk};
 ghost use Rattle.std.specs.List.{AllByRecursion};
 ghost use Rattle.class_tree.specs.Headers.{Headers};
-ghost use Rattle.inline_expand.specs.Expanded.{host_setting, points_from, sites_from};
+ghost use Rattle.inline_expand.specs.Expanded.{host_setting, points_from, points_of, sites_from};
 ghost use Rattle.inline_expand.specs.Inner.CalleePlaces.{HasPlace};
 ghost use Rattle.inline_expand.specs.Inner.Measures.{IsMeasure, IsSmall, StandsFirst, host_expansion};
 ghost use Rattle.inline_expand.specs.Inner.Settings.{setting_of};
@@ -63,7 +63,8 @@ pub(crate) fn host_sites<'s, 't>(
     requires bodies { AllByRecursion IsBody bodies.now }
     requires host { IsBody host.now }
     requires measure { IsMeasure bodies.now host.now measure.now }
-    requires small { IsSmall bodies.now host.now }
+    requires few { points_of None (instructions host.now.host)
+        (host_expansion bodies.now host.now) ≤ 65535 }
     ensures { IfOk result (λ sites. (headers : Headers)
         → sites_by headers sites.items
         ≡ sites_from headers None 0 (instructions host.now.host)

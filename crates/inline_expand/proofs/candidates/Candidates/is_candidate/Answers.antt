@@ -5,18 +5,14 @@ use Rattle.class_tree.specs.Headers.{Classes, headers_of, named}
 use Rattle.class_tree.specs.Hierarchy.{IsHierarchy}
 use Rattle.class_tree.specs.Names.{object}
 use Rattle.inline_expand.proofs.FolderNames.{object_outside, of_folder}
+use Rattle.inline_expand.proofs.JudgedChains.{sound_where_some}
 use Rattle.inline_expand.proofs.SoundClasses.{candidate_is}
 use Rattle.inline_expand.specs.Candidates.{IsCandidate}
 use Rattle.inline_expand.specs.Inner.CandidateWords.{IsSound}
 use Rattle.inline_expand.proofs.candidates.Candidates.is_candidate.Goals as goal
 
--- what is told of an answer tells another thing
-told : {E : Type 0} (P Q : Type 0) → (P ↔ Q) → (result : Result Bool E) → IfOk result (λ is. IsTrue is ↔ P) → IfOk result (λ is. IsTrue is ↔ Q)
-told P Q same (Ok is) tells = (λ yes_is. same.0 (tells.0 yes_is), λ q. tells.1 (same.1 q))
-told P Q same (Err e) tells = tt
-
-pub is_sound-requires : goal.is_sound-requires
-is_sound-requires c =
+pub fields_of-requires : goal.fields_of-requires
+fields_of-requires c =
     let classes = c.args.self.now in
     let found : named c.args.class.now (headers_of classes).folder ≡ Some c.in-Some.header.now =
     ap (λ (k : Classes). named c.args.class.now (headers_of k).folder) (sym c.self.view_is) ∙ sym c.folder_class.ensures ∙ ap option_copied c.in-Some.is in
@@ -31,6 +27,5 @@ returns-clause-decides c =
     let found : named c.args.class.now (headers_of classes).folder ≡ Some c.in-Some.header.now =
     ap (λ (k : Classes). named c.args.class.now (headers_of k).folder) (sym c.self.view_is) ∙ sym c.folder_class.ensures ∙ ap option_copied c.in-Some.is in
     let is = candidate_is classes hierarchy outside c.args.class.now c.in-Some.header.now found in
-    told (IsSound classes c.args.class.now) (IsCandidate classes c.args.class.now)
-    (λ sound. is.1 (sym c.has.ensures ∙ c.if-has.false, sym c.has-else-has.ensures ∙ c.if-has-2.false, sound), λ candidate. (is.0 candidate).2)
-    c.is_sound.result c.is_sound.ensures.decides
+    let sound = sound_where_some classes c.args.class.now c.in_ok-fields.fields c.in_ok-fields.ensures.judged in
+    (λ some. is.1 (sym c.has.ensures ∙ c.if-has.false, sym c.has-else-has.ensures ∙ c.if-has-2.false, sound.0 (sym c.is_some.ensures ∙ some)), λ candidate. c.is_some.ensures ∙ sound.1 (is.0 candidate).2)

@@ -10,6 +10,6 @@ push_sites-requires-clause-numbers c =
     let expansion = host_expansion c.args.bodies.now host in
     record {
       steps = c.requires.host.steps;
-      starts = c.as_slice.ensures.value ∙ c.requires.measure.starts ∙ few-starts None 0 (instructions host.host) expansion (omega (arith, c.requires.small.points));
-      points = omega (arith, c.requires.small.points);
+      starts = c.as_slice.ensures.value ∙ c.requires.measure.starts ∙ few-starts None 0 (instructions host.host) expansion (omega (arith, c.requires.few));
+      points = omega (arith, c.requires.few);
     }

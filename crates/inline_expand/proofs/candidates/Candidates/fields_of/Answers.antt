@@ -2,9 +2,9 @@ use Rattle.std.proofs.Common.{◌≡◌, List, [], length, inl, inr, arith, sym,
 use Rattle.std.proofs.lemmas.Bool.{cases_eq, false≢true}
 use Rattle.std.proofs.lemmas.List.{nil_from_length}
 use Rattle.class_tree.specs.Headers.{Name, Classes, IsThere, class_named, headers_of}
-use Rattle.inline_expand.proofs.JudgedChains.{all_judged, last_left, one_less, sound_where_some, super_judged, there_in_chain}
+use Rattle.inline_expand.proofs.JudgedChains.{all_judged, last_left, one_less, super_judged, there_in_chain}
 use Rattle.inline_expand.specs.Inner.CandidateWords.{IsJudged, IsLeft}
-use Rattle.inline_expand.proofs.candidates.Candidates.is_sound.Goals as goal
+use Rattle.inline_expand.proofs.candidates.Candidates.fields_of.Goals as goal
 
 pub judge-requires-clause-there : goal.judge-requires-clause-there
 judge-requires-clause-there c =
@@ -25,12 +25,11 @@ loop-name-preserved c =
     let judged = subst (λ (k : Classes). IsJudged k c.in-Some.name c.in_ok-fields.fields) c.loop-name.invariant.0 c.in_ok-fields.ensures in
     (c.keep.ensures ∙ c.loop-name.invariant.0, one_less c.args.self.now c.args.class.now c.pop.new.self.items c.in-Some.name c.loop-name.fields c.in_ok-fields.fields left judged)
 
-pub returns-clause-decides : goal.returns-clause-decides
-returns-clause-decides c =
+pub returns-clause-judged : goal.returns-clause-judged
+returns-clause-judged c =
     let none : c.loop-name.names.items ≡ [] = nil_from_length c.loop-name.names.items (elim (cases_eq (length c.loop-name.names.items) 0) [
       | inl nothing ↦ nothing
       | inr some ↦ absurd (false≢true (c.in_default.ensures.variant.1 (omega (arith, some, c.loop-name.names.ok.0))))
     ]) in
     let left = subst (λ (l : List Name). IsLeft c.args.self.now c.args.class.now l c.loop-name.fields) none c.loop-name.invariant.1 in
-    let sound = sound_where_some c.args.self.now c.args.class.now c.loop-name.fields (all_judged c.args.self.now c.args.class.now c.loop-name.fields left) in
-    (λ is. sound.0 (sym c.is_some.ensures ∙ is), λ s. c.is_some.ensures ∙ sound.1 s)
+    all_judged c.args.self.now c.args.class.now c.loop-name.fields left

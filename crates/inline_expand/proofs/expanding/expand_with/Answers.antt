@@ -1,0 +1,42 @@
+use Rattle.std.proofs.Common.{◌≡◌, ◌<◌, ℕ, List, None, ap, subst, ◌∙◌, arith}
+use Rattle.class_model.specs.declared.class_file.MethodAt.{MethodAt}
+use Rattle.class_tree.specs.Headers.{Classes}
+use Rattle.inline_expand.proofs.HostParts.{body-expands, too-long, whole-answers, whole-code}
+use Rattle.inline_expand.proofs.expanding.expand_with.Goals as goal
+use Rattle.inline_expand.specs.Expansions.{Coded}
+use Rattle.inline_expand.specs.Inner.Growths.{IsExpansionFound}
+use Rattle.inline_expand.specs.Inner.Measures.{host_expansion}
+use Rattle.inline_expand.specs.Inner.Steps.{coded_of}
+
+pub returns-in_default-clause-answers : goal.returns-in_default-clause-answers
+returns-in_default-clause-answers c =
+    let classes = c.args.tree.now in
+    let typed = c.args.typed.now in
+    let host = c.in_ok-host.host in
+    let found = subst (IsExpansionFound classes typed host c.from-most.result) c.in_default.is c.in_ok-found.ensures.expansion in (
+      c.in_ok-host.ensures.2,
+      too-long classes typed (λ s at one other is also. c.a_call_runs_one_method.ensures classes s at one other c.a_tree_is_a_hierarchy.ensures is also) c.each_method_is_typed.ensures c.args.at
+          (record { at = host.at; scope = host.host; frames = host.frames.now }) c.in_ok-host.ensures.0 c.in_ok-host.ensures.1 8000
+          (λ expansion is. omega (arith, found expansion is, c.from-most.ensures)),
+    )
+
+pub flat_of-requires-clause-whole : goal.flat_of-requires-clause-whole
+flat_of-requires-clause-whole c =
+    let classes = c.args.tree.now in
+    let typed = c.args.typed.now in
+    let host = c.in_ok-host.host in
+    let found = subst (IsExpansionFound classes typed host c.from-most.result) c.in-Some.is c.in_ok-found.ensures.expansion in
+    whole-code classes typed (λ s at one other is also. c.a_call_runs_one_method.ensures classes s at one other c.a_tree_is_a_hierarchy.ensures is also) c.each_method_is_typed.ensures c.args.at
+    host c.in-Some.bodies found (ap (λ (own : Coded). own.at) found.coded ∙ c.in_ok-host.ensures.0)
+
+pub returns-clause-answers : goal.returns-clause-answers
+returns-clause-answers c =
+    let classes = c.args.tree.now in
+    let typed = c.args.typed.now in
+    let host = c.in_ok-host.host in
+    let bodies = c.in-Some.bodies in
+    let found = subst (IsExpansionFound classes typed host c.from-most.result) c.in-Some.is c.in_ok-found.ensures.expansion in
+    whole-answers classes typed (λ s at one other is also. c.a_call_runs_one_method.ensures classes s at one other c.a_tree_is_a_hierarchy.ensures is also) c.each_method_is_typed.ensures c.args.at
+    (coded_of bodies.body) (ap (λ (own : Coded). own.at) found.coded ∙ c.in_ok-host.ensures.0) found.whole.stands (host_expansion bodies.callees.items bodies.body)
+    (body-expands classes typed (λ s at one other is also. c.a_call_runs_one_method.ensures classes s at one other c.a_tree_is_a_hierarchy.ensures is also) c.each_method_is_typed.ensures c.args.at host bodies found)
+    c.flat_of.result c.in_ok-host.ensures.2 c.flat_of.ensures.answers

@@ -1,0 +1,184 @@
+//! The flat code of a method with its callees in place of their calls.
+ghost use Rattle.std.specs.Prelude.{◌≡◌, ◌↔◌, ◌⊎◌, IfOk, IsTrue};
+ghost use Rattle.std.specs.List.{list_any};
+ghost use Rattle.inline_expand.specs.ExpandAnswers.{AnswersExpanded};
+ghost use Rattle.inline_expand.specs.Inner.WholeCodes.{IsHostFound, asks_float};
+ghost use Rattle.member_link.specs.Scope.{is_clinit, is_init};
+ghost use Rattle.type_rules.specs.Verified.{TypesFolder};
+
+use crate::calls::a_call_runs_one_method;
+use crate::candidates::Candidates;
+use crate::coded::CodedMethod;
+use crate::expanded::flats::{MOST_POINTS, flat_of};
+use crate::expansions::expansion_of;
+use crate::folder_methods::FolderMethods;
+use crate::host::Host;
+use crate::typed_methods::each_method_is_typed;
+use class_model::{CLINIT, INIT, Instr, MethodAt, NoMemory, Placed};
+use class_tree::{Tree, a_tree_is_a_hierarchy};
+use code_bytes::is_text;
+use flow_code::{Flat, KeptFault, Reason};
+use std::alloc::Global;
+use std::marker::Model;
+use type_rules::{TypedFolder, a_typed_folder_types_each_method};
+
+/// The flat code of a method, the host: its instructions with those of its callees in place of their calls, and its candidate sites, whose
+/// objects may be kept in local variables. The frames type the folder. It is this project's profile.
+///
+/// It goes over the whole folder: for several methods make an `Expander` once.
+///
+/// # Errors
+/// `Kept`, with the first of these reasons that holds:
+/// - `Host`: the method has no code, or is an instance or class initialiser;
+/// - `Float`: its own code has arithmetic of float or double;
+/// - `Expanded`: the flat code has more than 8,000 points;
+/// - `NoSite`: it has no candidate site;
+/// - `Wide`: it has more than 256 sites, or 4,096 local units of the sites' fields; or the written code would have more than 65,535
+///   local units, or a deeper stack.
+///
+/// `NoMemory`, where memory runs out.
+pub fn expand(
+    alloc: Global,
+    tree: &Tree,
+    typed: &TypedFolder,
+    at: MethodAt,
+) -> Result<Flat, KeptFault>
+    requires { TypesFolder tree.now typed.now }
+    ensures { AnswersExpanded tree.now typed.now at result }
+{
+    let mut expander = Expander::new(alloc, tree, typed)?;
+    expander.expand(alloc, at)
+}
+
+/// Makes the flat codes of the methods of a folder. What is found of its classes is kept. Contracts see the folder and its frames.
+#[derive(Drop)]
+pub struct Expander<'t> {
+    tree: &'t Tree,
+    typed: &'t TypedFolder,
+    candidates: Candidates<'t>,
+    methods: FolderMethods<'t>,
+}
+
+impl<'t> Model for Expander<'t> {
+    ghost use Rattle.std.specs.Prelude.{◌≡◌};
+    ghost use Rattle.inline_expand.specs.TypedClasses.{TypedClasses};
+    ghost use Rattle.type_rules.specs.Verified.{TypesFolder};
+
+    ghost Value = { TypedClasses };
+
+    ghost view = { λ e. record { classes = e.tree.now; typed = e.typed.now } };
+
+    ghost invariant = { λ e.
+        TypesFolder e.tree.now e.typed.now
+        × (e.candidates ≡ e.tree.now)
+        × (e.methods ≡ e.tree.now) };
+}
+
+impl<'t> Expander<'t> {
+    /// That of a folder with the frames that type it.
+    ///
+    /// # Errors
+    /// `NoMemory`, where memory runs out.
+    pub fn new(alloc: Global, tree: &'t Tree, typed: &'t TypedFolder) -> Result<Self, NoMemory>
+        requires { TypesFolder tree.now typed.now }
+        ensures { IfOk result
+            (λ expander. expander ≡ record { classes = tree.now; typed = typed.now }) }
+    {
+        Ok(Expander {
+            tree,
+            typed,
+            candidates: Candidates::new(alloc, tree)?,
+            methods: FolderMethods::of(alloc, tree)?,
+        })
+    }
+
+    /// The flat code of a method, as `expand` answers it.
+    ///
+    /// # Errors
+    /// Those of `expand`.
+    pub fn expand(&mut self, alloc: Global, at: MethodAt) -> Result<Flat, KeptFault>
+        ensures answers { AnswersExpanded self.old.classes self.old.typed at result }
+        ensures same { self.new ≡ self.old }
+    {
+        expand_with(
+            alloc,
+            &mut self.candidates,
+            &self.methods,
+            self.tree,
+            self.typed,
+            at,
+        )
+    }
+}
+
+// The flat code of a method, by what is found of classes and methods of the folder.
+fn expand_with<'t>(
+    alloc: Global,
+    candidates: &mut Candidates<'_>,
+    methods: &'t FolderMethods<'t>,
+    tree: &'t Tree,
+    typed: &'t TypedFolder,
+    at: MethodAt,
+) -> Result<Flat, KeptFault>
+    requires typed { TypesFolder tree.now typed.now }
+    requires classes { candidates.old ≡ tree.now }
+    requires methods { methods.now ≡ tree.now }
+    ensures answers { AnswersExpanded tree.now typed.now at result }
+    ensures classes { candidates.new ≡ candidates.old }
+{
+    a_tree_is_a_hierarchy(tree);
+    a_call_runs_one_method();
+    each_method_is_typed(tree, typed);
+    let host = open_host(alloc, tree, typed, at)?;
+    let most = usize::from(MOST_POINTS);
+    let found = expansion_of(alloc, candidates, methods, tree, typed, host, most)?;
+    let Some(bodies) = found else {
+        return Err(KeptFault::Kept(Reason::Expanded));
+    };
+    flat_of(alloc, candidates, tree, &bodies)
+}
+
+// The method of these numbers, if it is a host without arithmetic of float or double in its own code.
+fn open_host<'t>(
+    alloc: Global,
+    tree: &'t Tree,
+    typed: &'t TypedFolder,
+    at: MethodAt,
+) -> Result<CodedMethod<'t>, KeptFault>
+    requires { TypesFolder tree.now typed.now }
+    ensures { IsHostFound tree.now typed.now at result }
+{
+    a_typed_folder_types_each_method();
+    let Some(method) = CodedMethod::at(alloc, tree, typed, at)? else {
+        return Err(KeptFault::Kept(Reason::Host));
+    };
+    if is_initialiser(&method.host) {
+        return Err(KeptFault::Kept(Reason::Host));
+    }
+    if has_float(method.host.instrs()) {
+        return Err(KeptFault::Kept(Reason::Float));
+    }
+    Ok(method)
+}
+
+// Whether a method is an instance or class initialiser.
+fn is_initialiser(method: &Host<'_>) -> bool
+    ensures { IsTrue result ↔ (IsTrue (is_init method.now) ⊎ IsTrue (is_clinit method.now)) }
+{
+    let name = method.method().name;
+    is_text(method.pool(), INIT, name) || is_text(method.pool(), CLINIT, name)
+}
+
+// Whether one of some instructions is arithmetic of float or double.
+fn has_float(instrs: &[Placed]) -> bool
+    ensures { result ≡ list_any (λ placed. asks_float placed.instr) instrs.now }
+{
+    instrs.iter().any(|placed| asks_float(&placed.instr))
+}
+
+// Whether an instruction is arithmetic of float or double.
+fn asks_float(instr: &Instr) -> bool
+    ensures { result ≡ asks_float instr.now }
+{
+    matches!(instr, Instr::FloatAsk(_))
+}
