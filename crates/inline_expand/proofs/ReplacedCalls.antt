@@ -1,5 +1,5 @@
 -- Callees in place of calls.
-use Rattle.std.proofs.Common.{◌≡◌, ◌≢◌, ℕ, List, Option, Some, None, Bool, true, false, is_some, Bor, refl, sym, ap, subst, ◌∙◌}
+use Rattle.std.proofs.Common.{◌≡◌, ◌≢◌, ℕ, List, Option, Some, None, Bool, true, false, is_some, IsTrue, Bor, refl, sym, ap, subst, ◌∙◌}
 use Rattle.std.specs.Option.{option_copied}
 use Rattle.class_model.specs.declared.class_file.MethodAt.{MethodAt}
 use Rattle.class_model.specs.declared.frame.Frame.{Frame}
@@ -20,7 +20,7 @@ use Rattle.inline_expand.specs.declared.coded.CodedMethod.{CodedMethod}
 use Rattle.inline_expand.specs.declared.initialised.Object.{Object}
 use Rattle.inline_expand.specs.declared.initialised.Object.TheVariants as made
 use Rattle.member_link.specs.References.{Reference}
-use Rattle.member_link.specs.Scope.{Scope}
+use Rattle.member_link.specs.Scope.{Scope, is_init}
 use Rattle.type_rules.specs.TypedFrames.{FolderFrames}
 
 module _ (classes : Classes) (typed : FolderFrames) (host : MethodAt) (chain : List MethodAt) (method : CodedMethod) (at : ℕ) where
@@ -52,13 +52,13 @@ module _ (classes : Classes) (typed : FolderFrames) (host : MethodAt) (chain : L
     found_if_kept (Some class) site kept = refl
 
   module _ (reference : Reference) (init : InitialisesAt method.host method.frames.now at UninitThis reference) where
-    pub this_kept : Constructs classes typed host chain method.at at → InitialisesKept classes typed host chain method at
-    this_kept constructed = record {
+    pub this_kept : IsTrue (is_init method.host) → Constructs classes typed host chain method.at at → InitialisesKept classes typed host chain method at
+    this_kept own constructed = record {
       of_site = λ new also init_also. absurd (new_is_not_this new (sym (one_object method.host method.frames.now at UninitThis (Uninit new) reference also init init_also)));
-      of_this = λ also init_also. constructed;
+      of_this = λ also init_also. (own, constructed);
     }
 
-    pub kept_this : InitialisesKept classes typed host chain method at → Constructs classes typed host chain method.at at
+    pub kept_this : InitialisesKept classes typed host chain method at → IsTrue (is_init method.host) × Constructs classes typed host chain method.at at
     kept_this kept = kept.of_this reference init
 
   -- ---- the call
@@ -99,7 +99,10 @@ module _ (classes : Classes) (typed : FolderFrames) (host : MethodAt) (chain : L
             is_callee = subst (λ (n : ℕ). IsCallee classes typed n method.at at callee.at) (sym of_host) found.is_callee;
             follows = follows;
             of_site = λ scope frames new reference is init. kept.of_site new reference (init_here scope frames (Uninit new) reference is init);
-            of_this = λ scope frames reference is init. kept.of_this reference (init_here scope frames UninitThis reference is init);
+            of_this = λ scope frames reference is init. let here = kept.of_this reference (init_here scope frames UninitThis reference is init) in (
+              subst (λ (s : Scope). IsTrue (is_init s)) (sym (one_scope classes typed method.at scope method.host frames method.frames.now is stands)) here.0,
+              here.1,
+            );
           };
           only = λ other replaced. found.only other (callee_here other replaced);
         }

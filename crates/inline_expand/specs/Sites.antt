@@ -1,6 +1,6 @@
 -- Which calls are replaced where one callee stands in another, and which objects may be kept in locals: the candidate sites. It is this
 -- project's profile.
-use Rattle.std.specs.Prelude.{◌≡◌, ◌≢◌, ◌<◌, ℕ, List, ◌∷◌, length, Some}
+use Rattle.std.specs.Prelude.{◌≡◌, ◌≢◌, ◌<◌, ℕ, List, ◌∷◌, length, Some, IsTrue}
 use Rattle.std.specs.List.{AllByRecursion}
 use Rattle.class_model.specs.declared.class_file.MethodAt.{MethodAt}
 use Rattle.class_model.specs.declared.frame.Frame.{Frame}
@@ -10,7 +10,7 @@ use Rattle.class_tree.specs.Names.{object}
 use Rattle.inline_expand.specs.Callees.{InitialisesAt, IsCallee}
 use Rattle.inline_expand.specs.Candidates.{IsCandidate}
 use Rattle.member_link.specs.References.{Reference}
-use Rattle.member_link.specs.Scope.{Scope, class_of_new, scope_at}
+use Rattle.member_link.specs.Scope.{Scope, class_of_new, is_init, scope_at}
 use Rattle.type_rules.specs.TypedFrames.{FolderFrames, typed_frames_at}
 
 -- A chain has the callees from the host inwards, the innermost first. A chain has at most six callees, none twice and none the host.
@@ -54,8 +54,8 @@ pub record IsSite (classes : Classes) (typed : FolderFrames) (host : MethodAt)
       → InitialisesAt scope frames call (Uninit at) reference
       → Constructs classes typed host chain from call
 
--- The call at an offset is replaced by a callee. That of an initialiser is on the object of a candidate site, or on the uninitialised
--- object of an initialiser that is a callee itself.
+-- The call at an offset is replaced by a callee. That of an initialiser is on the object of a candidate site, or is made by an initialiser on
+-- its own uninitialised object. Code that nothing reaches may have a frame with such an object in any method: there the call stays.
 pub record IsReplaced (classes : Classes) (typed : FolderFrames) (host : MethodAt)
     (chain : List MethodAt) (from : MethodAt) (at : ℕ) (callee : MethodAt)
     : Type 0 where
@@ -68,4 +68,4 @@ pub record IsReplaced (classes : Classes) (typed : FolderFrames) (host : MethodA
   pub of_this : (scope : Scope) (frames : List Frame) (reference : Reference)
       → HasFrames classes typed from scope frames
       → InitialisesAt scope frames at UninitThis reference
-      → Constructs classes typed host chain from at
+      → IsTrue (is_init scope) × Constructs classes typed host chain from at

@@ -6,13 +6,16 @@ ghost use Rattle.class_tree.specs.Headers.{headers_of};
 ghost use Rattle.code_bytes.specs.Decoding.{decoding_checks};
 ghost use Rattle.inline_expand.specs.Alone.{number_at};
 ghost use Rattle.inline_expand.specs.Inner.Hosts.{HasUnits};
-ghost use Rattle.member_link.specs.Scope.{instructions, scope_at};
+ghost use Rattle.member_link.specs.Scope.{instructions, is_init, scope_at};
 
 use class_model::{
-    ClassFile, CodePart, Handler, Method, MethodAt, NoMemory, OffsetIndex, Placed, PlacedList, Pool,
+    ClassFile, CodePart, Handler, INIT, Method, MethodAt, NoMemory, OffsetIndex, Placed,
+    PlacedList, Pool,
 };
 use class_tree::Tree;
-use code_bytes::{a_class_file_has_read_methods, instructions_are_consecutive, instructions_of};
+use code_bytes::{
+    a_class_file_has_read_methods, instructions_are_consecutive, instructions_of, is_text,
+};
 use std::alloc::Global;
 use std::marker::Model;
 use type_rules::code_of;
@@ -154,6 +157,13 @@ impl<'a> Host<'a> {
         ensures { result.now ≡ self.now.method }
     {
         self.method
+    }
+
+    /// Whether it is an instance initialiser.
+    pub(crate) fn is_initialiser(&self) -> bool
+        ensures { result ≡ is_init self.now }
+    {
+        is_text(&self.class.pool, INIT, self.method.name)
     }
 
     /// The content of its Code attribute.

@@ -54,8 +54,8 @@ pub(crate) fn replaced_at<'t>(
     }
 }
 
-// Whether the object on which an initialiser is called at an offset, if one is, may be kept in locals: that of a site, or the method's
-// own with all that the initialiser calls on it.
+// Whether the object on which an initialiser is called at an offset, if one is, may be kept in locals: that of a site, or that of a method
+// that is an initialiser itself, with all that the called one calls on it.
 fn initialises_kept(
     alloc: Global,
     place: Place<'_, '_>,
@@ -83,6 +83,9 @@ fn initialises_kept(
     match call.object {
         Object::New(new) => Ok(site_at(place, method, sites, new).is_some()),
         Object::This => {
+            if !method.host.is_initialiser() {
+                return Ok(false);
+            }
             let is_kept = constructs_at(alloc, place, verdicts, method, at)?;
             Ok(is_kept)
         }

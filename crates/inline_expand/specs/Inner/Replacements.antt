@@ -1,5 +1,5 @@
 -- Callees in place of calls, as the code finds them.
-use Rattle.std.specs.Prelude.{◌≡◌, ℕ, List, Option, Some, None}
+use Rattle.std.specs.Prelude.{◌≡◌, ℕ, List, Option, Some, None, IsTrue}
 use Rattle.class_model.specs.declared.class_file.MethodAt.{MethodAt}
 use Rattle.class_model.specs.declared.frame.VType.TheVariants.{Uninit, UninitThis}
 use Rattle.class_tree.specs.Headers.{Name, Classes}
@@ -8,9 +8,10 @@ use Rattle.inline_expand.specs.Inner.Coded.{Stands}
 use Rattle.inline_expand.specs.Sites.{Constructs, IsReplaced, IsSite}
 use Rattle.inline_expand.specs.declared.coded.CodedMethod.{CodedMethod}
 use Rattle.member_link.specs.References.{Reference}
+use Rattle.member_link.specs.Scope.{is_init}
 use Rattle.type_rules.specs.TypedFrames.{FolderFrames}
 
--- the object on which an initialiser is called may be kept in locals
+-- the object on which an initialiser is called may be kept in locals: that of a site, or an initialiser's own
 pub record InitialisesKept (classes : Classes) (typed : FolderFrames) (host : MethodAt)
     (chain : List MethodAt) (method : CodedMethod) (at : ℕ)
     : Type 0 where
@@ -19,7 +20,7 @@ pub record InitialisesKept (classes : Classes) (typed : FolderFrames) (host : Me
       → (class : Name) × IsSite classes typed host chain method.at new class
   pub of_this : (reference : Reference)
       → InitialisesAt method.host method.frames.now at UninitThis reference
-      → Constructs classes typed host chain method.at at
+      → IsTrue (is_init method.host) × Constructs classes typed host chain method.at at
 
 -- the one callee that replaces a call, with its code and frames
 pub record IsReplacement (classes : Classes) (typed : FolderFrames) (host : MethodAt)

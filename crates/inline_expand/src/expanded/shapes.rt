@@ -11,8 +11,8 @@ ghost use Rattle.member_link.specs.Scope.{own_descriptor};
 ghost use Rattle.member_link.specs.Signatures.{result_of};
 
 use crate::host::Host;
-use class_model::{ACC_STATIC, Descriptor, FieldType, INIT, Kind, NoMemory, has};
-use code_bytes::{is_text, method_descriptor};
+use class_model::{ACC_STATIC, Descriptor, FieldType, Kind, NoMemory, has};
+use code_bytes::method_descriptor;
 use std::alloc::Global;
 
 /// A parameter: its kind, and its local unit, counted from the method's first.
@@ -97,7 +97,7 @@ fn has_receiver(host: &Host<'_>) -> bool
 fn tests_receiver(host: &Host<'_>) -> bool
     ensures { result ≡ tests_receiver host.now }
 {
-    has_receiver(host) && !is_text(host.pool(), INIT, host.method().name)
+    has_receiver(host) && !host.is_initialiser()
 }
 
 // The parameters of these types, behind a receiver or none.
