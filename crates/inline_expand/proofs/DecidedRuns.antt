@@ -16,7 +16,7 @@ use Rattle.inline_expand.specs.Inner.Found.{folder_method}
 use Rattle.inline_expand.proofs.FoundMethods.{numbers_stand, standing_numbers}
 use Rattle.member_link.specs.DeclaredMembers.{Declared}
 use Rattle.member_link.specs.Found.{AreSame, IsChoice, IsMethodFound, IsMethodOf}
-use Rattle.member_link.specs.Methods.{FindsMethod}
+use Rattle.member_link.specs.Methods.{FindsMethod, IsPolymorphic}
 use Rattle.member_link.specs.References.{Reference}
 use Rattle.member_link.specs.Selection.{Choice, Selects, abstract_choice, choice_not_public, chosen_method, several_defaults}
 use Rattle.member_link.specs.SpecialStart.{StartsSpecial}
@@ -64,6 +64,7 @@ pub record RunsSpecial (headers : Headers) (own : Name) (reference : Reference) 
   pub found : Declared
   pub start : Name
   pub may : IsClass headers own ⊎ (reference.name ≡ init)
+  pub plain : ¬ IsPolymorphic headers reference.class reference.name
   pub finds : Finds headers reference found
   pub of_instance : IsFalse (has found.member.flags STATIC)
   pub starts : StartsSpecial headers own reference.class start
@@ -77,23 +78,23 @@ pub record RunsVirtual (headers : Headers) (reference : Reference) (method : Dec
 module _ {headers : Headers} {own : Name} {reference : Reference} where
   pub of_static : {opcode : ℕ} {method : Declared} → Runs headers own reference opcode method → opcode ≡ INVOKESTATIC → Finds headers reference method
   of_static (runs_static method finds) is = finds
-  of_static (runs_special found method start may finds of_instance starts selects) is = absurd (omega (arith, is))
+  of_static (runs_special found method start may plain finds of_instance starts selects) is = absurd (omega (arith, is))
   of_static (runs_virtual method finds class alone) is = absurd (omega (arith, is))
 
   pub of_special : {opcode : ℕ} {method : Declared} → Runs headers own reference opcode method → opcode ≡ INVOKESPECIAL → RunsSpecial headers own reference method
   of_special (runs_static method finds) is = absurd (omega (arith, is))
-  of_special (runs_special found method start may finds of_instance starts selects) is =
-      record { found = found; start = start; may = may; finds = finds; of_instance = of_instance; starts = starts; selects = selects }
+  of_special (runs_special found method start may plain finds of_instance starts selects) is =
+      record { found = found; start = start; may = may; plain = plain; finds = finds; of_instance = of_instance; starts = starts; selects = selects }
   of_special (runs_virtual method finds class alone) is = absurd (omega (arith, is))
 
   pub of_virtual : {opcode : ℕ} {method : Declared} → Runs headers own reference opcode method → opcode ≡ INVOKEVIRTUAL → RunsVirtual headers reference method
   of_virtual (runs_static method finds) is = absurd (omega (arith, is))
-  of_virtual (runs_special found method start may finds of_instance starts selects) is = absurd (omega (arith, is))
+  of_virtual (runs_special found method start may plain finds of_instance starts selects) is = absurd (omega (arith, is))
   of_virtual (runs_virtual method finds class alone) is = record { finds = finds; of_class = class; alone = alone }
 
   pub of_other : {opcode : ℕ} {method : Declared} → opcode ≢ INVOKESTATIC → opcode ≢ INVOKESPECIAL → opcode ≢ INVOKEVIRTUAL → ¬ Runs headers own reference opcode method
   of_other no_static no_special no_virtual (runs_static method finds) = no_static refl
-  of_other no_static no_special no_virtual (runs_special found method start may finds of_instance starts selects) = no_special refl
+  of_other no_static no_special no_virtual (runs_special found method start may plain finds of_instance starts selects) = no_special refl
   of_other no_static no_special no_virtual (runs_virtual method finds class alone) = no_virtual refl
 
 module _ (look-up : LooksUpOnce) {headers : Headers} {reference : Reference} where
@@ -122,8 +123,8 @@ module _ (laws : HasLaws) {headers : Headers} {own : Name} {reference : Referenc
   -- a call runs one method
   pub runs_once : {opcode : ℕ} {one other : Declared} → Runs headers own reference opcode one → Runs headers own reference opcode other → one ≡ other
   runs_once (runs_static method finds) also = finds_once laws.looks_up finds (of_static also refl)
-  runs_once (runs_special found method start may finds of_instance starts selects) also =
-      special_once (record { found = found; start = start; may = may; finds = finds; of_instance = of_instance; starts = starts; selects = selects }) (of_special also refl)
+  runs_once (runs_special found method start may plain finds of_instance starts selects) also =
+      special_once (record { found = found; start = start; may = may; plain = plain; finds = finds; of_instance = of_instance; starts = starts; selects = selects }) (of_special also refl)
   runs_once (runs_virtual method finds class alone) also = finds_once laws.looks_up finds (of_virtual also refl).finds
 
 -- ---- the numbers of the method that runs

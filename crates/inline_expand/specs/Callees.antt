@@ -36,7 +36,7 @@ use Rattle.member_link.specs.DeclaredMembers.{Declared, is_package_access}
 use Rattle.member_link.specs.Fields.{FindsField}
 use Rattle.member_link.specs.Found.{IsMethodFound}
 use Rattle.member_link.specs.Machine.Performing.{SYNCHRONIZED}
-use Rattle.member_link.specs.Methods.{FindsMethod}
+use Rattle.member_link.specs.Methods.{FindsMethod, IsPolymorphic}
 use Rattle.member_link.specs.Overriding.{Overrides, package_of}
 use Rattle.member_link.specs.References.{NamesElementClass, Reference}
 use Rattle.member_link.specs.Rows.MemberRows.{receiver}
@@ -90,7 +90,7 @@ Finds headers reference method =
     FindsMethod headers reference.class reference.name reference.desc (Some method)
 
 -- The method that a call by this reference in a class runs, whatever its receiver is: a static one by look-up, a special one by selection,
--- and a virtual one where nothing overrides it.
+-- and a virtual one where nothing overrides it. Where a method is found under every descriptor nothing is selected.
 pub data Runs (headers : Headers) (own : Name) (reference : Reference) : ℕ → Declared
     → Type 0 where
   runs_static : (method : Declared)
@@ -98,6 +98,7 @@ pub data Runs (headers : Headers) (own : Name) (reference : Reference) : ℕ →
       → Runs headers own reference INVOKESTATIC method
   runs_special : (found method : Declared) (start : Name)
       → IsClass headers own ⊎ (reference.name ≡ init)
+      → ¬ IsPolymorphic headers reference.class reference.name
       → Finds headers reference found
       → IsFalse (has found.member.flags STATIC)
       → StartsSpecial headers own reference.class start

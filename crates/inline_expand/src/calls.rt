@@ -9,6 +9,7 @@ ghost use Rattle.class_tree.specs.Hierarchy.{IsHierarchy};
 ghost use Rattle.inline_expand.specs.Callees.{Calls, IsClass};
 ghost use Rattle.inline_expand.specs.Inner.Calls.{DecidesCall, DecidesRun, call_at, call_meant, called_by};
 ghost use Rattle.inline_expand.specs.Inner.References.{reference_meant};
+ghost use Rattle.member_link.specs.Methods.{IsInLibrary, IsPolymorphic};
 ghost use Rattle.member_link.specs.Scope.{Scope};
 
 use crate::classes::{is_class, is_class_at, name_of};
@@ -19,12 +20,16 @@ use crate::overridden::is_overridden_by_none;
 use crate::references::{Reference, reference_at};
 use class_model::opcodes::{INVOKESPECIAL, INVOKESTATIC, INVOKEVIRTUAL};
 use class_model::{ACC_STATIC, INIT, Instr, MethodAt, NoMemory, Pool, Text, has};
-use class_tree::{Tree, a_tree_is_a_hierarchy};
+use class_tree::{METHOD_HANDLE, Place, Tree, a_tree_is_a_hierarchy};
 use member_link::{
     CallForm, Selected, a_look_up_finds_one_method, a_selection_chooses_one,
     a_special_call_starts_once, find_method, select, special_start,
 };
 use std::alloc::Global;
+
+const INVOKE: &[u8] = b"invoke";
+
+const INVOKE_EXACT: &[u8] = b"invokeExact";
 
 /// A call: its opcode, and the method that it names.
 #[derive(Clone, Copy)]
@@ -132,6 +137,9 @@ fn special_callee(tree: &Tree, own: &Text, reference: &Reference<'_>) -> Option<
     if !is_special(tree, own, reference) {
         return None;
     }
+    if is_polymorphic(tree, reference) {
+        return None;
+    }
     let found = find_method(tree, reference.class, reference.name, reference.desc)?;
     if has(found.flags, ACC_STATIC) {
         return None;
@@ -150,6 +158,24 @@ fn is_special(tree: &Tree, own: &Text, reference: &Reference<'_>) -> bool
         ⊎ ((reference_meant reference.now).name ≡ init)) }
 {
     reference.name.bytes() == INIT || is_class(tree, own)
+}
+
+// Whether a reference names a signature polymorphic method of the library (2.9), of which nothing is selected.
+fn is_polymorphic(tree: &Tree, reference: &Reference<'_>) -> bool
+    ensures { IsTrue result
+        ↔ IsPolymorphic (headers_of tree.now) (reference_meant reference.now).class
+        (reference_meant reference.now).name }
+{
+    reference.class.bytes() == METHOD_HANDLE
+        && (reference.name.bytes() == INVOKE || reference.name.bytes() == INVOKE_EXACT)
+        && is_in_library(tree, reference.class)
+}
+
+// Whether the class of a name is one of the library.
+fn is_in_library(tree: &Tree, class: &Text) -> bool
+    ensures { IsTrue result ↔ IsInLibrary (headers_of tree.now) class.now }
+{
+    matches!(tree.place(class), Some(Place::Library(_)))
 }
 
 // The method of the folder that a virtual call runs.

@@ -12,6 +12,7 @@ use Rattle.inline_expand.proofs.DecidedRuns.{HasLaws, chosen_found, decided, fin
 use Rattle.inline_expand.proofs.calls.special_callee.Goals as goal
 use Rattle.member_link.specs.DeclaredMembers.{Declared}
 use Rattle.member_link.specs.Found.{IsChoice}
+use Rattle.member_link.specs.Methods.{IsPolymorphic}
 use Rattle.member_link.specs.Selection.{Choice, Selects}
 use Rattle.member_link.specs.declared.selection.CallForm.TheVariants.{Special}
 
@@ -21,6 +22,12 @@ returns-in_err-found c =
     let IsRun = λ (method : Declared). Runs (headers_of classes) c.args.own.now (reference_meant c.args.reference.now) INVOKESPECIAL method in
     subst (λ (callee : Option MethodAt). Decides classes IsRun callee) (sym c.from_residual.ensures)
     (undecided classes IsRun (λ method runs. finds_nothing c.a_look_up_finds_one_method.ensures (looked_up_none c.in_err-found.ensures) (of_special runs refl).finds))
+
+pub returns-then-is_polymorphic : goal.returns-then-is_polymorphic
+returns-then-is_polymorphic c =
+    let classes = c.args.tree.now in
+    let IsRun = λ (method : Declared). Runs (headers_of classes) c.args.own.now (reference_meant c.args.reference.now) INVOKESPECIAL method in
+    undecided classes IsRun (λ method runs. (of_special runs refl).plain (c.is_polymorphic.ensures.0 c.if-is_polymorphic.true))
 
 pub returns-then-has : goal.returns-then-has
 returns-then-has c =
@@ -45,9 +52,10 @@ returns-in-Found c =
     let choice = c.in-Found.ensures found.0 found.2 in
     let chosen = chosen_found choice.0 choice.2 in
     let selects = subst (λ (ch : Choice). Selects headers c.special_start-start.result.now found.0 Special ch) chosen.1 choice.1 in
+    let plain : ¬ IsPolymorphic headers reference.class reference.name = λ every. false≢true (sym c.if-is_polymorphic.false ∙ c.is_polymorphic.ensures.1 every) in
     let may : IsClass headers c.args.own.now ⊎ (reference.name ≡ init) = c.is_special.ensures.0 c.if-not-is_special.false in
     let run = decided classes c.a_tree_is_a_hierarchy.ensures IsRun c.in-Found.chosen chosen.0 chosen.2
-    (runs_special found.0 chosen.0 c.special_start-start.result.now may found.1 instance c.special_start-start.ensures selects)
+    (runs_special found.0 chosen.0 c.special_start-start.result.now may plain found.1 instance c.special_start-start.ensures selects)
     (λ other runs. same_choice other chosen.0 (special_selects laws (of_special runs refl) found.1 c.special_start-start.ensures selects)) in
     subst (λ (callee : Option MethodAt). Decides classes IsRun callee) (sym c.folder_method.ensures) run
 
