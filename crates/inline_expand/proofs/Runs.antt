@@ -37,8 +37,8 @@ mod ClassInitialisers
 mod StandingFrames
 mod LinkedInstrs
 mod CalledNames
-mod FlatSites
-mod SiteInitialisers
+pub mod FlatSites
+pub mod SiteInitialisers
 mod Bars
 mod CodedMethods
 pub mod CallTargets

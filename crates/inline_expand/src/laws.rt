@@ -1,9 +1,12 @@
 //! Laws of flat code: functions that do nothing, whose contracts say what always holds.
+ghost use Rattle.std.specs.Prelude.{◌≡◌, Some};
 ghost use Rattle.class_model.specs.declared.class_file.MethodAt.{MethodAt};
 ghost use Rattle.class_tree.specs.Headers.{Classes, headers_of};
+ghost use Rattle.class_tree.specs.Hierarchy.{IsHierarchy};
 ghost use Rattle.class_tree.specs.Trees.{IsTree};
 ghost use Rattle.flow_code.specs.FlatCode.{FlatCode};
 ghost use Rattle.inline_expand.specs.AloneAnswers.{AreAlone, IsFlatAlone};
+ghost use Rattle.inline_expand.specs.ExpandAnswers.{IsExpanded};
 ghost use Rattle.inline_expand.specs.ExpandedPrograms.{AreExpanded, HasTypings, ReplacesByFlats};
 ghost use Rattle.member_link.specs.Machine.Classes.{program_of};
 ghost use Rattle.member_link.specs.Machine.Links.{AreLinksOf};
@@ -13,11 +16,12 @@ ghost use Rattle.member_link.specs.Scope.{Scope, scope_at};
 ghost use Rattle.same_runs.specs.EqualRuns.{EqualRuns};
 ghost use Rattle.same_runs.specs.FlatBodies.{body_of_flat, typed_points};
 ghost use Rattle.same_runs.specs.Flats.{Flats, flat_program};
-ghost use Rattle.std.specs.Prelude.{◌≡◌, Some};
 ghost use Rattle.type_rules.specs.Typed.{TypesBody};
 ghost use Rattle.type_rules.specs.TypedFrames.{FolderFrames};
 ghost use Rattle.type_rules.specs.Verified.{TypesFolder};
 ghost use Rattle.typed_runs.specs.TypedPrograms.{IsTypedProgram, Typings};
+
+use crate::calls::a_call_runs_one_method;
 
 /// To the machine the flat code of a method by itself is the method's own code. So a program in which any methods run such
 /// flat codes is the program of the folder, and runs equally.
@@ -79,4 +83,15 @@ pub fn expanded_flat_codes_run_equally()
     typed_runs::a_run_starts_typed();
     typed_runs::a_step_stays_typed();
     typed_runs::an_action_stays_typed();
+}
+
+/// A method of a hierarchy has at most one expanded flat code.
+pub fn a_method_has_one_expanded_flat_code()
+    ensures { (classes : Classes) (typed : FolderFrames) (at : MethodAt) (flat other : FlatCode)
+        → IsHierarchy (headers_of classes)
+        → IsExpanded classes typed at flat
+        → IsExpanded classes typed at other
+        → flat ≡ other }
+{
+    a_call_runs_one_method();
 }

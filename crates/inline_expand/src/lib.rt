@@ -45,5 +45,6 @@ pub use callees::callee;
 pub use candidates::{Candidates, candidate};
 pub use expanding::{Expander, expand};
 pub use laws::{
-    a_flat_code_alone_is_typed, expanded_flat_codes_run_equally, flat_codes_alone_run_equally,
+    a_flat_code_alone_is_typed, a_method_has_one_expanded_flat_code,
+    expanded_flat_codes_run_equally, flat_codes_alone_run_equally,
 };
