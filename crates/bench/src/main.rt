@@ -11,6 +11,8 @@
 //!   appended and taken back (`bench/rewriting.sh`, as what follows); it counts the additions;
 //! - `layouts` or `decodes`: a code of so many items is laid out, or its bytes are decoded; it counts bytes, or instructions;
 //! - `flats`: the flat code of a method of so many instructions and three is made and kept (`bench/rewriting.sh`); it counts the points;
+//! - `expand`: the class files of the folder `in` are read and linked with those of `lib`, verified so many times, but at least once, and the
+//!   flat code of each method is asked for so many times (`bench/expand.sh`); it counts the points of flat codes;
 //! - `joins`, `below` or `kept`: two states of so many virtual objects and sixteen times as many fields are joined, or compared, or equal
 //!   ones are joined and the joins kept; it counts joins that keep the last site, answers by yes, or joins;
 //! - `straight` or `nested`: plans are made of straight code of so many points and 256 sites, or of six loops in one another; it counts the
@@ -19,6 +21,7 @@
 
 mod codes;
 mod edits;
+mod expansions;
 mod flats;
 mod layouts;
 mod link_input;
@@ -31,6 +34,7 @@ mod trees;
 
 use codes::{read_jumps, read_tables};
 use edits::{edit_pool, grow_pools};
+use expansions::expand_folder;
 use flats::make_flats;
 use layouts::{decode_laid, lay_out};
 use links::link;
@@ -61,7 +65,10 @@ fn run(rt: &HostRuntime) -> Option<()> {
         };
         let count = count.parse::<u32>().ok()?;
         let times = times.parse::<u32>().ok()?;
-        let counted = count_of(rt.alloc(), what, count, times)?;
+        let counted = match what.as_str() {
+            "expand" => expand_folder(rt, count, times)?,
+            _ => count_of(rt.alloc(), what, count, times)?,
+        };
         println!(rt; "{counted}").ok()?;
     }
     Some(())

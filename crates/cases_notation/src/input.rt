@@ -94,9 +94,7 @@ impl Input {
     /// # Errors
     /// Those of `read_class`.
     pub fn add_class(&mut self, alloc: Global, text: &str) -> Result<(), ClassFault> {
-        let class = read_class(alloc, &class_file(alloc, text)?)?;
-        self.folder.push(class)?;
-        Ok(())
+        self.add_file(alloc, &class_file(alloc, text)?)
     }
 
     /// Adds a class without members to the folder.
@@ -104,7 +102,15 @@ impl Input {
     /// # Errors
     /// Those of `read_class`.
     pub fn add_plain(&mut self, alloc: Global, head: &Head<'_, '_>) -> Result<(), ClassFault> {
-        let class = read_class(alloc, &plain_file(alloc, head)?)?;
+        self.add_file(alloc, &plain_file(alloc, head)?)
+    }
+
+    /// Adds the class of these bytes to the folder.
+    ///
+    /// # Errors
+    /// Those of `read_class`.
+    pub fn add_file(&mut self, alloc: Global, bytes: &[u8]) -> Result<(), ClassFault> {
+        let class = read_class(alloc, bytes)?;
         self.folder.push(class)?;
         Ok(())
     }
@@ -114,7 +120,15 @@ impl Input {
     /// # Errors
     /// Those of `read_header`.
     pub fn add_header(&mut self, alloc: Global, text: &str) -> Result<(), ClassFault> {
-        let header = read_header(alloc, &class_file(alloc, text)?)?;
+        self.add_library_file(alloc, &class_file(alloc, text)?)
+    }
+
+    /// Adds the class of these bytes to the library.
+    ///
+    /// # Errors
+    /// Those of `read_header`.
+    pub fn add_library_file(&mut self, alloc: Global, bytes: &[u8]) -> Result<(), ClassFault> {
+        let header = read_header(alloc, bytes)?;
         self.library.push(header)?;
         Ok(())
     }
