@@ -1,7 +1,7 @@
 #!/usr/bin/env bash
-# Asks for the flat code, with callees in place of their calls, of every method of the compiled Java of bench/java, with the library of
-# examples/first, and of a folder of many copies of it, against the time of verifying the same folder in the same run. The least time of some
-# runs counts, and reading and linking are taken off. Prints what is wanted and what came, and fails where a want is not met.
+# Asks for the flat code, with callees in place of their calls, of every method of the compiled Java of examples/java, with the JDK that is on
+# the machine as its library, against the time of verifying the same folder in the same run. The least time of some runs counts, and
+# reading and linking are taken off. Prints what is wanted and what came, and fails where a want is not met.
 set -eu
 cd "$(dirname "$0")/.."
 . bench/measures.sh
