@@ -1,4 +1,7 @@
 //! What is answered to a question, as a text.
+ghost use Rattle.type_rules.specs.Verified.{TypesFolder};
+
+use crate::flats::{expand_answer, handlers_answer, typed_answer};
 use cases_notation::{Setting, word_and_rest};
 use class_model::{MethodAt, Text};
 use class_tree::{Place, Tree};
@@ -14,15 +17,42 @@ pub(crate) fn answer(alloc: Global, setting: &Setting<'_>, question: &str) -> Op
     let Ok(()) = check_links(alloc, &tree) else {
         return None;
     };
-    let typed = verify_all(alloc, &tree).ok()?;
+    let Ok(typed) = verify_all(alloc, &tree) else {
+        return None;
+    };
     let (call, about) = word_and_rest(question);
     let words = about.split(' ').collect::<Vec<&str>>(alloc).ok()?;
-    match (call, words.as_slice()) {
-        ("candidate", [name]) => candidate_answer(alloc, &tree, name),
+    folder_answer(alloc, &tree, &typed, call, words.as_slice())
+}
+
+// What is answered about a folder that its frames type.
+fn folder_answer(
+    alloc: Global,
+    tree: &Tree,
+    typed: &TypedFolder,
+    call: &str,
+    words: &[&str],
+) -> Option<String>
+    requires { TypesFolder tree.now typed.now }
+{
+    match (call, words) {
+        ("candidate", [name]) => candidate_answer(alloc, tree, name),
         ("callee", [host, class, method, at]) => {
-            let host = class_number(alloc, &tree, host)?;
-            let from = method_at(alloc, &tree, class, method)?;
-            callee_answer(alloc, &tree, &typed, host, from, at.parse::<u32>().ok()?)
+            let host = class_number(alloc, tree, host)?;
+            let from = method_at(alloc, tree, class, method)?;
+            callee_answer(alloc, tree, typed, host, from, at.parse::<u32>().ok()?)
+        }
+        ("expand", [class, method]) => {
+            let at = method_at(alloc, tree, class, method)?;
+            expand_answer(alloc, tree, typed, at)
+        }
+        ("typed", [class, method, point]) => {
+            let at = method_at(alloc, tree, class, method)?;
+            typed_answer(alloc, tree, typed, at, point.parse::<usize>().ok()?)
+        }
+        ("handlers", [class, method, point]) => {
+            let at = method_at(alloc, tree, class, method)?;
+            handlers_answer(alloc, tree, typed, at, point.parse::<usize>().ok()?)
         }
         _ => None,
     }

@@ -1,4 +1,4 @@
-//! Flat code of methods, with callees in place of their calls: today of each method by itself.
+//! Flat code of methods: with callees in place of their calls, or of each method by itself.
 #![tactic(auto)]
 
 mod alone;
