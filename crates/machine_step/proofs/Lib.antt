@@ -23,7 +23,6 @@ pub mod ReceiverCalls
 pub mod Results
 pub mod RunCodes
 pub mod Stacks
-pub mod Subtypes
 pub mod Switches
 pub mod UnitLists
 pub mod WidthMoves

@@ -1,10 +1,8 @@
 //! What objects are instances of, and what they conform to (JVM Specification SE 8, 4.10.1.2 and 6.5). Names of classes and
 //! descriptors of arrays are given as bytes.
-ghost use Rattle.std.specs.Prelude.{◌≡◌, ◌↔◌, ◌-◌, IsTrue, drop, length, take};
+ghost use Rattle.std.specs.Prelude.{◌≡◌, drop};
 ghost use Rattle.std.specs.List.{list_any};
 ghost use Rattle.std.specs.Option.{option_copied};
-ghost use Rattle.class_tree.specs.Headers.{headers_of};
-ghost use Rattle.class_tree.specs.Subtype.{IsSubtype};
 ghost use Rattle.member_link.specs.Machine.Programs.{Program, name_of_class};
 ghost use Rattle.member_link.specs.Machine.Shapes.{both_conform, class_conforms, class_of_shape, component_named, components_conform, is_instance, shape_conforms};
 ghost use Rattle.machine_step.specs.Inner.QuestionWords.{behind_bracket};
@@ -12,9 +10,7 @@ ghost use Rattle.machine_step.specs.Programs.{IsProgram};
 
 use crate::questions::classes::{class_name, is_interface_named};
 use class_model::Text;
-use class_tree::{
-    OBJECT, Tree, a_tree_is_a_hierarchy, innermost, is_above_arrays, is_array, is_below,
-};
+use class_tree::{OBJECT, Tree, is_subtype};
 use machine_heap::component_text;
 use machine_values::Shape;
 use member_link::without_last;
@@ -155,20 +151,4 @@ pub(crate) fn is_type_below(tree: &Tree, low: &[u8], high: &[u8]) -> bool
         → result ≡ P.links.below low.now high.now }
 {
     is_subtype(tree, low, high)
-}
-
-// By the relation.
-fn is_subtype(tree: &Tree, low: &[u8], high: &[u8]) -> bool
-    ensures { IsTrue result ↔ IsSubtype (headers_of tree.now) low.now high.now }
-{
-    a_tree_is_a_hierarchy(tree);
-    let (low, high) = innermost(low, high);
-    if low == high {
-        return true;
-    }
-    if is_array(low) {
-        is_above_arrays(high)
-    } else {
-        is_below(tree, low, high)
-    }
 }
