@@ -22,7 +22,7 @@ type_of_named : (name : List ℕ) → IsReferenceName name → type_of (named_te
 type_of_named name (inl class) = rw (class_text name class) (type_of_class name)
 type_of_named name (inr array) = let head = array_head name array in rw head.1 refl
 
-type_of_spelled : (type : FieldType) → IsTypeName type → type_of (field_type_text type) ≡ type
+pub type_of_spelled : (type : FieldType) → IsTypeName type → type_of (field_type_text type) ≡ type
 type_of_spelled Byte named = refl
 type_of_spelled Char named = refl
 type_of_spelled Short named = refl
