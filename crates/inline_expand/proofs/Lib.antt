@@ -13,7 +13,6 @@ mod FieldLists
 mod FinalClasses
 mod FlatPlaces
 mod FolderNames
-mod FolderPlaces
 mod FoundCallees
 mod FoundMethods
 mod Founding
@@ -53,7 +52,6 @@ mod RenumberedTable
 mod RenumberedTargets
 mod RenumberedTypes
 mod ReplacedCalls
-mod ResultTexts
 mod Seeing
 mod SettingParts
 mod ShallowCalls

@@ -141,21 +141,21 @@ pub prepared_code :
     → IsPreparedIn code prepared
 prepared_code code prepared instrs same few locals are_ops offsets are_handlers = λ P is.
     let s = scope_in code in
-    let points : (method_code P.links s).points ≡ map (run_point P.links (number_of (offsets_of instrs)) s) instrs =
-    subst (λ (all : List Placed). (method_code P.links s).points ≡ map (run_point P.links (number_of (offsets_of all)) s) all) (sym same) (run_points s P.links) in
+    let points : (method_code P.links s).points ≡ map (run_placed P.links (number_of (offsets_of instrs)) s) instrs =
+    subst (λ (all : List Placed). (method_code P.links s).points ≡ map (run_placed P.links (number_of (offsets_of all)) s) all) (sym same) (run_points s P.links) in
     record {
       locals = locals;
       few =
           let count : length (method_code P.links s).points ≡ length instrs =
-          ap (λ (all : List Point). length all) points ∙ length-map instrs (run_point P.links (number_of (offsets_of instrs)) s) in
+          ap (λ (all : List Point). length all) points ∙ length-map instrs (run_placed P.links (number_of (offsets_of instrs)) s) in
           omega arith;
-      ops = are_ops.same P is ∙ sym (ap (map op_at) points ∙ map_twice op_at (run_point P.links (number_of (offsets_of instrs)) s) instrs);
+      ops = are_ops.same P is ∙ sym (ap (map op_at) points ∙ map_twice op_at (run_placed P.links (number_of (offsets_of instrs)) s) instrs);
       resolved = are_ops.resolved P is;
       catches =
           ap (map (catches_around prepared.handlers.items)) offsets
           ∙ map_twice (catches_around prepared.handlers.items) (λ (placed : Placed). placed.at) instrs
           ∙ map_same (λ (placed : Placed). catches_around prepared.handlers.items placed.at)
-          (λ (placed : Placed). catches_at_point (run_point P.links (number_of (offsets_of instrs)) s placed)) instrs
+          (λ (placed : Placed). catches_at_point (run_placed P.links (number_of (offsets_of instrs)) s placed)) instrs
           (λ placed. are_handlers.same placed.at)
-          ∙ sym (ap (map catches_at_point) points ∙ map_twice catches_at_point (run_point P.links (number_of (offsets_of instrs)) s) instrs);
+          ∙ sym (ap (map catches_at_point) points ∙ map_twice catches_at_point (run_placed P.links (number_of (offsets_of instrs)) s) instrs);
     }
