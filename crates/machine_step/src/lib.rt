@@ -46,7 +46,7 @@ pub use jumps::{
     jump_by_int, jump_by_ints, jump_by_null, jump_by_references, lookup_target, table_target,
 };
 pub use known::KnownRefs;
-pub use locals::{increment, local_value, store};
+pub use locals::{if_kind, increment, local_value, store};
 pub use memory::Memory;
 pub use monitors::MonitorHeap;
 pub use numbering::copy_texts;
