@@ -37,5 +37,5 @@ pub use members::{MemberKind, members_of};
 pub use names::{METHOD_HANDLE, METHOD_TYPE, OBJECT, THROWABLE, machine_throwables};
 pub use place::Place;
 pub use question::ask;
-pub use subtype::{component, innermost, is_above_arrays, is_array, is_below, is_sub};
+pub use subtype::{component, innermost, is_above_arrays, is_array, is_below, is_sub, is_subtype};
 pub use tree::{ClassFileList, HeaderList, Tree};

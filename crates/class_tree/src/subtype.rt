@@ -13,13 +13,20 @@ use crate::tree::Tree;
 use class_model::Text;
 
 /// Whether a class or array is below another, or is the same (JVM Specification SE 8, 4.10 and 4.10.1.2). Classes are named, and
-/// arrays are their descriptors. It takes no memory.
+/// arrays are their descriptors. It does not allocate.
 pub fn is_sub(tree: &Tree, low: &Text, high: &Text) -> bool
+    ensures { IsTrue result ↔ IsSubtype (headers_of tree.now) low.now high.now }
+{
+    is_subtype(tree, low.bytes(), high.bytes())
+}
+
+/// The same of names and descriptors as bytes.
+pub fn is_subtype(tree: &Tree, low: &[u8], high: &[u8]) -> bool
     ensures { IsTrue result ↔ IsSubtype (headers_of tree.now) low.now high.now }
 {
     // no class has the name of an array
     let _ = &tree.folder;
-    let (low, high) = innermost(low.bytes(), high.bytes());
+    let (low, high) = innermost(low, high);
     if low == high {
         return true;
     }

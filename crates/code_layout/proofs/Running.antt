@@ -13,7 +13,7 @@ use Rattle.class_model.specs.declared.instr.Placed.{Placed}
 use Rattle.class_tree.specs.Headers.{Name}
 use Rattle.member_link.specs.Bodies.{item_instr}
 use Rattle.member_link.specs.Laws.Renumbered.{IsSamePoint, op_renumbered}
-use Rattle.member_link.specs.Machine.Codes.{CodePoint, catch_in, catches_at, code_points, instr_op, item_op, method_code, number_at}
+use Rattle.member_link.specs.Machine.Codes.{CodePoint, catch_in, catches_at, code_points, instr_op, item_op, method_code, number_at, code_point, renumbered, run_point}
 use Rattle.member_link.specs.Machine.Programs.{Catch, Code, Links, Point, number_of_first}
 use Rattle.member_link.specs.Machine.Replaced.{map_numbered}
 use Rattle.member_link.specs.RowScope.{RowScope}
@@ -68,9 +68,6 @@ number-item s first (item ∷ items) (suc to) within =
     rw (differ first (first + suc to) (omega arith), rest) refl
 
 -- ---- operations
-
-abbrev renumbered : (ℕ → ℕ) → Catch → Catch
-renumbered number catch = record catch { to = number catch.to }
 
 module _ (links : Links) (from to : ℕ → ℕ) (place : ℕ → ℕ) (n : ℕ) (same : (t : ℕ) → t < n → from (place t) ≡ to t) where
   -- an operation does not read where a new stands
@@ -142,17 +139,6 @@ module _ (pool : Constants) (place : ℕ → ℕ) where
 abbrev pub NameItems : ℕ → EmitItem → Type 0
 NameItems n item = AllByRecursion (NamesItem n) (targets item.instr) × AllByRecursion (λ (catch : EmittedCatch). NamesItem n catch.to) item.catches
 
-abbrev run_point : Links → (ℕ → ℕ) → CodePoint → Point
-run_point links number point = record { op = item_op links number point.scope point.item; catches = map (renumbered number) point.catches }
-
-abbrev placed_point : Scope → Placed → CodePoint
-placed_point s placed = record {
-  place = placed.at;
-  scope = row_scope s;
-  item = item_instr placed.instr;
-  catches = catches_at s.class.pool s.part.handlers placed.at;
-}
-
 module _ (links : Links) (s : Scope) (news : ℕ → Option Name) (place from to : ℕ → ℕ) (n : ℕ) (same : (t : ℕ) → t < n → from (place t) ≡ to t) where
   abbrev items_row_scope : RowScope
   items_row_scope = record (row_scope s) { new_class = news }
@@ -160,7 +146,7 @@ module _ (links : Links) (s : Scope) (news : ℕ → Option Name) (place from to
   -- items from a number and a place on, whose handlers are those that are left from there on
   points-same : (number at : ℕ) (items : List EmitItem) → AllByRecursion (NameItems n) items → TakeBytes at items
       → ((behind : ℕ) → at ≤ behind → catches_at s.class.pool s.part.handlers behind ≡ catches_at s.class.pool (ranges_from place at items) behind)
-      → map (run_point links from) (map (placed_point s) (placed_from place at items)) ≡ map (run_point links to) (map_numbered (item_point items_row_scope) number items)
+      → map (run_point links from) (map (code_point s) (placed_from place at items)) ≡ map (run_point links to) (map_numbered (item_point items_row_scope) number items)
   points-same number at [] names take left = refl
   points-same number at (item ∷ items) names take left =
       let pool = s.class.pool in
@@ -185,12 +171,12 @@ module _ (links : Links) (s : Scope) (items : List EmitItem) (laid : Laid) (emit
   names-items : AllByRecursion (NameItems (length items)) items
   names-items = all-items (NameItems (length items)) items (λ at item i. let each = emitted.each at item i in (each.targets, each.catches))
 
-  points-are : code_points s ≡ map (placed_point s) (placed_items items)
-  points-are = ap (map (placed_point s)) are
+  points-are : code_points s ≡ map (code_point s) (placed_items items)
+  points-are = ap (map (code_point s)) are
 
   number-same : (t : ℕ) → t < length items → number_at (code_points s) (starts t) ≡ number_at (item_points (items_scope s items) items) t
   number-same t within =
-      let placed : number_at (map (placed_point s) (placed_items items)) (starts t) ≡ t = rw (number-placed (placed_point s) (λ p. refl) starts 0 items take t within) refl in
+      let placed : number_at (map (code_point s) (placed_items items)) (starts t) ≡ t = rw (number-placed (code_point s) (λ p. refl) starts 0 items take t within) refl in
       let points = item_points (items_scope s items) items in
       let zero-add : 0 + t ≡ t = omega arith in
       let item = subst (λ (m : ℕ). number_of_first (λ (point : CodePoint). point.place == m) points ≡ Some t) zero-add (number-item (items_scope s items) 0 items t within) in

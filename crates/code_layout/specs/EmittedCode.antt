@@ -7,7 +7,7 @@ use Rattle.class_model.specs.declared.instr.Instr.{Instr}
 use Rattle.class_model.specs.declared.instr.Instr.TheVariants.{New}
 use Rattle.class_tree.specs.Headers.{Name}
 use Rattle.member_link.specs.Bodies.{item_instr}
-use Rattle.member_link.specs.Machine.Codes.{CodePoint, method_code, run_code}
+use Rattle.member_link.specs.Machine.Codes.{CodePoint, catch_by, method_code, run_code}
 use Rattle.member_link.specs.Machine.Programs.{Catch, Code, Links}
 use Rattle.member_link.specs.Machine.Replaced.{map_numbered}
 use Rattle.member_link.specs.RowScope.{RowScope}
@@ -18,13 +18,7 @@ use Rattle.code_layout.specs.declared.laid.Laid.{Laid}
 
 -- A handler of catch type 0 catches everything, and one whose catch type names no class nothing.
 abbrev pub catch_of : Constants → EmittedCatch → List Catch
-catch_of pool catch =
-    if catch.catch_type == 0
-    then record { to = catch.to; class = None } ∷ []
-    else of_class (class_at pool catch.catch_type) where
-      of_class : Option Name → List Catch
-      of_class None = []
-      of_class (Some name) = record { to = catch.to; class = Some name } ∷ []
+catch_of pool catch = catch_by pool catch.to catch.catch_type
 
 -- an item stands at its number
 abbrev pub item_point : RowScope → ℕ → EmitItem → CodePoint

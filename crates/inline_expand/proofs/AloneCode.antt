@@ -20,7 +20,7 @@ use Rattle.inline_expand.specs.Alone.{alone_points, flat_alone, handler_of, hand
 use Rattle.inline_expand.specs.Alone as alone
 use Rattle.member_link.specs.Bodies.{item_instr}
 use Rattle.member_link.specs.Laws.Renumbered.{IsSamePoint, op_renumbered}
-use Rattle.member_link.specs.Machine.Codes.{CodePoint, catch_in, catches_at, code_points, covers, instr_op, item_op, method_code, number_at}
+use Rattle.member_link.specs.Machine.Codes.{CodePoint, catch_in, catches_at, code_points, covers, instr_op, item_op, method_code, number_at, code_point, renumbered, run_point}
 use Rattle.member_link.specs.Machine.Programs.{Catch, Code, Links, Point, number_of_first}
 use Rattle.member_link.specs.Machine.Replaced.{map_numbered}
 use Rattle.member_link.specs.RowScope.{RowScope}
@@ -94,20 +94,6 @@ room-aside links number s room instr = refl
 
 -- ---- handlers
 
-abbrev renumbered : (ℕ → ℕ) → Catch → Catch
-renumbered number catch = record catch { to = number catch.to }
-
-abbrev run_point : Links → (ℕ → ℕ) → CodePoint → Point
-run_point links number point = record { op = item_op links number point.scope point.item; catches = map (renumbered number) point.catches }
-
-abbrev placed_point : Scope → Placed → CodePoint
-placed_point s placed = record {
-  place = placed.at;
-  scope = row_scope s;
-  item = item_instr placed.instr;
-  catches = catches_at s.class.pool s.part.handlers placed.at;
-}
-
 module _ (s : Scope) (from to : ℕ → ℕ) (same : (t : ℕ) → from (alone.number_at s t) ≡ to t) where
   abbrev flat_caught : List FlatHandler → List Catch
   flat_caught handlers = map (renumbered from) (map flat_catch handlers)
@@ -149,7 +135,7 @@ module _ (classes : Classes) (links : Links) (s : Scope) (flat : FlatCode) (clas
       renumber ∙ pooled ∙ room-aside links to (row_scope s) (stack_room flat) instr
 
   points-same : (number : ℕ) (instrs : List Placed) (frames : List Frame) → length frames ≡ length instrs
-      → map (run_point links from) (map_numbered (flat_point classes s flat) number (alone_points s class instrs frames)) ≡ map (run_point links to) (map (placed_point s) instrs)
+      → map (run_point links from) (map_numbered (flat_point classes s flat) number (alone_points s class instrs frames)) ≡ map (run_point links to) (map (code_point s) instrs)
   points-same number [] [] one-each = refl
   points-same number [] (frame ∷ frames) one-each = absurd cc
   points-same number (placed ∷ instrs) [] one-each = absurd cc
@@ -188,7 +174,7 @@ module _ (classes : Classes) (links : Links) (s : Scope) (at : MethodAt) (frames
       found-point all number found refl ∙ ap (λ (n : ℕ). or_behind n found) (length-numbered (flat_point classes s flat) zero points) ∙ first in
       let places = number_of_first (λ (placed : Placed). placed.at == t) instrs in
       let own : number_at (code_points s) t ≡ number =
-      found-point (code_points s) t places (first-placed (placed_point s) (λ p. refl) t instrs) ∙ ap (λ (n : ℕ). or_behind n places) (length-map instrs (placed_point s)) ∙ sym (found-instr instrs t places refl) in
+      found-point (code_points s) t places (first-placed (code_point s) (λ p. refl) t instrs) ∙ ap (λ (n : ℕ). or_behind n places) (length-map instrs (code_point s)) ∙ sym (found-instr instrs t places refl) in
       flats ∙ sym own
 
   pub alone-code : flat_code classes links s flat ≡ method_code links s

@@ -34,7 +34,7 @@ use Rattle.inline_expand.proofs.CalledMethods.{placed_by_number}
 use Rattle.inline_expand.proofs.ExpandedPoints.{has-code, number-inside, points-length, sites-inside, some-points}
 use Rattle.inline_expand.proofs.GrownSteps.{own_some}
 use Rattle.inline_expand.proofs.ShapeParts.{units-cons}
-use Rattle.inline_expand.proofs.TypedAloneNumbers.{Ascend, ascend}
+use Rattle.type_rules.specs.Laws.InstructionOrder.{Ascend, ascend}
 use Rattle.inline_expand.specs.Alone.{handler_by, handlers_by}
 use Rattle.inline_expand.specs.Callees.{IsCallee, instr_at, is_callee}
 use Rattle.inline_expand.specs.Expanded.{Argument, Narrowing, Setting, arguments, arguments_from, callee_of, callee_setting, class_of, expanded, frame_behind_stores, frame_stored, host_setting, instr_points, narrowing, number_from, own_narrowing, own_points, point_in, points_before, points_from, points_of, points_of_callee, points_of_entry, return_points, set_frame, set_instr, sites_from, store_points, test_points, tests_receiver, units_in, with_unit}

@@ -30,7 +30,7 @@ use Rattle.class_tree.specs.Layouts.{instance_fields, own_fields, superclasses}
 use Rattle.class_tree.specs.Names.{object}
 use Rattle.inline_expand.proofs.AloneFlat.{all-append, all-mapped}
 use Rattle.inline_expand.proofs.FolderNames.{of_folder}
-use Rattle.inline_expand.proofs.ResultTexts.{type_of_spelled}
+use Rattle.member_link.specs.Laws.ResultTexts.{type_of_spelled}
 use Rattle.inline_expand.proofs.SuperChains.{chain_is, has_superclass}
 use Rattle.inline_expand.specs.Candidates.{HasRoom, IsCandidate}
 use Rattle.inline_expand.specs.FieldConstructors.{HasFieldConstructor, constructor_descriptor, field_types}

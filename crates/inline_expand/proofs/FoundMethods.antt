@@ -13,31 +13,9 @@ use Rattle.class_tree.specs.declared.place.Place.{Place}
 use Rattle.class_tree.specs.declared.place.Place.TheVariants.{Folder, Library}
 use Rattle.inline_expand.specs.Callees.{StandsAt}
 use Rattle.inline_expand.specs.Inner.Found.{folder_method, method_numbers}
-use Rattle.inline_expand.proofs.FolderPlaces.{none_own, own_at}
 use Rattle.member_link.specs.DeclaredMembers.{Declared, declared, declared_by}
 use Rattle.member_link.specs.Found.{AreSame, IsMethodFound}
 use Rattle.member_link.specs.declared.found.Found.{Found}
-
--- ---- what the look-up of a class's own method answers
-
-pub own_found : (headers : Headers) (place : Place) (header : Header) (name desc : List ℕ) (number : ℕ) (member : Member) → header_at headers place ≡ Some header → member_place name desc header.methods ≡ Some number → slice_get header.methods number ≡ Some member → AreSame (IsMethodFound headers) (Some (record { place = place; member = number; flags = member.flags })) (option_map (declared_by header.name) (declared name desc header.methods))
-own_found headers place header name desc number member at is stands =
-    let own = own_at name desc header.methods number is in
-    let same = same_Some own.member member (sym own.stands ∙ stands) in
-    subst (λ (o : Option Member). AreSame (IsMethodFound headers) (Some (record { place = place; member = number; flags = member.flags })) (option_map (declared_by header.name) o)) (sym (own.is ∙ ap Some same)) (record {
-      header = header;
-      at = at;
-      own_class = refl;
-      stands = stands;
-      first =
-          ap (λ n. member_place n member.desc header.methods) (ap (λ (m : Member). m.name) (sym same) ∙ own.own_name)
-          ∙ ap (λ d. member_place name d header.methods) (ap (λ (m : Member). m.desc) (sym same) ∙ own.own_desc) ∙ is;
-      same_flags = refl;
-    })
-
-pub own_missing : (headers : Headers) (header : Header) (name desc : List ℕ) → member_place name desc header.methods ≡ None → AreSame (IsMethodFound headers) None (option_map (declared_by header.name) (declared name desc header.methods))
-own_missing headers header name desc none =
-    subst (λ (o : Option Member). AreSame (IsMethodFound headers) None (option_map (declared_by header.name) o)) (sym (none_own name desc header.methods none)) tt
 
 -- the class file of a number in the folder has a header
 pub class_at : (classes : Classes) (class : ℕ) → class < length classes.folder → (header : Header) × (slice_get (headers_of classes).folder class ≡ Some header)

@@ -18,7 +18,7 @@ use Rattle.flow_code.specs.declared.reason.Reason.{Reason}
 use Rattle.flow_code.specs.declared.reason.Reason.TheVariants as reasons
 use Rattle.inline_expand.proofs.ExpandedFlat.{expanded-is-flat}
 use Rattle.inline_expand.proofs.ExpandedPoints.{points-length, sites-are-candidates}
-use Rattle.inline_expand.proofs.OneExpansion.{one_coded, one_expansion}
+use Rattle.inline_expand.proofs.OneExpansion.{coded_once, one_expansion}
 use Rattle.inline_expand.proofs.ReadyCalls.{one_scope}
 use Rattle.inline_expand.proofs.ScopeParts.{scope-parts}
 use Rattle.inline_expand.specs.Callees.{Calls}
@@ -147,7 +147,7 @@ module _ (classes : Classes) (typed : FolderFrames)
 
   module _ (coded : Coded) (own : coded.at ≡ host) (frames : HasFrames classes typed coded.at coded.scope coded.frames) where
     same-host : (other : Coded) → other.at ≡ host → HasFrames classes typed other.at other.scope other.frames → other ≡ coded
-    same-host other same is = one_coded classes typed host once other coded (same ∙ sym own) is frames
+    same-host other same is = coded_once other coded (same ∙ sym own) is frames
 
     -- where each expansion has more points than so many
     pub too-long : (most : ℕ) → ((expansion : Expansion) → Expands classes typed coded.at [] coded.at (instructions coded.scope) expansion → most < points_of None (instructions coded.scope) expansion)
@@ -179,7 +179,7 @@ module _ (classes : Classes) (typed : FolderFrames)
           let code = of-expanded flat is in
           let same = same-host is.host is.own code.frames in
           let here = subst (λ (c : Coded). Expands classes typed c.at [] c.at (instructions c.scope) is.expansion) same code.expands in
-          let all = one_expansion classes typed coded.at once [] coded.at (instructions coded.scope) is.expansion expansion here expands in
+          let all = one_expansion once (instructions coded.scope) is.expansion expansion frames here expands in
           is.is ∙ (λ i. expanded (same i) (all i))
 
       pub whole-answers : (result : Result FlatCode KeptFault) → IsOpenHost classes host → AnswersWhole (expanded coded expansion) result → AnswersExpanded classes typed host result

@@ -17,7 +17,6 @@ mod FieldTexts
 mod FinalClasses
 mod FlatPlaces
 mod FolderNames
-mod FolderPlaces
 mod FoundCallees
 mod FoundMethods
 mod Founding
@@ -59,7 +58,6 @@ mod RenumberedTable
 mod RenumberedTargets
 mod RenumberedTypes
 mod ReplacedCalls
-mod ResultTexts
 mod Runs
 mod ScopeParts
 mod Seeing

@@ -11,7 +11,8 @@ use Rattle.class_tree.specs.Headers.{Headers}
 use Rattle.class_tree.specs.Hierarchy.{IsHierarchy}
 use Rattle.class_tree.specs.Laws.Headers.{own_name}
 use Rattle.inline_expand.specs.Inner.FolderMethods.{AreAlike, AreBuckets, AreFolderMethods, AreKept, Grows, HasOwn, IsAmong, IsFolderFound, bucket_at, bucket_of, front, key, slot_of}
-use Rattle.inline_expand.proofs.FolderPlaces.{class_of_folder, folder_index, found_in_folder, own_of_declared}
+use Rattle.member_link.specs.Laws.FolderClasses.{class_of_folder, folder_index, found_in_folder}
+use Rattle.member_link.specs.Laws.OwnMembers.{own_of_declared}
 use Rattle.member_link.specs.DeclaredMembers.{Declared, declared, declared_by}
 use Rattle.member_link.specs.Found.{AreSame, IsMethodFound}
 use Rattle.member_link.specs.declared.found.Found.{Found}

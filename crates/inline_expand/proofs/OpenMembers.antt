@@ -16,7 +16,7 @@ use Rattle.inline_expand.specs.Callees.{IsOpenField, IsOpenFieldAt, IsOpenMethod
 use Rattle.inline_expand.specs.Inner.Found.{IsFolderPlace}
 use Rattle.inline_expand.specs.Inner.Open.{WillBeOpened}
 use Rattle.inline_expand.specs.Quiet.{IsOfFolder}
-use Rattle.inline_expand.proofs.FolderPlaces.{folder_index, found_in_folder}
+use Rattle.member_link.specs.Laws.FolderClasses.{folder_index, found_in_folder}
 use Rattle.member_link.specs.DeclaredMembers.{Declared, is_package_access}
 use Rattle.member_link.specs.Found.{IsFieldFound}
 use Rattle.member_link.specs.Overriding.{package_of}

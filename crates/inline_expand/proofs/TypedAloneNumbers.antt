@@ -12,6 +12,7 @@ use Rattle.inline_expand.specs.Alone.{alone_point, alone_points, number_in}
 use Rattle.member_link.specs.BodyTyping.{AreInOrder, frame_among}
 use Rattle.member_link.specs.Machine.Programs.{number_of_first}
 use Rattle.member_link.specs.Scope.{Scope}
+use Rattle.type_rules.specs.Laws.InstructionOrder.{Ascend, ascend}
 use Rattle.type_rules.specs.MethodBodies.{point_of}
 
 -- ---- numbers
@@ -37,26 +38,6 @@ number_behind : (placed : Placed) (instrs : List Placed) (at : ℕ) → placed.a
 number_behind placed instrs at not = number_if placed instrs at false (ne_eqb placed.at at not)
 
 -- ---- in order
-
-abbrev pub Ascend : List Placed → Type 0
-Ascend [] = Unit {0}
-Ascend (p ∷ ps) = AllByRecursion (λ (q : Placed). p.at < q.at) ps × Ascend ps
-
-pub ascend : (s : Scope) (ps : List Placed) → AreInOrder (map (point_of s) ps) → Ascend ps
-ascend s [] order = tt
-ascend s (p ∷ []) order = (tt, tt)
-ascend s (p ∷ (q ∷ ps)) order =
-    let rest : Ascend (q ∷ ps) = ascend s (q ∷ ps) order.2 in
-    let one : p.at < p.at + p.len = order.0 in
-    let same : q.at ≡ p.at + p.len = order.1 in
-    let before : p.at < q.at = omega (arith, one, same) in (
-      (
-        before,
-        AllByRecursion-weaker (λ (r : Placed). q.at < r.at) (λ (r : Placed). p.at < r.at)
-            (λ r is. omega (arith, before, is)) ps rest.0,
-      ),
-      rest,
-    )
 
 in_ascent : (instrs : List Placed) → Ascend instrs → (n : ℕ) (placed : Placed) → slice_get instrs n ≡ Some placed
     → number_in instrs placed.at ≡ n

@@ -24,7 +24,6 @@ pub mod Places
 pub mod QuietWords
 pub mod Ready
 pub mod ReadyCallees
-pub mod References
 pub mod Replacements
 pub mod SeenMethods
 pub mod Settings

@@ -8,7 +8,7 @@ ghost use Rattle.class_tree.specs.Headers.{Classes, Name, headers_of};
 ghost use Rattle.class_tree.specs.Hierarchy.{IsHierarchy};
 ghost use Rattle.inline_expand.specs.Callees.{Calls, IsClass};
 ghost use Rattle.inline_expand.specs.Inner.Calls.{DecidesCall, DecidesRun, call_at, call_meant, called_by};
-ghost use Rattle.inline_expand.specs.Inner.References.{reference_meant};
+ghost use Rattle.member_link.specs.MemberRefs.{reference_meant};
 ghost use Rattle.member_link.specs.Methods.{IsInLibrary, IsPolymorphic};
 ghost use Rattle.member_link.specs.Scope.{Scope};
 
@@ -17,13 +17,12 @@ use crate::folder_methods::FolderMethods;
 use crate::found::folder_method;
 use crate::host::Host;
 use crate::overridden::is_overridden_by_none;
-use crate::references::{Reference, reference_at};
 use class_model::opcodes::{INVOKESPECIAL, INVOKESTATIC, INVOKEVIRTUAL};
 use class_model::{ACC_STATIC, INIT, Instr, MethodAt, NoMemory, Pool, Text, has};
 use class_tree::{METHOD_HANDLE, Place, Tree, a_tree_is_a_hierarchy};
 use member_link::{
-    CallForm, Selected, a_look_up_finds_one_method, a_selection_chooses_one,
-    a_special_call_starts_once, find_method, select, special_start,
+    CallForm, MemberRef, Selected, a_look_up_finds_one_method, a_selection_chooses_one,
+    a_special_call_starts_once, find_method, member_at, select, special_start,
 };
 use std::alloc::Global;
 
@@ -35,7 +34,7 @@ const INVOKE_EXACT: &[u8] = b"invokeExact";
 #[derive(Clone, Copy)]
 pub(crate) struct Call<'a> {
     pub(crate) opcode: u8,
-    pub(crate) reference: Reference<'a>,
+    pub(crate) reference: MemberRef<'a>,
 }
 
 /// The method of the folder that the call at an offset of a method runs, whatever its receiver is; none
@@ -89,7 +88,7 @@ fn call_of<'a>(pool: &'a Pool, instr: &Instr) -> Option<Call<'a>>
     let Instr::Invoke(opcode, index, _) = instr else {
         return None;
     };
-    let reference = reference_at(pool, *index)?;
+    let reference = member_at(pool, *index)?;
     Some(Call {
         opcode: *opcode,
         reference,
@@ -114,7 +113,7 @@ fn callee_of(methods: &FolderMethods<'_>, own: &Text, call: &Call<'_>) -> Option
 }
 
 // The method of the folder that a static call runs.
-fn static_callee(tree: &Tree, reference: &Reference<'_>) -> Option<MethodAt>
+fn static_callee(tree: &Tree, reference: &MemberRef<'_>) -> Option<MethodAt>
     ensures { (own : Name)
         → DecidesRun tree.now own (reference_meant reference.now) INVOKESTATIC result }
 {
@@ -127,7 +126,7 @@ fn static_callee(tree: &Tree, reference: &Reference<'_>) -> Option<MethodAt>
 }
 
 // The method of the folder that a special call in a class of this name runs.
-fn special_callee(tree: &Tree, own: &Text, reference: &Reference<'_>) -> Option<MethodAt>
+fn special_callee(tree: &Tree, own: &Text, reference: &MemberRef<'_>) -> Option<MethodAt>
     ensures { DecidesRun tree.now own.now (reference_meant reference.now) INVOKESPECIAL result }
 {
     a_tree_is_a_hierarchy(tree);
@@ -152,7 +151,7 @@ fn special_callee(tree: &Tree, own: &Text, reference: &Reference<'_>) -> Option<
 }
 
 // Whether a special call in a class of this name may run: it names an initialiser, or the class is no interface.
-fn is_special(tree: &Tree, own: &Text, reference: &Reference<'_>) -> bool
+fn is_special(tree: &Tree, own: &Text, reference: &MemberRef<'_>) -> bool
     ensures { IsTrue result
         ↔ (IsClass (headers_of tree.now) own.now
         ⊎ ((reference_meant reference.now).name ≡ init)) }
@@ -161,7 +160,7 @@ fn is_special(tree: &Tree, own: &Text, reference: &Reference<'_>) -> bool
 }
 
 // Whether a reference names a signature polymorphic method of the library (2.9), of which nothing is selected.
-fn is_polymorphic(tree: &Tree, reference: &Reference<'_>) -> bool
+fn is_polymorphic(tree: &Tree, reference: &MemberRef<'_>) -> bool
     ensures { IsTrue result
         ↔ IsPolymorphic (headers_of tree.now) (reference_meant reference.now).class
         (reference_meant reference.now).name }
@@ -179,7 +178,7 @@ fn is_in_library(tree: &Tree, class: &Text) -> bool
 }
 
 // The method of the folder that a virtual call runs.
-fn virtual_callee(methods: &FolderMethods<'_>, reference: &Reference<'_>) -> Option<MethodAt>
+fn virtual_callee(methods: &FolderMethods<'_>, reference: &MemberRef<'_>) -> Option<MethodAt>
     ensures { (own : Name)
         → DecidesRun methods.now own (reference_meant reference.now) INVOKEVIRTUAL result }
 {

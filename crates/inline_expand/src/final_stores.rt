@@ -5,11 +5,10 @@ ghost use Rattle.class_tree.specs.Headers.{headers_of};
 ghost use Rattle.code_bytes.specs.Codes.{HasInstrs, HasReadMethods, IsReadMethod};
 ghost use Rattle.inline_expand.specs.Inner.StoreWords.{Adds, AreMarks, IsFinalClass, StoredBefore, StoresAt, StoresFrom, is_store, is_stored_by, is_wanted, method_instrs, stores_into};
 
-use crate::referred::reference_of;
 use class_model::{ACC_FINAL, ClassFile, INIT, Instr, Method, NoMemory, Placed, Pool, has};
 use class_tree::{Place, Tree, a_tree_is_a_hierarchy};
 use code_bytes::{a_class_file_has_read_methods, instructions_of, is_text};
-use member_link::{a_look_up_finds_one_field, find_field};
+use member_link::{a_look_up_finds_one_field, find_field, member_at};
 use std::alloc::Global;
 use type_rules::code_of;
 
@@ -225,7 +224,7 @@ fn final_class(tree: &Tree, pool: &Pool, index: u16) -> Option<usize>
 {
     a_tree_is_a_hierarchy(tree);
     a_look_up_finds_one_field();
-    let Some(reference) = reference_of(pool, pool.get(index)) else {
+    let Some(reference) = member_at(pool, index) else {
         return None;
     };
     let Some(found) = find_field(tree, reference.class, reference.name, reference.desc) else {

@@ -4,10 +4,9 @@ ghost use Rattle.class_model.specs.declared.header.Header.{Header};
 ghost use Rattle.class_tree.specs.Headers.{headers_of};
 ghost use Rattle.inline_expand.specs.Inner.FolderMethods.{AreAlike, AreBuckets, AreKept, front, key, slot_of};
 
-use crate::found::own_method;
 use class_model::{ListOf, Member, NoMemory};
 use class_tree::{Place, Tree, a_tree_is_a_hierarchy};
-use member_link::Found;
+use member_link::{Found, own_method};
 use std::alloc::Global;
 use std::marker::Model;
 

@@ -1,14 +1,15 @@
 //! Method handles of instance initialisers.
-ghost use Rattle.std.specs.Prelude.{◌++◌, ◌<◌, ℕ, List, Some, IfOk, OnOk};
-ghost use Rattle.std.specs.Option.{option_copied};
+ghost use Rattle.std.specs.Prelude.{◌≡◌, ◌++◌, ◌<◌, ℕ, List, Some, IfOk, OnOk};
+ghost use Rattle.std.specs.Option.{option_copied, option_map};
 ghost use Rattle.class_tree.specs.Headers.{Name, headers_of};
 ghost use Rattle.inline_expand.specs.FieldConstructors.{handled};
+ghost use Rattle.member_link.specs.MemberRefs.{reference_meant};
 ghost use Rattle.inline_expand.specs.Inner.ConstructorWords.{AreHandled, handled_in, handled_of, handled_of_pool};
 
 use crate::quiet::folder_number;
-use crate::referred::{Referred, handled};
 use class_model::{ClassFile, Const, INIT, ListOf, NoMemory, Pool, Text, TextList};
 use class_tree::{Tree, a_tree_is_a_hierarchy};
+use member_link::{MemberRef, member_at};
 use std::alloc::Global;
 
 /// For each class of the folder by its number, the descriptors of those of its instance initialisers that method handles of
@@ -69,16 +70,27 @@ fn add_constant(
     }
 }
 
+// The member that a constant is a method handle of.
+fn handled<'p>(pool: &'p Pool, constant: Option<&Const>) -> Option<MemberRef<'p>>
+    ensures { option_map reference_meant result
+        ≡ handled pool.now (option_copied constant.entry) }
+{
+    match constant {
+        Some(Const::MethodHandle(_, reference)) => member_at(pool, *reference),
+        _ => None,
+    }
+}
+
 // Adds a member that a method handle refers to, if it is an instance initialiser of the folder.
 fn add_reference(
     tree: &Tree,
-    reference: &Referred<'_>,
+    reference: &MemberRef<'_>,
     lists: &mut Vec<TextList>,
 ) -> Result<(), NoMemory>
     ensures { OnOk result ((of : Name → List (List ℕ))
         → AreHandled (headers_of tree.now) lists.old.items of
         → AreHandled (headers_of tree.now) lists.new.items
-        (λ class. of class ++ handled_in class (Some reference.now))) }
+        (λ class. of class ++ handled_in class (Some (reference_meant reference.now)))) }
 {
     a_tree_is_a_hierarchy(tree);
     if reference.name.bytes() != INIT {

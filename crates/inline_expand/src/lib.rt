@@ -29,8 +29,6 @@ mod parameters;
 mod places;
 mod quiet;
 mod ready;
-mod references;
-mod referred;
 mod renumbered;
 mod replaced;
 mod shallow;

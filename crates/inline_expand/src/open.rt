@@ -8,7 +8,7 @@ ghost use Rattle.class_tree.specs.Headers.{headers_of};
 ghost use Rattle.class_tree.specs.Order.{header_at};
 ghost use Rattle.inline_expand.specs.Callees.{IsOpenClassAt, IsOpenConstant, IsOpenField, IsOpenFieldAt, IsOpenFieldReference, IsOpenMethod, IsOpenMethodAt, IsOpenMethodReference, NamesOpen};
 ghost use Rattle.inline_expand.specs.Inner.Open.{WillBeOpened};
-ghost use Rattle.inline_expand.specs.Inner.References.{reference_meant};
+ghost use Rattle.member_link.specs.MemberRefs.{reference_meant};
 ghost use Rattle.member_link.specs.DeclaredMembers as declared;
 ghost use Rattle.member_link.specs.DeclaredMembers.{Declared};
 ghost use Rattle.member_link.specs.Found.{IsFieldFound, IsMethodFound};
@@ -16,13 +16,9 @@ ghost use Rattle.member_link.specs.Overriding.{package_of};
 
 use crate::found::method_of;
 use crate::host::Host;
-use crate::references::{Reference, reference_at};
 use class_model::{ACC_PRIVATE, ACC_PROTECTED, ACC_PUBLIC, ACC_STATIC, Const, Instr, Text, has};
 use class_tree::{Place, Tree, a_tree_is_a_hierarchy, is_array};
-use member_link::{
-    Found, a_look_up_finds_one_field, a_look_up_finds_one_method, class_accessible, find_field,
-    find_method, is_same_package,
-};
+use member_link::{Found, MemberRef, a_look_up_finds_one_field, a_look_up_finds_one_method, class_accessible, find_field, find_method, is_same_package, member_at};
 
 // The method of an array that counts as public.
 const CLONE: &[u8] = b"clone";
@@ -73,7 +69,7 @@ fn is_open_class_at(scope: &Host<'_>, host: &Text, index: u16) -> bool
 fn is_open_field_at(scope: &Host<'_>, host: &Text, index: u16) -> bool
     ensures { IsTrue result ↔ IsOpenFieldAt scope.now host.now index }
 {
-    match reference_at(scope.pool(), index) {
+    match member_at(scope.pool(), index) {
         Some(reference) => is_open_field_reference(scope.tree(), host, &reference),
         None => true,
     }
@@ -83,14 +79,14 @@ fn is_open_field_at(scope: &Host<'_>, host: &Text, index: u16) -> bool
 fn is_open_method_at(scope: &Host<'_>, host: &Text, index: u16) -> bool
     ensures { IsTrue result ↔ IsOpenMethodAt scope.now host.now index }
 {
-    match reference_at(scope.pool(), index) {
+    match member_at(scope.pool(), index) {
         Some(reference) => is_open_method_reference(scope.tree(), host, &reference),
         None => true,
     }
 }
 
 // Whether the class and the field of a reference are accessible, or the field will be opened.
-fn is_open_field_reference(tree: &Tree, host: &Text, reference: &Reference<'_>) -> bool
+fn is_open_field_reference(tree: &Tree, host: &Text, reference: &MemberRef<'_>) -> bool
     ensures { IsTrue result
         ↔ IsOpenFieldReference (headers_of tree.now) host.now (reference_meant reference.now) }
 {
@@ -105,7 +101,7 @@ fn is_open_field_reference(tree: &Tree, host: &Text, reference: &Reference<'_>) 
 }
 
 // Whether the class and the method of a reference are accessible.
-fn is_open_method_reference(tree: &Tree, host: &Text, reference: &Reference<'_>) -> bool
+fn is_open_method_reference(tree: &Tree, host: &Text, reference: &MemberRef<'_>) -> bool
     ensures { IsTrue result
         ↔ IsOpenMethodReference (headers_of tree.now) host.now (reference_meant reference.now) }
 {

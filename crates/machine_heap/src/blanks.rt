@@ -61,18 +61,22 @@ pub(crate) fn blanks_for(alloc: Global, tree: &Tree, shape: &Shape) -> Result<Va
     }
 }
 
-// What the elements of a new array hold, by the array's descriptor and length.
-fn blank_elements(alloc: Global, desc: &Text, len: u32) -> Result<ValueList, NoMemory>
+/// What the elements of a new array hold, by the array's descriptor and length.
+///
+/// # Errors
+///
+/// `NoMemory` where memory runs out.
+pub fn blank_elements(alloc: Global, desc: &Text, len: u32) -> Result<ValueList, NoMemory>
     ensures { IfOk result
         (λ values. values ≡ replicate len (blank_value (component_text desc.now))) }
 {
     let mut values = Vec::new(alloc);
-    values.resize(len as usize, blank(component(desc.bytes())))?;
+    values.resize(len as usize, blank(component_text(desc.bytes())))?;
     Ok(ValueList::from_vec(values))
 }
 
-// What is behind the first bracket of an array's descriptor.
-fn component(desc: &[u8]) -> &[u8]
+/// The type of the elements, by an array's descriptor: what is behind its first bracket. It does not allocate.
+pub fn component_text(desc: &[u8]) -> &[u8]
     ensures { result.now ≡ component_text desc.now }
 {
     match desc {

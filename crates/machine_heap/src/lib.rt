@@ -9,7 +9,7 @@ mod heap;
 mod kept;
 mod laws;
 
-pub use blanks::{blank, blank_fields};
+pub use blanks::{blank, blank_elements, blank_fields, component_text};
 pub use heap::{Heap, Put};
 pub use laws::{
     a_constant_has_one_reference, a_monitor_changes_one_count, a_new_object_changes_no_other,

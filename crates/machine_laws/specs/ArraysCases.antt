@@ -14,6 +14,7 @@ use Rattle.machine_values.specs.declared.event.EventKind.TheVariants as events
 use Rattle.machine_values.specs.declared.event.Seen.TheVariants as seen
 use Rattle.machine_laws.specs.TestPrograms.{reference, program, with_code, class, int, x_of_P, P_class, T_fields, shows, event, result_int, old_ref, call_T, new_external, threw_new, made}
 use Rattle.member_link.specs.Machine.Ops as ops
+use Rattle.member_link.specs.Machine.Ops.{Op}
 use Rattle.member_link.specs.Machine.Programs.{Program, RunMethod}
 
 -- throwables, and their order
@@ -97,32 +98,24 @@ throwing_store = with_code 9 (codes "store") (codes "([Ljava/lang/Object;ILjava/
     ∷ []
     )
 
-abbrev pub throwing_div : RunMethod
-throwing_div = with_code 9 (codes "div") (codes "(II)I") 2 (
+-- an operation on two ints
+abbrev of_two_ints : List ℕ → Op → RunMethod
+of_two_ints name op = with_code 9 name (codes "(II)I") 2 (
     ops.load_local kinds.Int 0
     ∷ ops.load_local kinds.Int 1
-    ∷ ops.division IDIV
+    ∷ op
     ∷ ops.return_value types.Int
     ∷ []
     )
+
+abbrev pub throwing_div : RunMethod
+throwing_div = of_two_ints (codes "div") (ops.division IDIV)
 
 abbrev pub throwing_rem : RunMethod
-throwing_rem = with_code 9 (codes "rem") (codes "(II)I") 2 (
-    ops.load_local kinds.Int 0
-    ∷ ops.load_local kinds.Int 1
-    ∷ ops.division IREM
-    ∷ ops.return_value types.Int
-    ∷ []
-    )
+throwing_rem = of_two_ints (codes "rem") (ops.division IREM)
 
 abbrev pub throwing_shift : RunMethod
-throwing_shift = with_code 9 (codes "shift") (codes "(II)I") 2 (
-    ops.load_local kinds.Int 0
-    ∷ ops.load_local kinds.Int 1
-    ∷ ops.pure_arithmetic IUSHR
-    ∷ ops.return_value types.Int
-    ∷ []
-    )
+throwing_shift = of_two_ints (codes "shift") (ops.pure_arithmetic IUSHR)
 
 abbrev pub throwing_clone : RunMethod
 throwing_clone = with_code 9 (codes "clone") (codes "([I)Ljava/lang/Object;") 1 (
@@ -197,70 +190,34 @@ throwing_program = program (
     ∷ []
     )
 
--- elements of narrow arrays
-abbrev pub narrow_b : RunMethod
-narrow_b = with_code 9 (codes "b") (codes "(I)I") 2 (
+-- an int through the element of an array, which may be narrow
+abbrev through_array : List ℕ → List ℕ → ℕ → ℕ → RunMethod
+through_array name array store load = with_code 9 name (codes "(I)I") 2 (
     int (pos 1)
-    ∷ ops.new_array (codes "[B")
+    ∷ ops.new_array array
     ∷ ops.shuffle_stack DUP
     ∷ ops.store_local kinds.Ref 1
     ∷ int (pos 0)
     ∷ ops.load_local kinds.Int 0
-    ∷ ops.store_element BASTORE
+    ∷ ops.store_element store
     ∷ ops.load_local kinds.Ref 1
     ∷ int (pos 0)
-    ∷ ops.load_element BALOAD
+    ∷ ops.load_element load
     ∷ ops.return_value types.Int
     ∷ []
     )
+
+abbrev pub narrow_b : RunMethod
+narrow_b = through_array (codes "b") (codes "[B") BASTORE BALOAD
 
 abbrev pub narrow_z : RunMethod
-narrow_z = with_code 9 (codes "z") (codes "(I)I") 2 (
-    int (pos 1)
-    ∷ ops.new_array (codes "[Z")
-    ∷ ops.shuffle_stack DUP
-    ∷ ops.store_local kinds.Ref 1
-    ∷ int (pos 0)
-    ∷ ops.load_local kinds.Int 0
-    ∷ ops.store_element BASTORE
-    ∷ ops.load_local kinds.Ref 1
-    ∷ int (pos 0)
-    ∷ ops.load_element BALOAD
-    ∷ ops.return_value types.Int
-    ∷ []
-    )
+narrow_z = through_array (codes "z") (codes "[Z") BASTORE BALOAD
 
 abbrev pub narrow_c : RunMethod
-narrow_c = with_code 9 (codes "c") (codes "(I)I") 2 (
-    int (pos 1)
-    ∷ ops.new_array (codes "[C")
-    ∷ ops.shuffle_stack DUP
-    ∷ ops.store_local kinds.Ref 1
-    ∷ int (pos 0)
-    ∷ ops.load_local kinds.Int 0
-    ∷ ops.store_element CASTORE
-    ∷ ops.load_local kinds.Ref 1
-    ∷ int (pos 0)
-    ∷ ops.load_element CALOAD
-    ∷ ops.return_value types.Int
-    ∷ []
-    )
+narrow_c = through_array (codes "c") (codes "[C") CASTORE CALOAD
 
 abbrev pub narrow_s : RunMethod
-narrow_s = with_code 9 (codes "s") (codes "(I)I") 2 (
-    int (pos 1)
-    ∷ ops.new_array (codes "[S")
-    ∷ ops.shuffle_stack DUP
-    ∷ ops.store_local kinds.Ref 1
-    ∷ int (pos 0)
-    ∷ ops.load_local kinds.Int 0
-    ∷ ops.store_element SASTORE
-    ∷ ops.load_local kinds.Ref 1
-    ∷ int (pos 0)
-    ∷ ops.load_element SALOAD
-    ∷ ops.return_value types.Int
-    ∷ []
-    )
+narrow_s = through_array (codes "s") (codes "[S") SASTORE SALOAD
 
 abbrev pub narrow_program : Program
 narrow_program = program (

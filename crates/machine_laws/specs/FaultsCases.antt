@@ -15,7 +15,7 @@ use Rattle.machine_values.specs.declared.event.EventKind.TheVariants as events
 use Rattle.machine_values.specs.declared.event.Seen.TheVariants as seen
 use Rattle.machine_values.specs.declared.object.Constant.TheVariants as constants
 use Rattle.machine_values.specs.declared.value.Value.TheVariants as values
-use Rattle.machine_laws.specs.TestPrograms.{reference, program, with_code, without_code, class_above, class, int, use_of_L, super_init, made_by_library, x_of_P, P_class, T_fields, shows, event, result_int, new_ref, call_T, shows_in, new_external, made}
+use Rattle.machine_laws.specs.TestPrograms.{asking_number, reference, program, with_code, without_code, class_above, class, int, use_of_L, super_init, made_by_library, x_of_P, P_class, T_fields, shows, event, result_int, new_ref, call_T, shows_in, new_external, made}
 use Rattle.machine_laws.specs.WorkedProgramsCases.{j_program}
 use Rattle.machine_laws.specs.ArraysCases.{throwing_program}
 use Rattle.member_link.specs.Machine.Ops as ops
@@ -48,14 +48,6 @@ asking_use = with_code 9 (codes "use") (codes "()V") 0 (
     ops.push_value values.Null
     ∷ ops.call_static use_of_L
     ∷ ops.return_nothing
-    ∷ []
-    )
-
--- static int number() { return L.number(); }
-abbrev pub asking_number : RunMethod
-asking_number = with_code 9 (codes "number") (codes "()I") 0 (
-    ops.call_static (reference (codes "L") (codes "number") (codes "()B"))
-    ∷ ops.return_value types.Int
     ∷ []
     )
 

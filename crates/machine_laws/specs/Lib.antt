@@ -14,3 +14,4 @@ pub mod ArithmeticCases
 pub mod NarrowingCases
 pub mod HandlersCases
 pub mod StuckCases
+pub mod Laws

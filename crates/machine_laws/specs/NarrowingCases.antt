@@ -13,7 +13,7 @@ use Rattle.machine_values.specs.declared.action.Given.TheVariants as given
 use Rattle.machine_values.specs.declared.event.End.TheVariants as ends
 use Rattle.machine_values.specs.declared.event.EventKind.TheVariants as events
 use Rattle.machine_values.specs.declared.event.Seen.TheVariants as seen
-use Rattle.machine_laws.specs.TestPrograms.{reference, member, program, with_code, class, init_of, super_init, T_fields, shows, event, result_int, call_T, result_nothing}
+use Rattle.machine_laws.specs.TestPrograms.{asking_number, reference, member, program, with_code, class, init_of, super_init, T_fields, shows, event, result_int, call_T, result_nothing}
 use Rattle.member_link.specs.Machine.Ops as ops
 use Rattle.member_link.specs.Machine.Programs.{Program, RunMethod}
 use Rattle.member_link.specs.References.{Reference}
@@ -57,14 +57,6 @@ abbrev pub passing : RunMethod
 passing = with_code 9 (codes "pass") (codes "(I)I") 1 (
     ops.load_local kinds.Int 0
     ∷ ops.call_static (reference (codes "T") (codes "take") (codes "(B)I"))
-    ∷ ops.return_value types.Int
-    ∷ []
-    )
-
--- static int number() { return L.number(); }, which gives a byte
-abbrev pub asking_number : RunMethod
-asking_number = with_code 9 (codes "number") (codes "()I") 0 (
-    ops.call_static (reference (codes "L") (codes "number") (codes "()B"))
     ∷ ops.return_value types.Int
     ∷ []
     )

@@ -213,6 +213,14 @@ super_init super_name = with_code 1 (codes "<init>") (codes "()V") 1 (
     ∷ []
     )
 
+-- static int number() { return L.number(); }, which gives a byte
+abbrev pub asking_number : RunMethod
+asking_number = with_code 9 (codes "number") (codes "()I") 0 (
+    ops.call_static (reference (codes "L") (codes "number") (codes "()B"))
+    ∷ ops.return_value types.Int
+    ∷ []
+    )
+
 -- the library can make objects of a class that has such a handle
 abbrev pub made_by_library : Name → RunClass → RunClass
 made_by_library name class = record class {

@@ -1,5 +1,5 @@
 -- Small programs and what they show: objects, static fields, joins, loops, monitors and handlers.
-use Rattle.std.specs.Prelude.{ℕ, ℤ, pos, negsuc, List, [], ◌∷◌, codes, Some, None}
+use Rattle.std.specs.Prelude.{ℕ, ℤ, pos, negsuc, List, [], ◌∷◌, codes, Some, None, ◌++◌, ◌+◌}
 use Rattle.class_model.specs.declared.descriptor.FieldType.TheVariants as types
 use Rattle.class_model.specs.declared.descriptor.Kind.TheVariants as kinds
 use Rattle.class_model.specs.declared.opcodes.TheConstants.{DUP, IADD, IDIV, IFEQ, IFNE, IFLE, IF_ICMPNE, IF_ICMPGE, IFNULL, IFNONNULL}
@@ -13,6 +13,7 @@ use Rattle.machine_values.specs.declared.event.Seen.TheVariants as seen
 use Rattle.machine_values.specs.declared.value.Value.TheVariants as values
 use Rattle.machine_laws.specs.TestPrograms.{reference, member, program, with_code, without_code, class, int, init_of_object, use_of_L, keep_of_L, init_of, super_init, x_of_P, init_of_P, call_y_of_P, P_class, T_fields, shows, event, result_int, new_ref, old_ref, call_T, with_catches, range, shows_in, new_external, result, threw_new, made, asked_use}
 use Rattle.member_link.specs.Machine.Ops as ops
+use Rattle.member_link.specs.Machine.Ops.{Op}
 use Rattle.member_link.specs.Machine.Programs.{Program, RunMethod}
 use Rattle.member_link.specs.References.{Reference}
 
@@ -142,9 +143,10 @@ l_program = program (
     ∷ []
     )
 
--- static int s(int n) { P p = new P(n, 0); synchronized (p) { L.use(p); return p.x; } }
-abbrev pub s_of_T : RunMethod
-s_of_T = with_catches 9 (codes "s") (codes "(I)I") 4 (
+-- static int s(int n) { P p = new P(n, 0); synchronized (p) { ..; return p.x; } }, by the operations that stand for .. and the number
+-- of the point behind the return
+abbrev locking_P : List Op → ℕ → RunMethod
+locking_P inside behind = with_catches 9 (codes "s") (codes "(I)I") 4 (
     ops.new_object (codes "P")
     ∷ ops.shuffle_stack DUP
     ∷ ops.load_local kinds.Int 0
@@ -155,9 +157,8 @@ s_of_T = with_catches 9 (codes "s") (codes "(I)I") 4 (
     ∷ ops.shuffle_stack DUP
     ∷ ops.store_local kinds.Ref 2
     ∷ ops.enter_monitor
-    ∷ ops.load_local kinds.Ref 1
-    ∷ ops.call_static use_of_L
-    ∷ ops.load_local kinds.Ref 1
+    ∷ (inside
+    ++ ops.load_local kinds.Ref 1
     ∷ ops.get_field x_of_P
     ∷ ops.load_local kinds.Ref 2
     ∷ ops.leave_monitor
@@ -167,12 +168,16 @@ s_of_T = with_catches 9 (codes "s") (codes "(I)I") 4 (
     ∷ ops.leave_monitor
     ∷ ops.load_local kinds.Ref 3
     ∷ ops.throw_reference
-    ∷ []
+    ∷ [])
     ) (
-    range 10 17 17 None
-    ∷ range 17 20 17 None
+    range 10 behind behind None
+    ∷ range behind (behind + 3) behind None
     ∷ []
     )
+
+-- .. is L.use(p);
+abbrev pub s_of_T : RunMethod
+s_of_T = locking_P (ops.load_local kinds.Ref 1 ∷ ops.call_static use_of_L ∷ []) 17
 
 abbrev pub s_program : Program
 s_program = program (
@@ -314,35 +319,9 @@ c_of_T = with_code 9 (codes "c") (codes "(I)I") 2 (
 abbrev pub c_program : Program
 c_program = program (P_class ∷ T_fields [] (c_of_T ∷ []) ∷ [])
 
--- static int s(int n) { P p = new P(n, 0); synchronized (p) { return p.x; } }
+-- nothing stands for ..
 abbrev pub locking_s : RunMethod
-locking_s = with_catches 9 (codes "s") (codes "(I)I") 4 (
-    ops.new_object (codes "P")
-    ∷ ops.shuffle_stack DUP
-    ∷ ops.load_local kinds.Int 0
-    ∷ int (pos 0)
-    ∷ ops.call_special init_of_P (codes "P")
-    ∷ ops.store_local kinds.Ref 1
-    ∷ ops.load_local kinds.Ref 1
-    ∷ ops.shuffle_stack DUP
-    ∷ ops.store_local kinds.Ref 2
-    ∷ ops.enter_monitor
-    ∷ ops.load_local kinds.Ref 1
-    ∷ ops.get_field x_of_P
-    ∷ ops.load_local kinds.Ref 2
-    ∷ ops.leave_monitor
-    ∷ ops.return_value types.Int
-    ∷ ops.store_local kinds.Ref 3
-    ∷ ops.load_local kinds.Ref 2
-    ∷ ops.leave_monitor
-    ∷ ops.load_local kinds.Ref 3
-    ∷ ops.throw_reference
-    ∷ []
-    ) (
-    range 10 15 15 None
-    ∷ range 15 18 15 None
-    ∷ []
-    )
+locking_s = locking_P [] 15
 
 abbrev pub locking_program : Program
 locking_program = program (P_class ∷ T_fields [] (locking_s ∷ []) ∷ [])

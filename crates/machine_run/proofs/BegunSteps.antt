@@ -9,7 +9,7 @@ use Rattle.member_link.specs.Machine.Programs.{Program}
 use Rattle.member_link.specs.Machine.Worlds.{Halt, Memory, World, going}
 use Rattle.machine_step.specs.Programs.{IsProgram}
 use Rattle.machine_run.specs.Outcomes.{ended}
-use Rattle.machine_run.proofs.ProgramClasses.{class_with}
+use Rattle.machine_step.specs.Laws.ProgramHeaders.{class_with}
 
 pub beginning_is :
     (classes : Classes) (P : Program)

@@ -16,12 +16,13 @@ use Rattle.class_tree.specs.Order.{header_at, place_of}
 use Rattle.class_tree.specs.Subtype.{IsBelow, directly, interface}
 use Rattle.class_tree.specs.declared.place.Place.{Place}
 use Rattle.class_tree.specs.declared.place.Place.TheVariants.{Folder, Library}
+use Rattle.member_link.specs.Laws.FolderNumbers.{number_at}
 use Rattle.member_link.specs.Machine.Beginnings.{come_first, first_unbegun, has_defaults, interfaces_up}
 use Rattle.member_link.specs.Machine.Programs.{Program, folder_number, header_named, headers_in}
 use Rattle.member_link.specs.Machine.Worlds.{Memory, is_begun}
+use Rattle.machine_step.specs.Laws.ProgramHeaders.{headers_are, number_by_place}
 use Rattle.machine_step.specs.Programs.{IsProgram}
 use Rattle.machine_run.specs.Inner.ComeFirst.{is_unbegun_at, super_names, unbegun_above, unbegun_default}
-use Rattle.machine_run.proofs.ProgramClasses.{headers_are, number_at, number_by_place}
 
 module _ (P : Program) (memory : Memory) where
   -- ---- lists one behind the other
@@ -269,12 +270,12 @@ module _ (classes : Classes) (P : Program) (is : IsProgram classes P)
       → unbegun_default P memory (name ∷ []) ≡ number_if (is_unbegun_at H memory place) place
   default_at name (Folder number) at =
       in_folder name number (is_begun memory number) (has_defaults (slice_get H.folder number))
-      (number_by_place classes P is name (Some (Folder number)) at)
+      (sym (number_by_place classes P is name (Some (Folder number)) at))
       refl
       (ap has_defaults (header_placed name (Folder number) at))
   default_at name (Library number) at =
       in_library name (has_defaults (header_named P name))
-      (number_by_place classes P is name (Some (Library number)) at)
+      (sym (number_by_place classes P is name (Some (Library number)) at))
       refl
 
   -- ---- where no superinterface is to be begun

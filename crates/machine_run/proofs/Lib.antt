@@ -18,8 +18,6 @@ pub mod NextPlaces
 pub mod OperatedWorlds
 pub mod Places
 pub mod PreparedPoints
-pub mod ProgramClasses
-pub mod ProgramLinks
 pub mod Returns
 pub mod RunTurns
 pub mod StackUnseen

@@ -3,7 +3,7 @@ use Rattle.std.proofs.Common.{◌≡◌, ap, sym}
 use Rattle.class_tree.specs.Headers.{Name, Classes, Headers, class_named, headers_of}
 use Rattle.member_link.specs.Machine.Programs.{Program, header_named}
 use Rattle.machine_step.specs.Programs.{IsProgram}
-use Rattle.machine_run.proofs.ProgramClasses.{headers_are}
+use Rattle.machine_step.specs.Laws.ProgramHeaders.{headers_are}
 
 pub header_is :
     (classes : Classes) (P : Program)

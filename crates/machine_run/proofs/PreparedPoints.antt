@@ -1,8 +1,8 @@
 -- The points of a method whose code is prepared.
-use Rattle.std.proofs.Common.{◌≡◌, ◌-◌, ◌^◌, IfSome, arith, ◌≤◌, ◌<◌, ℕ, zero, suc, List, [], ◌∷◌, length, map, set, slice_get, All, Option, Some, None, Vec, Global, option_map, option_and_then, refl, sym, ap, subst, ◌∙◌}
+use Rattle.std.proofs.Common.{◌≡◌, ◌-◌, ◌^◌, IfSome, arith, ◌≤◌, ◌<◌, ℕ, zero, suc, List, [], ◌∷◌, length, map, set, get_or, slice_get, All, Option, Some, None, Vec, Global, option_map, option_and_then, refl, sym, ap, subst, ◌∙◌}
 use Rattle.std.proofs.lemmas.List.{length-map}
 use Rattle.std.proofs.lemmas.List.Elements.{All-get_or, All-set}
-use Rattle.std.proofs.lemmas.Option.{slice_get-map, slice_get_past, get_or_from_slice_get}
+use Rattle.std.proofs.lemmas.Option.{slice_get-map, slice_get_past, slice_get_read, get_or_from_slice_get}
 use Rattle.class_model.specs.declared.class_file.MethodAt.{MethodAt}
 use Rattle.machine_values.specs.Frames.{MethodState}
 use Rattle.member_link.specs.Machine.Bounds.{HasFewDimensions}
@@ -28,6 +28,19 @@ map_set_same f (z ∷ xs) (suc i) x y is same = ap (λ l. f z ∷ l) (map_set_sa
 -- what is true of each is true of the one at an index
 all_at : {X : Type 0} (P : X → Type 0) (xs : List X) (i : ℕ) (x : X) → i < length xs → slice_get xs i ≡ Some x → All P xs → P x
 all_at P xs i x within is all = subst P (get_or_from_slice_get xs i x x is) (All-get_or P xs i x within all)
+
+-- an operation that is read at a place stands there
+pub op_read :
+    (ops : List RunOp) (len inside place : ℕ) (op : RunOp)
+    → inside ≡ place
+    → len ≡ length ops
+    → inside < len
+    → op ≡ get_or ops inside op
+    → (place < length ops) × (slice_get ops place ≡ Some op)
+op_read ops len inside place op same many within read = (
+  subst (λ (n : ℕ). n < length ops) same (subst (λ (n : ℕ). inside < n) many within),
+  subst (λ (n : ℕ). slice_get ops n ≡ Some op) same (slice_get_read ops len inside op many within read),
+)
 
 module _ (P : Program) (at : MethodAt) (prepared : PreparedMethod) (is : IsPrepared P at prepared) where
   code_is : code_at P at ≡ Some is.code

@@ -16,8 +16,9 @@ use crate::names::name_of_class;
 use crate::starts::start_fields;
 use class_model::{CLINIT, MethodAt, NoMemory, Text};
 use class_tree::{Place, Tree};
-use machine_step::{Outcome, Prepared, Reference, WorldState, has_code, place_of_method};
+use machine_step::{Outcome, Prepared, WorldState, has_code, place_of_method};
 use machine_values::{MethodFrame, RunFrame, RunFrameList, ValueList};
+use member_link::Reference;
 use std::alloc::Global;
 
 /// Begins a class of the folder that is not begun, on top of the frames as they stand: it is marked as begun, and its static fields have

@@ -15,16 +15,15 @@ ghost use Rattle.machine_step.specs.Programs.{IsProgram};
 ghost use Rattle.machine_step.specs.RunOps.{IsResolved, op_of};
 ghost use Rattle.machine_run.specs.Inner.Performed.{TopHasNext};
 
-use class_tree::{Tree, a_tree_is_a_hierarchy};
+use class_tree::Tree;
 use machine_step::{RunOp, World as RunWorld, WorldState, arity};
-use member_link::a_hierarchy_has_links;
+use member_link::a_tree_has_links;
 
 /// The classes of a tree have a program.
 pub fn a_tree_has_a_program(tree: &Tree)
     ensures { (P : Program) × IsProgram tree.now P }
 {
-    a_tree_is_a_hierarchy(tree);
-    a_hierarchy_has_links();
+    a_tree_has_links(tree);
 }
 
 /// The state of a run goes on: how a run ends is told beside it.

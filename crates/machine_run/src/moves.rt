@@ -1,6 +1,5 @@
 //! Operations that move locals, the operand stack or control alone (JVM Specification SE 8, 6.5).
 ghost use Rattle.std.specs.Prelude.{◌≡◌, ◌<◌, ◌-◌, ◌^◌, List, Some, None, reverse, IfOk, if◌then◌else◌};
-ghost use Rattle.machine_values.specs.Values.{has_kind};
 ghost use Rattle.machine_values.specs.declared.frame.RunFrame.{RunFrame};
 ghost use Rattle.member_link.specs.Machine.Ops.{increment_local, load_local, return_value, shuffle_stack, store_local};
 ghost use Rattle.member_link.specs.Machine.Programs.{Program};
@@ -14,7 +13,7 @@ use crate::jumping::{
 };
 use class_model::{FieldType, Kind, NoMemory};
 use machine_step::{
-    Narrowing, RunOp, drop_top, entry, has_kind, increment, local_value, narrow, push_top, shuffle,
+    Narrowing, RunOp, drop_top, entry, if_kind, increment, local_value, narrow, push_top, shuffle,
     store,
 };
 use machine_values::{MethodFrame, Value, ValueList};
@@ -160,16 +159,5 @@ fn top_of_kind(kind: Kind, stack: &ValueList) -> Option<Value>
     match entry(stack, 0) {
         Some(value) => if_kind(kind, &value),
         None => None,
-    }
-}
-
-/// The value, if it is of a kind. It does not allocate.
-fn if_kind(kind: Kind, value: &Value) -> Option<Value>
-    ensures { result ≡ (if has_kind kind value.now then Some value.now else None) }
-{
-    if has_kind(kind, *value) {
-        Some(*value)
-    } else {
-        None
     }
 }

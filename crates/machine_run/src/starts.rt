@@ -15,7 +15,7 @@ ghost use Rattle.machine_run.specs.Inner.StartWords.{AreFieldsOf, put_if, start_
 
 use class_model::{ACC_STATIC, Attr, ClassFile, Const, Field, NoMemory, Pool, has};
 use class_tree::Tree;
-use machine_step::{Memory, Narrowing, narrow};
+use machine_step::{Memory, Narrowing, narrow, narrowing_of_text};
 use machine_values::{Constant, Value};
 
 /// Writes the static fields of a class of the folder that have a constant value.
@@ -121,21 +121,8 @@ fn narrowing_at(pool: &Pool, desc: u16) -> Narrowing
     ensures { result ≡ narrowing_of (type_of (text_or_empty (utf8_at pool.now desc))) }
 {
     match pool.utf8(desc) {
-        Some(desc) => narrowing_by(desc.bytes()),
+        Some(desc) => narrowing_of_text(desc.bytes()),
         None => Narrowing::Whole,
-    }
-}
-
-// By the bytes of a descriptor.
-fn narrowing_by(desc: &[u8]) -> Narrowing
-    ensures { result ≡ narrowing_of (type_of desc.now) }
-{
-    match desc {
-        [b'B', ..] => Narrowing::Byte,
-        [b'C', ..] => Narrowing::Char,
-        [b'S', ..] => Narrowing::Short,
-        [b'Z', ..] => Narrowing::Boolean,
-        _ => Narrowing::Whole,
     }
 }
 

@@ -9,8 +9,8 @@ use Rattle.member_link.specs.Machine.Acting.{all_conform}
 use Rattle.member_link.specs.Machine.Programs.{Program}
 use Rattle.member_link.specs.Machine.Shapes.{value_conforms}
 use Rattle.member_link.specs.Machine.Worlds.{World}
-use Rattle.machine_step.proofs.Parameters.{none_before, not_true, one_before, shorter}
-use Rattle.machine_step.specs.Inner.ParameterWords.{begins_type}
+use Rattle.member_link.specs.Laws.Parameters.{none_before, not_true, one_before, shorter}
+use Rattle.member_link.specs.Signatures.{begins_type}
 use Rattle.machine_step.specs.Programs.{IsProgram}
 
 -- those of the rest of the descriptor are left

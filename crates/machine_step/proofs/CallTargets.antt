@@ -1,4 +1,5 @@
 -- Methods that are found, in a tree and in its program.
+use Rattle.member_link.specs.Laws.OwnMembers.{first_declared}
 use Rattle.std.proofs.Common.{◌≡◌, ◌≢◌, ◌&&◌, ℕ, Bool, true, false, cond, List, [], ◌∷◌, bytes_eq, slice_get, Option, Some, None, IfSome, is_some, option_map, option_and_then, refl, sym, ap, subst, ◌∙◌}
 use Rattle.std.proofs.lemmas.Bool.{false≢true, and_parts}
 use Rattle.std.proofs.lemmas.Option.{none-some, same_Some}
@@ -31,8 +32,7 @@ use Rattle.machine_step.specs.declared.run_op.CallTarget.{CallTarget}
 use Rattle.machine_step.specs.declared.run_op.Callee.{Callee}
 use Rattle.machine_step.specs.declared.run_op.Callee.TheVariants.{Runs, Asks, Raises, Nothing}
 use Rattle.machine_step.proofs.OwnMethods.{own_flag, own_member}
-use Rattle.machine_step.proofs.ProgramHeaders.{links_are, number_by_place}
-use Rattle.machine_step.proofs.ProgramMembers.{declared_at}
+use Rattle.machine_step.specs.Laws.ProgramHeaders.{links_are, number_by_place}
 
 -- a look-up finds one method
 pub record OneMethod : Type 0 where
@@ -177,7 +177,7 @@ module _ (classes : Classes) (P : Program) (is : IsProgram classes P) where
         let stands = hierarchy.of_place found.place at.header at.at in
         let there : class_named (headers_of classes) method.class ≡ Some at.header = ap (class_named (headers_of classes)) (sym at.own_class) ∙ stands.found in
         ap (option_and_then (λ (header : Header). option_map (declared_by method.class) (declared method.member.name method.member.desc header.methods))) there
-        ∙ ap (option_map (declared_by method.class)) (declared_at method.member.name method.member.desc at.header.methods ∙ ap (option_and_then (slice_get at.header.methods)) at.first ∙ at.stands)
+        ∙ ap (option_map (declared_by method.class)) (first_declared method.member.name method.member.desc at.header.methods ∙ ap (option_and_then (slice_get at.header.methods)) at.first ∙ at.stands)
 
     home_is : folder_number P method.class ≡ home_number found.place
     home_is = by found.place refl

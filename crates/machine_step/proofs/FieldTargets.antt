@@ -1,4 +1,5 @@
 -- Fields that are found, in a tree and in its program.
+use Rattle.member_link.specs.Laws.OwnMembers.{first_declared}
 use Rattle.std.proofs.Common.{◌≡◌, ◌&&◌, not, false, ℕ, List, bytes_eq, slice_get, Option, Some, None, IfSome, option_map, option_and_then, refl, sym, ap, subst, ◌∙◌}
 use Rattle.class_model.specs.Members.{has, FINAL, STATIC}
 use Rattle.class_model.specs.declared.header.Header.{Header}
@@ -24,8 +25,8 @@ use Rattle.machine_step.specs.declared.run_op.FieldHome.{FieldHome}
 use Rattle.machine_step.specs.declared.run_op.FieldOp.{FieldOp}
 use Rattle.machine_step.specs.declared.run_op.FieldTarget.{FieldTarget}
 use Rattle.machine_step.specs.declared.run_op.SeenSlot.{SeenSlot}
-use Rattle.machine_step.proofs.ProgramHeaders.{links_are, number_by_place}
-use Rattle.machine_step.proofs.ProgramMembers.{declared_at, field_is, static_is}
+use Rattle.machine_step.specs.Laws.ProgramHeaders.{links_are, number_by_place}
+use Rattle.machine_step.proofs.ProgramMembers.{field_is, static_is}
 
 -- a look-up finds one field
 pub record OneField : Type 0 where
@@ -52,7 +53,7 @@ module _ (classes : Classes) (P : Program) (is : IsProgram classes P) (hierarchy
     member_is =
         sym (field_is classes P is (reference_to field))
         ∙ ap (option_and_then (λ (header : Header). declared field.member.name field.member.desc header.fields)) class_is
-        ∙ declared_at field.member.name field.member.desc at.header.fields
+        ∙ first_declared field.member.name field.member.desc at.header.fields
         ∙ ap (option_and_then (slice_get at.header.fields)) at.first
         ∙ at.stands
 

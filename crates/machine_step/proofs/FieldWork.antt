@@ -30,7 +30,7 @@ use Rattle.machine_step.specs.Completing.{Completes}
 use Rattle.machine_step.specs.Inner.FieldWords.{put_conforming, slot_at, slot_in, stored_at}
 use Rattle.machine_step.specs.RunOps.{IsStoredAs}
 use Rattle.machine_step.specs.declared.completed.Completed.{Completed}
-use Rattle.machine_step.proofs.FirstTests.{number_is_place}
+use Rattle.member_link.specs.Laws.FirstNumbers.{number_is_place}
 
 -- ---- static fields
 

@@ -9,7 +9,6 @@ pub mod EmptyNames
 pub mod Entries
 pub mod FieldTargets
 pub mod FieldWork
-pub mod FirstTests
 pub mod Firsts
 pub mod FloatOperands
 pub mod KindLists
@@ -18,18 +17,12 @@ pub mod NewObjects
 pub mod OffsetNumbers
 pub mod Oks
 pub mod OwnMethods
-pub mod Parameters
 pub mod PreparedCodes
-pub mod ProgramHeaders
 pub mod ProgramMembers
 pub mod ReceiverCalls
-pub mod ResultLens
-pub mod ResultTexts
 pub mod Results
 pub mod RunCodes
-pub mod Slots
 pub mod Stacks
-pub mod Subtypes
 pub mod Switches
 pub mod UnitLists
 pub mod WidthMoves

@@ -14,7 +14,8 @@ use Rattle.member_link.specs.Machine.Programs.{Program, folder_number, name_of_c
 use Rattle.machine_step.specs.Programs.{IsProgram}
 use Rattle.machine_step.specs.RunOps.{IsNewOp, blanks_of}
 use Rattle.machine_step.specs.declared.run_op.NewOp.{NewOp}
-use Rattle.machine_step.proofs.ProgramHeaders.{headers_are, name_at_number, number_at, number_by_place}
+use Rattle.machine_step.specs.Laws.ProgramHeaders.{headers_are, name_at_number, number_by_place}
+use Rattle.member_link.specs.Laws.FolderNumbers.{number_at}
 
 module _ (classes : Classes) (hierarchy : IsHierarchy (headers_of classes)) (name : Name) (class : ℕ) (at : place_of (headers_of classes) name ≡ Some (Folder class)) where
   header_there : (header : Header) × (slice_get (headers_of classes).folder class ≡ Some header)

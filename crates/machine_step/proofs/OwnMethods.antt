@@ -22,62 +22,29 @@ use Rattle.member_link.specs.Selection.{Choice, Selects}
 use Rattle.member_link.specs.declared.found.Found.{Found}
 use Rattle.member_link.specs.declared.selection.CallForm.{CallForm}
 use Rattle.machine_step.specs.Programs.{IsProgram}
-use Rattle.machine_step.proofs.ProgramHeaders.{links_are}
-use Rattle.machine_step.proofs.ProgramMembers.{class_at_place, declared_at, method_is}
+use Rattle.machine_step.specs.Laws.ProgramHeaders.{links_are}
+use Rattle.machine_step.proofs.ProgramMembers.{class_at_place, method_is}
 
 -- ---- what the search of a class answers
 
 module _ (headers : Headers) where
-  no_own :
-      (class : Name) (name desc : List ℕ) (found : Option Header)
-      → None ≡ option_and_then (λ (header : Header). declared name desc header.methods) found
-      → option_and_then (λ (header : Header). option_map (declared_by class) (declared name desc header.methods)) found ≡ None
-  no_own class name desc None none = refl
-  no_own class name desc (Some header) none = ap (option_map (declared_by class)) (sym none)
-
-  pub own_none :
-      (class : Name) (name desc : List ℕ) (result : Option Found)
-      → result ≡ None
-      → None ≡ option_and_then (λ (header : Header). declared name desc header.methods) (class_named headers class)
-      → AreSame (IsMethodFound headers) result (own_method headers class name desc)
-  own_none class name desc result is none =
-      subst (λ (r : Option Found). AreSame (IsMethodFound headers) r (own_method headers class name desc)) (sym is)
-      (subst (AreSame (IsMethodFound headers) None) (sym (no_own class name desc (class_named headers class) none)) tt)
-
-  pub own_some :
+  -- by the place of the class
+  pub own_at_place :
       IsHierarchy headers
-      → (class : Name) (name desc : List ℕ) (place : Place) (header : Header) (number : ℕ) (member : Member)
+      → (class : Name) (name desc : List ℕ) (place : Place) (result : Option Found)
       → place_of headers class ≡ Some place
+      → ((header : Header)
       → header_at headers place ≡ Some header
-      → option_and_then (λ (header : Header). member_place name desc header.methods) (header_at headers place) ≡ Some number
-      → slice_get header.methods number ≡ Some member
-      → AreSame (IsMethodFound headers) (Some (record { place = place; member = number; flags = member.flags })) (own_method headers class name desc)
-  own_some hierarchy class name desc place header number member at is first stands =
-      let there : class_named headers class ≡ Some header = sym (class_at_place headers hierarchy class place at) ∙ is in
-      let numbered : member_place name desc header.methods ≡ Some number =
-      sym (ap (option_and_then (λ (header : Header). member_place name desc header.methods)) is) ∙ first
-      in
-      let passes = first_passes (is_member name desc) header.methods number numbered in
-      let same : passes.item ≡ member = same_Some passes.item member (sym passes.there ∙ stands) in
-      let tested : is_member name desc member ≡ true = ap (is_member name desc) (sym same) ∙ passes.passes in
-      let own_name : name ≡ member.name = (bytes_eq-Decides name member.name).0 (and_parts _ _ tested).0 in
-      let own_desc : desc ≡ member.desc = (bytes_eq-Decides desc member.desc).0 (and_parts _ _ tested).1 in
-      let found : own_method headers class name desc ≡ Some (declared_by class member) =
+      → AreSame (IsMethodFound headers) result (option_map (declared_by header.name) (declared name desc header.methods)))
+      → AreSame (IsMethodFound headers) result (own_method headers class name desc)
+  own_at_place hierarchy class name desc place result at told =
+      let stands = hierarchy.placed class place at in
+      let there : class_named headers class ≡ Some stands.0 = sym (class_at_place headers hierarchy class place at) ∙ stands.1.at in
+      let found : own_method headers class name desc ≡ option_map (declared_by stands.0.name) (declared name desc stands.0.methods) =
       ap (option_and_then (λ (header : Header). option_map (declared_by class) (declared name desc header.methods))) there
-      ∙ ap (option_map (declared_by class)) (declared_at name desc header.methods ∙ ap (option_and_then (slice_get header.methods)) numbered ∙ stands)
+      ∙ ap (λ (own : Name). option_map (declared_by own) (declared name desc stands.0.methods)) (sym stands.1.own_name)
       in
-      subst (AreSame (IsMethodFound headers) (Some (record { place = place; member = number; flags = member.flags }))) (sym found) (record {
-        header = header;
-        at = is;
-        own_class = (let stands = hierarchy.placed class place at in
-            ap (λ (h : Header). h.name) (same_Some header stands.0 (sym is ∙ stands.1.at)) ∙ stands.1.own_name);
-        stands = stands;
-        first =
-            ap (λ (n : List ℕ). member_place n member.desc header.methods) (sym own_name)
-            ∙ ap (λ (d : List ℕ). member_place name d header.methods) (sym own_desc)
-            ∙ numbered;
-        same_flags = refl;
-      })
+      subst (AreSame (IsMethodFound headers) result) (sym found) (told stands.0 stands.1.at)
 
   -- one is found
   pub one_own :

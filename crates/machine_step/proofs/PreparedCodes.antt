@@ -10,7 +10,7 @@ use Rattle.class_model.specs.declared.instr.Placed.{Placed}
 use Rattle.class_model.specs.declared.memory.NoMemory.{NoMemory}
 use Rattle.code_bytes.specs.Consecutive.{AreConsecutive}
 use Rattle.code_bytes.specs.Decoding.{decoding_checks}
-use Rattle.member_link.specs.Machine.Codes.{CodePoint, catches_at, code_points, instr_op, item_op, method_code, number_at}
+use Rattle.member_link.specs.Machine.Codes.{CodePoint, catches_at, code_points, instr_op, item_op, method_code, number_at, code_point, renumbered, run_point}
 use Rattle.member_link.specs.Bodies.{item_instr}
 use Rattle.member_link.specs.Machine.Programs.{Catch, Links, Point, number_of_first}
 use Rattle.member_link.specs.Scope.{Scope, instructions, row_scope}
@@ -68,30 +68,16 @@ map_same : {A B : Type 0} (f g : A → B) (xs : List A) → ((x : A) → f x ≡
 map_same f g [] same = refl
 map_same f g (x ∷ xs) same = rw (same x) (ap (λ rest. g x ∷ rest) (map_same f g xs same))
 
-abbrev point_in : Scope → Placed → CodePoint
-point_in s placed = record {
-  place = placed.at;
-  scope = row_scope s;
-  item = item_instr placed.instr;
-  catches = catches_at s.class.pool s.part.handlers placed.at;
-}
-
-abbrev numbered_by : (ℕ → ℕ) → Catch → Catch
-numbered_by number catch = record catch { to = number catch.to }
-
-abbrev run_point : Links → (ℕ → ℕ) → Scope → Placed → Point
-run_point links number s placed = record {
-  op = instr_op links number (row_scope s) placed.instr;
-  catches = map (numbered_by number) (catches_at s.class.pool s.part.handlers placed.at);
-}
+abbrev run_placed : Links → (ℕ → ℕ) → Scope → Placed → Point
+run_placed links number s placed = run_point links number (code_point s placed)
 
 module _ (s : Scope) where
   number_is : (place : ℕ) → number_at (code_points s) place ≡ number_of (offsets_of (instructions s)) place
   number_is place =
       by (number_of_first (λ (point : CodePoint). point.place == place) (code_points s)) refl
-      ∙ ap (or_count (length (code_points s))) (first_of (λ (point : CodePoint). point.place) (point_in s) (λ (placed : Placed). placed.at) (λ placed. refl) (instructions s) place)
+      ∙ ap (or_count (length (code_points s))) (first_of (λ (point : CodePoint). point.place) (code_point s) (λ (placed : Placed). placed.at) (λ placed. refl) (instructions s) place)
       ∙ ap (λ (count : ℕ). or_count count (first_at (offsets_of (instructions s)) place))
-      (length-map (instructions s) (point_in s) ∙ sym (length-map (instructions s) (λ (placed : Placed). placed.at)))
+      (length-map (instructions s) (code_point s) ∙ sym (length-map (instructions s) (λ (placed : Placed). placed.at)))
     where
       by :
           (found : Option ℕ)
@@ -107,16 +93,10 @@ module _ (s : Scope) where
   numbers_are : number_at (code_points s) ≡ number_of (offsets_of (instructions s))
   numbers_are = fun_ext number_is
 
-  run_points : (links : Links) → (method_code links s).points ≡ map (run_point links (number_of (offsets_of (instructions s))) s) (instructions s)
+  run_points : (links : Links) → (method_code links s).points ≡ map (run_placed links (number_of (offsets_of (instructions s))) s) (instructions s)
   run_points links =
-      map_twice (point_of (number_at (code_points s))) (point_in s) (instructions s)
-      ∙ ap (λ (number : ℕ → ℕ). map (run_point links number s) (instructions s)) numbers_are
-    where
-      point_of : (ℕ → ℕ) → CodePoint → Point
-      point_of number point = record {
-        op = item_op links number point.scope point.item;
-        catches = map (numbered_by number) point.catches;
-      }
+      map_twice (run_point links (number_at (code_points s))) (code_point s) (instructions s)
+      ∙ ap (λ (number : ℕ → ℕ). map (run_placed links number s) (instructions s)) numbers_are
 
 -- ---- operations
 
@@ -161,21 +141,21 @@ pub prepared_code :
     → IsPreparedIn code prepared
 prepared_code code prepared instrs same few locals are_ops offsets are_handlers = λ P is.
     let s = scope_in code in
-    let points : (method_code P.links s).points ≡ map (run_point P.links (number_of (offsets_of instrs)) s) instrs =
-    subst (λ (all : List Placed). (method_code P.links s).points ≡ map (run_point P.links (number_of (offsets_of all)) s) all) (sym same) (run_points s P.links) in
+    let points : (method_code P.links s).points ≡ map (run_placed P.links (number_of (offsets_of instrs)) s) instrs =
+    subst (λ (all : List Placed). (method_code P.links s).points ≡ map (run_placed P.links (number_of (offsets_of all)) s) all) (sym same) (run_points s P.links) in
     record {
       locals = locals;
       few =
           let count : length (method_code P.links s).points ≡ length instrs =
-          ap (λ (all : List Point). length all) points ∙ length-map instrs (run_point P.links (number_of (offsets_of instrs)) s) in
+          ap (λ (all : List Point). length all) points ∙ length-map instrs (run_placed P.links (number_of (offsets_of instrs)) s) in
           omega arith;
-      ops = are_ops.same P is ∙ sym (ap (map op_at) points ∙ map_twice op_at (run_point P.links (number_of (offsets_of instrs)) s) instrs);
+      ops = are_ops.same P is ∙ sym (ap (map op_at) points ∙ map_twice op_at (run_placed P.links (number_of (offsets_of instrs)) s) instrs);
       resolved = are_ops.resolved P is;
       catches =
           ap (map (catches_around prepared.handlers.items)) offsets
           ∙ map_twice (catches_around prepared.handlers.items) (λ (placed : Placed). placed.at) instrs
           ∙ map_same (λ (placed : Placed). catches_around prepared.handlers.items placed.at)
-          (λ (placed : Placed). catches_at_point (run_point P.links (number_of (offsets_of instrs)) s placed)) instrs
+          (λ (placed : Placed). catches_at_point (run_placed P.links (number_of (offsets_of instrs)) s placed)) instrs
           (λ placed. are_handlers.same placed.at)
-          ∙ sym (ap (map catches_at_point) points ∙ map_twice catches_at_point (run_point P.links (number_of (offsets_of instrs)) s) instrs);
+          ∙ sym (ap (map catches_at_point) points ∙ map_twice catches_at_point (run_placed P.links (number_of (offsets_of instrs)) s) instrs);
     }

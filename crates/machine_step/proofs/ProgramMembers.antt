@@ -22,6 +22,7 @@ use Rattle.class_tree.specs.declared.members.MemberKind.{MemberKind}
 use Rattle.class_tree.specs.declared.place.Place.{Place}
 use Rattle.class_tree.specs.declared.place.Place.TheVariants.{Folder}
 use Rattle.member_link.specs.DeclaredMembers.{declared}
+use Rattle.member_link.specs.Laws.OwnMembers.{first_declared}
 use Rattle.member_link.specs.Machine.Classes.{run_class_of, run_method_of}
 use Rattle.member_link.specs.Machine.Codes.{method_code}
 use Rattle.member_link.specs.Machine.FieldSteps.{static_number}
@@ -30,16 +31,11 @@ use Rattle.member_link.specs.Scope.{scope_of}
 use Rattle.member_link.specs.References.{Reference}
 use Rattle.machine_step.specs.Inner.QuestionWords.{file_method, is_code, member_run, runs_code}
 use Rattle.machine_step.specs.Programs.{IsProgram}
-use Rattle.machine_step.proofs.FirstTests.{number_is_place, number_of_mapped}
-use Rattle.machine_step.proofs.ProgramHeaders.{class_at_number, headers_are, number_at, number_by_place}
+use Rattle.member_link.specs.Laws.FirstNumbers.{number_is_place, number_of_mapped}
+use Rattle.machine_step.specs.Laws.ProgramHeaders.{class_at_number, headers_are, number_by_place}
+use Rattle.member_link.specs.Laws.FolderNumbers.{number_at}
 
 -- ---- members of a list
-
-pub declared_at :
-    (name desc : List ℕ) (members : List Member)
-    → declared name desc members
-    ≡ option_and_then (slice_get members) (member_place name desc members)
-declared_at name desc members = first_at (is_member name desc) (declared name desc) refl (λ member rest. refl) members
 
 first_is_declared :
     (r : Reference) (members : List Member)
@@ -75,7 +71,7 @@ module _ (headers : Headers) (hierarchy : IsHierarchy headers) where
         → None ≡ option_and_then (λ (header : Header). declared name desc (members_of kind header)) found
     none_in None none = refl
     none_in (Some header) none =
-        ap (option_and_then (slice_get (members_of kind header))) none ∙ sym (declared_at name desc (members_of kind header))
+        ap (option_and_then (slice_get (members_of kind header))) none ∙ sym (first_declared name desc (members_of kind header))
 
     one_in :
         (found : Option Header) (header : Header) (number : ℕ)
@@ -88,7 +84,7 @@ module _ (headers : Headers) (hierarchy : IsHierarchy headers) where
         let same : header ≡ first = cc in
         ap (λ (h : Header). slice_get (members_of kind h) number) same
         ∙ ap (option_and_then (slice_get (members_of kind first))) at
-        ∙ sym (declared_at name desc (members_of kind first))
+        ∙ sym (first_declared name desc (members_of kind first))
 
     pub no_class_no_member :
         (class : Name)

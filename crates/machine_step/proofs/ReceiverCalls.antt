@@ -1,11 +1,11 @@
 -- What calls on receivers come to in each case.
-use Rattle.std.proofs.Common.{◌≡◌, ◌||◌, ℕ, true, false, List, [], Option, Some, refl, sym, ap, subst, ◌∙◌}
+use Rattle.std.proofs.Common.{◌≡◌, ◌||◌, ℕ, true, false, List, [], Option, Some, None, refl, sym, ap, subst, ◌∙◌}
 use Rattle.class_model.specs.Members.{STATIC}
 use Rattle.class_tree.specs.Headers.{Name}
 use Rattle.machine_values.specs.declared.object.Shape.{Shape}
 use Rattle.machine_values.specs.declared.object.Shape.TheVariants.{Folder}
 use Rattle.machine_values.specs.declared.value.Value.{Value}
-use Rattle.member_link.specs.Machine.CallSteps.{call_found_special, call_special_work, found_special, if_conforms, is_object_init, is_polymorphic, run_chosen, special_choice, special_on, with_receiver}
+use Rattle.member_link.specs.Machine.CallSteps.{call_found_special, call_interface_work, call_virtual_work, call_special_work, found_special, if_conforms, is_object_init, is_polymorphic, run_chosen, special_choice, special_on, with_receiver}
 use Rattle.member_link.specs.Machine.Completions.{gives}
 use Rattle.member_link.specs.Machine.Programs.{Program, has_flag, method_of}
 use Rattle.member_link.specs.Machine.Shapes.{is_external, shape_conforms}
@@ -13,9 +13,11 @@ use Rattle.member_link.specs.Machine.Worlds.{Memory}
 use Rattle.member_link.specs.References.{Reference}
 use Rattle.member_link.specs.declared.selection.CallForm.{CallForm}
 use Rattle.member_link.specs.declared.selection.CallForm.TheVariants.{Virtual, Interface, Special}
+use Rattle.machine_step.specs.Completing.{Completes}
+use Rattle.machine_step.specs.declared.completed.Completed.{Completed}
 use Rattle.machine_step.specs.Inner.Receivers.{IsByReceiver, by_shape, call_work, takes_shape}
 use Rattle.machine_step.specs.Inner.Resolved.{is_nothing}
-use Rattle.machine_step.specs.RunOps.{IsFoundByReceiver, IsFoundSpecial, IsReceiverTarget, IsSpecialTarget, RunsSpecial, called, takes_receiver}
+use Rattle.machine_step.specs.RunOps.{HasParameters, IsFoundByReceiver, IsFoundSpecial, IsReceiverTarget, IsSpecialTarget, RunsSpecial, called, takes_receiver}
 use Rattle.machine_step.specs.declared.run_op.CallOp.{CallOp}
 use Rattle.machine_step.specs.declared.run_op.CallTarget.{CallTarget}
 use Rattle.machine_step.specs.declared.run_op.Callee.{Callee}
@@ -121,3 +123,30 @@ module _ (P : Program) (from : Name) (target : CallTarget) where
   runs_something (Asks method) something runs = runs
   runs_something (Raises throwable) something runs = runs
   runs_something Nothing something runs = absurd cc
+
+-- ---- each form is the definition's
+
+pub virtual_is :
+    (P : Program) (memory : Memory) (named : Reference) (link : Option Reference) (values : List Value)
+    → call_work P Virtual memory named link values ≡ call_virtual_work P memory named link values
+virtual_is P memory named None values = refl
+virtual_is P memory named (Some found) values = refl
+
+pub interface_is :
+    (P : Program) (memory : Memory) (named : Reference) (link : Option Reference) (values : List Value)
+    → call_work P Interface memory named link values ≡ call_interface_work P memory named link values
+interface_is P memory named None values = refl
+interface_is P memory named (Some found) values = refl
+
+-- what a call comes to, by the operation that it is a call of
+pub called_by :
+    (P : Program) (form : CallForm) (memory : Memory) (values : List Value) (completed : Completed) (one other : CallOp)
+    → one ≡ other
+    → (HasParameters one
+    → IsFoundByReceiver P form one one.found
+    → Completes memory memory values completed (call_work P form memory one.named (P.links.method one.named) values))
+    → HasParameters other × IsFoundByReceiver P form other other.found
+    → Completes memory memory values completed (call_work P form memory other.named (P.links.method other.named) values)
+called_by P form memory values completed one other same comes known =
+    subst (λ (op : CallOp). HasParameters op → IsFoundByReceiver P form op op.found
+    → Completes memory memory values completed (call_work P form memory op.named (P.links.method op.named) values)) same comes known.0 known.1

@@ -7,13 +7,11 @@ pub mod Moves
 pub mod Narrowings
 pub mod NestedArrays
 pub mod Numbering
-pub mod ParameterWords
 pub mod QuestionWords
 pub mod PreparedTables
 pub mod Preparing
 pub mod Resolved
 pub mod Results
-pub mod SlotWords
 pub mod Statics
 pub mod Stores
 pub mod Units

@@ -8,3 +8,4 @@ pub mod RunOps
 pub mod ShortArrays
 pub mod SpentWorlds
 pub mod Inner
+pub mod Laws

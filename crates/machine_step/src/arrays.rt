@@ -1,8 +1,8 @@
 //! Arrays (JVM Specification SE 8, 6.5: newarray, anewarray, the loads of elements).
-ghost use Rattle.std.specs.Prelude.{◌≡◌, ◌-◌, ◌<◌, ◌^◌, List, [], ◌∷◌, pos, Some, is_some, IfOk, OnOk, replicate};
+ghost use Rattle.std.specs.Prelude.{◌≡◌, ◌-◌, ◌<◌, ◌^◌, List, [], ◌∷◌, pos, Some, is_some, IfOk, OnOk};
 ghost use Rattle.class_model.specs.declared.opcodes.TheConstants.{IALOAD as iaload};
 ghost use Rattle.machine_values.specs.Heaps.{object_at};
-ghost use Rattle.machine_values.specs.Values.{blank_value, component_text};
+ghost use Rattle.machine_values.specs.Values.{component_text};
 ghost use Rattle.machine_values.specs.declared.value.Value.{Value as Operand};
 ghost use Rattle.member_link.specs.Machine.ArraySteps.{blank_array, element_of, index_in, load_element_work, new_array_work, takes_array};
 ghost use Rattle.member_link.specs.Machine.Shapes.{component_named};
@@ -15,7 +15,7 @@ use crate::memory::Memory;
 use crate::run_op::Throwable;
 use class_model::opcodes::IALOAD;
 use class_model::{NoMemory, Text};
-use machine_heap::blank;
+use machine_heap::{blank_elements, component_text};
 use machine_values::{Object, Ref, Shape, Value, ValueList};
 use std::alloc::Global;
 
@@ -99,30 +99,6 @@ pub fn blank_array(
     memory.allocate(shape, values)
 }
 
-/// What the elements of a new array hold, by its descriptor and length.
-///
-/// # Errors
-///
-/// `NoMemory` where memory runs out.
-pub(crate) fn blank_elements(alloc: Global, desc: &Text, count: u32) -> Result<ValueList, NoMemory>
-    ensures { IfOk result
-        (λ values. values ≡ replicate count (blank_value (component_text desc.now))) }
-{
-    let mut values = Vec::new(alloc);
-    values.resize(count as usize, blank(component(desc.bytes())))?;
-    Ok(ValueList::from_vec(values))
-}
-
-// What is behind the first bracket of an array's descriptor.
-fn component(desc: &[u8]) -> &[u8]
-    ensures { result.now ≡ component_text desc.now }
-{
-    match desc {
-        [b'[', rest @ ..] => rest,
-        _ => &[],
-    }
-}
-
 // ---- elements
 
 /// A load of an element, by its opcode. It does not allocate.
@@ -191,7 +167,7 @@ pub(crate) fn takes_array(number: u8, desc: &[u8]) -> bool
         1 => desc == b"[J".as_slice(),
         2 => desc == b"[F".as_slice(),
         3 => desc == b"[D".as_slice(),
-        4 => is_of_references(component(desc)),
+        4 => is_of_references(component_text(desc)),
         5 => desc == b"[B".as_slice() || desc == b"[Z".as_slice(),
         6 => desc == b"[C".as_slice(),
         7 => desc == b"[S".as_slice(),

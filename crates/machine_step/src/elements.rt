@@ -16,11 +16,12 @@ ghost use Rattle.machine_step.specs.ShortArrays.{IsShort};
 use crate::arrays::{index_in, takes_array};
 use crate::completed::Completed;
 use crate::memory::Memory;
-use crate::questions::shapes::{component_named, component_text, is_instance};
+use crate::questions::shapes::{component_named, is_instance};
 use crate::run_op::Throwable;
 use crate::values::{Narrowing, narrow};
 use class_model::opcodes::IASTORE;
 use class_tree::Tree;
+use machine_heap::component_text;
 use machine_values::{Object, Ref, Shape, Value};
 
 // ---- lengths

@@ -25,7 +25,6 @@ mod prepared_method;
 mod prepared_table;
 mod questions;
 mod receivers;
-mod reference;
 mod resolving;
 mod run_op;
 mod showing;
@@ -47,7 +46,7 @@ pub use jumps::{
     jump_by_int, jump_by_ints, jump_by_null, jump_by_references, lookup_target, table_target,
 };
 pub use known::KnownRefs;
-pub use locals::{increment, local_value, store};
+pub use locals::{if_kind, increment, local_value, store};
 pub use memory::Memory;
 pub use monitors::MonitorHeap;
 pub use numbering::copy_texts;
@@ -58,11 +57,9 @@ pub use questions::conforming::{
     arguments_conform, named_conforms, narrowing_of_text, reference_conforms, text_conforms,
 };
 pub use questions::methods::{has_code, place_of_method};
-pub use questions::shapes::{component_text, is_instance, without_last};
+pub use questions::shapes::is_instance;
 pub use questions::traits::method_traits;
-pub use reference::Reference;
 pub use resolving::objects::resolve_new;
-pub use resolving::results::result_text;
 pub use run_op::{
     CallOp, CallTarget, Callee, CastOp, DynamicOp, FieldHome, FieldOp, FieldTarget, LookupOp,
     NewOp, RunOp, SeenAnswer, SeenCallee, SeenSlot, TableOp, Throwable,

@@ -22,8 +22,8 @@ pub fn local_value(kind: Kind, locals: &LocalList, at: usize) -> Option<Value>
     }
 }
 
-/// The value, if it is of a kind.
-fn if_kind(kind: Kind, value: &Value) -> Option<Value>
+/// The value, if it is of a kind. It does not allocate.
+pub fn if_kind(kind: Kind, value: &Value) -> Option<Value>
     ensures { result ≡ (if has_kind kind value.now then Some value.now else None) }
 {
     if has_kind(kind, *value) {

@@ -8,13 +8,13 @@ ghost use Rattle.machine_step.specs.Completing.{Completes};
 ghost use Rattle.machine_step.specs.Inner.NestedArrays.{AllShort, AreShort, IsMade, counts_read, elements_of, made_elements};
 ghost use Rattle.machine_step.specs.Room.{HasRoom};
 
-use crate::arrays::{MOST_ELEMENTS, blank_elements};
+use crate::arrays::MOST_ELEMENTS;
 use crate::completed::Completed;
 use crate::memory::Memory;
 use crate::monitors::MonitorHeap;
-use crate::questions::shapes::component_text;
 use crate::run_op::Throwable;
 use class_model::{NoMemory, Text};
+use machine_heap::{blank_elements, component_text};
 use machine_values::{Ref, Shape, Value, ValueList};
 use std::alloc::Global;
 

@@ -5,5 +5,4 @@ pub(crate) mod fields;
 pub(crate) mod members;
 pub(crate) mod methods;
 pub(crate) mod shapes;
-pub(crate) mod slots;
 pub(crate) mod traits;

@@ -5,7 +5,7 @@ ghost use Rattle.class_tree.specs.Headers.{Name};
 ghost use Rattle.machine_values.specs.declared.object.Shape.{Shape as ObjectShape};
 ghost use Rattle.machine_values.specs.declared.object.Shape.TheVariants as shapes;
 ghost use Rattle.machine_values.specs.declared.value.Value.{Value as Operand};
-ghost use Rattle.member_link.specs.Machine.CallSteps.{call_interface_work, call_special_work, call_virtual_work, if_conforms, special_on, with_receiver};
+ghost use Rattle.member_link.specs.Machine.CallSteps.{call_special_work, if_conforms, special_on, with_receiver};
 ghost use Rattle.member_link.specs.Machine.Completions.{Completion};
 ghost use Rattle.member_link.specs.Machine.Programs.{Program};
 ghost use Rattle.member_link.specs.Machine.Shapes.{class_of_shape, is_external};
@@ -21,76 +21,21 @@ use crate::calls::comes_to;
 use crate::completed::{Asked, Completed};
 use crate::memory::Memory;
 use crate::questions::shapes::{is_instance, shape_conforms};
-use crate::reference::Reference;
 use crate::resolving::calls::{callee_of, run_selected};
 use crate::run_op::{CallOp, CallTarget, Callee, SeenCallee, Throwable};
 use crate::values::have_kinds;
 use class_model::{Kind, NoMemory, Text};
 use class_tree::Tree;
 use machine_values::{Shape, Value};
-use member_link::CallForm;
+use member_link::{CallForm, Reference};
 use std::alloc::Global;
 
-/// An `invokevirtual`. For a receiver of a class of the folder, what the call runs is remembered.
+/// An `invokevirtual` or `invokeinterface`. For a receiver of a class of the folder, what the call runs is remembered.
 ///
 /// # Errors
 ///
 /// `NoMemory` where memory runs out.
-pub(crate) fn call_virtual(
-    alloc: Global,
-    tree: &Tree,
-    memory: &Memory,
-    op: &mut CallOp,
-    operands: &[Value],
-) -> Result<Completed, NoMemory>
-    ensures completed { IfOk result (λ completed. (P : Program)
-        → IsProgram tree.now P
-        → HasParameters op.old
-        → IsFoundByReceiver P CallForm.Virtual op.old op.old.found
-        → Completes memory.now memory.now operands.now completed
-        (call_virtual_work P memory.now op.old.named (P.links.method op.old.named)
-        operands.now)) }
-    ensures kept { (P : Program) → IsProgram tree.now P
-        → IsFoundByReceiver P CallForm.Virtual op.old op.old.found
-        → IsFoundByReceiver P CallForm.Virtual op.new op.new.found }
-    ensures named { op.new.named ≡ op.old.named }
-    ensures from { op.new.from ≡ op.old.from }
-    ensures parameters { op.new.parameters ≡ op.old.parameters }
-{
-    call_by_receiver(alloc, tree, memory, CallForm::Virtual, op, operands)
-}
-
-/// An `invokeinterface`. For a receiver of a class of the folder, what the call runs is remembered.
-///
-/// # Errors
-///
-/// `NoMemory` where memory runs out.
-pub(crate) fn call_interface(
-    alloc: Global,
-    tree: &Tree,
-    memory: &Memory,
-    op: &mut CallOp,
-    operands: &[Value],
-) -> Result<Completed, NoMemory>
-    ensures completed { IfOk result (λ completed. (P : Program)
-        → IsProgram tree.now P
-        → HasParameters op.old
-        → IsFoundByReceiver P CallForm.Interface op.old op.old.found
-        → Completes memory.now memory.now operands.now completed
-        (call_interface_work P memory.now op.old.named (P.links.method op.old.named)
-        operands.now)) }
-    ensures kept { (P : Program) → IsProgram tree.now P
-        → IsFoundByReceiver P CallForm.Interface op.old op.old.found
-        → IsFoundByReceiver P CallForm.Interface op.new op.new.found }
-    ensures named { op.new.named ≡ op.old.named }
-    ensures from { op.new.from ≡ op.old.from }
-    ensures parameters { op.new.parameters ≡ op.old.parameters }
-{
-    call_by_receiver(alloc, tree, memory, CallForm::Interface, op, operands)
-}
-
-// A call of either form.
-fn call_by_receiver(
+pub(crate) fn call_by_receiver(
     alloc: Global,
     tree: &Tree,
     memory: &Memory,

@@ -2,6 +2,4 @@
 pub(crate) mod calls;
 pub(crate) mod fields;
 pub(crate) mod objects;
-pub(crate) mod parameters;
-pub(crate) mod results;
 pub(crate) mod targets;

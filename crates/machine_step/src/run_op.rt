@@ -1,8 +1,8 @@
 //! Operations with what they name resolved, and with what they answered last. Contracts see through them what the operation is
 //! (specs/Inner/RunOps).
-use crate::reference::Reference;
 use class_model::{FieldType, Kind, MethodAt, PairList, TargetList, Text};
 use machine_values::{Constant, Value};
+use member_link::Reference;
 
 /// A throwable that the machine raises.
 #[derive(Clone, Copy, Debug, PartialEq, Eq)]

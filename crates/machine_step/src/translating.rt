@@ -9,5 +9,4 @@ pub(crate) mod methods;
 pub(crate) mod numbers;
 pub(crate) mod objects;
 pub(crate) mod operations;
-pub(crate) mod references;
 pub(crate) mod switches;

@@ -19,11 +19,12 @@ use crate::floats::float_operands;
 use crate::memory::Memory;
 use crate::nested_arrays::new_arrays;
 use crate::objects::{check_cast, enter_monitor, instance_of, leave_monitor, new_object, throw};
-use crate::receivers::{call_interface, call_special, call_virtual};
+use crate::receivers::{call_by_receiver, call_special};
 use crate::run_op::{CallOp, RunOp};
 use class_model::NoMemory;
 use class_tree::Tree;
 use machine_values::Value;
+use member_link::CallForm;
 use std::alloc::Global;
 
 /// How many operands an operation takes off the stack. It does not allocate.
@@ -99,8 +100,12 @@ pub fn work(
         RunOp::GetField(op) => get_field(tree, memory, op, operands),
         RunOp::PutField(op) => put_field(tree, memory, op, operands),
         RunOp::CallStatic(op) => call_static(memory, op, operands),
-        RunOp::CallVirtual(op) => call_virtual(alloc, tree, memory, op, operands),
-        RunOp::CallInterface(op) => call_interface(alloc, tree, memory, op, operands),
+        RunOp::CallVirtual(op) => {
+            call_by_receiver(alloc, tree, memory, CallForm::Virtual, op, operands)
+        }
+        RunOp::CallInterface(op) => {
+            call_by_receiver(alloc, tree, memory, CallForm::Interface, op, operands)
+        }
         RunOp::CallSpecial(op) => call_special(tree, memory, op, operands),
         RunOp::CallDynamic(op) => call_dynamic(op, operands),
         RunOp::New(op) => new_object(alloc, memory, op),

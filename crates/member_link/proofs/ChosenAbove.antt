@@ -17,7 +17,7 @@ use Rattle.member_link.specs.Selection.{Choice, chosen_method, abstract_choice, 
 use Rattle.member_link.specs.Upwards.{FirstUpwards, in_itself, in_superclass, in_no_superclass, in_absent_class}
 use Rattle.member_link.specs.declared.selection.CallForm.{CallForm}
 use Rattle.member_link.proofs.OpenOverriding.{may_of}
-use Rattle.member_link.proofs.OwnMembers.{own_of_declared}
+use Rattle.member_link.specs.Laws.OwnMembers.{own_of_declared}
 
 -- ---- choices
 

@@ -22,7 +22,7 @@ use Rattle.member_link.specs.Overriding.{MayOverride, Overrides, package_of}
 use Rattle.member_link.specs.Selection.{Choice, chosen_method, abstract_choice, several_defaults, ChoosesDefault, the_one, no_default, two_defaults, IsOrOverrides, CountsForSpecial}
 use Rattle.member_link.proofs.ChosenAbove.{declared_again}
 use Rattle.member_link.proofs.OpenOverriding.{IsOpened, overriding_decided}
-use Rattle.member_link.proofs.OwnMembers.{own_of_declared}
+use Rattle.member_link.specs.Laws.OwnMembers.{own_of_declared}
 
 -- ---- equality
 

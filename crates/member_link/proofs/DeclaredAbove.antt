@@ -21,7 +21,7 @@ use Rattle.member_link.specs.Methods.{CountsFor, FindsInInterfaces, one_default,
 use Rattle.member_link.proofs.ChosenAbove.{met_upwards, declared_again, only_object, at_or_below_is_subtype}
 use Rattle.member_link.proofs.FieldWalks.{interfaces_then_super}
 use Rattle.member_link.proofs.FirstInherited.{first_of}
-use Rattle.member_link.proofs.OwnMembers.{own_of_declared}
+use Rattle.member_link.specs.Laws.OwnMembers.{own_of_declared}
 
 -- a member is of its own name and descriptor
 is_itself : (member : Member) → is_member member.name member.desc member ≡ true

@@ -48,3 +48,7 @@ pub mod OpenOverriding
 pub mod WaysUp
 pub mod FolderMethods
 pub mod AlikeConstants
+pub mod SlotNumbers
+pub mod ReadParameters
+pub mod ResultLens
+pub mod TreeLinks

@@ -12,7 +12,7 @@ use Rattle.member_link.specs.Found.{AreSame, IsMethodFound}
 use Rattle.member_link.specs.Inner.OpenMethods.{IsSameOf, IsAnyOf, one_passes, none_passes}
 use Rattle.member_link.specs.declared.found.Found.{Found}
 use Rattle.member_link.proofs.Climbed.{own_some, own_none}
-use Rattle.member_link.proofs.OwnMembers.{own_of_declared}
+use Rattle.member_link.specs.Laws.OwnMembers.{own_of_declared}
 
 is_declared : {method : Declared} {class : Name} {member : Member} → method.class ≡ class → method.member ≡ member → method ≡ declared_by class member
 is_declared {method} {class} same is = ap (λ name. declared_by name method.member) same ∙ ap (declared_by class) is

@@ -23,7 +23,7 @@ use Rattle.member_link.specs.Inner.Spans.{AreSpans}
 use Rattle.member_link.specs.declared.spans.Span.{Span}
 use Rattle.member_link.specs.declared.spans.Spans.{Spans}
 use Rattle.member_link.proofs.Climbed.{superclass_at}
-use Rattle.member_link.proofs.FolderMethods.{in_folder, of_folder}
+use Rattle.member_link.specs.Laws.FolderClasses.{folder_index, in_folder}
 
 -- what holds below a number and at it holds below the next
 pub one_more : (P : ℕ → Type 0) (n : ℕ) → ((i : ℕ) → i < n → P i) → P n → (i : ℕ) → i < n + 1 → P i
@@ -120,8 +120,8 @@ module _ (headers : Headers) (apart : StandsApart headers) where
       by : (found : Option Header) → named name headers.folder ≡ found → (at : ℕ) × (Library index ≡ Folder at)
       by None none = absurd (inside none)
       by (Some header) some =
-          let place = of_folder headers name header some in
-          (place.0, same_Some (Library index) (Folder place.0) (sym is ∙ place.1))
+          let place = folder_index headers name header some in
+          (place.0, same_Some (Library index) (Folder place.0) (sym is ∙ place.2))
 
 -- ---- spans
 

@@ -24,7 +24,7 @@ use Rattle.member_link.specs.Inner.Spans.{AreSpans, IsSpan}
 use Rattle.member_link.specs.Overriding.{MayOverride, Overrides, package_of}
 use Rattle.member_link.specs.declared.spans.Span.{Span}
 use Rattle.member_link.specs.declared.spans.Spans.{Spans}
-use Rattle.member_link.proofs.FolderMethods.{of_folder, class_of_folder}
+use Rattle.member_link.specs.Laws.FolderClasses.{class_of_folder, folder_index}
 use Rattle.member_link.proofs.OpenOverriding.{overriding_decided}
 use Rattle.member_link.proofs.SpannedClasses.{StandsApart, IsInside, one_more, outside_above, below_is_inside}
 
@@ -89,8 +89,8 @@ module _ (headers : Headers) (apart : StandsApart headers) (hierarchy : IsHierar
 
   placed : {method : Declared} (folder : IsFolderMethod headers method) → IsPlaced method folder.header
   placed {method} folder =
-      let place = of_folder headers method.class folder.header folder.found in
-      let stands = hierarchy.placed method.class (Folder place.0) place.1 in
+      let place = folder_index headers method.class folder.header folder.found in
+      let stands = hierarchy.placed method.class (Folder place.0) place.2 in
       let found = class_of_folder headers method.class folder.header folder.found in
       let same = same_Some stands.0 folder.header (sym stands.1.found ∙ found) in
       record { index = place.0; at = stands.1.at ∙ ap Some same; own_name = own_name headers method.class folder.header found }

@@ -15,4 +15,5 @@ pub mod Resolutions
 pub mod Resolving
 pub mod Scope
 pub mod SelectionSteps
+pub mod SlotWords
 pub mod Spans

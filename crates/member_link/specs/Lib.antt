@@ -10,6 +10,7 @@ pub mod SpecialStart
 pub mod Access
 pub mod Found
 pub mod References
+pub mod MemberRefs
 pub mod FoundNames
 pub mod FoundAbove
 pub mod Declarations

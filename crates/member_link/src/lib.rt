@@ -11,6 +11,7 @@ mod code_uses;
 mod constants;
 mod declarations;
 mod defaults;
+mod descriptors;
 mod fields;
 mod final_methods;
 mod flags;
@@ -30,11 +31,13 @@ mod names;
 mod overriding;
 mod own;
 mod packages;
+mod reference;
 mod references;
 mod resolution;
 mod resolver;
 mod resolving;
 mod selection;
+mod slots;
 mod spans;
 mod special;
 mod stated;
@@ -44,6 +47,10 @@ mod uses;
 pub use access::accessible;
 pub use body::MethodBody;
 pub use class_access::class_accessible;
+pub use descriptors::{
+    after_first, after_type, begins_type, first_type, kind_at, named_type, parameter_count,
+    parameter_kinds, result_text, without_last,
+};
 pub use fields::find_field;
 pub use found::Found;
 pub use laws::{
@@ -59,10 +66,13 @@ pub use laws_linked::{
     a_field_reference_passes, a_linked_folder_passes_by_place, a_method_reference_passes,
     a_named_class_passes,
 };
-pub use laws_links::a_hierarchy_has_links;
+pub use laws_links::{a_hierarchy_has_links, a_tree_has_links};
 pub use links::{check_declared_links, check_links, check_next_links};
 pub use methods::find_method;
 pub use overriding::overrides;
+pub use own::own_method;
 pub use packages::is_same_package;
+pub use reference::{MemberRef, Reference, descriptor_at, member_at, name_at, reference_of};
 pub use selection::{CallForm, Selected, select};
+pub use slots::slot_number;
 pub use special::special_start;

@@ -26,8 +26,8 @@ pub(crate) fn own_field(tree: &Tree, class: Place, name: &Text, desc: &Text) -> 
     })
 }
 
-/// The method of a name and descriptor that the class at a place declares.
-pub(crate) fn own_method(tree: &Tree, class: Place, name: &Text, desc: &Text) -> Option<Found>
+/// The method of a name and descriptor that the class at a place declares. It does not allocate.
+pub fn own_method(tree: &Tree, class: Place, name: &Text, desc: &Text) -> Option<Found>
     ensures { (header : Header)
         → header_at (headers_of tree.now) class ≡ Some header
         → AreSame (IsMethodFound (headers_of tree.now)) result

@@ -1,13 +1,13 @@
 //! How the constants of a class file are resolved (JVM Specification SE 8, 5.4.3 and 5.4.4).
 ghost use Rattle.std.specs.Prelude.{◌≡◌, Some, IfOk};
-ghost use Rattle.std.specs.Option.{option_copied};
+ghost use Rattle.std.specs.Option.{option_copied, option_map};
 ghost use Rattle.class_tree.specs.Headers.{headers_of, IsThere};
 ghost use Rattle.member_link.specs.Access.{IsClassAccessible};
+ghost use Rattle.member_link.specs.MemberRefs.{reference_meant};
 ghost use Rattle.member_link.specs.References.{DescriptorNames, Reference as Named};
 ghost use Rattle.member_link.specs.Inner.Resolutions.{IsCallee, IfHad, Resolves, ClassResolves, FieldResolves, MethodResolves, TypesResolve};
 
 use crate::access::accessible;
-use crate::constants::{Reference, descriptor_of, reference_of};
 use crate::fields::find_field;
 use crate::forms::{fits_kind, is_instantiable};
 use crate::methods::find_method;
@@ -15,6 +15,7 @@ use crate::names::{
     is_descriptor_accessible, is_descriptor_there, is_field_type_there, is_named_accessible,
     is_named_there,
 };
+use crate::reference::{MemberRef, descriptor_at, reference_at};
 use crate::resolution::{Callee, Referent, Resolution};
 use class_model::{Const, INIT, NoMemory, Pool, Text};
 use class_tree::{LinkRule, Tree, a_tree_is_a_hierarchy};
@@ -40,15 +41,15 @@ pub(crate) fn resolve(
     match constant {
         Const::Class(name) => Ok(resolve_class(tree, from, pool.utf8(*name))),
         Const::Fieldref(class, member) => {
-            resolve_field(alloc, tree, from, reference_of(pool, *class, *member))
+            resolve_field(alloc, tree, from, reference_at(pool, *class, *member))
         }
         Const::Methodref(class, member) | Const::InterfaceMethodref(class, member) => {
-            let reference = reference_of(pool, *class, *member);
+            let reference = reference_at(pool, *class, *member);
             resolve_method(alloc, tree, from, constant, reference)
         }
         Const::MethodType(desc) => resolve_method_type(alloc, tree, from, pool.utf8(*desc)),
         Const::InvokeDynamic(_, member) => {
-            resolve_dynamic(alloc, tree, descriptor_of(pool, *member))
+            resolve_dynamic(alloc, tree, descriptor_at(pool, *member))
         }
         _ => Ok(Resolution::Settled),
     }
@@ -76,26 +77,29 @@ fn resolve_field(
     alloc: Global,
     tree: &Tree,
     from: &Text,
-    reference: Option<Reference<'_>>,
+    reference: Option<MemberRef<'_>>,
 ) -> Result<Resolution, NoMemory>
-    ensures { IfOk result (IfHad (FieldResolves (headers_of tree.now) from.now) reference.entry) }
+    ensures { IfOk result (IfHad (FieldResolves (headers_of tree.now) from.now)
+        (option_map reference_meant reference.entry)) }
 {
-    let Some(Reference { class, name, desc }) = reference else {
+    let Some(reference) = reference else {
         return Ok(Resolution::Settled);
     };
-    if !is_named_there(tree, class.bytes()) || !is_field_type_there(alloc, tree, desc)? {
+    if !is_named_there(tree, reference.class.bytes())
+        || !is_field_type_there(alloc, tree, reference.desc)?
+    {
         return Ok(Resolution::Broken(LinkRule::Missing));
     }
-    if !is_named_accessible(tree, from.bytes(), class.bytes()) {
+    if !is_named_accessible(tree, from.bytes(), reference.class.bytes()) {
         return Ok(Resolution::Broken(LinkRule::NoAccess));
     }
     a_tree_is_a_hierarchy(tree);
-    let Some(found) = find_field(tree, class, name, desc) else {
+    let Some(found) = find_field(tree, reference.class, reference.name, reference.desc) else {
         return Ok(Resolution::Broken(LinkRule::NoMember));
     };
     Ok(Resolution::Field(Referent {
         flags: found.flags,
-        is_accessible: accessible(tree, from, class, found),
+        is_accessible: accessible(tree, from, reference.class, found),
     }))
 }
 
@@ -105,29 +109,31 @@ fn resolve_method(
     tree: &Tree,
     from: &Text,
     constant: &Const,
-    reference: Option<Reference<'_>>,
+    reference: Option<MemberRef<'_>>,
 ) -> Result<Resolution, NoMemory>
     ensures { IfOk result
         (IfHad (MethodResolves (headers_of tree.now) from.now
-        (Some constant.now)) reference.entry) }
+        (Some constant.now)) (option_map reference_meant reference.entry)) }
 {
-    let Some(Reference { class, name, desc }) = reference else {
+    let Some(reference) = reference else {
         return Ok(Resolution::Settled);
     };
-    if !is_named_there(tree, class.bytes()) || !is_descriptor_there(alloc, tree, desc)? {
+    if !is_named_there(tree, reference.class.bytes())
+        || !is_descriptor_there(alloc, tree, reference.desc)?
+    {
         return Ok(Resolution::Broken(LinkRule::Missing));
     }
-    if !is_named_accessible(tree, from.bytes(), class.bytes()) {
+    if !is_named_accessible(tree, from.bytes(), reference.class.bytes()) {
         return Ok(Resolution::Broken(LinkRule::NoAccess));
     }
-    let Some(found) = find_method(tree, class, name, desc) else {
+    let Some(found) = find_method(tree, reference.class, reference.name, reference.desc) else {
         return Ok(Resolution::Broken(LinkRule::NoMember));
     };
     let referent = Referent {
         flags: found.flags,
-        is_accessible: accessible(tree, from, class, found),
+        is_accessible: accessible(tree, from, reference.class, found),
     };
-    let callee = callee_of(tree, constant, class, name);
+    let callee = callee_of(tree, constant, reference.class, reference.name);
     Ok(Resolution::Method(referent, callee))
 }
 

@@ -16,7 +16,8 @@ use Rattle.class_tree.specs.Trees.{IsTree}
 use Rattle.class_tree.specs.declared.fault.LinkRule.TheVariants as rules
 use Rattle.machine_step.specs.Programs.{IsProgram}
 use Rattle.member_link.specs.Machine.Programs.{Program, headers_in, folder_number, is_interface_named}
-use Rattle.never_stuck.proofs.Folders.{some_of, named_behind, apart, headers_are, links_are, outside_folder, no_folder_class}
+use Rattle.never_stuck.proofs.Folders.{some_of, named_behind, apart, outside_folder, no_folder_class}
+use Rattle.machine_step.specs.Laws.ProgramHeaders.{headers_are, links_are}
 use Rattle.typed_runs.specs.TypedPoints.{IsOfLibrary}
 use Rattle.typed_runs.specs.TypedPrograms.{HasBase}
 

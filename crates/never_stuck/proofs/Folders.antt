@@ -14,11 +14,6 @@ use Rattle.member_link.specs.Machine.Programs.{Program, RunClass, Links, headers
 pub some_of : {A : Type 0} {a b : A} → Some a ≡ Some b → a ≡ b
 some_of e = cc
 
-pub folder_headers : (links : Links) (headers : Headers) (folder : List ClassFile)
-    → map (λ (class : RunClass). class.header) (map (run_class_of links headers) folder) ≡ map header_of folder
-folder_headers links headers [] = refl
-folder_headers links headers (class ∷ folder) = ap (λ (rest : List Header). header_of class ∷ rest) (folder_headers links headers folder)
-
 -- ---- classes by name
 
 pub named_behind : (name : Name) (xs ys : List Header) → IsSome (named name ys) → IsSome (named name (xs ++ ys))
@@ -95,15 +90,6 @@ not_there links headers name (class ∷ folder) none =
 -- ---- the program
 
 module _ (classes : Classes) (P : Program) (is : IsProgram classes P) where
-  pub headers_are : headers_in P ≡ headers_of classes
-  headers_are =
-      ap headers_in is.same
-      ∙ ap (λ (folder : List Header). let headers : Headers = record { folder = folder; library = classes.library } in headers)
-      (folder_headers is.links (headers_of classes) classes.folder)
-
-  pub links_are : AreLinksOf (headers_of classes) P.links
-  links_are = subst (AreLinksOf (headers_of classes)) (sym (ap (λ (p : Program). p.links) is.same)) is.are_links
-
   pub outside_folder : (name : Name) → named name (headers_of classes).folder ≡ None → folder_number P name ≡ None
   outside_folder name none = ap (λ (p : Program). folder_number p name) is.same
       ∙ not_numbered is.links (headers_of classes) name classes.folder none

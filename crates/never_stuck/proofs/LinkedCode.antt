@@ -45,12 +45,14 @@ use Rattle.member_link.specs.Rows.Table.{row_of}
 use Rattle.member_link.specs.Scope.{Scope, instructions, row_scope}
 use Rattle.member_link.specs.Uses.{instr_use_checks}
 use Rattle.never_stuck.proofs.Bases.{BaseHolds, base_holds, has_base, of_library}
-use Rattle.never_stuck.proofs.Folders.{some_of, headers_are}
+use Rattle.never_stuck.proofs.Folders.{some_of}
+use Rattle.machine_step.specs.Laws.ProgramHeaders.{headers_are}
 use Rattle.never_stuck.proofs.LinkedInstrs.{new_found, instr_linked}
 use Rattle.never_stuck.proofs.LinkedOps.{ReferenceLaws, Around, IsLinkedAt}
-use Rattle.never_stuck.proofs.PlacedFrames.{Ascend}
+use Rattle.type_rules.specs.Laws.InstructionOrder.{Ascend}
 use Rattle.never_stuck.proofs.PoolNames.{constant_holds}
-use Rattle.never_stuck.proofs.SomeDimensions.{SomeIn, ListSome, instrs_some}
+use Rattle.never_stuck.proofs.SomeDimensions.{IsSome, SomeIn, instrs_some}
+use Rattle.machine_laws.specs.Laws.DimensionsRead.{ListHas}
 use Rattle.never_stuck.proofs.TypedMethods.{scope_with}
 
 -- what the laws of linking and reading say
@@ -194,8 +196,8 @@ linked_instr laws classes P is hierarchy tree linked has_class at file m part of
             code_is = attr.2;
           }) d.instrs placed d.decodes d.there
 
-      all_some : ListSome (decoded part.code)
+      all_some : ListHas IsSome (decoded part.code)
       all_some = instrs_some _ _ part.code
 
       some : SomeIn placed.instr
-      some = at_index (λ (p : Placed). SomeIn p.instr) d.instrs number placed (subst ListSome d.decodes all_some) d.there
+      some = at_index (λ (p : Placed). SomeIn p.instr) d.instrs number placed (subst (ListHas IsSome) d.decodes all_some) d.there

@@ -40,7 +40,8 @@ use Rattle.member_link.specs.Uses.{UseScope, instr_use_checks, named_class_check
 use Rattle.never_stuck.proofs.Folders.{some_of}
 use Rattle.never_stuck.proofs.KnownRows.{jump_known, load_known, store_known, no_row_holds, primitive_named, array_there}
 use Rattle.never_stuck.proofs.LinkedOps.{ReferenceLaws, Around, IsLinkedAt, tested, found, return_linked, constant_linked, field_there, call_linked, class_linked, class_there}
-use Rattle.never_stuck.proofs.PlacedFrames.{Ascend, same_place, other_place}
+use Rattle.never_stuck.proofs.PlacedFrames.{same_place, other_place}
+use Rattle.type_rules.specs.Laws.InstructionOrder.{Ascend}
 use Rattle.never_stuck.proofs.PoolNames.{class_text, member_text}
 use Rattle.never_stuck.proofs.SomeDimensions.{SomeIn}
 use Rattle.never_stuck.proofs.TypedMethods.{scope_with}

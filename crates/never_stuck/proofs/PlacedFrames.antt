@@ -6,33 +6,12 @@ use Rattle.class_model.specs.declared.frame.Frame.{Frame}
 use Rattle.class_model.specs.declared.instr.Placed.{Placed}
 use Rattle.member_link.specs.Bodies.{item_instr}
 use Rattle.member_link.specs.BodyTyping.{AreInOrder, frame_among}
-use Rattle.member_link.specs.Machine.Codes.{CodePoint, catches_at}
+use Rattle.member_link.specs.Machine.Codes.{CodePoint, catches_at, code_point}
 use Rattle.member_link.specs.Machine.Programs.{number_of_first}
 use Rattle.member_link.specs.Scope.{Scope, row_scope}
 use Rattle.never_stuck.proofs.Folders.{some_of}
-use Rattle.type_rules.specs.MethodBodies.{point_of}
 
 -- ---- the order of instructions
-
-abbrev pub Ascend : List Placed → Type 0
-Ascend [] = Unit {0}
-Ascend (p ∷ ps) = AllByRecursion (λ (q : Placed). p.at < q.at) ps × Ascend ps
-
-pub ascend : (s : Scope) (ps : List Placed) → AreInOrder (map (point_of s) ps) → Ascend ps
-ascend s [] order = tt
-ascend s (p ∷ []) order = (tt, tt)
-ascend s (p ∷ (q ∷ ps)) order =
-    let rest : Ascend (q ∷ ps) = ascend s (q ∷ ps) order.2 in
-    let one : p.at < p.at + p.len = order.0 in
-    let same : q.at ≡ p.at + p.len = order.1 in
-    let before : p.at < q.at = omega (arith, one, same) in (
-      (
-        before,
-        AllByRecursion-weaker (λ (r : Placed). q.at < r.at) (λ (r : Placed). p.at < r.at) (λ r is. omega (arith, before, is)) ps
-            rest.0,
-      ),
-      rest,
-    )
 
 pub same_place : (n : ℕ) → (n == n) ≡ true
 same_place n = search arith
@@ -44,14 +23,6 @@ pub is_place : (a b : ℕ) → (a == b) ≡ true → a ≡ b
 is_place a b is = search arith
 
 -- ---- points by their places
-
-abbrev pub code_point : Scope → Placed → CodePoint
-code_point s placed = record {
-  place = placed.at;
-  scope = row_scope s;
-  item = item_instr placed.instr;
-  catches = catches_at s.class.pool s.part.handlers placed.at;
-}
 
 pub number_found : (s : Scope) (ps : List Placed) → Ascend ps → (n : ℕ) (p : Placed) → slice_get ps n ≡ Some p
     → number_of_first (λ (c : CodePoint). c.place == p.at) (map (code_point s) ps) ≡ Some n

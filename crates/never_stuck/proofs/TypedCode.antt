@@ -14,7 +14,7 @@ use Rattle.class_tree.specs.Names.{throwable}
 use Rattle.member_link.specs.Assignability.{to_same}
 use Rattle.member_link.specs.Bodies.{BodyPoint, item_instr, item_targets, catch_frame, flows_on, frame_behind}
 use Rattle.member_link.specs.BodyTyping.{RowHolds, AreInOrder, GoesInto, GoesToStated, HasFrames, PointFits, frame_at}
-use Rattle.member_link.specs.Machine.Codes.{CodePoint, number_at, item_op, catch_in, catches_at, code_points, covers, method_code}
+use Rattle.member_link.specs.Machine.Codes.{CodePoint, number_at, item_op, catch_in, catches_at, code_point, code_points, covers, method_code}
 use Rattle.member_link.specs.Machine.Programs.{Program, Catch, Point, Links, number_of_first}
 use Rattle.member_link.specs.Rows.Assigning.{IsFrameAssignableIn}
 use Rattle.member_link.specs.Rows.FrameAssignability.{AreAssignable}
@@ -23,7 +23,8 @@ use Rattle.member_link.specs.Rows.Table.{row_of}
 use Rattle.member_link.specs.Scope.{Scope, instructions, row_scope}
 use Rattle.never_stuck.proofs.Folders.{some_of}
 use Rattle.never_stuck.proofs.LinkedOps.{IsLinkedAt}
-use Rattle.never_stuck.proofs.PlacedFrames.{Ascend, ascend, code_point, number_found, FrameThere, frame_there, frame_placed}
+use Rattle.never_stuck.proofs.PlacedFrames.{number_found, FrameThere, frame_there, frame_placed}
+use Rattle.type_rules.specs.Laws.InstructionOrder.{Ascend, ascend}
 use Rattle.type_rules.specs.Checks.{IsTypedAt, MayFlowIn, frame_before}
 use Rattle.type_rules.specs.Handlers as handlers
 use Rattle.type_rules.specs.MethodBodies.{body_of, point_of}

@@ -16,7 +16,7 @@ use Rattle.member_link.specs.Machine.Classes.{program_of, run_class_of}
 use Rattle.member_link.specs.Machine.Codes.{method_code}
 use Rattle.member_link.specs.Machine.Programs.{Program, Links, name_of_class}
 use Rattle.member_link.specs.Scope.{Scope, instructions, row_scope}
-use Rattle.never_stuck.proofs.Folders.{folder_headers}
+use Rattle.machine_step.specs.Laws.ProgramHeaders.{folder_headers}
 use Rattle.never_stuck.proofs.TypedCode.{IsTypedCode, IsLinkedInstr, point_typed, entry_lead, as_many_points}
 use Rattle.type_rules.specs.MethodBodies.{body_of}
 use Rattle.typed_runs.specs.TypedPoints.{LeadsTo}

@@ -26,9 +26,10 @@ use Rattle.member_link.specs.Machine.Programs.{Program, Code, RunClass, RunMetho
 use Rattle.member_link.specs.Scope.{Scope, scope_at, instructions, row_scope}
 use Rattle.never_stuck.proofs.Bases.{has_base}
 use Rattle.never_stuck.proofs.FileClasses.{class_typed}
-use Rattle.never_stuck.proofs.Folders.{some_of, headers_are, links_are}
+use Rattle.never_stuck.proofs.Folders.{some_of}
+use Rattle.machine_step.specs.Laws.ProgramHeaders.{headers_are, links_are}
 use Rattle.never_stuck.proofs.LinkedCode.{LinkLaws, linked_instr}
-use Rattle.never_stuck.proofs.PlacedFrames.{ascend}
+use Rattle.type_rules.specs.Laws.InstructionOrder.{ascend}
 use Rattle.never_stuck.proofs.TypedCode.{IsTypedCode}
 use Rattle.never_stuck.proofs.TypedMethods.{scope_with, method_typed}
 use Rattle.type_rules.specs.Checks.{IsTypedAt}

@@ -21,15 +21,12 @@ pub mod Following
 pub mod Visiting
 pub mod LeastStarts
 pub mod Fitting
-pub mod Parameters
-pub mod ResultLens
-pub mod FieldNumbers
+pub mod FolderClasses
 pub mod Adding
 pub mod RowUpdates
 pub mod Opening
 pub mod TopEntries
 pub mod Gathering
-pub mod TreeLinks
 pub mod AskedSites
 pub mod Rounds
 pub mod Cleaning

@@ -5,7 +5,6 @@ pub mod FieldWords
 pub mod Fitting
 pub mod Gaining
 pub mod Iteration
-pub mod ParameterWords
 pub mod Planning
 pub mod Reaching
 pub mod RowViews

@@ -1,15 +1,14 @@
 -- What plans of flat code read: the classes, what look-up and subtyping answer, and the flat code. It is this project's profile.
-use Rattle.std.specs.Prelude.{◌==◌, ℕ, Bool, false, List, [], map, reverse, length, slice_get, Option, Some, None, option_and_then, not, is_some}
-use Rattle.std.specs.List.{flat_map}
+use Rattle.std.specs.Prelude.{◌==◌, ℕ, Bool, false, List, [], length, slice_get, Option, Some, None, option_and_then, not, is_some}
 use Rattle.class_model.specs.Pool.{Constants, constant_at}
 use Rattle.class_model.specs.declared.class_file.ClassFile.{ClassFile}
 use Rattle.class_model.specs.declared.frame.VType.{VType}
-use Rattle.class_tree.specs.Headers.{Name, Classes, Headers, headers_of, named}
-use Rattle.class_tree.specs.Layouts.{superclasses, own_fields}
+use Rattle.class_tree.specs.Headers.{Name, Classes, headers_of, named}
 use Rattle.flow_code.specs.FlatCode.{FlatCode, point_at}
 use Rattle.flow_code.specs.declared.point.Point.{Point}
 use Rattle.flow_code.specs.declared.point.Site.{Site}
-use Rattle.member_link.specs.Machine.Programs.{Links, number_of_first, same_reference}
+use Rattle.member_link.specs.Machine.Layouts.{slot_number_in}
+use Rattle.member_link.specs.Machine.Programs.{Links, number_of_first}
 use Rattle.member_link.specs.References.{Reference}
 use Rattle.member_link.specs.Signatures.{reference_of}
 
@@ -56,22 +55,10 @@ fields_of_site (Some site) = length site.fields
 abbrev pub field_count : PlanScope → ℕ → ℕ
 field_count s site = fields_of_site (slice_get s.flat.sites site)
 
--- the instance fields that a class of the folder declares
-abbrev pub own_references : Headers → Name → List Reference
-own_references headers name =
-    map (λ field. record { class = name; name = field.name; desc = field.desc })
-    (own_fields headers name)
-
--- the fields of an object of a class: those of the highest class first, each class's in the order of their declaration
-abbrev pub references_of : Headers → Name → List Reference
-references_of headers name =
-    flat_map (own_references headers) (reverse (superclasses headers name))
-
 -- the number of a field among those of a site's object
 abbrev pub field_number : PlanScope → ℕ → Reference → Option ℕ
 field_number s site field =
-    option_and_then
-    (λ one. number_of_first (same_reference field) (references_of (headers_of s.classes) one.class))
+    option_and_then (λ one. slot_number_in (headers_of s.classes) one.class field)
     (slice_get s.flat.sites site)
 
 -- the objects of a site are of this class or of one below it

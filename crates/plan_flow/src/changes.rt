@@ -1,8 +1,8 @@
 //! What becomes of virtual objects.
 ghost use Rattle.std.specs.Prelude.{◌≡◌, ◌+◌, ◌-◌, ◌∷◌, [], ℕ, Option, Some, IfOk};
 ghost use Rattle.class_tree.specs.Headers.{Classes};
+ghost use Rattle.member_link.specs.Machine.Layouts.{capped};
 ghost use Rattle.member_link.specs.Machine.Programs.{Links};
-ghost use Rattle.plan_flow.specs.Inner.FieldWords.{capped};
 ghost use Rattle.plan_flow.specs.Inner.Doing.{IsNotFull, front_objects};
 ghost use Rattle.plan_flow.specs.Inner.RowViews.{change_of};
 ghost use Rattle.plan_flow.specs.PlanRows.{enter_monitor, new_object};
@@ -12,13 +12,13 @@ ghost use Rattle.virtual_state.specs.States.{State};
 
 use crate::edge::EdgeKind;
 use crate::edge_states::blank_object;
-use crate::numbers::field_number;
-use crate::reference::Reference;
+use crate::fields::field_number;
 use crate::rows::Change;
 use crate::slots::held;
 use class_model::{ListOf, NoMemory};
 use class_tree::Tree;
 use flow_code::Flat;
+use member_link::Reference;
 use std::alloc::Global;
 use virtual_state::{Slot, VObject, VObjectList, VState};
 

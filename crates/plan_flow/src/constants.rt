@@ -2,17 +2,15 @@
 ghost use Rattle.std.specs.Prelude.{◌≡◌, IfOk, slice_get, option_map};
 ghost use Rattle.std.specs.Option.{option_copied};
 ghost use Rattle.class_model.specs.Pool.{constant_at};
-ghost use Rattle.class_model.specs.PoolChecks.{class_at, descriptor_at, name_at};
+ghost use Rattle.class_model.specs.PoolChecks.{class_at};
 ghost use Rattle.flow_code.specs.FlatCode.{FlatCode};
 ghost use Rattle.member_link.specs.Machine.Programs.{Links};
-ghost use Rattle.member_link.specs.References.{reference_at};
-ghost use Rattle.member_link.specs.Signatures.{reference_of};
 ghost use Rattle.plan_flow.specs.Inner.RowViews.{dynamic_desc};
 ghost use Rattle.plan_flow.specs.PlanScope.{member_of, pool_of, scope_of};
 
-use crate::reference::Reference;
 use class_model::{Const, NoMemory, Pool, Text};
 use class_tree::Tree;
+use member_link::{Reference, descriptor_at, reference_of};
 
 /// The member that a constant of a class refers to, by the class's number, if it is one of a field or method.
 ///
@@ -75,53 +73,4 @@ fn pool_at(tree: &Tree, class: usize) -> Option<&Pool>
         Some(file) => Some(&file.pool),
         None => None,
     }
-}
-
-// The member that the constant at an index refers to, if it is one of a field or method.
-fn reference_of(pool: &Pool, index: u16) -> Result<Option<Reference>, NoMemory>
-    ensures { IfOk result
-        (λ reference. reference ≡ reference_of pool.now (constant_at pool.now index)) }
-{
-    match pool.get(index) {
-        Some(
-            Const::Fieldref(class, member)
-            | Const::Methodref(class, member)
-            | Const::InterfaceMethodref(class, member),
-        ) => reference_at(pool, *class, *member),
-        _ => Ok(None),
-    }
-}
-
-// The reference of a class index and a NameAndType index, if all of it could be had.
-fn reference_at(pool: &Pool, class: u16, member: u16) -> Result<Option<Reference>, NoMemory>
-    ensures { IfOk result (λ reference. reference ≡ reference_at pool.now class member) }
-{
-    match (
-        pool.class_name(class),
-        name_at(pool, member),
-        descriptor_at(pool, member),
-    ) {
-        (Some(class), Some(name), Some(desc)) => Ok(Some(Reference {
-            class: class.copy()?,
-            name: name.copy()?,
-            desc: desc.copy()?,
-        })),
-        _ => Ok(None),
-    }
-}
-
-// The name of the NameAndType constant at an index, if one is there.
-fn name_at(pool: &Pool, member: u16) -> Option<&Text>
-    ensures { option_copied result ≡ name_at pool.now member }
-{
-    let (name, _) = pool.name_and_type(member)?;
-    pool.utf8(name)
-}
-
-// The descriptor of the NameAndType constant at an index, if one is there.
-fn descriptor_at(pool: &Pool, member: u16) -> Option<&Text>
-    ensures { option_copied result ≡ descriptor_at pool.now member }
-{
-    let (_, desc) = pool.name_and_type(member)?;
-    pool.utf8(desc)
 }

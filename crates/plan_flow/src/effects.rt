@@ -17,13 +17,13 @@ use crate::changes::front_objects;
 use crate::edge::{Edge, EdgeList};
 use crate::edge_states::state_behind;
 use crate::edges::{GuardedEdge, edge_at, open_edges};
-use crate::links_laws::a_tree_has_links;
 use crate::rows::Row;
 use crate::sources::{edge_locals, edge_stack};
 use crate::table::row_at;
 use class_model::{Frame, LocalTypeList, NoMemory, VTypeList};
 use class_tree::Tree;
 use flow_code::{Flat, FlatInstr};
+use member_link::a_tree_has_links;
 use std::alloc::Global;
 use virtual_state::VState;
 

@@ -1,19 +1,20 @@
-//! Fields that instructions name (JVM Specification SE 8, 5.4.3.2).
+//! Fields that instructions name (JVM Specification SE 8, 5.4.3.2), and their numbers in objects.
 ghost use Rattle.std.specs.Prelude.{◌≡◌, IfOk};
 ghost use Rattle.class_tree.specs.Headers.{headers_of};
 ghost use Rattle.flow_code.specs.FlatCode.{FlatCode};
 ghost use Rattle.member_link.specs.DeclaredMembers.{Declared};
 ghost use Rattle.member_link.specs.Found.{IsFieldFound};
+ghost use Rattle.member_link.specs.Machine.Layouts.{capped};
 ghost use Rattle.member_link.specs.Machine.Links.{AreLinksOf, reference_to};
 ghost use Rattle.member_link.specs.Machine.Programs.{Links};
 ghost use Rattle.plan_flow.specs.Inner.FieldWords.{is_in_folder};
-ghost use Rattle.plan_flow.specs.PlanScope.{field_of, is_of_library, scope_of};
+ghost use Rattle.plan_flow.specs.PlanScope.{field_number, field_of, is_of_library, scope_of};
 
 use crate::constants::member_of;
-use crate::reference::Reference;
 use class_model::NoMemory;
 use class_tree::{Place, Tree, a_tree_is_a_hierarchy};
-use member_link::{Found, a_look_up_finds_one_field, find_field};
+use flow_code::Flat;
+use member_link::{Found, Reference, a_look_up_finds_one_field, find_field, slot_number};
 
 /// The field that a constant of a class names, by the class's number, as the class that declares it does.
 ///
@@ -65,6 +66,18 @@ fn declared_at(tree: &Tree, found: Found) -> Result<Reference, NoMemory>
         name: member.name.copy()?,
         desc: member.desc.copy()?,
     })
+}
+
+/// The number of a field among those of a site's object, or `usize::MAX` where it is as great or greater. It does not
+/// allocate, and goes up the superclasses of the site's class.
+pub(crate) fn field_number(tree: &Tree, flat: &Flat, site: u16, field: &Reference) -> Option<usize>
+    ensures { (links : Links) → result
+        ≡ capped usize.MAX (field_number (scope_of tree.now links flat.now) site field.now) }
+{
+    match flat.sites().get(usize::from(site)) {
+        Some(one) => slot_number(tree, tree.place(&one.class), field),
+        None => None,
+    }
 }
 
 /// Whether a class of the library declares a field.

@@ -7,7 +7,6 @@ ghost use Rattle.plan_flow.specs.Plans.{FlowsInside};
 
 use crate::edge::Edge;
 use crate::effects::effect;
-use crate::links_laws::a_tree_has_links;
 use crate::point_states::PointStates;
 use crate::settling::settled;
 use crate::targets::raised;
@@ -15,6 +14,7 @@ use crate::work_list::WorkList;
 use class_model::NoMemory;
 use class_tree::Tree;
 use flow_code::Flat;
+use member_link::a_tree_has_links;
 use std::alloc::Global;
 use virtual_state::below;
 

@@ -5,9 +5,9 @@ ghost use Rattle.plan_flow.specs.Inner.RowViews.{given_by, moving_row, plan_row}
 ghost use Rattle.plan_flow.specs.Narrow.{HasFewLocals};
 ghost use Rattle.plan_flow.specs.PlanTable.{moving, operand, throwing};
 
-use crate::reference::Reference;
 use crate::shuffles::Form;
 use class_model::{Frame, Text};
+use member_link::Reference;
 
 /// Where the value of a place comes from.
 #[derive(Debug, Drop)]

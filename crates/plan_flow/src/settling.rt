@@ -9,11 +9,11 @@ ghost use Rattle.plan_flow.specs.Inner.Iteration.{IsLeft};
 ghost use Rattle.plan_flow.specs.Narrow.{IsNarrow};
 ghost use Rattle.plan_flow.specs.PlanScope.{scope_of};
 
-use crate::links_laws::a_tree_has_links;
 use crate::needs::must;
 use class_model::NoMemory;
 use class_tree::Tree;
 use flow_code::Flat;
+use member_link::a_tree_has_links;
 use std::alloc::Global;
 use virtual_state::{VState, without};
 

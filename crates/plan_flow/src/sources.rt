@@ -1,7 +1,7 @@
 //! What places hold behind an edge, before it is known which of them are unusable there.
 ghost use Rattle.std.specs.Prelude.{◌≡◌, ◌++◌, ◌∷◌, [], ℕ, Option, Some, length, IfOk, OnOk};
+ghost use Rattle.member_link.specs.Machine.Layouts.{capped};
 ghost use Rattle.member_link.specs.Machine.Programs.{Links};
-ghost use Rattle.plan_flow.specs.Inner.FieldWords.{capped};
 ghost use Rattle.plan_flow.specs.Inner.RowViews.{change_of, given_by, plan_row, source_of, stored_by, stored_slots};
 ghost use Rattle.plan_flow.specs.Narrow.{HasFewLocals};
 ghost use Rattle.plan_flow.specs.PlanRows.{Change as RowChange};
@@ -10,14 +10,14 @@ ghost use Rattle.plan_flow.specs.PlanSlots as slots;
 ghost use Rattle.plan_flow.specs.PlanTable.{picked_operands};
 
 use crate::edge::EdgeKind;
-use crate::numbers::field_number;
-use crate::reference::Reference;
+use crate::fields::field_number;
 use crate::rows::{Change, Gives, Row, Source, operand};
 use crate::shuffles::Form;
 use crate::slots::{held, push_held};
 use class_model::{Frame, NoMemory};
 use class_tree::Tree;
 use flow_code::Flat;
+use member_link::Reference;
 use std::alloc::Global;
 use virtual_state::{Slot, VObject, VState};
 

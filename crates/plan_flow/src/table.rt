@@ -16,14 +16,13 @@ ghost use Rattle.plan_flow.specs.PlanTable as tables;
 
 use crate::arithmetic::{divide_operands, float_operands, pure_operands};
 use crate::constants::{class_named, dynamic_descriptor, member_of};
-use crate::descriptors::{has_result, parameter_count};
 use crate::fields::{field_of, is_of_library};
-use crate::reference::Reference;
 use crate::rows::{Asks, Change, Gives, Guard, Row, Source, operand};
 use crate::shuffles::form_on;
 use class_model::opcodes::{IF_ACMPEQ, IFNULL, INVOKESTATIC};
 use class_model::{Frame, INIT, Instr, Kind, NoMemory, Text};
 use class_tree::{OBJECT, Tree};
+use member_link::{Reference, parameter_count, result_text};
 use flow_code::{Flat, FlatInstr, Site};
 
 /// The row of an instruction at a point with these types.
@@ -237,7 +236,7 @@ fn calling(types: &Frame, takes: usize, desc: &[u8]) -> Row
 fn result_given(desc: &[u8]) -> Gives
     ensures { (f : Frame) → given_by f result ≡ tables.result_given (result_of desc.now) }
 {
-    if has_result(desc) {
+    if result_text(desc).is_some() {
         Gives::One(Source::Plain)
     } else {
         Gives::Nothing

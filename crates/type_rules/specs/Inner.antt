@@ -11,6 +11,5 @@ pub mod Meanings
 pub mod NewClasses
 pub mod ParsedCalls
 pub mod Protected
-pub mod References
 pub mod Signatures
 pub mod Steps

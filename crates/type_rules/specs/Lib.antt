@@ -9,3 +9,4 @@ pub mod Typed
 pub mod Verified
 pub mod RuleNames
 pub mod Inner
+pub mod Laws

@@ -14,7 +14,7 @@ ghost use Rattle.member_link.specs.Rows.MemberRows.{IsSpecialTarget, argument_ne
 ghost use Rattle.member_link.specs.Rows.Operands.{lowest_of};
 ghost use Rattle.member_link.specs.Rows.Row.{either, plain};
 ghost use Rattle.member_link.specs.Signatures.{reference_of, result_of};
-ghost use Rattle.type_rules.specs.Inner.References.{reference_meant};
+ghost use Rattle.member_link.specs.MemberRefs.{reference_meant};
 ghost use Rattle.type_rules.specs.Rule.{RowRules};
 ghost use Rattle.member_link.specs.Scope.{row_scope};
 ghost use Rattle.member_link.specs.Inner.Scope.{current};
@@ -29,12 +29,12 @@ use crate::method_rules::MethodRules;
 use crate::need::Need;
 use crate::operands::lowest_of;
 use crate::protected::passes_method;
-use crate::reference::{Reference, reference_at};
 use crate::ruled::Ruled;
 use crate::step::Step;
 use class_model::opcodes::{INVOKESPECIAL, INVOKESTATIC};
 use class_model::{Const, Descriptor, INIT, NoMemory, Pool, Text, VType};
 use class_tree::{a_tree_is_a_hierarchy, chain};
+use member_link::{MemberRef, member_at};
 use std::alloc::Global;
 
 // The version from which on a direct superinterface is a target of invokespecial.
@@ -49,7 +49,7 @@ pub(crate) fn call(step: &Step<'_>, opcode: u8, index: u16) -> Result<Ruled, Rul
         (constant_at step.now.rules.now.class.pool index))) result }
 {
     let rules = step.rules;
-    let Some(reference) = reference_at(rules.class, index) else {
+    let Some(reference) = member_at(&rules.class.pool, index) else {
         return step.no_row();
     };
     if let Some(descriptor) = rules.call_descriptor(index) {
@@ -63,7 +63,7 @@ pub(crate) fn call(step: &Step<'_>, opcode: u8, index: u16) -> Result<Ruled, Rul
 fn call_method(
     step: &Step<'_>,
     opcode: u8,
-    reference: &Reference<'_>,
+    reference: &MemberRef<'_>,
     descriptor: &Descriptor,
 ) -> Result<Ruled, RuleFault>
     requires { SpellsDescriptor reference.now.desc.now descriptor.now }
@@ -122,7 +122,7 @@ fn descriptor_of(pool: &Pool, member: u16) -> Option<&Text>
 // Calls a static method.
 fn call_static(
     step: &Step<'_>,
-    reference: &Reference<'_>,
+    reference: &MemberRef<'_>,
     descriptor: &Descriptor,
 ) -> Result<Ruled, RuleFault>
     requires { SpellsDescriptor reference.now.desc.now descriptor.now }
@@ -136,7 +136,7 @@ fn call_static(
 // Calls a method on an object of the named class.
 fn call_on(
     step: &Step<'_>,
-    reference: &Reference<'_>,
+    reference: &MemberRef<'_>,
     descriptor: &Descriptor,
     further: bool,
     access: bool,
@@ -159,7 +159,7 @@ fn call_on(
 // Calls a method that is chosen by the object.
 fn call_virtual(
     step: &Step<'_>,
-    reference: &Reference<'_>,
+    reference: &MemberRef<'_>,
     descriptor: &Descriptor,
 ) -> Result<Ruled, RuleFault>
     requires { SpellsDescriptor reference.now.desc.now descriptor.now }
@@ -178,7 +178,7 @@ fn call_virtual(
 // Calls an initialiser, or a method that is not chosen by the object.
 fn call_named(
     step: &Step<'_>,
-    reference: &Reference<'_>,
+    reference: &MemberRef<'_>,
     descriptor: &Descriptor,
 ) -> Result<Ruled, RuleFault>
     requires { SpellsDescriptor reference.now.desc.now descriptor.now }
@@ -199,7 +199,7 @@ fn call_named(
 // Calls a method of the current class or of one above it, on an object of the current class.
 fn call_special(
     step: &Step<'_>,
-    reference: &Reference<'_>,
+    reference: &MemberRef<'_>,
     descriptor: &Descriptor,
 ) -> Result<Ruled, RuleFault>
     requires { SpellsDescriptor reference.now.desc.now descriptor.now }

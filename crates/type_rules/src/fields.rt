@@ -5,7 +5,7 @@ ghost use Rattle.class_model.specs.Descriptors.{type_of};
 ghost use Rattle.class_model.specs.Pool.{constant_at};
 ghost use Rattle.member_link.specs.Rows.MemberRows.{get_static_row, put_static_row, get_field_row, put_field_row, IsOwnField, MayPut, PassesPut};
 ghost use Rattle.member_link.specs.Signatures.{reference_of};
-ghost use Rattle.type_rules.specs.Inner.References.{reference_meant};
+ghost use Rattle.member_link.specs.MemberRefs.{reference_meant};
 ghost use Rattle.type_rules.specs.Rule.{RowRules};
 ghost use Rattle.member_link.specs.Scope.{row_scope};
 
@@ -15,17 +15,17 @@ use crate::method_rules::MethodRules;
 use crate::need::Need;
 use crate::operands::lowest_of;
 use crate::protected::passes_field;
-use crate::reference::{Reference, reference_at};
 use crate::ruled::Ruled;
 use crate::step::Step;
 use class_model::{FieldType, NoMemory, VType};
 use code_bytes::verification_type;
+use member_link::{MemberRef, member_at};
 use std::alloc::Global;
 
 // A reference to a field, and the field's type.
 #[derive(Drop)]
 struct FieldReference<'a> {
-    reference: Reference<'a>,
+    reference: MemberRef<'a>,
     field_type: FieldType,
 }
 
@@ -121,7 +121,7 @@ fn put_into(step: &Step<'_>, field: &FieldReference<'_>) -> Result<Ruled, RuleFa
 }
 
 // Whether a field of a receiver may be written: an uninitialised this has its own fields written.
-fn may_put(rules: &MethodRules<'_>, reference: &Reference<'_>, receiver: &VType) -> bool
+fn may_put(rules: &MethodRules<'_>, reference: &MemberRef<'_>, receiver: &VType) -> bool
     ensures { IsTrue result
         ↔ MayPut (row_scope rules.now) (reference_meant reference.now) receiver.now }
 {
@@ -132,7 +132,7 @@ fn may_put(rules: &MethodRules<'_>, reference: &Reference<'_>, receiver: &VType)
 }
 
 // Whether another object lends the field, if it is protected.
-fn passes_put(rules: &MethodRules<'_>, reference: &Reference<'_>, receiver: &VType) -> bool
+fn passes_put(rules: &MethodRules<'_>, reference: &MemberRef<'_>, receiver: &VType) -> bool
     ensures { IsTrue result
         ↔ PassesPut (row_scope rules.now) (reference_meant reference.now) receiver.now }
 {
@@ -143,7 +143,7 @@ fn passes_put(rules: &MethodRules<'_>, reference: &Reference<'_>, receiver: &VTy
 }
 
 // Whether a field is one of the current class, and named there.
-fn is_own_field(rules: &MethodRules<'_>, reference: &Reference<'_>) -> bool
+fn is_own_field(rules: &MethodRules<'_>, reference: &MemberRef<'_>) -> bool
     ensures { IsTrue result ↔ IsOwnField (row_scope rules.now) (reference_meant reference.now) }
 {
     rules.is_current(reference.class.bytes())
@@ -165,7 +165,7 @@ fn field_at<'a>(
     ensures typed { IfOk result
         (λ found. IfSome found (λ field. field.field_type ≡ type_of field.reference.desc.now)) }
 {
-    let Some(reference) = reference_at(rules.class, index) else {
+    let Some(reference) = member_at(&rules.class.pool, index) else {
         return Ok(None);
     };
     let field_type = field_type(alloc, reference.desc)?;

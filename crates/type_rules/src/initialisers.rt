@@ -7,7 +7,7 @@ ghost use Rattle.class_model.specs.declared.frame.VType.{VType as entry_type};
 ghost use Rattle.member_link.specs.Rows.MemberRows.{MayInitialise, PassesInitialiser, init_row, initialised_type};
 ghost use Rattle.member_link.specs.Rows.Operands.{under};
 ghost use Rattle.type_rules.specs.Inner.Calls.{Becomes, init_signature};
-ghost use Rattle.type_rules.specs.Inner.References.{reference_meant};
+ghost use Rattle.member_link.specs.MemberRefs.{reference_meant};
 ghost use Rattle.type_rules.specs.Rule.{RowRules};
 ghost use Rattle.member_link.specs.Scope.{class_of_new, row_scope};
 ghost use Rattle.type_rules.specs.Inner.Steps.{given};
@@ -19,16 +19,15 @@ use crate::fault::RuleFault;
 use crate::method_rules::MethodRules;
 use crate::need::Need;
 use crate::protected::is_foreign;
-use crate::reference::Reference;
 use crate::ruled::Ruled;
 use crate::step::Step;
 use class_model::{Descriptor, LocalTypeList, NoMemory, Text, VType, VTypeList};
-use member_link::{a_look_up_finds_one_method, find_method};
+use member_link::{MemberRef, a_look_up_finds_one_method, find_method};
 
 /// Initialises an object: all copies of it become one of its class.
 pub(crate) fn initialise(
     step: &Step<'_>,
-    reference: &Reference<'_>,
+    reference: &MemberRef<'_>,
     descriptor: &Descriptor,
 ) -> Result<Ruled, RuleFault>
     requires { SpellsDescriptor reference.now.desc.now descriptor.now }
@@ -43,7 +42,7 @@ pub(crate) fn initialise(
 // The same, by the parameters and the result of the initialiser.
 fn initialise_by(
     step: &Step<'_>,
-    reference: &Reference<'_>,
+    reference: &MemberRef<'_>,
     descriptor: &Descriptor,
 ) -> Result<Ruled, RuleFault>
     ensures { RowRules (row_scope step.now.rules.now) step.now.before.now
@@ -62,7 +61,7 @@ fn initialise_by(
 }
 
 // Whether an initialiser is one of a receiver.
-fn may_initialise(rules: &MethodRules<'_>, reference: &Reference<'_>, receiver: &VType) -> bool
+fn may_initialise(rules: &MethodRules<'_>, reference: &MemberRef<'_>, receiver: &VType) -> bool
     ensures { IsTrue result
         ↔ MayInitialise (row_scope rules.now) (reference_meant reference.now) receiver.now }
 {
@@ -75,7 +74,7 @@ fn may_initialise(rules: &MethodRules<'_>, reference: &Reference<'_>, receiver: 
 }
 
 // Whether an initialiser of another object than this is no protected one of another package.
-fn passes_initialiser(rules: &MethodRules<'_>, reference: &Reference<'_>, receiver: &VType) -> bool
+fn passes_initialiser(rules: &MethodRules<'_>, reference: &MemberRef<'_>, receiver: &VType) -> bool
     ensures { IsTrue result
         ↔ PassesInitialiser (row_scope rules.now) (reference_meant reference.now) receiver.now }
 {
@@ -86,7 +85,7 @@ fn passes_initialiser(rules: &MethodRules<'_>, reference: &Reference<'_>, receiv
 }
 
 // The same of the object that the `new` at an offset made.
-fn passes_initialiser_of(rules: &MethodRules<'_>, reference: &Reference<'_>, at: u32) -> bool
+fn passes_initialiser_of(rules: &MethodRules<'_>, reference: &MemberRef<'_>, at: u32) -> bool
     ensures { IsTrue result
         ↔ PassesInitialiser (row_scope rules.now) (reference_meant reference.now)
         (VType.Uninit at) }
@@ -120,7 +119,7 @@ fn is_super(rules: &MethodRules<'_>, class: &Text) -> bool
 // the call gives.
 fn initialised_stack(
     step: &Step<'_>,
-    reference: &Reference<'_>,
+    reference: &MemberRef<'_>,
     receiver: &VType,
     count: usize,
     gives: Option<VType>,
@@ -142,7 +141,7 @@ fn initialised_stack(
 // The entries under the operands, in which copies of the receiver are initialised.
 fn initialised_under(
     step: &Step<'_>,
-    reference: &Reference<'_>,
+    reference: &MemberRef<'_>,
     receiver: &VType,
     count: usize,
 ) -> Result<VTypeList, NoMemory>
@@ -163,7 +162,7 @@ fn initialised_under(
 // An entry, which is initialised if it is a copy of the receiver.
 fn initialised(
     rules: &MethodRules<'_>,
-    reference: &Reference<'_>,
+    reference: &MemberRef<'_>,
     receiver: &VType,
     entry: &VType,
 ) -> Result<VType, NoMemory>
@@ -181,7 +180,7 @@ fn initialised(
 // The locals, in which copies of the receiver are initialised.
 fn initialised_locals(
     step: &Step<'_>,
-    reference: &Reference<'_>,
+    reference: &MemberRef<'_>,
     receiver: &VType,
 ) -> Result<LocalTypeList, NoMemory>
     ensures { IfOk result (λ locals.
@@ -203,7 +202,7 @@ fn initialised_locals(
 // The class of which a local becomes an object, if it is a copy of the receiver.
 fn class_of_local<'a>(
     rules: &MethodRules<'a>,
-    reference: &Reference<'a>,
+    reference: &MemberRef<'a>,
     receiver: &VType,
     locals: &LocalTypeList,
     index: usize,
@@ -222,7 +221,7 @@ fn class_of_local<'a>(
 // The class of which an entry becomes an object, if it is a copy of the receiver.
 fn class_after<'a>(
     rules: &MethodRules<'a>,
-    reference: &Reference<'a>,
+    reference: &MemberRef<'a>,
     receiver: &VType,
     entry: &VType,
 ) -> Option<&'a Text>

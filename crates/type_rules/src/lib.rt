@@ -23,7 +23,6 @@ mod need;
 mod objects;
 mod operands;
 mod protected;
-mod reference;
 mod returns;
 mod rule_text;
 mod ruled;

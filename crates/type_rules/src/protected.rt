@@ -9,25 +9,21 @@ ghost use Rattle.member_link.specs.DeclaredMembers.{Declared};
 ghost use Rattle.member_link.specs.Found.{AreSame, IsFoundIn};
 ghost use Rattle.member_link.specs.Rows.MemberRows.{PassesField, PassesMethod};
 ghost use Rattle.type_rules.specs.Inner.Protected.{IsBound, IsCloneOfArray, IsForeign, IsFree};
-ghost use Rattle.type_rules.specs.Inner.References.{reference_meant};
+ghost use Rattle.member_link.specs.MemberRefs.{reference_meant};
 ghost use Rattle.member_link.specs.Scope.{row_scope};
 
 use crate::assignability::is_object_of;
 use crate::method_rules::MethodRules;
-use crate::reference::Reference;
 use class_model::{ACC_PROTECTED, VType, has};
 use class_tree::{Tree, is_array, is_below};
-use member_link::{
-    Found, a_look_up_finds_one_field, a_look_up_finds_one_method, find_field, find_method,
-    is_same_package,
-};
+use member_link::{Found, MemberRef, a_look_up_finds_one_field, a_look_up_finds_one_method, find_field, find_method, is_same_package};
 
 const CLONE: &[u8] = b"clone";
 
 /// Whether a field may be that of a receiver, if the field is protected.
 pub(crate) fn passes_field(
     rules: &MethodRules<'_>,
-    reference: &Reference<'_>,
+    reference: &MemberRef<'_>,
     receiver: &VType,
 ) -> bool
     ensures { IsTrue result
@@ -44,7 +40,7 @@ pub(crate) fn passes_field(
 /// Whether a method may be that of a receiver, if the method is protected.
 pub(crate) fn passes_method(
     rules: &MethodRules<'_>,
-    reference: &Reference<'_>,
+    reference: &MemberRef<'_>,
     receiver: &VType,
 ) -> bool
     ensures { IsTrue result
@@ -77,7 +73,7 @@ pub(crate) fn is_foreign(rules: &MethodRules<'_>, found: Option<Found>) -> bool
 }
 
 // Whether a receiver lends all its protected members, or the class that a reference names is not above the current class.
-fn is_free(rules: &MethodRules<'_>, reference: &Reference<'_>, receiver: &VType) -> bool
+fn is_free(rules: &MethodRules<'_>, reference: &MemberRef<'_>, receiver: &VType) -> bool
     ensures yes { IsTrue result
         → IsFree (row_scope rules.now) (reference_meant reference.now) receiver.now }
     ensures no { IsFalse result
@@ -90,7 +86,7 @@ fn is_free(rules: &MethodRules<'_>, reference: &Reference<'_>, receiver: &VType)
 }
 
 // Whether a method is the clone of a receiver that is an array.
-fn is_clone_of_array(reference: &Reference<'_>, receiver: &VType) -> bool
+fn is_clone_of_array(reference: &MemberRef<'_>, receiver: &VType) -> bool
     ensures { IsTrue result ↔ IsCloneOfArray (reference_meant reference.now) receiver.now }
 {
     match receiver {

@@ -19,7 +19,7 @@ use Rattle.typed_runs.proofs.Arguments.{arguments, arguments_kinds}
 use Rattle.typed_runs.proofs.ArgumentsHere.{as_many_needs}
 use Rattle.typed_runs.proofs.Assigned.{all_in_heap}
 use Rattle.typed_runs.proofs.Here.{Here, operands_here, worked}
-use Rattle.typed_runs.proofs.MethodsHere.{headers_here}
+use Rattle.typed_runs.proofs.HereMethods.{headers_here}
 use Rattle.typed_runs.proofs.Performing.{asks_goes}
 use Rattle.typed_runs.specs.TypedPrograms.{Typings}
 use Rattle.typed_runs.specs.TypedWorlds.{StaysTyped}

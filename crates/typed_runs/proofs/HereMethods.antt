@@ -1,27 +1,24 @@
-use Rattle.std.specs.Prelude.{◌≡◌, refl, ℕ, Bool, true, false, List, ◌∷◌, slice_get, Option, Some, None, if◌then◌else◌, drop}
+use Rattle.std.specs.Prelude.{◌≡◌, ℕ, Bool, List, slice_get, Some, drop}
 use Rattle.std.proofs.Common.{◌∙◌, subst}
 use Rattle.class_model.specs.declared.frame.Frame.{Frame}
 use Rattle.class_model.specs.declared.frame.VType.{VType}
 use Rattle.machine_values.specs.Frames.{MethodState}
 use Rattle.machine_values.specs.Heaps.{Heap}
 use Rattle.machine_values.specs.declared.frame.RunFrame.{RunFrame}
-use Rattle.machine_values.specs.declared.frame.RunFrame.TheVariants as frames
 use Rattle.machine_values.specs.declared.value.Value.{Value}
 use Rattle.member_link.specs.Assignability.{IsAssignable}
-use Rattle.member_link.specs.Machine.Completions.{Completion, begins}
-use Rattle.member_link.specs.Machine.FieldSteps.{begun_first}
+use Rattle.member_link.specs.Machine.Completions.{Completion}
 use Rattle.member_link.specs.Machine.Ops.{Op}
 use Rattle.member_link.specs.Machine.Performing.{perform}
-use Rattle.member_link.specs.Machine.Programs.{Program, Code, RunMethod, headers_in, folder_number, run_method, code_run, code_at}
-use Rattle.member_link.specs.Machine.Worlds.{World, is_begun}
+use Rattle.member_link.specs.Machine.Programs.{Program, Code, RunMethod, headers_in, run_method, code_run, code_at}
+use Rattle.member_link.specs.Machine.Worlds.{World}
 use Rattle.member_link.specs.RowScope.{RowScope}
 use Rattle.member_link.specs.Rows.Row.{Row}
 use Rattle.typed_runs.proofs.Assigned.{assigned}
-use Rattle.typed_runs.proofs.BeginningSteps.{class_there, begun_on_stays}
 use Rattle.typed_runs.proofs.Here.{Here}
 use Rattle.typed_runs.proofs.Points.{of_chain}
 use Rattle.typed_runs.specs.Conforming.{Conforms}
-use Rattle.typed_runs.specs.TypedFrames.{StandsAt, Does, upon}
+use Rattle.typed_runs.specs.TypedFrames.{StandsAt}
 use Rattle.typed_runs.specs.TypedPrograms.{Typings, IsTypedProgram, IsTypedMethod}
 use Rattle.typed_runs.specs.TypedWorlds.{StaysTyped}
 
@@ -56,18 +53,3 @@ module _ {P : Program} {T : Typings} {w : World} {f : MethodState} {rest : List 
       → Conforms P (T f.at).scope w.memory.heap wanted v
   assigned_here {t = t} {wanted = wanted} assignable is =
       assigned P T h.typed.program (subst (λ hs. IsAssignable hs t wanted) headers_here assignable) is
-
-  -- a class that is begun first is begun, and the instruction is still to be done
-  pub first_begun : Does P T w.memory.heap f → (class : List ℕ) (taken : MethodState) (otherwise : Completion)
-      → StaysTyped P T w (perform P w f taken rest otherwise)
-      → StaysTyped P T w (perform P w f taken rest (begun_first P w.memory class otherwise))
-  first_begun d class taken otherwise stays = by (folder_number P class) refl where
-    of_test : (n : ℕ) → folder_number P class ≡ Some n → (b : Bool) → StaysTyped P T w (perform P w f taken rest (if b then otherwise else begins n))
-    of_test n is true = stays
-    of_test n is false =
-        let c = class_there P class n is in
-        begun_on_stays P T w n c.0 (frames.Method f ∷ rest) h.typed c.1 (upon d h.below)
-
-    by : (n : Option ℕ) → folder_number P class ≡ n → StaysTyped P T w (perform P w f taken rest (begun_first P w.memory class otherwise))
-    by None is = rw is stays
-    by (Some n) is = rw is (of_test n is (is_begun w.memory n))

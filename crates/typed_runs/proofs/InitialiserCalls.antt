@@ -40,7 +40,7 @@ use Rattle.typed_runs.proofs.Initialisers.{all_become, units_become, finds_own, 
 use Rattle.typed_runs.proofs.InstanceCalls.{object_goes, conforming_goes}
 use Rattle.typed_runs.proofs.Kept.{keeps_same}
 use Rattle.typed_runs.proofs.LookedUp.{LookUps, LookedUp, looked_up, same_desc}
-use Rattle.typed_runs.proofs.MethodsHere.{headers_here}
+use Rattle.typed_runs.proofs.HereMethods.{headers_here}
 use Rattle.typed_runs.proofs.SpecialCalls.{lowest_receiver}
 use Rattle.typed_runs.specs.Conforming.{IsValueInHeap, HasShape, AllConform, no_values, UnitsConform}
 use Rattle.typed_runs.specs.TypedPrograms.{Typings, IsTypedProgram}

@@ -42,7 +42,7 @@ use Rattle.typed_runs.proofs.Callees.{method_is}
 use Rattle.typed_runs.proofs.Calling.{StaysAfter, Leaves, runs_goes, receiver_goes}
 use Rattle.typed_runs.proofs.Here.{Here, operands_here, worked}
 use Rattle.typed_runs.proofs.LookedUp.{LookUps, LookedUp, looked_up, linked_to, no_initialiser, same_desc}
-use Rattle.typed_runs.proofs.MethodsHere.{headers_here}
+use Rattle.typed_runs.proofs.HereMethods.{headers_here}
 use Rattle.typed_runs.proofs.Performing.{raises_goes}
 use Rattle.typed_runs.proofs.Raising.{raises_null, raises_change}
 use Rattle.typed_runs.proofs.ReceiverTests.{shape_conforms_is}

@@ -57,7 +57,6 @@ mod LookedUp
 mod Members
 mod Memories
 mod MethodsFound
-mod MethodsHere
 mod Monitors
 mod Moves
 mod NamesThere

@@ -30,7 +30,8 @@ use Rattle.typed_runs.proofs.Here.{Here, here_of, counted, uncounted}
 use Rattle.typed_runs.proofs.InitialiserCalls.{init_stays}
 use Rattle.typed_runs.proofs.InstanceCalls.{virtual_stays, interface_stays}
 use Rattle.typed_runs.proofs.LookedUp.{LookUps}
-use Rattle.typed_runs.proofs.OtherOperations.{dynamic_of, not_tested, not_found, not_constant, not_returned}
+use Rattle.typed_runs.proofs.OtherOperations.{IsNot}
+use Rattle.member_link.specs.Laws.TranslatedOps.{constant_has, dynamic_of, found_has, return_has, tested_has}
 use Rattle.typed_runs.proofs.SpecialCalls.{special_stays}
 use Rattle.typed_runs.proofs.StaticCalls.{static_stays}
 use Rattle.typed_runs.specs.Families.{Calls, NextIs}
@@ -133,48 +134,48 @@ module _ {P : Program} {T : Typings} {w : World} {f : MethodState} {rest : List 
       call_stays does opcode (reference_of s.pool (constant_at s.pool index)) linked h
   item_calls does (item_instr (instrs.Dynamic index)) is linked h = dynamic_call_stays (constant_at s.pool index) h
   item_calls does (item_instr (instrs.Ldc index)) is linked h =
-      absurd (not_constant Calls (λ no. no) s.pool (constant_at s.pool index) (λ v no. no) (λ c no. no) is)
+      absurd (constant_has (IsNot Calls) (λ no. no) s.pool (constant_at s.pool index) (λ v no. no) (λ c no. no) is)
   item_calls does (item_instr (instrs.Ldc2 index)) is linked h =
-      absurd (not_constant Calls (λ no. no) s.pool (constant_at s.pool index) (λ v no. no) (λ c no. no) is)
+      absurd (constant_has (IsNot Calls) (λ no. no) s.pool (constant_at s.pool index) (λ v no. no) (λ c no. no) is)
   item_calls does (item_instr (instrs.ArrayLoad opcode)) is linked h =
-      absurd (not_tested Calls (λ no. no) (nat_le IALOAD opcode && nat_le opcode SALOAD) (load_element opcode) (λ no. no) is)
+      absurd (tested_has (IsNot Calls) (λ no. no) (nat_le IALOAD opcode && nat_le opcode SALOAD) (load_element opcode) (λ no. no) is)
   item_calls does (item_instr (instrs.ArrayStore opcode)) is linked h =
-      absurd (not_tested Calls (λ no. no) (nat_le IASTORE opcode && nat_le opcode SASTORE) (store_element opcode) (λ no. no) is)
+      absurd (tested_has (IsNot Calls) (λ no. no) (nat_le IASTORE opcode && nat_le opcode SASTORE) (store_element opcode) (λ no. no) is)
   item_calls does (item_instr (instrs.If opcode target)) is linked h =
-      absurd (not_tested Calls (λ no. no) (nat_le IFEQ opcode && nat_le opcode IFLE) (jump_by_int opcode (numbered target)) (λ no. no) is)
+      absurd (tested_has (IsNot Calls) (λ no. no) (nat_le IFEQ opcode && nat_le opcode IFLE) (jump_by_int opcode (numbered target)) (λ no. no) is)
   item_calls does (item_instr (instrs.If2 opcode target)) is linked h =
-      absurd (not_tested Calls (λ no. no) (nat_le IF_ICMPEQ opcode && nat_le opcode IF_ICMPLE) (jump_by_ints opcode (numbered target))
+      absurd (tested_has (IsNot Calls) (λ no. no) (nat_le IF_ICMPEQ opcode && nat_le opcode IF_ICMPLE) (jump_by_ints opcode (numbered target))
       (λ no. no) is)
   item_calls does (item_instr (instrs.IfSame opcode target)) is linked h =
-      absurd (not_tested Calls (λ no. no) (nat_le IF_ACMPEQ opcode && nat_le opcode IF_ACMPNE)
+      absurd (tested_has (IsNot Calls) (λ no. no) (nat_le IF_ACMPEQ opcode && nat_le opcode IF_ACMPNE)
       (jump_by_references opcode (numbered target)) (λ no. no) is)
   item_calls does (item_instr (instrs.IfNull opcode target)) is linked h =
-      absurd (not_tested Calls (λ no. no) (nat_le IFNULL opcode && nat_le opcode IFNONNULL) (jump_by_null opcode (numbered target))
+      absurd (tested_has (IsNot Calls) (λ no. no) (nat_le IFNULL opcode && nat_le opcode IFNONNULL) (jump_by_null opcode (numbered target))
       (λ no. no) is)
   item_calls does (item_instr (instrs.Return kind)) is linked h =
-      absurd (not_returned Calls (λ no. no) s.result kind (λ no. no) (λ t no. no) is)
+      absurd (return_has (IsNot Calls) (λ no. no) s.result kind (λ no. no) (λ t no. no) is)
   item_calls does (item_instr (instrs.GetStatic index)) is linked h =
-      absurd (not_found Calls (λ no. no) (reference_of s.pool (constant_at s.pool index)) get_static (λ r no. no) is)
+      absurd (found_has (IsNot Calls) (λ no. no) (reference_of s.pool (constant_at s.pool index)) get_static (λ r no. no) is)
   item_calls does (item_instr (instrs.PutStatic index)) is linked h =
-      absurd (not_found Calls (λ no. no) (reference_of s.pool (constant_at s.pool index))
+      absurd (found_has (IsNot Calls) (λ no. no) (reference_of s.pool (constant_at s.pool index))
       (λ r. put_static r (initialises s.is_clinit s.own)) (λ r no. no) is)
   item_calls does (item_instr (instrs.GetField index)) is linked h =
-      absurd (not_found Calls (λ no. no) (reference_of s.pool (constant_at s.pool index)) get_field (λ r no. no) is)
+      absurd (found_has (IsNot Calls) (λ no. no) (reference_of s.pool (constant_at s.pool index)) get_field (λ r no. no) is)
   item_calls does (item_instr (instrs.PutField index)) is linked h =
-      absurd (not_found Calls (λ no. no) (reference_of s.pool (constant_at s.pool index)) (λ r. put_field r (initialises s.is_init s.own))
+      absurd (found_has (IsNot Calls) (λ no. no) (reference_of s.pool (constant_at s.pool index)) (λ r. put_field r (initialises s.is_init s.own))
       (λ r no. no) is)
   item_calls does (item_instr (instrs.New index)) is linked h =
-      absurd (not_found Calls (λ no. no) (class_at s.pool index) new_object (λ r no. no) is)
+      absurd (found_has (IsNot Calls) (λ no. no) (class_at s.pool index) new_object (λ r no. no) is)
   item_calls does (item_instr (instrs.NewArray code)) is linked h =
-      absurd (not_found Calls (λ no. no) (primitive_array code) new_array (λ r no. no) is)
+      absurd (found_has (IsNot Calls) (λ no. no) (primitive_array code) new_array (λ r no. no) is)
   item_calls does (item_instr (instrs.NewRefArray index)) is linked h =
-      absurd (not_found Calls (λ no. no) (array_of (class_at s.pool index)) new_array (λ r no. no) is)
+      absurd (found_has (IsNot Calls) (λ no. no) (array_of (class_at s.pool index)) new_array (λ r no. no) is)
   item_calls does (item_instr (instrs.NewMulti index dimensions)) is linked h =
-      absurd (not_found Calls (λ no. no) (class_at s.pool index) (λ name. new_arrays name dimensions) (λ r no. no) is)
+      absurd (found_has (IsNot Calls) (λ no. no) (class_at s.pool index) (λ name. new_arrays name dimensions) (λ r no. no) is)
   item_calls does (item_instr (instrs.Cast index)) is linked h =
-      absurd (not_found Calls (λ no. no) (class_at s.pool index) check_cast (λ r no. no) is)
+      absurd (found_has (IsNot Calls) (λ no. no) (class_at s.pool index) check_cast (λ r no. no) is)
   item_calls does (item_instr (instrs.InstanceOf index)) is linked h =
-      absurd (not_found Calls (λ no. no) (class_at s.pool index) instance_of (λ r no. no) is)
+      absurd (found_has (IsNot Calls) (λ no. no) (class_at s.pool index) instance_of (λ r no. no) is)
   item_calls does item is linked h = absurd is
 
 -- ---- a step

@@ -24,7 +24,8 @@ use Rattle.typed_runs.proofs.Here.{Here}
 use Rattle.typed_runs.proofs.NestedArrays.{named_arrays_stays}
 use Rattle.typed_runs.proofs.NewArrays.{named_array_stays}
 use Rattle.typed_runs.proofs.NewObjects.{named_object_stays}
-use Rattle.typed_runs.proofs.OtherOperations.{not_tested, not_found, not_constant, not_returned, not_called, not_dynamic}
+use Rattle.typed_runs.proofs.OtherOperations.{IsNot}
+use Rattle.member_link.specs.Laws.TranslatedOps.{call_has, constant_has, dynamic_has, found_has, return_has, tested_has}
 use Rattle.typed_runs.specs.Families.{NextIs, WorksOnArrays, MakesObject}
 use Rattle.typed_runs.specs.TypedFrames.{Does}
 use Rattle.typed_runs.specs.TypedPrograms.{Typings}
@@ -69,42 +70,42 @@ module _ (P : Program) (T : Typings) where
       named_arrays_stays (class_at s.pool index) dimensions h
   object_stays w f rest s frame place numbered (item_instr instrs.Length) is d h = length_stays h
   object_stays w f rest s frame place numbered (item_instr (instrs.Ldc index)) is d h =
-      absurd (not_constant UsesObjects (λ no. no) s.pool (constant_at s.pool index) (λ v no. no) (λ x no. no) is)
+      absurd (constant_has (IsNot UsesObjects) (λ no. no) s.pool (constant_at s.pool index) (λ v no. no) (λ x no. no) is)
   object_stays w f rest s frame place numbered (item_instr (instrs.Ldc2 index)) is d h =
-      absurd (not_constant UsesObjects (λ no. no) s.pool (constant_at s.pool index) (λ v no. no) (λ x no. no) is)
+      absurd (constant_has (IsNot UsesObjects) (λ no. no) s.pool (constant_at s.pool index) (λ v no. no) (λ x no. no) is)
   object_stays w f rest s frame place numbered (item_instr (instrs.If opcode target)) is d h =
-      absurd (not_tested UsesObjects (λ no. no) (nat_le IFEQ opcode && nat_le opcode IFLE)
+      absurd (tested_has (IsNot UsesObjects) (λ no. no) (nat_le IFEQ opcode && nat_le opcode IFLE)
       (jump_by_int opcode (numbered target)) (λ no. no) is)
   object_stays w f rest s frame place numbered (item_instr (instrs.If2 opcode target)) is d h =
-      absurd (not_tested UsesObjects (λ no. no) (nat_le IF_ICMPEQ opcode && nat_le opcode IF_ICMPLE)
+      absurd (tested_has (IsNot UsesObjects) (λ no. no) (nat_le IF_ICMPEQ opcode && nat_le opcode IF_ICMPLE)
       (jump_by_ints opcode (numbered target)) (λ no. no) is)
   object_stays w f rest s frame place numbered (item_instr (instrs.IfSame opcode target)) is d h =
-      absurd (not_tested UsesObjects (λ no. no) (nat_le IF_ACMPEQ opcode && nat_le opcode IF_ACMPNE)
+      absurd (tested_has (IsNot UsesObjects) (λ no. no) (nat_le IF_ACMPEQ opcode && nat_le opcode IF_ACMPNE)
       (jump_by_references opcode (numbered target)) (λ no. no) is)
   object_stays w f rest s frame place numbered (item_instr (instrs.IfNull opcode target)) is d h =
-      absurd (not_tested UsesObjects (λ no. no) (nat_le IFNULL opcode && nat_le opcode IFNONNULL)
+      absurd (tested_has (IsNot UsesObjects) (λ no. no) (nat_le IFNULL opcode && nat_le opcode IFNONNULL)
       (jump_by_null opcode (numbered target)) (λ no. no) is)
   object_stays w f rest s frame place numbered (item_instr (instrs.Return kind)) is d h =
-      absurd (not_returned UsesObjects (λ no. no) s.result kind (λ no. no) (λ t no. no) is)
+      absurd (return_has (IsNot UsesObjects) (λ no. no) s.result kind (λ no. no) (λ t no. no) is)
   object_stays w f rest s frame place numbered (item_instr (instrs.GetStatic index)) is d h =
-      absurd (not_found UsesObjects (λ no. no) (reference_of s.pool (constant_at s.pool index)) get_static (λ r no. no) is)
+      absurd (found_has (IsNot UsesObjects) (λ no. no) (reference_of s.pool (constant_at s.pool index)) get_static (λ r no. no) is)
   object_stays w f rest s frame place numbered (item_instr (instrs.PutStatic index)) is d h =
-      absurd (not_found UsesObjects (λ no. no) (reference_of s.pool (constant_at s.pool index))
+      absurd (found_has (IsNot UsesObjects) (λ no. no) (reference_of s.pool (constant_at s.pool index))
       (λ r. put_static r (initialises s.is_clinit s.own)) (λ r no. no) is)
   object_stays w f rest s frame place numbered (item_instr (instrs.GetField index)) is d h =
-      absurd (not_found UsesObjects (λ no. no) (reference_of s.pool (constant_at s.pool index)) get_field (λ r no. no) is)
+      absurd (found_has (IsNot UsesObjects) (λ no. no) (reference_of s.pool (constant_at s.pool index)) get_field (λ r no. no) is)
   object_stays w f rest s frame place numbered (item_instr (instrs.PutField index)) is d h =
-      absurd (not_found UsesObjects (λ no. no) (reference_of s.pool (constant_at s.pool index))
+      absurd (found_has (IsNot UsesObjects) (λ no. no) (reference_of s.pool (constant_at s.pool index))
       (λ r. put_field r (initialises s.is_init s.own)) (λ r no. no) is)
   object_stays w f rest s frame place numbered (item_instr (instrs.Invoke opcode index count)) is d h =
-      absurd (not_found UsesObjects (λ no. no) (reference_of s.pool (constant_at s.pool index)) (call_op P.links s opcode)
-      (λ r. not_called UsesObjects (λ no. no) P.links s opcode r (λ no. no) (λ start no. no) (λ no. no) (λ no. no)) is)
+      absurd (found_has (IsNot UsesObjects) (λ no. no) (reference_of s.pool (constant_at s.pool index)) (call_op P.links s opcode)
+      (λ r. call_has (IsNot UsesObjects) (λ no. no) P.links s opcode r (λ no. no) (λ start no. no) (λ no. no) (λ no. no)) is)
   object_stays w f rest s frame place numbered (item_instr (instrs.Dynamic index)) is d h =
-      absurd (not_dynamic UsesObjects (λ no. no) s (constant_at s.pool index) (λ class bootstrap name desc no. no) is)
+      absurd (dynamic_has (IsNot UsesObjects) (λ no. no) s (constant_at s.pool index) (λ class bootstrap name desc no. no) is)
   object_stays w f rest s frame place numbered (item_instr (instrs.Cast index)) is d h =
-      absurd (not_found UsesObjects (λ no. no) (class_at s.pool index) check_cast (λ n no. no) is)
+      absurd (found_has (IsNot UsesObjects) (λ no. no) (class_at s.pool index) check_cast (λ n no. no) is)
   object_stays w f rest s frame place numbered (item_instr (instrs.InstanceOf index)) is d h =
-      absurd (not_found UsesObjects (λ no. no) (class_at s.pool index) instance_of (λ n no. no) is)
+      absurd (found_has (IsNot UsesObjects) (λ no. no) (class_at s.pool index) instance_of (λ n no. no) is)
   object_stays w f rest s frame place numbered item is d h = absurd is
 
   -- ---- a step

@@ -42,50 +42,13 @@ use Rattle.typed_runs.proofs.Jumps.{if_stays, if2_stays, if_same_stays, if_null_
 use Rattle.typed_runs.proofs.Moves.{nop_stays, load_stays, store_stays, iinc_stays}
 use Rattle.typed_runs.proofs.Shuffles.{shuffle_stays}
 use Rattle.typed_runs.proofs.Switches.{table_stays, lookup_stays}
+use Rattle.typed_runs.proofs.OtherOperations.{IsNot}
+use Rattle.member_link.specs.Laws.TranslatedOps.{call_has, dynamic_has, found_has, return_has, tested_has}
 use Rattle.typed_runs.specs.Conforming.{an_int, a_long, a_float, a_double}
 use Rattle.typed_runs.specs.Families.{NextIs, WorksOnOperands}
 use Rattle.typed_runs.specs.TypedFrames.{nothing_awaited, above_of, Does, FramesConform, upon}
 use Rattle.typed_runs.specs.TypedPrograms.{Typings}
 use Rattle.typed_runs.specs.TypedWorlds.{TypedWorld, StaysTyped}
-
--- ---- operations that are none of the family
-
-pub not_tested : (b : Bool) (op : Op) → (WorksOnOperands op → ⊥) → WorksOnOperands (if b then op else meaningless) → ⊥
-not_tested true op other is = other is
-not_tested false op other is = is
-
-pub not_found : {A : Type 0} (o : Option A) (op : A → Op) → ((a : A) → WorksOnOperands (op a) → ⊥) → WorksOnOperands (or_meaningless (option_map op o)) → ⊥
-not_found None op other is = is
-not_found (Some a) op other is = other a is
-
-pub not_returned : (result : Option FieldType) (kind : Option Kind) → WorksOnOperands (return_op result kind) → ⊥
-not_returned None None is = is
-not_returned None (Some k) is = is
-not_returned (Some t) None is = is
-not_returned (Some t) (Some k) is = not_tested (same_kind (kind_of t) k) (return_value t) (λ no. no) is
-
-pub not_called : (links : Links) (s : RowScope) (opcode : ℕ) (r : Reference) → WorksOnOperands (call_op links s opcode r) → ⊥
-not_called links s opcode r is = by (opcode == INVOKEVIRTUAL) (opcode == INVOKESPECIAL) (opcode == INVOKESTATIC) (opcode == INVOKEINTERFACE) is where
-  by : (a b c d : Bool) → WorksOnOperands (if a then call_virtual r else (if b then call_special r (special_start links s r.class) else (if c then call_static r else (if d then call_interface r else meaningless)))) → ⊥
-  by true b c d is = is
-  by false true c d is = is
-  by false false true d is = is
-  by false false false true is = is
-  by false false false false is = is
-
-abbrev pub dynamic_of : RowScope → ℕ → Option (List ℕ) → Option (List ℕ) → Op
-dynamic_of s bootstrap (Some name) (Some desc) = call_dynamic s.own.name bootstrap name desc
-dynamic_of s bootstrap name desc = meaningless
-
-pub no_dynamic_of : (s : RowScope) (bootstrap : ℕ) (n d : Option (List ℕ)) → WorksOnOperands (dynamic_of s bootstrap n d) → ⊥
-no_dynamic_of s bootstrap None d is = is
-no_dynamic_of s bootstrap (Some n) None is = is
-no_dynamic_of s bootstrap (Some n) (Some d) is = is
-
-pub not_dynamic : (s : RowScope) (c : Option Const) → WorksOnOperands (dynamic_op s c) → ⊥
-not_dynamic s None is = is
-not_dynamic s (Some (consts.InvokeDynamic bootstrap member)) is = no_dynamic_of s bootstrap (name_at s.pool member) (descriptor_at s.pool member) is
-not_dynamic s (Some c) is = is
 
 -- ---- one of the family, by its item
 
@@ -129,8 +92,8 @@ module _ {P : Program} {T : Typings} {w : World} {f : MethodState} {rest : List 
   item_stays (item_instr (instrs.Load kind at)) is h = load_stays kind at h
   item_stays (item_instr (instrs.Store kind at)) is h = store_stays kind at h
   item_stays (item_instr (instrs.Iinc at by)) is h = iinc_stays at by h
-  item_stays (item_instr (instrs.ArrayLoad opcode)) is h = absurd (not_tested (nat_le IALOAD opcode && nat_le opcode SALOAD) (load_element opcode) (λ no. no) is)
-  item_stays (item_instr (instrs.ArrayStore opcode)) is h = absurd (not_tested (nat_le IASTORE opcode && nat_le opcode SASTORE) (store_element opcode) (λ no. no) is)
+  item_stays (item_instr (instrs.ArrayLoad opcode)) is h = absurd (tested_has (IsNot WorksOnOperands) (λ no. no) (nat_le IALOAD opcode && nat_le opcode SALOAD) (load_element opcode) (λ no. no) is)
+  item_stays (item_instr (instrs.ArrayStore opcode)) is h = absurd (tested_has (IsNot WorksOnOperands) (λ no. no) (nat_le IASTORE opcode && nat_le opcode SASTORE) (store_element opcode) (λ no. no) is)
   item_stays (item_instr (instrs.Shuffle opcode)) is h = shuffle_stays opcode h
   item_stays (item_instr (instrs.Pure opcode)) is h = pure_stays opcode h
   item_stays (item_instr (instrs.Divide opcode)) is h = divide_stays opcode h
@@ -142,17 +105,17 @@ module _ {P : Program} {T : Typings} {w : World} {f : MethodState} {rest : List 
   item_stays (item_instr (instrs.Goto target)) is h = goto_stays target h
   item_stays (item_instr (instrs.Table low other targets)) is h = table_stays low other targets h
   item_stays (item_instr (instrs.Lookup other pairs)) is h = lookup_stays other pairs h
-  item_stays (item_instr (instrs.Return kind)) is h = absurd (not_returned s.result kind is)
-  item_stays (item_instr (instrs.GetStatic index)) is h = absurd (not_found (reference_of s.pool (constant_at s.pool index)) get_static (λ r no. no) is)
-  item_stays (item_instr (instrs.PutStatic index)) is h = absurd (not_found (reference_of s.pool (constant_at s.pool index)) (λ r. put_static r (initialises s.is_clinit s.own)) (λ r no. no) is)
-  item_stays (item_instr (instrs.GetField index)) is h = absurd (not_found (reference_of s.pool (constant_at s.pool index)) get_field (λ r no. no) is)
-  item_stays (item_instr (instrs.PutField index)) is h = absurd (not_found (reference_of s.pool (constant_at s.pool index)) (λ r. put_field r (initialises s.is_init s.own)) (λ r no. no) is)
-  item_stays (item_instr (instrs.Invoke opcode index count)) is h = absurd (not_found (reference_of s.pool (constant_at s.pool index)) (call_op P.links s opcode) (λ r no. not_called P.links s opcode r no) is)
-  item_stays (item_instr (instrs.Dynamic index)) is h = absurd (not_dynamic s (constant_at s.pool index) is)
-  item_stays (item_instr (instrs.New index)) is h = absurd (not_found (class_at s.pool index) new_object (λ r no. no) is)
-  item_stays (item_instr (instrs.NewArray code)) is h = absurd (not_found (primitive_array code) new_array (λ r no. no) is)
-  item_stays (item_instr (instrs.NewRefArray index)) is h = absurd (not_found (array_of (class_at s.pool index)) new_array (λ r no. no) is)
-  item_stays (item_instr (instrs.NewMulti index dimensions)) is h = absurd (not_found (class_at s.pool index) (λ name. new_arrays name dimensions) (λ r no. no) is)
+  item_stays (item_instr (instrs.Return kind)) is h = absurd (return_has (IsNot WorksOnOperands) (λ no. no) s.result kind (λ no. no) (λ t no. no) is)
+  item_stays (item_instr (instrs.GetStatic index)) is h = absurd (found_has (IsNot WorksOnOperands) (λ no. no) (reference_of s.pool (constant_at s.pool index)) get_static (λ r no. no) is)
+  item_stays (item_instr (instrs.PutStatic index)) is h = absurd (found_has (IsNot WorksOnOperands) (λ no. no) (reference_of s.pool (constant_at s.pool index)) (λ r. put_static r (initialises s.is_clinit s.own)) (λ r no. no) is)
+  item_stays (item_instr (instrs.GetField index)) is h = absurd (found_has (IsNot WorksOnOperands) (λ no. no) (reference_of s.pool (constant_at s.pool index)) get_field (λ r no. no) is)
+  item_stays (item_instr (instrs.PutField index)) is h = absurd (found_has (IsNot WorksOnOperands) (λ no. no) (reference_of s.pool (constant_at s.pool index)) (λ r. put_field r (initialises s.is_init s.own)) (λ r no. no) is)
+  item_stays (item_instr (instrs.Invoke opcode index count)) is h = absurd (found_has (IsNot WorksOnOperands) (λ no. no) (reference_of s.pool (constant_at s.pool index)) (call_op P.links s opcode) (λ r. call_has (IsNot WorksOnOperands) (λ no. no) P.links s opcode r (λ no. no) (λ start no. no) (λ no. no) (λ no. no)) is)
+  item_stays (item_instr (instrs.Dynamic index)) is h = absurd (dynamic_has (IsNot WorksOnOperands) (λ no. no) s (constant_at s.pool index) (λ class bootstrap name desc no. no) is)
+  item_stays (item_instr (instrs.New index)) is h = absurd (found_has (IsNot WorksOnOperands) (λ no. no) (class_at s.pool index) new_object (λ r no. no) is)
+  item_stays (item_instr (instrs.NewArray code)) is h = absurd (found_has (IsNot WorksOnOperands) (λ no. no) (primitive_array code) new_array (λ r no. no) is)
+  item_stays (item_instr (instrs.NewRefArray index)) is h = absurd (found_has (IsNot WorksOnOperands) (λ no. no) (array_of (class_at s.pool index)) new_array (λ r no. no) is)
+  item_stays (item_instr (instrs.NewMulti index dimensions)) is h = absurd (found_has (IsNot WorksOnOperands) (λ no. no) (class_at s.pool index) (λ name. new_arrays name dimensions) (λ r no. no) is)
   item_stays (item_instr instrs.Length) is h = absurd is
   item_stays (item_instr instrs.Throw) is h = absurd is
   item_stays (item_instr (instrs.Cast index)) is h = cast_named (class_at s.pool index) h

@@ -10,6 +10,7 @@ use Rattle.class_model.specs.declared.opcodes.TheConstants.{IALOAD, SALOAD, IAST
 use Rattle.class_model.specs.declared.pool.Const.{Const}
 use Rattle.class_model.specs.declared.pool.Const.TheVariants as consts
 use Rattle.machine_values.specs.declared.object.Constant.TheVariants as objects
+use Rattle.member_link.specs.Laws.TranslatedOps.{call_has, constant_has, dynamic_has, found_has, return_has, tested_has}
 use Rattle.member_link.specs.Bodies.{CodeItem, item_instr}
 use Rattle.member_link.specs.Machine.Codes.{item_op, constant_op, handle_of, or_meaningless, return_op, same_kind, call_op, dynamic_op, special_start, initialises}
 use Rattle.member_link.specs.Machine.Ops.{Op, meaningless, push_constant, return_nothing, return_value, throw_reference, get_static, put_static, get_field, put_field, call_static, call_virtual, call_interface, call_special, call_dynamic, new_object, new_array, new_arrays, load_element, store_element, check_cast, instance_of, jump_by_int, jump_by_ints, jump_by_references, jump_by_null}
@@ -55,52 +56,28 @@ sort_of_item item = of_others
 abbrev pub HasSort : Op → OpSort → Type 0
 HasSort op sort = (sort_of_op op ≡ of_others) ⊎ (sort_of_op op ≡ sort)
 
-tested_sort : (sort : OpSort) (b : Bool) (op : Op) → HasSort op sort → HasSort (if b then op else meaningless) sort
-tested_sort sort true op has = has
-tested_sort sort false op has = inl refl
+module _ (sort : OpSort) where
+  abbrev pub IsOfSort : Op → Type 0
+  IsOfSort op = HasSort op sort
 
-found_sort : {A : Type 0} (sort : OpSort) (o : Option A) (op : A → Op) → ((a : A) → HasSort (op a) sort)
-    → HasSort (or_meaningless (option_map op o)) sort
-found_sort sort None op has = inl refl
-found_sort sort (Some a) op has = has a
+  tested_sort : (b : Bool) (op : Op) → HasSort op sort → HasSort (if b then op else meaningless) sort
+  tested_sort = tested_has IsOfSort (inl refl)
+
+  found_sort : {A : Type 0} (o : Option A) (op : A → Op) → ((a : A) → HasSort (op a) sort) → HasSort (or_meaningless (option_map op o)) sort
+  found_sort o op has = found_has IsOfSort (inl refl) o op has
 
 constant_sort : (pool : Constants) (c : Option Const) → HasSort (constant_op pool c) of_others
-constant_sort pool (Some (consts.String t)) = found_sort of_others (utf8_at pool t) (λ x. push_constant (objects.Str x)) (λ x. inr refl)
-constant_sort pool (Some (consts.Class t)) = found_sort of_others (utf8_at pool t) (λ x. push_constant (objects.Class x)) (λ x. inr refl)
-constant_sort pool (Some (consts.MethodType t)) = found_sort of_others (utf8_at pool t) (λ x. push_constant (objects.MethodType x)) (λ x. inr refl)
-constant_sort pool (Some (consts.MethodHandle kind reference)) = found_sort of_others (handle_of pool kind reference) push_constant (λ x. inr refl)
-constant_sort pool c = inr refl
+constant_sort pool c = constant_has (IsOfSort of_others) (inl refl) pool c (λ v. inr refl) (λ x. inr refl)
 
 return_sort : (result : Option FieldType) (kind : Option Kind) → HasSort (return_op result kind) of_returns
-return_sort None None = inr refl
-return_sort None (Some k) = inl refl
-return_sort (Some t) None = inl refl
-return_sort (Some t) (Some k) = tested_sort of_returns (same_kind (kind_of t) k) (return_value t) (inr refl)
+return_sort result kind = return_has (IsOfSort of_returns) (inl refl) result kind (inr refl) (λ t. inr refl)
 
 call_sort : (links : Links) (s : RowScope) (opcode : ℕ) (r : Reference) → HasSort (call_op links s opcode r) of_calls
-call_sort links s opcode r = by (opcode == INVOKEVIRTUAL) (opcode == INVOKESPECIAL) (opcode == INVOKESTATIC) (opcode == INVOKEINTERFACE) where
-  by : (a b c d : Bool)
-      → HasSort
-      (if a then call_virtual r else (if b then call_special r (special_start links s r.class)
-      else (if c then call_static r else (if d then call_interface r else meaningless)))) of_calls
-  by true b c d = inr refl
-  by false true c d = inr refl
-  by false false true d = inr refl
-  by false false false true = inr refl
-  by false false false false = inl refl
+call_sort links s opcode r =
+    call_has (IsOfSort of_calls) (inl refl) links s opcode r (inr refl) (λ start. inr refl) (inr refl) (inr refl)
 
 dynamic_sort : (s : RowScope) (c : Option Const) → HasSort (dynamic_op s c) of_others
-dynamic_sort s None = inr refl
-dynamic_sort s (Some (consts.InvokeDynamic bootstrap member)) = by (name_at s.pool member) (descriptor_at s.pool member) where
-  of_parts : Option (List ℕ) → Option (List ℕ) → Op
-  of_parts (Some name) (Some desc) = call_dynamic s.own.name bootstrap name desc
-  of_parts name desc = meaningless
-
-  by : (n d : Option (List ℕ)) → HasSort (of_parts n d) of_others
-  by None d = inr refl
-  by (Some n) None = inr refl
-  by (Some n) (Some d) = inr refl
-dynamic_sort s (Some c) = inr refl
+dynamic_sort s c = dynamic_has (IsOfSort of_others) (inl refl) s c (λ class bootstrap name desc. inr refl)
 
 -- an item's operation is of the item's sort, unless it is of no family
 pub item_sort : (links : Links) (numbered : ℕ → ℕ) (s : RowScope) (item : CodeItem) → HasSort (item_op links numbered s item) (sort_of_item item)

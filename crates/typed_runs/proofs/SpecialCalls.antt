@@ -38,7 +38,7 @@ use Rattle.typed_runs.proofs.Calling.{StaysAfter}
 use Rattle.typed_runs.proofs.Here.{Here}
 use Rattle.typed_runs.proofs.InstanceCalls.{of_object, receiver_cases, selected_goes, conforming_goes, call_operands, call_worked}
 use Rattle.typed_runs.proofs.LookedUp.{LookUps, looked_up, linked_to, no_initialiser}
-use Rattle.typed_runs.proofs.MethodsHere.{headers_here}
+use Rattle.typed_runs.proofs.HereMethods.{headers_here}
 use Rattle.typed_runs.proofs.Stacks.{lowest_is}
 use Rattle.typed_runs.specs.Conforming.{ShapeConforms}
 use Rattle.typed_runs.specs.TypedPrograms.{Typings, IsTypedProgram}

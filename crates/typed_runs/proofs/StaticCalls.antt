@@ -30,7 +30,7 @@ use Rattle.typed_runs.proofs.Callees.{method_is}
 use Rattle.typed_runs.proofs.Calling.{StaysAfter, Leaves, asks_call_goes, runs_goes}
 use Rattle.typed_runs.proofs.Here.{Here, operands_here, worked}
 use Rattle.typed_runs.proofs.LookedUp.{LookUps, LookedUp, looked_up, linked_to, same_desc}
-use Rattle.typed_runs.proofs.MethodsHere.{headers_here}
+use Rattle.typed_runs.proofs.HereMethods.{headers_here}
 use Rattle.typed_runs.proofs.LibraryClasses.{polymorphic_outside}
 use Rattle.typed_runs.specs.TypedFrames.{Does, upon}
 use Rattle.typed_runs.specs.TypedPrograms.{Typings}

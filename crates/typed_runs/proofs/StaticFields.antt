@@ -24,7 +24,8 @@ use Rattle.member_link.specs.Signatures.{field_type}
 use Rattle.typed_runs.proofs.Basics.{and_first, and_second, same_number, some_of}
 use Rattle.typed_runs.proofs.FieldValues.{of_field, to_field, field_kind, field_narrowed, field_in_heap, blank_conforms}
 use Rattle.typed_runs.proofs.Here.{Here, operands_here, worked, gives_same, gives_values}
-use Rattle.typed_runs.proofs.HereMethods.{CompletesTyped, assigned_here, first_begun}
+use Rattle.typed_runs.proofs.HereMethods.{CompletesTyped, assigned_here}
+use Rattle.typed_runs.proofs.BegunFirst.{begun_first_goes}
 use Rattle.typed_runs.proofs.Kept.{keeps_same}
 use Rattle.typed_runs.proofs.LinkedFields.{FieldLaws, FieldLinked, field_linked, flag_is, number_is}
 use Rattle.typed_runs.proofs.Performing.{raises_goes, asks_goes}
@@ -71,7 +72,7 @@ module _ {P : Program} {T : Typings} {w : World} {f : MethodState} {rest : List 
   get_static_stays r h =
       let l = field_linked P T h.typed.program laws r true h.linked in
       worked h 0 refl (operands_here h).enough
-      (rw l.link (rw (flag_is l) (first_begun h d l.field.class (record f { stack = drop 0 f.stack }) (got_static P w.memory l.field (folder_number P l.field.class))
+      (rw l.link (rw (flag_is l) (begun_first_goes h d (record f { stack = drop 0 f.stack }) l.field.class (got_static P w.memory l.field (folder_number P l.field.class))
       (by l (folder_number P l.field.class) refl)))) where
         by : (l : FieldLinked P r true) (class : Option ℕ) → folder_number P l.field.class ≡ class
             → CompletesTyped P T w f rest 0 (got_static P w.memory l.field class)
@@ -129,4 +130,4 @@ module _ {P : Program} {T : Typings} {w : World} {f : MethodState} {rest : List 
             let own : FieldConforms P w.memory.heap (type_of l.field.desc) v =
             subst (λ (desc : List ℕ). FieldConforms P w.memory.heap (type_of desc) v) (sym l.same_desc) fits in
             rw (flag_is l) (rw (field_kind P w.memory.heap (type_of l.field.desc) v own)
-            (first_begun h d l.field.class (record f { stack = drop 1 f.stack }) (put_static_begun P w.memory l.field initialises v) (tested l v own (is_barred P l.field initialises) refl)))
+            (begun_first_goes h d (record f { stack = drop 1 f.stack }) l.field.class (put_static_begun P w.memory l.field initialises v) (tested l v own (is_barred P l.field initialises) refl)))

@@ -8,7 +8,7 @@ use Rattle.class_model.specs.Code.{OperandFits}
 use Rattle.class_model.specs.ClassOf.{ClassOf}
 use Rattle.class_model.specs.Instructions.{decoded}
 use Rattle.class_model.specs.Laws.Codes.{code_has}
-use Rattle.class_model.specs.Laws.Lists.{AllByRecursion-weaker, at_index}
+use Rattle.class_model.specs.Laws.Lists.{at_index}
 use Rattle.class_model.specs.Names.{init}
 use Rattle.class_model.specs.Pool.{Constants, constant_at}
 use Rattle.class_model.specs.PoolChecks.{class_at}
@@ -45,6 +45,7 @@ use Rattle.member_link.specs.Methods.{FindsMethod, initialiser, of_array, of_cla
 use Rattle.member_link.specs.References.{Reference}
 use Rattle.member_link.specs.Scope.{Scope, class_of_new, instructions, row_scope, scope_at}
 use Rattle.member_link.specs.Signatures.{reference_of}
+use Rattle.type_rules.specs.Laws.InstructionOrder.{Ascend, ascend}
 use Rattle.type_rules.specs.MethodBodies.{body_of, point_of}
 use Rattle.typed_runs.specs.TypedPoints.{HasMethod, IsLinkedOp, TypedPoint}
 use Rattle.std.specs.Prelude.{Result, Ok, Err, codes, ◌⊎◌}
@@ -100,27 +101,6 @@ new_named pool other = None
 abbrev new_among : Constants → ℕ → List Placed → Option Name
 new_among pool at [] = None
 new_among pool at (placed ∷ others) = if placed.at == at then new_named pool placed.instr else new_among pool at others
-
--- each stands behind those before it
-abbrev Ascend : List Placed → Type 0
-Ascend [] = Unit {0}
-Ascend (p ∷ ps) = AllByRecursion (λ (q : Placed). p.at < q.at) ps × Ascend ps
-
-ascend : (s : Scope) (ps : List Placed) → AreInOrder (map (point_of s) ps) → Ascend ps
-ascend s [] order = tt
-ascend s (p ∷ []) order = (tt, tt)
-ascend s (p ∷ (q ∷ ps)) order =
-    let rest : Ascend (q ∷ ps) = ascend s (q ∷ ps) order.2 in
-    let one : p.at < p.at + p.len = order.0 in
-    let same : q.at ≡ p.at + p.len = order.1 in
-    let before : p.at < q.at = omega (arith, one, same) in (
-      (
-        before,
-        AllByRecursion-weaker (λ (r : Placed). q.at < r.at) (λ (r : Placed). p.at < r.at) (λ r is. omega (arith, before, is)) ps
-            rest.0,
-      ),
-      rest,
-    )
 
 same_place : (n : ℕ) → (n == n) ≡ true
 same_place n = grind (arith)

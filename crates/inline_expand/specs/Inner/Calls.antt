@@ -6,7 +6,7 @@ use Rattle.class_model.specs.declared.instr.Instr.{Instr}
 use Rattle.class_model.specs.declared.instr.Instr.TheVariants.{Invoke}
 use Rattle.class_tree.specs.Headers.{Name, Classes, headers_of}
 use Rattle.inline_expand.specs.Callees.{Calls, Runs, StandsAt, instr_at}
-use Rattle.inline_expand.specs.Inner.References.{reference_meant}
+use Rattle.member_link.specs.MemberRefs.{reference_meant}
 use Rattle.inline_expand.specs.declared.calls.Call.{Call}
 use Rattle.member_link.specs.DeclaredMembers.{Declared}
 use Rattle.member_link.specs.References.{Reference}

@@ -4,7 +4,7 @@ ghost use Rattle.std.specs.List.{list_any};
 ghost use Rattle.member_link.specs.Machine.Acting.{are_joined, is_array_descriptor, is_array_within, is_element};
 ghost use Rattle.machine_run.specs.Inner.ArrayWords.{ends_class, may_stand};
 
-use machine_step::without_last;
+use member_link::without_last;
 
 /// Whether a text is that of an array type: one to 255 brackets, and a base type or a class behind them.
 pub(crate) fn is_array_descriptor(text: &[u8]) -> bool

@@ -11,7 +11,8 @@ use class_model::opcodes::{
     D2F, D2I, D2L, DADD, DCMPG, DCMPL, DDIV, DMUL, DNEG, DREM, DSUB, F2D, F2I, F2L, FADD, FCMPG,
     FCMPL, FDIV, FMUL, FNEG, FREM, FSUB, I2D, I2F, L2D, L2F,
 };
-use machine_step::{RunOp, result_text};
+use machine_step::RunOp;
+use member_link::result_text;
 
 /// Whether an operation waits for the library. It does not allocate.
 pub(crate) fn is_awaited(op: &RunOp) -> bool

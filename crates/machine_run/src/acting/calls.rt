@@ -18,10 +18,11 @@ use crate::raising::raise;
 use class_model::{MethodAt, NoMemory, Text};
 use class_tree::Tree;
 use machine_step::{
-    Acted, Memory, Outcome, Prepared, Reference, Throwable, WorldState, arguments_conform,
+    Acted, Memory, Outcome, Prepared, Throwable, WorldState, arguments_conform,
     folder_number, has_code, method_traits, named_conforms, place_of_method,
 };
 use machine_values::{GivenList, Value};
+use member_link::Reference;
 use std::alloc::Global;
 
 /// Calls a method of a class of the folder without selection, the receiver first where it is not static. A null receiver is no fault:

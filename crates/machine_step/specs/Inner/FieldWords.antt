@@ -13,7 +13,7 @@ use Rattle.member_link.specs.Machine.Programs.{Program, folder_number, name_of_c
 use Rattle.member_link.specs.Machine.Shapes.{reference_conforms, shape_conforms}
 use Rattle.member_link.specs.Machine.Worlds.{Memory, with_heap, stuck}
 use Rattle.member_link.specs.References.{Reference}
-use Rattle.machine_step.specs.Inner.SlotWords.{capped}
+use Rattle.member_link.specs.Machine.Layouts.{capped}
 use Rattle.machine_step.specs.Programs.{IsProgram}
 use Rattle.machine_step.specs.RunOps.{IsFieldTarget}
 use Rattle.machine_step.specs.declared.run_op.FieldOp.{FieldOp}

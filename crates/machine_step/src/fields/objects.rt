@@ -7,7 +7,7 @@ ghost use Rattle.member_link.specs.Machine.FieldSteps.{get_field_work, put_field
 ghost use Rattle.member_link.specs.Machine.Programs.{Program, field_of, folder_number, has_flag};
 ghost use Rattle.machine_step.specs.Completing.{Completes};
 ghost use Rattle.machine_step.specs.Inner.FieldWords.{IsTargetHere, put_conforming, slot_at, slot_in, slot_of};
-ghost use Rattle.machine_step.specs.Inner.SlotWords.{capped};
+ghost use Rattle.member_link.specs.Machine.Layouts.{capped};
 ghost use Rattle.machine_step.specs.Programs.{IsProgram};
 ghost use Rattle.machine_step.specs.RunOps.{IsFieldOp, IsSeenSlot, home_class};
 ghost use Rattle.machine_step.specs.declared.run_op.FieldOp.{FieldOp as Op};
@@ -16,14 +16,14 @@ use crate::completed::{Asked, Completed};
 use crate::fields::{fits, kept};
 use crate::memory::Memory;
 use crate::questions::conforming::reference_conforms;
+use crate::questions::fields::slot_in_class;
 use crate::questions::shapes::shape_conforms;
-use crate::questions::slots::slot_number;
-use crate::reference::Reference;
 use crate::run_op::{FieldHome, FieldOp, FieldTarget, SeenSlot, Throwable};
 use class_model::{NoMemory, Text};
 use class_tree::Tree;
 use machine_heap::{Heap, Put};
 use machine_values::{Object, Ref, Shape, Value};
+use member_link::Reference;
 
 // ---- reads
 
@@ -353,7 +353,7 @@ fn searched_slot(tree: &Tree, named: &Text, field: &Reference, class: usize) -> 
         → result ≡ capped usize.MAX (slot_of P named.now field.now class) }
 {
     if shape_conforms(tree, &Shape::Folder(class), named.bytes()) {
-        slot_number(tree, class, field)
+        slot_in_class(tree, class, field)
     } else {
         None
     }

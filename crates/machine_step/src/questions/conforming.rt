@@ -1,6 +1,6 @@
 //! Which values conform to a type (JVM Specification SE 8, 4.10.1.2).
 ghost use Rattle.std.specs.Prelude.{◌≡◌};
-ghost use Rattle.class_model.specs.Descriptors.{kind_of, parameters_of, type_of};
+ghost use Rattle.class_model.specs.Descriptors.{parameters_of, type_of};
 ghost use Rattle.class_model.specs.declared.descriptor.FieldType.TheVariants.{Named};
 ghost use Rattle.member_link.specs.Machine.Acting.{all_conform};
 ghost use Rattle.member_link.specs.Machine.Programs.{Program};
@@ -9,13 +9,13 @@ ghost use Rattle.member_link.specs.Machine.Worlds.{World};
 ghost use Rattle.machine_step.specs.Inner.Narrowings.{narrowing_of};
 ghost use Rattle.machine_step.specs.Programs.{IsProgram};
 
-use crate::questions::shapes::{shape_conforms, without_last};
-use crate::resolving::parameters::{after_first, after_type, begins_type, first_type, kind_at};
+use crate::questions::shapes::shape_conforms;
 use crate::values::{Narrowing, has_kind};
 use class_model::{Kind, Text};
 use class_tree::Tree;
 use machine_heap::Heap;
 use machine_values::{Ref, Value};
+use member_link::{after_first, after_type, begins_type, first_type, kind_at, named_type};
 
 /// Whether a reference is in the heap, and its object conforms to a class or array type. It does not allocate.
 pub fn reference_conforms(tree: &Tree, heap: &Heap, at: Ref, name: &[u8]) -> bool
@@ -51,20 +51,6 @@ pub fn text_conforms(tree: &Tree, heap: &Heap, desc: &[u8], value: Value) -> boo
         named_conforms(tree, heap, named_type(desc), value)
     } else {
         has_kind(kind, value)
-    }
-}
-
-/// The class or array type that the text of a type of references spells. It does not allocate.
-pub(crate) fn named_type(desc: &[u8]) -> &[u8]
-    ensures { kind_of (type_of desc.now) ≡ Kind.Ref → type_of desc.now ≡ Named result.now }
-{
-    let Some((first, rest)) = desc.split_first() else {
-        return desc;
-    };
-    if *first == b'L' {
-        without_last(rest)
-    } else {
-        desc
     }
 }
 

@@ -7,9 +7,9 @@ ghost use Rattle.machine_step.specs.Inner.QuestionWords.{file_method, is_code, r
 ghost use Rattle.machine_step.specs.Programs.{IsProgram};
 
 use crate::questions::members::member_named;
-use crate::reference::Reference;
 use class_model::{ACC_NATIVE, Attr, Method, MethodAt, has};
 use class_tree::{MemberKind, Place, Tree};
+use member_link::Reference;
 
 /// Whether a flag is set of the method of a class; of a method that is not there none is. It does not allocate.
 pub(crate) fn has_method_flag(tree: &Tree, method: &Reference, mask: u16) -> bool

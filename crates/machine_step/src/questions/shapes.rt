@@ -1,11 +1,8 @@
 //! What objects are instances of, and what they conform to (JVM Specification SE 8, 4.10.1.2 and 6.5). Names of classes and
 //! descriptors of arrays are given as bytes.
-ghost use Rattle.std.specs.Prelude.{◌≡◌, ◌↔◌, ◌-◌, IsTrue, drop, length, take};
+ghost use Rattle.std.specs.Prelude.{◌≡◌, drop};
 ghost use Rattle.std.specs.List.{list_any};
 ghost use Rattle.std.specs.Option.{option_copied};
-ghost use Rattle.class_tree.specs.Headers.{headers_of};
-ghost use Rattle.class_tree.specs.Subtype.{IsSubtype};
-ghost use Rattle.machine_values.specs.Values.{component_text};
 ghost use Rattle.member_link.specs.Machine.Programs.{Program, name_of_class};
 ghost use Rattle.member_link.specs.Machine.Shapes.{both_conform, class_conforms, class_of_shape, component_named, components_conform, is_instance, shape_conforms};
 ghost use Rattle.machine_step.specs.Inner.QuestionWords.{behind_bracket};
@@ -13,10 +10,10 @@ ghost use Rattle.machine_step.specs.Programs.{IsProgram};
 
 use crate::questions::classes::{class_name, is_interface_named};
 use class_model::Text;
-use class_tree::{
-    OBJECT, Tree, a_tree_is_a_hierarchy, innermost, is_above_arrays, is_array, is_below,
-};
+use class_tree::{OBJECT, Tree, is_subtype};
+use machine_heap::component_text;
 use machine_values::Shape;
+use member_link::without_last;
 
 /// Whether an object of a shape is an instance of a class or array type. It does not allocate.
 pub fn is_instance(tree: &Tree, shape: &Shape, name: &[u8]) -> bool
@@ -136,14 +133,6 @@ pub(crate) fn component_named(bytes: &[u8]) -> Option<&[u8]>
     }
 }
 
-/// All bytes but the last. It does not allocate.
-pub fn without_last(bytes: &[u8]) -> &[u8]
-    ensures { result.now ≡ take (length bytes.now - 1) bytes.now }
-{
-    let len = bytes.len().saturating_sub(1);
-    &bytes[..len]
-}
-
 // What stands behind a bracket at the front.
 fn behind_bracket(bytes: &[u8]) -> Option<&[u8]>
     ensures { option_copied result ≡ behind_bracket bytes.now }
@@ -154,16 +143,6 @@ fn behind_bracket(bytes: &[u8]) -> Option<&[u8]>
     if *first == b'[' { Some(rest) } else { None }
 }
 
-/// What the elements of an array type are. It does not allocate.
-pub fn component_text(bytes: &[u8]) -> &[u8]
-    ensures { result.now ≡ component_text bytes.now }
-{
-    let Some((first, rest)) = bytes.split_first() else {
-        return bytes;
-    };
-    if *first == b'[' { rest } else { b"" }
-}
-
 // ---- subtypes
 
 /// Whether a class or array is below another or is the same. It does not allocate.
@@ -172,20 +151,4 @@ pub(crate) fn is_type_below(tree: &Tree, low: &[u8], high: &[u8]) -> bool
         → result ≡ P.links.below low.now high.now }
 {
     is_subtype(tree, low, high)
-}
-
-// By the relation.
-fn is_subtype(tree: &Tree, low: &[u8], high: &[u8]) -> bool
-    ensures { IsTrue result ↔ IsSubtype (headers_of tree.now) low.now high.now }
-{
-    a_tree_is_a_hierarchy(tree);
-    let (low, high) = innermost(low, high);
-    if low == high {
-        return true;
-    }
-    if is_array(low) {
-        is_above_arrays(high)
-    } else {
-        is_below(tree, low, high)
-    }
 }

@@ -18,12 +18,11 @@ ghost use Rattle.machine_step.specs.Programs.{IsProgram};
 
 use crate::questions::classes::class_name;
 use crate::questions::methods::{has_code, place_of_method};
-use crate::reference::Reference;
 use crate::resolving::fields::reference_of;
 use crate::run_op::{Callee, Throwable};
 use class_model::{ACC_STATIC, INIT, MethodAt, NoMemory, Text, has};
-use class_tree::{Place, Tree, a_tree_is_a_hierarchy};
-use member_link::{CallForm, Found, Selected, a_selection_chooses_one, select};
+use class_tree::{Tree, a_tree_is_a_hierarchy};
+use member_link::{CallForm, Found, Reference, Selected, a_selection_chooses_one, select};
 use std::alloc::Global;
 
 /// What a call of a method runs: the method, if it is one of the folder with code; else the library is asked for it. It does not
@@ -170,11 +169,5 @@ fn own_method(tree: &Tree, class: &Text, name: &Text, desc: &Text) -> Option<Fou
 {
     a_tree_is_a_hierarchy(tree);
     let place = tree.place(class)?;
-    let number = tree.method(place, name, desc)?;
-    let method = tree.header(place)?.methods.get(number)?;
-    Some(Found {
-        place,
-        member: number,
-        flags: method.flags,
-    })
+    member_link::own_method(tree, place, name, desc)
 }

@@ -13,11 +13,10 @@ ghost use Rattle.machine_step.specs.RunOps.{IsFieldOp, IsStoredAs};
 ghost use Rattle.machine_step.specs.Programs.{IsProgram};
 
 use crate::questions::fields::is_inside;
-use crate::reference::Reference;
 use crate::run_op::{FieldHome, FieldOp, FieldTarget};
 use class_model::{ACC_FINAL, ACC_STATIC, FieldType, Member, NoMemory, Text, has};
 use class_tree::{Place, Tree, a_tree_is_a_hierarchy};
-use member_link::{Found, a_look_up_finds_one_field, find_field};
+use member_link::{Found, Reference, a_look_up_finds_one_field, find_field};
 
 /// A read or store of a field, with the field that is found. `initialises` is of a store: the class whose initialiser the code is.
 ///

@@ -16,13 +16,11 @@ ghost use Rattle.machine_step.specs.declared.run_op.CallTarget.{CallTarget};
 
 use crate::questions::classes::folder_number;
 use crate::questions::methods::has_method_flag;
-use crate::reference::Reference;
 use crate::resolving::calls::{method_found, run_call, run_selected};
-use crate::resolving::parameters::parameter_kinds;
 use crate::run_op::{CallOp, CallTarget, Callee, Throwable};
 use class_model::{ACC_ABSTRACT, ACC_STATIC, INIT, NoMemory, Text, has};
 use class_tree::{METHOD_HANDLE, OBJECT, Place, Tree, a_tree_is_a_hierarchy};
-use member_link::{CallForm, Found, a_look_up_finds_one_method, find_method};
+use member_link::{CallForm, Found, Reference, a_look_up_finds_one_method, find_method, parameter_kinds};
 use std::alloc::Global;
 
 const INVOKE: &[u8] = b"invoke";

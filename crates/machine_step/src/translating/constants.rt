@@ -11,9 +11,9 @@ ghost use Rattle.machine_step.specs.Inner.Translating.{IsOp, OpIsResolved, scope
 
 use crate::run_op::RunOp;
 use crate::translating::method_code::MethodCode;
-use crate::translating::references::reference_of;
 use class_model::{Const, FieldType, Imm, Kind, NoMemory, Pool};
 use machine_values::{Constant, Value};
+use member_link::reference_of;
 
 /// What an instruction that pushes a number or null by itself pushes.
 pub(crate) fn value_of_imm(imm: Imm) -> Value

@@ -13,15 +13,13 @@ ghost use Rattle.machine_step.specs.Programs.{IsProgram};
 
 use crate::questions::classes::header_named;
 use crate::questions::shapes::is_type_below;
-use crate::reference::Reference;
 use crate::resolving::fields::resolve_field;
-use crate::resolving::parameters::parameter_kinds;
 use crate::resolving::targets::{resolve_by_receiver, resolve_special, resolve_static};
 use crate::run_op::{DynamicOp, FieldOp, RunOp};
 use crate::translating::method_code::MethodCode;
-use crate::translating::references::{descriptor_at, name_at, reference_of};
 use class_model::opcodes::{INVOKEINTERFACE, INVOKESPECIAL, INVOKESTATIC, INVOKEVIRTUAL};
 use class_model::{ACC_INTERFACE, Const, Header, NoMemory, Text, has};
+use member_link::{Reference, descriptor_at, name_at, parameter_kinds, reference_of};
 use std::alloc::Global;
 
 // ---- fields

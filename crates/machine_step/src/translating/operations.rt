@@ -6,9 +6,7 @@ ghost use Rattle.machine_step.specs.Inner.Translating.{IsOp, OpIsResolved, numbe
 
 use crate::run_op::RunOp;
 use crate::translating::constants::{constant_op, return_op, value_of_imm};
-use crate::translating::forms::{
-    if_int, if_ints, if_null, if_references, load_element, store_element,
-};
+use crate::translating::forms::if_between;
 use crate::translating::members::{
     call_op, dynamic_op, get_field, get_static, put_field, put_static,
 };
@@ -18,6 +16,10 @@ use crate::translating::objects::{
     check_cast, instance_of, new_array, new_multi, new_op, new_ref_array,
 };
 use crate::translating::switches::{lookup_op, table_op};
+use class_model::opcodes::{
+    IALOAD, IASTORE, IF_ACMPEQ, IF_ACMPNE, IF_ICMPEQ, IF_ICMPLE, IFEQ, IFLE, IFNONNULL, IFNULL,
+    SALOAD, SASTORE,
+};
 use class_model::{Instr, NoMemory};
 use std::alloc::Global;
 
@@ -44,16 +46,34 @@ pub(crate) fn instr_op(
         Instr::Load(kind, local) => Ok(RunOp::Load(*kind, *local)),
         Instr::Store(kind, local) => Ok(RunOp::Store(*kind, *local)),
         Instr::Iinc(local, by) => Ok(RunOp::Increment(*local, i32::from(*by))),
-        Instr::ArrayLoad(opcode) => Ok(load_element(*opcode)),
-        Instr::ArrayStore(opcode) => Ok(store_element(*opcode)),
+        Instr::ArrayLoad(opcode) => {
+            let op = RunOp::LoadElement(*opcode);
+            Ok(if_between(IALOAD, SALOAD, *opcode, op))
+        }
+        Instr::ArrayStore(opcode) => {
+            let op = RunOp::StoreElement(*opcode);
+            Ok(if_between(IASTORE, SASTORE, *opcode, op))
+        }
         Instr::Shuffle(opcode) => Ok(RunOp::Shuffle(*opcode)),
         Instr::Pure(opcode) => Ok(RunOp::Pure(*opcode)),
         Instr::Divide(opcode) => Ok(RunOp::Divide(*opcode)),
         Instr::FloatAsk(opcode) => Ok(RunOp::Float(*opcode)),
-        Instr::If(opcode, to) => Ok(if_int(*opcode, numbers.of(*to))),
-        Instr::If2(opcode, to) => Ok(if_ints(*opcode, numbers.of(*to))),
-        Instr::IfSame(opcode, to) => Ok(if_references(*opcode, numbers.of(*to))),
-        Instr::IfNull(opcode, to) => Ok(if_null(*opcode, numbers.of(*to))),
+        Instr::If(opcode, to) => {
+            let op = RunOp::JumpInt(*opcode, numbers.of(*to));
+            Ok(if_between(IFEQ, IFLE, *opcode, op))
+        }
+        Instr::If2(opcode, to) => {
+            let op = RunOp::JumpInts(*opcode, numbers.of(*to));
+            Ok(if_between(IF_ICMPEQ, IF_ICMPLE, *opcode, op))
+        }
+        Instr::IfSame(opcode, to) => {
+            let op = RunOp::JumpReferences(*opcode, numbers.of(*to));
+            Ok(if_between(IF_ACMPEQ, IF_ACMPNE, *opcode, op))
+        }
+        Instr::IfNull(opcode, to) => {
+            let op = RunOp::JumpNull(*opcode, numbers.of(*to));
+            Ok(if_between(IFNULL, IFNONNULL, *opcode, op))
+        }
         Instr::Goto(to) => Ok(RunOp::Jump(numbers.of(*to))),
         Instr::Table {
             low,

@@ -206,17 +206,19 @@ number_at points place = or_behind (number_of_first (λ point. point.place == pl
   or_behind None = length points
   or_behind (Some number) = number
 
-abbrev pub run_code : Links → ℕ → List CodePoint → Code
-run_code links locals points = record { locals = locals; points = map point_of points } where
-  catch_of : Catch → Catch
-  catch_of catch = record catch { to = number_at points catch.to }
+-- a handler, and a point, by the numbers of the points at places
+abbrev pub renumbered : (ℕ → ℕ) → Catch → Catch
+renumbered number catch = record catch { to = number catch.to }
 
-  point_of : CodePoint → Point
-  point_of point =
-      record {
-        op = item_op links (number_at points) point.scope point.item;
-        catches = map catch_of point.catches;
-      }
+abbrev pub run_point : Links → (ℕ → ℕ) → CodePoint → Point
+run_point links number point = record {
+  op = item_op links number point.scope point.item;
+  catches = map (renumbered number) point.catches;
+}
+
+abbrev pub run_code : Links → ℕ → List CodePoint → Code
+run_code links locals points =
+    record { locals = locals; points = map (run_point links (number_at points)) points }
 
 -- ---- the code of a class file's method
 
@@ -226,28 +228,32 @@ covers handler at = nat_le handler.start at && nat_lt at handler.end
 
 -- A handler of catch type 0 catches everything. A catch type that names no class, which a class file that was read never has, catches
 -- nothing.
-abbrev pub catch_in : Constants → Handler → List Catch
-catch_in pool handler =
-    if handler.catch_type == 0
-    then record { to = handler.at; class = None } ∷ []
-    else of_class (class_at pool handler.catch_type) where
+abbrev pub catch_by : Constants → ℕ → ℕ → List Catch
+catch_by pool to catch_type =
+    if catch_type == 0
+    then record { to = to; class = None } ∷ []
+    else of_class (class_at pool catch_type) where
       of_class : Option Name → List Catch
       of_class None = []
-      of_class (Some name) = record { to = handler.at; class = Some name } ∷ []
+      of_class (Some name) = record { to = to; class = Some name } ∷ []
+
+abbrev pub catch_in : Constants → Handler → List Catch
+catch_in pool handler = catch_by pool handler.at handler.catch_type
 
 abbrev pub catches_at : Constants → List Handler → ℕ → List Catch
 catches_at pool handlers at =
     flat_map (λ handler. if covers handler at then catch_in pool handler else []) handlers
 
+abbrev pub code_point : Scope → Placed → CodePoint
+code_point s placed = record {
+  place = placed.at;
+  scope = row_scope s;
+  item = item_instr placed.instr;
+  catches = catches_at s.class.pool s.part.handlers placed.at;
+}
+
 abbrev pub code_points : Scope → List CodePoint
-code_points s = map point_of (instructions s) where
-  point_of : Placed → CodePoint
-  point_of placed = record {
-    place = placed.at;
-    scope = row_scope s;
-    item = item_instr placed.instr;
-    catches = catches_at s.class.pool s.part.handlers placed.at;
-  }
+code_points s = map (code_point s) (instructions s)
 
 abbrev pub method_code : Links → Scope → Code
 method_code links s = run_code links s.part.max_locals (code_points s)

@@ -1,7 +1,7 @@
 use Rattle.std.proofs.Common.{ℕ, sym, subst}
 use Rattle.class_tree.specs.Headers.{Classes}
 use Rattle.inline_expand.specs.Inner.Calls.{DecidesRun}
-use Rattle.inline_expand.specs.Inner.References.{reference_meant}
+use Rattle.member_link.specs.MemberRefs.{reference_meant}
 use Rattle.inline_expand.proofs.calls.callee_of.Goals as goal
 
 pub returns-then-call : goal.returns-then-call

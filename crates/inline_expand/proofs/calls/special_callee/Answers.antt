@@ -7,7 +7,7 @@ use Rattle.class_model.specs.declared.opcodes.TheConstants.{INVOKESPECIAL}
 use Rattle.class_tree.specs.Headers.{headers_of}
 use Rattle.inline_expand.specs.Callees.{IsClass, Runs, runs_special}
 use Rattle.inline_expand.specs.Inner.Calls.{Decides}
-use Rattle.inline_expand.specs.Inner.References.{reference_meant}
+use Rattle.member_link.specs.MemberRefs.{reference_meant}
 use Rattle.inline_expand.proofs.DecidedRuns.{HasLaws, chosen_found, decided, finds_nothing, finds_once, looked_up, looked_up_none, nothing_chosen, of_special, same_choice, special_selects, undecided}
 use Rattle.inline_expand.proofs.calls.special_callee.Goals as goal
 use Rattle.member_link.specs.DeclaredMembers.{Declared}

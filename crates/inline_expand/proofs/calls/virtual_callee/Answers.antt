@@ -5,7 +5,7 @@ use Rattle.class_model.specs.declared.opcodes.TheConstants.{INVOKEVIRTUAL}
 use Rattle.class_tree.specs.Headers.{Classes, headers_of}
 use Rattle.inline_expand.specs.Callees.{IsClass, IsOverriddenByNone, Runs, runs_virtual}
 use Rattle.inline_expand.specs.Inner.Calls.{DecidesRun}
-use Rattle.inline_expand.specs.Inner.References.{reference_meant}
+use Rattle.member_link.specs.MemberRefs.{reference_meant}
 use Rattle.inline_expand.proofs.DecidedRuns.{finds_nothing, finds_once, looked_up, looked_up_none, no_interface, of_virtual, outside, undecided}
 use Rattle.inline_expand.proofs.FoundMethods.{found_class, numbers_stand}
 use Rattle.inline_expand.proofs.calls.virtual_callee.Goals as goal

@@ -1,6 +1,9 @@
 use Rattle.std.proofs.Common.{◌≡◌, sym, subst}
 use Rattle.member_link.specs.Machine.ObjectSteps.{new_object_work}
 use Rattle.member_link.specs.Machine.Work.{work}
+use Rattle.member_link.specs.declared.selection.CallForm.TheVariants as CallForm
+use Rattle.machine_step.proofs.ReceiverCalls.{called_by, interface_is, virtual_is}
+use Rattle.machine_step.specs.declared.run_op.CallOp.{CallOp}
 use Rattle.machine_step.proofs.Oks.{ok_weaker}
 use Rattle.machine_step.specs.Completing.{Completes}
 use Rattle.machine_step.specs.RunOps.{IsNewOp, IsResolved, op_of}
@@ -37,3 +40,27 @@ returns-in-StoreElement-clause-completed c = λ P program resolved.
     (λ (op : RunOp). Completes c.args.memory.now c.store_element.new.memory c.args.operands.now
     c.store_element.result (work P c.args.memory.now (op_of op) c.args.operands.now))
     (sym c.in-StoreElement.is) (c.store_element.ensures P program)
+
+pub returns-in-CallVirtual-clause-completed : goal.returns-in-CallVirtual-clause-completed
+returns-in-CallVirtual-clause-completed c =
+    ok_weaker c.call_by_receiver.result (λ completed is. λ P program resolved.
+    let memory = c.args.memory.now in
+    let operands = c.args.operands.now in
+    let op : CallOp = c.in-CallVirtual.op.value in
+    subst (λ (op : RunOp). Completes memory memory operands completed (work P memory (op_of op) operands)) (sym c.in-CallVirtual.is)
+    (subst (Completes memory memory operands completed) (virtual_is P memory op.named (P.links.method op.named) operands)
+    (called_by P CallForm.Virtual memory operands completed c.deref_mut-in-CallVirtual.result.now op c.deref_mut-in-CallVirtual.ensures.value (is P program)
+    (subst (IsResolved P) c.in-CallVirtual.is resolved))))
+    c.call_by_receiver.ensures.completed
+
+pub returns-in-CallInterface-clause-completed : goal.returns-in-CallInterface-clause-completed
+returns-in-CallInterface-clause-completed c =
+    ok_weaker c.call_by_receiver-in-CallInterface.result (λ completed is. λ P program resolved.
+    let memory = c.args.memory.now in
+    let operands = c.args.operands.now in
+    let op : CallOp = c.in-CallInterface.op.value in
+    subst (λ (op : RunOp). Completes memory memory operands completed (work P memory (op_of op) operands)) (sym c.in-CallInterface.is)
+    (subst (Completes memory memory operands completed) (interface_is P memory op.named (P.links.method op.named) operands)
+    (called_by P CallForm.Interface memory operands completed c.deref_mut-in-CallInterface.result.now op c.deref_mut-in-CallInterface.ensures.value (is P program)
+    (subst (IsResolved P) c.in-CallInterface.is resolved))))
+    c.call_by_receiver-in-CallInterface.ensures.completed

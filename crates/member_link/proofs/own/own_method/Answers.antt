@@ -6,7 +6,8 @@ use Rattle.class_tree.specs.Order.{member_place}
 use Rattle.member_link.specs.DeclaredMembers.{declared_by, declared}
 use Rattle.member_link.specs.Found.{AreSame, IsMethodFound, methods_of}
 use Rattle.member_link.specs.declared.found.Found.{Found}
-use Rattle.member_link.proofs.OwnMembers.{own_at, own_found, own_missing}
+use Rattle.member_link.specs.Laws.OwnMembers.{own_at}
+use Rattle.member_link.proofs.OwnMembers.{own_found, own_missing}
 use Rattle.member_link.proofs.own.own_method.Goals as goal
 
 pub returns-in_err-member : goal.returns-in_err-member

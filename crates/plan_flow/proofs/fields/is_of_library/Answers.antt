@@ -3,7 +3,7 @@ use Rattle.class_tree.specs.Headers.{headers_of}
 use Rattle.class_tree.specs.Order.{place_of}
 use Rattle.member_link.specs.References.{Reference}
 use Rattle.plan_flow.specs.Inner.FieldWords.{is_in_folder}
-use Rattle.plan_flow.proofs.FieldNumbers.{named_in_folder}
+use Rattle.plan_flow.proofs.FolderClasses.{named_in_folder}
 use Rattle.plan_flow.proofs.fields.is_of_library.Goals as goal
 
 pub returns : goal.returns

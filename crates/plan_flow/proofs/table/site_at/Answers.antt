@@ -1,7 +1,7 @@
 use Rattle.std.proofs.Common.{◌==◌, sym, ap, ◌∙◌}
 use Rattle.flow_code.specs.declared.point.Site.{Site}
 use Rattle.member_link.specs.Machine.Programs.{number_of_first}
-use Rattle.plan_flow.proofs.FieldNumbers.{from_start}
+use Rattle.member_link.specs.Laws.FirstNumbers.{from_start}
 use Rattle.plan_flow.proofs.table.site_at.Goals as goal
 
 pub returns-in-Some : goal.returns-in-Some

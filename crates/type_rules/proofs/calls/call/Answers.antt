@@ -2,7 +2,7 @@ use Rattle.std.proofs.Common.{subst, sym}
 use Rattle.class_model.specs.Pool.{constant_at}
 use Rattle.type_rules.proofs.PoolFacts.{method_descriptor}
 use Rattle.type_rules.proofs.calls.call.Goals as goal
-use Rattle.type_rules.specs.Inner.References.{reference_meant}
+use Rattle.member_link.specs.MemberRefs.{reference_meant}
 use Rattle.member_link.specs.Scope.{Scope}
 use Rattle.type_rules.specs.Inner.Signatures.{IsCallable}
 

@@ -1,7 +1,7 @@
 use Rattle.std.proofs.Common.{Some, refl}
 use Rattle.type_rules.proofs.CallRows.{chosen_by_receiver}
 use Rattle.type_rules.proofs.calls.call_method.Goals as goal
-use Rattle.type_rules.specs.Inner.References.{reference_meant}
+use Rattle.member_link.specs.MemberRefs.{reference_meant}
 use Rattle.member_link.specs.Scope.{row_scope}
 
 -- neither invokestatic nor invokespecial

@@ -1,4 +1,4 @@
-use Rattle.type_rules.specs.Inner.References.{reference_meant}
+use Rattle.member_link.specs.MemberRefs.{reference_meant}
 use Rattle.type_rules.proofs.PoolFacts.{reference_descriptor}
 use Rattle.type_rules.proofs.fields.field_at.Goals as goal
 

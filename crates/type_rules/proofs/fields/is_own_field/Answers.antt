@@ -3,7 +3,7 @@ use Rattle.class_tree.specs.Headers.{headers_of}
 use Rattle.member_link.specs.Rows.MemberRows.{IsOwnField}
 use Rattle.type_rules.proofs.OwnFields.{own_field}
 use Rattle.type_rules.proofs.fields.is_own_field.Goals as goal
-use Rattle.type_rules.specs.Inner.References.{reference_meant}
+use Rattle.member_link.specs.MemberRefs.{reference_meant}
 use Rattle.member_link.specs.Scope.{Scope, row_scope}
 use Rattle.member_link.specs.Inner.Scope.{current}
 

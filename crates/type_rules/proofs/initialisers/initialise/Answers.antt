@@ -1,6 +1,6 @@
 use Rattle.type_rules.proofs.InitRows.{by_descriptor}
 use Rattle.type_rules.proofs.initialisers.initialise.Goals as goal
-use Rattle.type_rules.specs.Inner.References.{reference_meant}
+use Rattle.member_link.specs.MemberRefs.{reference_meant}
 use Rattle.member_link.specs.Scope.{row_scope}
 
 pub returns : goal.returns

@@ -3,7 +3,7 @@ use Rattle.class_model.specs.declared.frame.VType.{VType}
 use Rattle.member_link.specs.Rows.Operands.{lowest_of}
 use Rattle.type_rules.proofs.InitRows.{by_parts}
 use Rattle.type_rules.proofs.initialisers.initialise_by.Goals as goal
-use Rattle.type_rules.specs.Inner.References.{reference_meant}
+use Rattle.member_link.specs.MemberRefs.{reference_meant}
 use Rattle.member_link.specs.Scope.{row_scope}
 use Rattle.type_rules.specs.Inner.Steps.{given}
 

@@ -5,7 +5,7 @@ use Rattle.member_link.specs.Rows.MemberRows.{initialised_type}
 use Rattle.type_rules.proofs.BecomingLocals.{next_becomes, next_stays}
 use Rattle.type_rules.proofs.initialisers.initialised_locals.Goals as goal
 use Rattle.type_rules.proofs.initialisers.initialised_locals.Goals.{in-Some+in_ok-copy+in_ok-set, in_default}
-use Rattle.type_rules.specs.Inner.References.{reference_meant}
+use Rattle.member_link.specs.MemberRefs.{reference_meant}
 use Rattle.member_link.specs.Scope.{row_scope}
 
 pub loop-index-preserved : goal.loop-index-preserved

@@ -2,7 +2,7 @@ use Rattle.std.proofs.Common.{◌≡◌}
 use Rattle.member_link.specs.Rows.MemberRows.{initialised_type}
 use Rattle.type_rules.proofs.MappedSoFar.{mapped_to}
 use Rattle.type_rules.proofs.initialisers.initialised_locals.Given as goal
-use Rattle.type_rules.specs.Inner.References.{reference_meant}
+use Rattle.member_link.specs.MemberRefs.{reference_meant}
 use Rattle.member_link.specs.Scope.{row_scope}
 
 abbrev pub invariant-loop-index : goal.invariant-loop-index

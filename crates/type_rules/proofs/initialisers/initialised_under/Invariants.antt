@@ -1,7 +1,7 @@
 use Rattle.std.proofs.Common.{◌≡◌, map, take}
 use Rattle.member_link.specs.Rows.MemberRows.{initialised_type}
 use Rattle.type_rules.proofs.initialisers.initialised_under.Given as goal
-use Rattle.type_rules.specs.Inner.References.{reference_meant}
+use Rattle.member_link.specs.MemberRefs.{reference_meant}
 use Rattle.member_link.specs.Scope.{row_scope}
 
 abbrev pub invariant-loop-entry : goal.invariant-loop-entry

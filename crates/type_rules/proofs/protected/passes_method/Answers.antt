@@ -3,7 +3,7 @@ use Rattle.member_link.specs.Found.{IsMethodOf, methods_of}
 use Rattle.member_link.specs.Methods.{FindsMethod}
 use Rattle.type_rules.proofs.ProtectedMembers.{bound_passes}
 use Rattle.type_rules.proofs.protected.passes_method.Goals as goal
-use Rattle.type_rules.specs.Inner.References.{reference_meant}
+use Rattle.member_link.specs.MemberRefs.{reference_meant}
 use Rattle.member_link.specs.Scope.{Scope, row_scope}
 
 pub returns : goal.returns

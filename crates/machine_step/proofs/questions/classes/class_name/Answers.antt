@@ -1,5 +1,5 @@
 use Rattle.std.proofs.Common.{sym}
-use Rattle.machine_step.proofs.ProgramHeaders.{name_at_number, none_at_number}
+use Rattle.machine_step.specs.Laws.ProgramHeaders.{name_at_number, none_at_number}
 use Rattle.machine_step.proofs.questions.classes.class_name.Goals as goal
 
 pub returns-in-Some-clause-some : goal.returns-in-Some-clause-some

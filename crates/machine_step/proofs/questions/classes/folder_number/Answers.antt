@@ -1,6 +1,6 @@
 use Rattle.std.proofs.Common.{Some, None, sym, ap, ◌∙◌}
 use Rattle.class_tree.specs.declared.place.Place.TheVariants.{Folder, Library}
-use Rattle.machine_step.proofs.ProgramHeaders.{number_by_place}
+use Rattle.machine_step.specs.Laws.ProgramHeaders.{number_by_place}
 use Rattle.machine_step.proofs.questions.classes.folder_number.Goals as goal
 
 pub returns-in_err-class : goal.returns-in_err-class

@@ -1,5 +1,5 @@
 use Rattle.std.proofs.Common.{Some, None, sym, ◌∙◌}
-use Rattle.machine_step.proofs.ProgramHeaders.{interface_is}
+use Rattle.machine_step.specs.Laws.ProgramHeaders.{interface_is}
 use Rattle.machine_step.proofs.questions.classes.is_interface_named.Goals as goal
 
 pub returns-in-Some : goal.returns-in-Some

@@ -1,5 +1,12 @@
-use Rattle.machine_step.proofs.ProgramHeaders.{links_are, same_truth}
+use Rattle.std.proofs.Common.{◌≡◌, Bool, true, false, IsTrue, refl, sym}
+use Rattle.machine_step.specs.Laws.ProgramHeaders.{links_are}
 use Rattle.machine_step.proofs.questions.shapes.is_type_below.Goals as goal
+
+-- tests that are true together are the same
+same_truth : (one other : Bool) → (IsTrue one → IsTrue other) → (IsTrue other → IsTrue one) → one ≡ other
+same_truth true other there back = sym (there refl)
+same_truth false true there back = back refl
+same_truth false false there back = refl
 
 pub returns : goal.returns
 returns c = λ P is.

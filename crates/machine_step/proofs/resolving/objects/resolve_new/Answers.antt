@@ -4,7 +4,7 @@ use Rattle.class_tree.specs.Order.{place_of}
 use Rattle.class_tree.specs.declared.place.Place.TheVariants.{Folder, Library}
 use Rattle.member_link.specs.Machine.Programs.{folder_number}
 use Rattle.machine_step.proofs.NewObjects.{blanks_are, external_is}
-use Rattle.machine_step.proofs.ProgramHeaders.{number_by_place}
+use Rattle.machine_step.specs.Laws.ProgramHeaders.{number_by_place}
 use Rattle.machine_step.proofs.resolving.objects.resolve_new.Goals as goal
 
 pub returns-in_ok-blank_fields-in-Some-Folder-clause-resolved :

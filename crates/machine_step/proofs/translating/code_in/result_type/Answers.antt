@@ -1,7 +1,7 @@
 use Rattle.std.proofs.Common.{List, ℕ, Option, sym, ap, ◌∙◌}
 use Rattle.class_model.specs.PoolChecks.{text_or_empty}
 use Rattle.member_link.specs.Signatures.{result_of}
-use Rattle.machine_step.proofs.ResultTexts.{result_spelled}
+use Rattle.member_link.specs.Laws.ResultTexts.{result_spelled}
 use Rattle.machine_step.proofs.translating.code_in.result_type.Goals as goal
 
 pub returns : goal.returns

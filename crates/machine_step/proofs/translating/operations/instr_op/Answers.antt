@@ -60,22 +60,22 @@ pub returns-in-InstanceOf-clause-is : goal.returns-in-InstanceOf-clause-is
 returns-in-InstanceOf-clause-is c = known c.args.code.now c.args.numbers.now c.instance_of.result c.in-InstanceOf.is c.instance_of.ensures.is
 
 pub returns-in-ArrayLoad-clause-resolved : goal.returns-in-ArrayLoad-clause-resolved
-returns-in-ArrayLoad-clause-resolved c = c.load_element.ensures.resolved c.args.code.now.classes
+returns-in-ArrayLoad-clause-resolved c = c.if_between.ensures.resolved c.args.code.now.classes (λ P is. tt)
 
 pub returns-in-ArrayStore-clause-resolved : goal.returns-in-ArrayStore-clause-resolved
-returns-in-ArrayStore-clause-resolved c = c.store_element.ensures.resolved c.args.code.now.classes
+returns-in-ArrayStore-clause-resolved c = c.if_between-in-ArrayStore.ensures.resolved c.args.code.now.classes (λ P is. tt)
 
 pub returns-in-If-clause-resolved : goal.returns-in-If-clause-resolved
-returns-in-If-clause-resolved c = c.if_int.ensures.resolved c.args.code.now.classes
+returns-in-If-clause-resolved c = c.if_between-in-If.ensures.resolved c.args.code.now.classes (λ P is. tt)
 
 pub returns-in-If2-clause-resolved : goal.returns-in-If2-clause-resolved
-returns-in-If2-clause-resolved c = c.if_ints.ensures.resolved c.args.code.now.classes
+returns-in-If2-clause-resolved c = c.if_between-in-If2.ensures.resolved c.args.code.now.classes (λ P is. tt)
 
 pub returns-in-IfSame-clause-resolved : goal.returns-in-IfSame-clause-resolved
-returns-in-IfSame-clause-resolved c = c.if_references.ensures.resolved c.args.code.now.classes
+returns-in-IfSame-clause-resolved c = c.if_between-in-IfSame.ensures.resolved c.args.code.now.classes (λ P is. tt)
 
 pub returns-in-IfNull-clause-resolved : goal.returns-in-IfNull-clause-resolved
-returns-in-IfNull-clause-resolved c = c.if_null.ensures.resolved c.args.code.now.classes
+returns-in-IfNull-clause-resolved c = c.if_between-in-IfNull.ensures.resolved c.args.code.now.classes (λ P is. tt)
 
 pub returns-in-NewArray-clause-resolved : goal.returns-in-NewArray-clause-resolved
 returns-in-NewArray-clause-resolved c =

@@ -1,9 +1,0 @@
-use Rattle.std.proofs.Common.{length}
-use Rattle.machine_step.proofs.Parameters.{Read}
-use Rattle.machine_step.proofs.resolving.parameters.parameter_kinds.Given as goal
-
-abbrev pub decreases-loop-rest : goal.decreases-loop-rest
-decreases-loop-rest l = length l.rest
-
-abbrev pub invariant-loop-rest : goal.invariant-loop-rest
-invariant-loop-rest l = Read l.desc l.rest l.kinds.items
