@@ -1,14 +1,13 @@
 -- A method in a host is expanded in one way.
-use Rattle.std.proofs.Common.{◌≡◌, ℕ, List, [], ◌∷◌, refl, sym, ap, subst, ◌∙◌}
+use Rattle.std.proofs.Common.{◌≡◌, ℕ, List, ◌∷◌, refl, sym, ap, subst, ◌∙◌}
 use Rattle.std.proofs.lemmas.Option.{same_Some}
 use Rattle.class_model.specs.declared.class_file.MethodAt.{MethodAt}
-use Rattle.class_model.specs.declared.frame.Frame.{Frame}
 use Rattle.class_model.specs.declared.instr.Placed.{Placed}
-use Rattle.class_tree.specs.Headers.{Classes, Name, headers_of}
+use Rattle.class_tree.specs.Headers.{Classes, Name}
 use Rattle.inline_expand.proofs.GrownSteps.{site_or_call}
 use Rattle.inline_expand.proofs.ReadyCalls.{from_callee, one_callee, one_list, one_scope}
 use Rattle.inline_expand.specs.Callees.{Calls}
-use Rattle.inline_expand.specs.Expansions.{Coded, Expands, Expansion, expands_none, expands_replaced, expands_site, expands_stays, no_more, replaced, site, stays}
+use Rattle.inline_expand.specs.Expansions.{Coded, Expands, Expansion, expands_none, expands_replaced, expands_site, expands_stays, replaced, site, stays}
 use Rattle.inline_expand.specs.Sites.{HasFrames, IsReplaced, IsSite}
 use Rattle.member_link.specs.Scope.{Scope, class_of_new, instructions}
 use Rattle.type_rules.specs.TypedFrames.{FolderFrames}
