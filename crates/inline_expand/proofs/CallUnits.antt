@@ -24,7 +24,7 @@ use Rattle.class_model.specs.declared.class_file.Method.{Method}
 use Rattle.class_model.specs.declared.class_file.MethodAt.{MethodAt}
 use Rattle.class_model.specs.declared.fault.FileRule.TheVariants as rules
 use Rattle.class_tree.specs.Headers.{Classes, IsClassFile}
-use Rattle.code_bytes.specs.Codes.{HasReadMethods, IsReadMethod}
+use Rattle.code_bytes.specs.Codes.{HasReadMethods}
 use Rattle.inline_expand.proofs.ReadMethods.{method_was_read}
 use Rattle.inline_expand.proofs.ScopeParts.{scope-parts}
 use Rattle.inline_expand.specs.Inner.Steps.{IsCallable}

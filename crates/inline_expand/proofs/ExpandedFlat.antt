@@ -1,5 +1,5 @@
 -- Expanded code is well formed: its targets, handlers and sites are points, and its locals are units that it has.
-use Rattle.std.proofs.Common.{◌≡◌, ◌==◌, ◌||◌, ◌+◌, ◌<◌, ◌≤◌, not, ℕ, Bool, true, false, List, [], ◌∷◌, ◌++◌, bytes_eq, length, map, reverse, Option, Some, None, option_map, option_and_then, inl, inr, if◌then◌else◌, refl, sym, ap, subst, ◌∙◌, arith}
+use Rattle.std.proofs.Common.{◌≡◌, ◌==◌, ◌||◌, ◌+◌, ◌<◌, ◌≤◌, not, ℕ, Bool, true, false, List, [], ◌∷◌, ◌++◌, bytes_eq, length, map, reverse, Option, Some, None, option_map, if◌then◌else◌, refl, sym, ap, subst, ◌∙◌, arith}
 use Rattle.std.proofs.lemmas.Bool.{eq-eqb, eqb-true}
 use Rattle.std.proofs.lemmas.Option.{none-some, same_Some}
 use Rattle.std.proofs.lemmas.List.{reverse-append}
@@ -9,7 +9,6 @@ use Rattle.class_model.specs.Descriptors.{kind_of, parameter_units, parameters_o
 use Rattle.class_model.specs.Instructions.{targets}
 use Rattle.class_model.specs.Laws.Lists.{AllByRecursion-weaker}
 use Rattle.class_model.specs.Members.{STATIC, has}
-use Rattle.class_model.specs.Methods.{units_at_call}
 use Rattle.class_model.specs.Names.{init}
 use Rattle.class_model.specs.Pool.{constant_at}
 use Rattle.class_model.specs.PoolChecks.{class_at}
@@ -25,24 +24,21 @@ use Rattle.class_model.specs.declared.instr.Instr.TheVariants.{Goto, Iinc, Invok
 use Rattle.class_model.specs.declared.instr.Placed.{Placed}
 use Rattle.class_model.specs.declared.opcodes.TheConstants.{INVOKESPECIAL, INVOKESTATIC}
 use Rattle.class_tree.specs.Headers.{Classes, Name}
-use Rattle.flow_code.specs.FlatCode.{FitsFlat, HasLocal, IsFlat, IsPoint, NamesPoint}
+use Rattle.flow_code.specs.FlatCode.{HasLocal, IsFlat, IsPoint, NamesPoint}
 use Rattle.flow_code.specs.declared.handlers.FlatHandler.{FlatHandler}
-use Rattle.flow_code.specs.declared.point.FlatInstr.TheVariants.{NullTest, Of}
-use Rattle.flow_code.specs.declared.point.Point.{Point}
+use Rattle.flow_code.specs.declared.point.FlatInstr.TheVariants.{NullTest}
 use Rattle.inline_expand.proofs.AloneFlat.{all-append, all-mapped, local-kept, targets-to}
-use Rattle.inline_expand.proofs.CalledMethods.{placed_by_number}
-use Rattle.inline_expand.proofs.ExpandedPoints.{has-code, number-inside, points-length, sites-inside, some-points}
-use Rattle.inline_expand.proofs.GrownSteps.{own_some}
+use Rattle.inline_expand.proofs.ExpandedPoints.{number-inside, points-length, sites-inside, some-points}
 use Rattle.inline_expand.proofs.ShapeParts.{units-cons}
 use Rattle.type_rules.specs.Laws.InstructionOrder.{Ascend, ascend}
 use Rattle.inline_expand.specs.Alone.{handler_by, handlers_by}
 use Rattle.inline_expand.specs.Callees.{IsCallee, instr_at, is_callee}
-use Rattle.inline_expand.specs.Expanded.{Argument, Narrowing, Setting, arguments, arguments_from, callee_of, callee_setting, class_of, expanded, frame_behind_stores, frame_stored, host_setting, instr_points, narrowing, number_from, own_narrowing, own_points, point_in, points_before, points_from, points_of, points_of_callee, points_of_entry, return_points, set_frame, set_instr, sites_from, store_points, test_points, tests_receiver, units_in, with_unit}
-use Rattle.inline_expand.specs.Expansions.{Coded, Expands, Expansion, expands_none, expands_replaced, expands_site, expands_stays, no_more, replaced, site, stays}
+use Rattle.inline_expand.specs.Expanded.{Argument, Narrowing, Setting, arguments, arguments_from, callee_of, callee_setting, expanded, frame_behind_stores, frame_stored, host_setting, instr_points, narrowing, own_points, point_in, points_before, points_from, points_of, points_of_callee, points_of_entry, set_frame, set_instr, store_points, test_points, tests_receiver, units_in, with_unit}
+use Rattle.inline_expand.specs.Expansions.{Coded, Expands, Expansion, expands_none, expands_replaced, expands_site, expands_stays}
 use Rattle.inline_expand.specs.Inner.Steps.{IsCallable}
 use Rattle.inline_expand.specs.Inner.TypedMethods.{GoesWithin, IsTypedMethod}
 use Rattle.inline_expand.specs.Sites.{HasFrames}
-use Rattle.member_link.specs.Bodies.{Body, BodyCatch, flows_on}
+use Rattle.member_link.specs.Bodies.{BodyCatch, flows_on}
 use Rattle.member_link.specs.BodyTyping.{AreInOrder, IsPlaceOf}
 use Rattle.member_link.specs.CodedMethods.{placed_at}
 use Rattle.member_link.specs.Machine.Codes.{covers}
@@ -54,7 +50,7 @@ use Rattle.member_link.specs.Scope.{Scope, instructions, is_init, own_descriptor
 use Rattle.member_link.specs.Signatures.{reference_of, result_of}
 use Rattle.type_rules.specs.Handlers.{catch_of, catches_at}
 use Rattle.type_rules.specs.MethodBodies.{body_of, point_of}
-use Rattle.type_rules.specs.Typed.{AreTyped, Typed}
+use Rattle.type_rules.specs.Typed.{AreTyped}
 use Rattle.type_rules.specs.TypedFrames.{FolderFrames}
 
 -- ---- instructions by their offsets

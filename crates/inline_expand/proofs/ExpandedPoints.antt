@@ -24,7 +24,7 @@ use Rattle.inline_expand.specs.Expanded.{Argument, Narrowing, Setting, arguments
 use Rattle.inline_expand.specs.Expansions.{Coded, Expands, Expansion, expands_none, expands_replaced, expands_site, expands_stays, no_more, replaced, site, stays}
 use Rattle.inline_expand.specs.Inner.TypedMethods.{IsTypedMethod}
 use Rattle.inline_expand.specs.Sites.{HasFrames}
-use Rattle.member_link.specs.Bodies.{Body, BodyPoint}
+use Rattle.member_link.specs.Bodies.{Body}
 use Rattle.member_link.specs.BodyTyping.{IsPlaceOf}
 use Rattle.member_link.specs.Scope.{Scope, instructions, own_descriptor}
 use Rattle.type_rules.specs.MethodBodies.{body_of, point_of}

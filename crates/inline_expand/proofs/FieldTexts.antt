@@ -1,11 +1,11 @@
 -- The descriptors of the fields of a candidate class are texts of field types.
-use Rattle.std.proofs.Common.{◌≡◌, ◌≢◌, ◌+◌, ◌<◌, ◌≤◌, not, cond, ℕ, Bool, true, false, List, [], ◌∷◌, ◌++◌, bytes_eq, codes, filter, length, map, replicate, reverse, Option, Some, None, IfSome, IsSome, refl, sym, ap, subst, ◌∙◌, inl, inr, arith}
+use Rattle.std.proofs.Common.{◌≡◌, ◌≢◌, ◌+◌, ◌≤◌, not, cond, ℕ, Bool, true, false, List, [], ◌∷◌, ◌++◌, bytes_eq, codes, filter, length, map, replicate, reverse, Option, Some, None, IfSome, IsSome, refl, sym, ap, subst, ◌∙◌, arith}
 use Rattle.std.proofs.lemmas.List.{append-nil, append_assoc, length-append}
 use Rattle.std.proofs.lemmas.Option.{same_Some}
 use Rattle.std.specs.List.{AllByRecursion, flat_map}
 use Rattle.class_model.specs.Checks.{AllHold}
 use Rattle.class_model.specs.ClassOf.{fields_checks}
-use Rattle.class_model.specs.Descriptors.{SpellsDescriptor, SpellsFieldType, descriptor_text, field_type_text, kind_of, parameter_units, type_of, units_of}
+use Rattle.class_model.specs.Descriptors.{SpellsDescriptor, SpellsFieldType, field_type_text, kind_of, type_of, units_of}
 use Rattle.class_model.specs.Header.{field_member, header_of}
 use Rattle.class_model.specs.Laws.Descriptors.{named as is_named}
 use Rattle.class_model.specs.Laws.Checks.{first_holds, others_hold}
@@ -24,16 +24,16 @@ use Rattle.class_model.specs.declared.descriptor.Kind.{Kind}
 use Rattle.class_model.specs.declared.descriptor.Kind.TheVariants as kinds
 use Rattle.class_model.specs.declared.header.Header.{Header}
 use Rattle.class_model.specs.declared.header.Member.{Member}
-use Rattle.class_tree.specs.Headers.{Classes, Headers, IsClassFile, Name, class_named, headers_of, named}
+use Rattle.class_tree.specs.Headers.{Classes, Headers, IsClassFile, Name, headers_of, named}
 use Rattle.class_tree.specs.Hierarchy.{IsHierarchy}
 use Rattle.class_tree.specs.Layouts.{instance_fields, own_fields, superclasses}
 use Rattle.class_tree.specs.Names.{object}
-use Rattle.inline_expand.proofs.AloneFlat.{all-append, all-mapped}
+use Rattle.inline_expand.proofs.AloneFlat.{all-append}
 use Rattle.inline_expand.proofs.FolderNames.{of_folder}
 use Rattle.member_link.specs.Laws.ResultTexts.{type_of_spelled}
 use Rattle.inline_expand.proofs.SuperChains.{chain_is, has_superclass}
 use Rattle.inline_expand.specs.Candidates.{HasRoom, IsCandidate}
-use Rattle.inline_expand.specs.FieldConstructors.{HasFieldConstructor, constructor_descriptor, field_types}
+use Rattle.inline_expand.specs.FieldConstructors.{constructor_descriptor, field_types}
 use Rattle.inline_expand.specs.Inner.ConstructorWords.{field_descs}
 use Rattle.inline_expand.specs.Inner.FieldTypes.{IsShortDescriptor}
 use Rattle.inline_expand.specs.Quiet.{chain}

@@ -1,5 +1,5 @@
 -- A method by its numbers: its class file, the method in it, and its code.
-use Rattle.std.proofs.Common.{◌≡◌, List, slice_get, Option, Some, None, option_map, option_and_then, refl, subst}
+use Rattle.std.proofs.Common.{◌≡◌, slice_get, Option, Some, None, option_map, option_and_then, refl, subst}
 use Rattle.std.proofs.lemmas.Option.{none-some, same_Some}
 use Rattle.class_model.specs.MethodCode.{code_of}
 use Rattle.class_model.specs.declared.class_file.ClassFile.{ClassFile}

@@ -1,5 +1,5 @@
 -- How the flat code of a host is answered, step by step.
-use Rattle.std.specs.Prelude.{◌≡◌, Bool, true, false, List, length, None, Result, Ok, Err}
+use Rattle.std.specs.Prelude.{◌≡◌, Bool, true, false, length, None, Result, Ok, Err}
 use Rattle.std.specs.List.{AllByRecursion}
 use Rattle.class_model.specs.declared.class_file.MethodAt.{MethodAt}
 use Rattle.class_model.specs.declared.instr.Instr.{Instr}

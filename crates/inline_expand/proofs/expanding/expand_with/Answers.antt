@@ -1,6 +1,4 @@
-use Rattle.std.proofs.Common.{◌≡◌, ◌<◌, ℕ, List, None, ap, subst, ◌∙◌, arith}
-use Rattle.class_model.specs.declared.class_file.MethodAt.{MethodAt}
-use Rattle.class_tree.specs.Headers.{Classes}
+use Rattle.std.proofs.Common.{ap, subst, ◌∙◌, arith}
 use Rattle.inline_expand.proofs.HostParts.{body-expands, too-long, whole-answers, whole-code}
 use Rattle.inline_expand.proofs.expanding.expand_with.Goals as goal
 use Rattle.inline_expand.specs.Expansions.{Coded}

@@ -4,7 +4,7 @@ use Rattle.std.specs.List.{list_any}
 use Rattle.inline_expand.proofs.HostParts.{a-float, a-host, asks, initialises, no-float, no-host}
 use Rattle.inline_expand.proofs.expanding.open_host.Goals as goal
 use Rattle.inline_expand.specs.Inner.Coded.{IsCoded}
-use Rattle.member_link.specs.Scope.{instructions, scope_at}
+use Rattle.member_link.specs.Scope.{scope_at}
 
 pub returns-in_default : goal.returns-in_default
 returns-in_default c =

@@ -1,4 +1,4 @@
-use Rattle.std.proofs.Common.{◌≡◌, ◌↔◌, Bool, Some, Result, Ok, Err, IfOk, IsTrue, sym, ap, subst, ◌∙◌, is_some}
+use Rattle.std.proofs.Common.{◌≡◌, Some, sym, ap, subst, ◌∙◌, is_some}
 use Rattle.std.specs.Option.{option_copied}
 use Rattle.class_model.specs.declared.header.Header.{Header}
 use Rattle.class_tree.specs.Headers.{Classes, headers_of, named}
@@ -7,8 +7,6 @@ use Rattle.class_tree.specs.Names.{object}
 use Rattle.inline_expand.proofs.FolderNames.{object_outside, of_folder}
 use Rattle.inline_expand.proofs.JudgedChains.{sound_where_some}
 use Rattle.inline_expand.proofs.SoundClasses.{candidate_is}
-use Rattle.inline_expand.specs.Candidates.{IsCandidate}
-use Rattle.inline_expand.specs.Inner.CandidateWords.{IsSound}
 use Rattle.inline_expand.proofs.candidates.Candidates.is_candidate.Goals as goal
 
 pub fields_of-requires : goal.fields_of-requires

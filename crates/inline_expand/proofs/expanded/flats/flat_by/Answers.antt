@@ -1,10 +1,7 @@
-use Rattle.std.proofs.Common.{◌≡◌, ◌==◌, ◌+◌, ◌≤◌, ◌<◌, List, None, length, sym, ap, subst, ◌∙◌, arith, vec_len}
+use Rattle.std.proofs.Common.{◌≡◌, ◌+◌, List, sym, ap, subst, ◌∙◌, arith, vec_len}
 use Rattle.std.proofs.lemmas.Bool.{eq-eqb, false≢true}
 use Rattle.std.specs.List.{AllByRecursion}
 use Rattle.class_tree.specs.Headers.{Headers, headers_of}
-use Rattle.flow_code.specs.FlatCode.{FlatCode}
-use Rattle.flow_code.specs.declared.point.Point.{Point}
-use Rattle.flow_code.specs.declared.point.Site.{Site}
 use Rattle.inline_expand.proofs.WholeParts.{news-are-candidates, no-news, whole-sites}
 use Rattle.inline_expand.proofs.expanded.flats.flat_by.Goals as goal
 use Rattle.inline_expand.specs.Candidates.{IsCandidate}
