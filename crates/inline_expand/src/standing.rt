@@ -17,7 +17,6 @@ use crate::classes::{is_class, name_of};
 use crate::host::Host;
 use crate::open::names_open;
 use crate::quiet::is_quiet;
-use crate::references::reference_at;
 use class_model::opcodes::INVOKESPECIAL;
 use class_model::{
     ACC_STATIC, ClassFile, Const, Descriptor, FieldType, Frame, INIT, Instr, Kind, LocalTypeList,
@@ -25,6 +24,7 @@ use class_model::{
 };
 use class_tree::Tree;
 use code_bytes::{a_class_file_has_read_methods, method_descriptor};
+use member_link::member_at;
 use std::alloc::Global;
 
 // The most bytes of a callee's code.
@@ -188,7 +188,7 @@ fn names_initialiser(callee: &Host<'_>, instr: &Instr) -> bool
 fn is_initialiser_at(callee: &Host<'_>, index: u16) -> bool
     ensures { IsTrue result ↔ IsInitialiserAt callee.now index }
 {
-    match reference_at(callee.pool(), index) {
+    match member_at(callee.pool(), index) {
         Some(reference) => reference.name.bytes() == INIT,
         None => true,
     }
