@@ -51,7 +51,7 @@ use Rattle.never_stuck.proofs.LinkedInstrs.{new_found, instr_linked}
 use Rattle.never_stuck.proofs.LinkedOps.{ReferenceLaws, Around, IsLinkedAt}
 use Rattle.type_rules.specs.Laws.InstructionOrder.{Ascend}
 use Rattle.never_stuck.proofs.PoolNames.{constant_holds}
-use Rattle.never_stuck.proofs.SomeDimensions.{IsSome, SomeIn, instrs_some}
+use Rattle.never_stuck.proofs.SomeDimensions.{IsSome as HasSome, SomeIn, instrs_some}
 use Rattle.machine_laws.specs.Laws.DimensionsRead.{ListHas}
 use Rattle.never_stuck.proofs.TypedMethods.{scope_with}
 
@@ -196,8 +196,8 @@ linked_instr laws classes P is hierarchy tree linked has_class at file m part of
             code_is = attr.2;
           }) d.instrs placed d.decodes d.there
 
-      all_some : ListHas IsSome (decoded part.code)
+      all_some : ListHas HasSome (decoded part.code)
       all_some = instrs_some _ _ part.code
 
       some : SomeIn placed.instr
-      some = at_index (λ (p : Placed). SomeIn p.instr) d.instrs number placed (subst (ListHas IsSome) d.decodes all_some) d.there
+      some = at_index (λ (p : Placed). SomeIn p.instr) d.instrs number placed (subst (ListHas HasSome) d.decodes all_some) d.there

@@ -10,6 +10,8 @@ use Rattle.member_link.specs.Machine.Codes.{CodePoint, catches_at, code_point}
 use Rattle.member_link.specs.Machine.Programs.{number_of_first}
 use Rattle.member_link.specs.Scope.{Scope, row_scope}
 use Rattle.never_stuck.proofs.Folders.{some_of}
+use Rattle.type_rules.specs.Laws.InstructionOrder.{Ascend}
+use Rattle.type_rules.specs.MethodBodies.{point_of}
 
 -- ---- the order of instructions
 
