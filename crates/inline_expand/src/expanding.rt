@@ -2,6 +2,7 @@
 ghost use Rattle.std.specs.Prelude.{◌≡◌, ◌↔◌, ◌⊎◌, IfOk, IsTrue};
 ghost use Rattle.std.specs.List.{list_any};
 ghost use Rattle.inline_expand.specs.ExpandAnswers.{AnswersExpanded};
+ghost use Rattle.inline_expand.specs.Inner.Walks.{AreRight};
 ghost use Rattle.inline_expand.specs.Inner.WholeCodes.{IsHostFound, asks_float};
 ghost use Rattle.member_link.specs.Scope.{is_clinit, is_init};
 ghost use Rattle.type_rules.specs.Verified.{TypesFolder};
@@ -14,6 +15,7 @@ use crate::expansions::expansion_of;
 use crate::folder_methods::FolderMethods;
 use crate::host::Host;
 use crate::typed_methods::each_method_is_typed;
+use crate::verdicts::Verdicts;
 use class_model::{CLINIT, INIT, Instr, MethodAt, NoMemory, Placed};
 use class_tree::{Tree, a_tree_is_a_hierarchy};
 use code_bytes::is_text;
@@ -50,17 +52,22 @@ pub fn expand(
     expander.expand(alloc, at)
 }
 
-/// Makes the flat codes of the methods of a folder. What is found of its classes is kept. Contracts see the folder and its frames.
+/// Makes the flat codes of the methods of a folder. What is found of its classes is kept, and which methods may be callees as long as
+/// hosts of one class are asked for. Contracts see the folder and its frames.
 #[derive(Drop)]
 pub struct Expander<'t> {
     tree: &'t Tree,
     typed: &'t TypedFolder,
     candidates: Candidates<'t>,
     methods: FolderMethods<'t>,
+    // The number of the class of hosts that the verdicts are of.
+    host: usize,
+    verdicts: Verdicts,
 }
 
 impl<'t> Model for Expander<'t> {
     ghost use Rattle.std.specs.Prelude.{◌≡◌};
+    ghost use Rattle.inline_expand.specs.Inner.Walks.{AreRight};
     ghost use Rattle.inline_expand.specs.TypedClasses.{TypedClasses};
     ghost use Rattle.type_rules.specs.Verified.{TypesFolder};
 
@@ -71,7 +78,8 @@ impl<'t> Model for Expander<'t> {
     ghost invariant = { λ e.
         TypesFolder e.tree.now e.typed.now
         × (e.candidates ≡ e.tree.now)
-        × (e.methods ≡ e.tree.now) };
+        × (e.methods ≡ e.tree.now)
+        × AreRight e.tree.now e.typed.now e.host e.verdicts };
 }
 
 impl<'t> Expander<'t> {
@@ -89,6 +97,8 @@ impl<'t> Expander<'t> {
             typed,
             candidates: Candidates::new(alloc, tree)?,
             methods: FolderMethods::of(alloc, tree)?,
+            host: 0,
+            verdicts: Verdicts::new(alloc),
         })
     }
 
@@ -100,9 +110,14 @@ impl<'t> Expander<'t> {
         ensures answers { AnswersExpanded self.old.classes self.old.typed at result }
         ensures same { self.new ≡ self.old }
     {
+        if self.host != at.class {
+            self.verdicts = Verdicts::new(alloc);
+            self.host = at.class;
+        }
         expand_with(
             alloc,
             &mut self.candidates,
+            &mut self.verdicts,
             &self.methods,
             self.tree,
             self.typed,
@@ -115,6 +130,7 @@ impl<'t> Expander<'t> {
 fn expand_with<'t>(
     alloc: Global,
     candidates: &mut Candidates<'_>,
+    verdicts: &mut Verdicts,
     methods: &'t FolderMethods<'t>,
     tree: &'t Tree,
     typed: &'t TypedFolder,
@@ -123,15 +139,19 @@ fn expand_with<'t>(
     requires typed { TypesFolder tree.now typed.now }
     requires classes { candidates.old ≡ tree.now }
     requires methods { methods.now ≡ tree.now }
+    requires right { AreRight tree.now typed.now at.class verdicts.old }
     ensures answers { AnswersExpanded tree.now typed.now at result }
     ensures classes { candidates.new ≡ candidates.old }
+    ensures right { AreRight tree.now typed.now at.class verdicts.new }
 {
     a_tree_is_a_hierarchy(tree);
     a_call_runs_one_method();
     each_method_is_typed(tree, typed);
     let host = open_host(alloc, tree, typed, at)?;
     let most = usize::from(MOST_POINTS);
-    let found = expansion_of(alloc, candidates, methods, tree, typed, host, most)?;
+    let found = expansion_of(
+        alloc, candidates, verdicts, methods, tree, typed, host, most,
+    )?;
     let Some(bodies) = found else {
         return Err(KeptFault::Kept(Reason::Expanded));
     };

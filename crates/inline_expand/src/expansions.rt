@@ -4,6 +4,7 @@ ghost use Rattle.inline_expand.specs.Inner.Coded.{Stands};
 ghost use Rattle.inline_expand.specs.Inner.Growths.{HasGrown, IsExpansionFound, IsStepFound, AreStepsFound, MayGrow, IsBodyFound};
 ghost use Rattle.inline_expand.specs.Inner.Places.{IsPlace, chain_of, host_of};
 ghost use Rattle.inline_expand.specs.Inner.SiteTables.{AreSites};
+ghost use Rattle.inline_expand.specs.Inner.Walks.{AreRight};
 ghost use Rattle.inline_expand.specs.Sites.{IsReplaced};
 ghost use Rattle.member_link.specs.Scope.{instructions};
 
@@ -20,6 +21,7 @@ use crate::verdicts::Verdicts;
 use class_model::{Frame, ListOf, MethodAt, NoMemory, Placed, Text};
 use class_tree::{Tree, a_tree_is_a_hierarchy};
 use std::alloc::Global;
+use std::mem;
 use type_rules::TypedFolder;
 
 /// What becomes of an instruction.
@@ -59,13 +61,14 @@ pub(crate) struct Growth<'t> {
 }
 
 /// What becomes of the instructions of a host; none where there are more than so many points in any case: it ends as soon as
-/// this is known.
+/// this is known. What is found of methods is kept among the verdicts, which are of hosts of the same class.
 ///
 /// # Errors
 /// `NoMemory`, where memory runs out.
 pub(crate) fn expansion_of<'t>(
     alloc: Global,
     candidates: &mut Candidates<'_>,
+    verdicts: &mut Verdicts,
     methods: &'t FolderMethods<'t>,
     tree: &'t Tree,
     typed: &'t TypedFolder,
@@ -74,8 +77,10 @@ pub(crate) fn expansion_of<'t>(
 ) -> Result<Option<HostBodies<'t>>, NoMemory>
     requires classes { candidates.old ≡ tree.now }
     requires methods { methods.now ≡ tree.now }
+    requires right { AreRight tree.now typed.now host.at.class verdicts.old }
     requires host { Stands tree.now typed.now host }
     ensures expansion { IfOk result (IsExpansionFound tree.now typed.now host.entry most) }
+    ensures right { AreRight tree.now typed.now host.entry.at.class verdicts.new }
     ensures classes { candidates.new ≡ candidates.old }
 {
     let Some(class) = tree.folder().get(host.at.class) else {
@@ -94,11 +99,13 @@ pub(crate) fn expansion_of<'t>(
         line: line.as_slice(),
     };
     let mut growth = Growth {
-        verdicts: Verdicts::new(alloc),
+        verdicts: mem::replace(verdicts, Verdicts::new(alloc)),
         bodies: Vec::new(alloc),
         left: most,
     };
-    let Some(steps) = steps_of(alloc, candidates, place, &host, &mut growth)? else {
+    let found = steps_of(alloc, candidates, place, &host, &mut growth)?;
+    *verdicts = growth.verdicts;
+    let Some(steps) = found else {
         return Ok(None);
     };
     Ok(Some(HostBodies {
