@@ -14,8 +14,8 @@ fi
 mkdir in
 for release in 7 8; do bash "$root/scripts/compile-java.sh" "$release" in; done
 bash "$root/scripts/jdk-library.sh" lib >/dev/null
-verified=${VERIFIED:-20}
-expanded=${EXPANDED:-20}
+verified=${VERIFIED:-100}
+expanded=${EXPANDED:-100}
 for _ in $(seq 1 "$runs"); do
     turn expand 1 0
     turn expand $((verified + 1)) 0
@@ -25,6 +25,6 @@ base=${least_ms[expand 1 0]}
 verify_ms=$((least_ms[expand $((verified + 1)) 0] - base))
 expand_ms=$((least_ms[expand 1 $expanded] - base))
 echo "$(find in -name '*.class' | wc -l) class files; points of flat codes: $("$bench" expand 1 1)"
-wanted "$expanded expansions of all methods in $expand_ms ms, $verified verifications in $verify_ms ms: $(ratio "$expand_ms * $verified" "$verify_ms * $expanded") times (at most 1.5 is wanted)" \
+wanted "$expanded expansions of all methods in $expand_ms ms, $verified verifications in $verify_ms ms: $(ratio "($expand_ms * $verified)" "($verify_ms * $expanded)") times (at most 1.5 is wanted)" \
     "$expand_ms * $verified <= 1.5 * $verify_ms * $expanded"
 exit "$failed"
