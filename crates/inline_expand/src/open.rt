@@ -18,7 +18,10 @@ use crate::found::method_of;
 use crate::host::Host;
 use class_model::{ACC_PRIVATE, ACC_PROTECTED, ACC_PUBLIC, ACC_STATIC, Const, Instr, Text, has};
 use class_tree::{Place, Tree, a_tree_is_a_hierarchy, is_array};
-use member_link::{Found, MemberRef, a_look_up_finds_one_field, a_look_up_finds_one_method, class_accessible, find_field, find_method, is_same_package, member_at};
+use member_link::{
+    Found, MemberRef, a_look_up_finds_one_field, a_look_up_finds_one_method, class_accessible,
+    find_field, find_method, is_same_package, member_at,
+};
 
 // The method of an array that counts as public.
 const CLONE: &[u8] = b"clone";

@@ -99,9 +99,9 @@ map_at P f xs k p = subst P (sym (slice_get-map f xs k)) p
 instructions_few : (s : Scope) → IsBytes s.part.code → AllHave IsFew (instructions s)
 instructions_few s are = by (decoded s.part.code) refl (instrs_has IsFew IsBytes IsBytes-drop (λ bytes are some. first_byte (drop 3 bytes) (IsBytes-drop 3 bytes are))
     (length s.part.code) 0 s.part.code are) where
-  by : (r : Result (List Placed) Fault) → decoded s.part.code ≡ r → ListHas IsFew r → AllHave IsFew (instructions s)
-  by (Ok placed) e few = rw e few
-  by (Err fault) e few = rw e tt
+      by : (r : Result (List Placed) Fault) → decoded s.part.code ≡ r → ListHas IsFew r → AllHave IsFew (instructions s)
+      by (Ok placed) e few = rw e few
+      by (Err fault) e few = rw e tt
 
 all_mapped : {A B : Type 0} (Q : B → Type 0) (f : A → B) (xs : List A) → AllByRecursion (λ (x : A). Q (f x)) xs → AllByRecursion Q (map f xs)
 all_mapped Q f [] all = tt

@@ -22,8 +22,8 @@ use crate::shuffles::form_on;
 use class_model::opcodes::{IF_ACMPEQ, IFNULL, INVOKESTATIC};
 use class_model::{Frame, INIT, Instr, Kind, NoMemory, Text};
 use class_tree::{OBJECT, Tree};
-use member_link::{Reference, parameter_count, result_text};
 use flow_code::{Flat, FlatInstr, Site};
+use member_link::{Reference, parameter_count, result_text};
 
 /// The row of an instruction at a point with these types.
 ///

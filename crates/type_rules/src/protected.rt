@@ -16,7 +16,10 @@ use crate::assignability::is_object_of;
 use crate::method_rules::MethodRules;
 use class_model::{ACC_PROTECTED, VType, has};
 use class_tree::{Tree, is_array, is_below};
-use member_link::{Found, MemberRef, a_look_up_finds_one_field, a_look_up_finds_one_method, find_field, find_method, is_same_package};
+use member_link::{
+    Found, MemberRef, a_look_up_finds_one_field, a_look_up_finds_one_method, find_field,
+    find_method, is_same_package,
+};
 
 const CLONE: &[u8] = b"clone";
 

@@ -17,7 +17,8 @@ use class_model::{NoMemory, Text};
 use class_tree::Tree;
 use machine_heap::{Heap, component_text};
 use machine_step::{
-    Acted, MOST_ELEMENTS, Memory, WorldState, blank_array, index_in, narrow, narrowing_of_text, show_got, show_length, show_made, text_conforms,
+    Acted, MOST_ELEMENTS, Memory, WorldState, blank_array, index_in, narrow, narrowing_of_text,
+    show_got, show_length, show_made, text_conforms,
 };
 use machine_values::{Given, Object, Ref, Shape, Value};
 use std::alloc::Global;

@@ -18,8 +18,8 @@ use crate::raising::raise;
 use class_model::{MethodAt, NoMemory, Text};
 use class_tree::Tree;
 use machine_step::{
-    Acted, Memory, Outcome, Prepared, Throwable, WorldState, arguments_conform,
-    folder_number, has_code, method_traits, named_conforms, place_of_method,
+    Acted, Memory, Outcome, Prepared, Throwable, WorldState, arguments_conform, folder_number,
+    has_code, method_traits, named_conforms, place_of_method,
 };
 use machine_values::{GivenList, Value};
 use member_link::Reference;

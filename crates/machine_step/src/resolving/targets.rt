@@ -20,7 +20,9 @@ use crate::resolving::calls::{method_found, run_call, run_selected};
 use crate::run_op::{CallOp, CallTarget, Callee, Throwable};
 use class_model::{ACC_ABSTRACT, ACC_STATIC, INIT, NoMemory, Text, has};
 use class_tree::{METHOD_HANDLE, OBJECT, Place, Tree, a_tree_is_a_hierarchy};
-use member_link::{CallForm, Found, Reference, a_look_up_finds_one_method, find_method, parameter_kinds};
+use member_link::{
+    CallForm, Found, Reference, a_look_up_finds_one_method, find_method, parameter_kinds,
+};
 use std::alloc::Global;
 
 const INVOKE: &[u8] = b"invoke";
