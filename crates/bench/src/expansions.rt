@@ -34,12 +34,16 @@ fn read_folder(rt: &HostRuntime) -> Option<Input> {
     let mut input = Input::empty(alloc);
     let names = class_names(alloc, &mut host, "in")?;
     for at in 0..names.len() {
-        let bytes = host.read(alloc, "in", names.get(at)?.as_str(), u64::MAX).ok()?;
+        let bytes = host
+            .read(alloc, "in", names.get(at)?.as_str(), u64::MAX)
+            .ok()?;
         input.add_file(alloc, bytes.as_slice()).ok()?;
     }
     let names = class_names(alloc, &mut host, "lib")?;
     for at in 0..names.len() {
-        let bytes = host.read(alloc, "lib", names.get(at)?.as_str(), u64::MAX).ok()?;
+        let bytes = host
+            .read(alloc, "lib", names.get(at)?.as_str(), u64::MAX)
+            .ok()?;
         input.add_library_file(alloc, bytes.as_slice()).ok()?;
     }
     Some(input)

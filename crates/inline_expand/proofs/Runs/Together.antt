@@ -184,12 +184,14 @@ module _ (u : Setup) (basis : Basis u) where
       (now.0, record { waits = standing other rest caught.by.after caught.by.steps; quietly = caught.by.quietly; state = inl now.1 }) where
         caught : CaughtUp P Q (comparison u) more one.world other rest
         caught = second_catches_up class rest basis.same basis.alike basis.compares goes_also is no_turn quiet frames memories seen
-  after_both one other (both_over more seen over same) typed actions used =
-      (0, record {
-        waits = other;
-        quietly = at_once;
-        state = inr (record { names = more; seen = seen; over = over; same = same; actions = actions; used = used });
-      })
+  after_both one other (both_over more seen over same) typed actions used = (
+    0,
+    record {
+      waits = other;
+      quietly = at_once;
+      state = inr (record { names = more; seen = seen; over = over; same = same; actions = actions; used = used });
+    },
+  )
 
   -- a turn of both keeps runs related
   pub both_keep : {names : Names} {measure : ℕ} {one other : Run}
@@ -239,8 +241,11 @@ module _ (u : Setup) (basis : Basis u) where
     waits = waits;
     quietly = quietly;
     measure_then = later;
-    goes_on = inl (less, subst (λ (r : Run). Related u later r waits) (sym turned)
-        (record { waits = waits; quietly = at_once; state = inl then }));
+    goes_on = inl (
+      less,
+      subst (λ (r : Run). Related u later r waits) (sym turned)
+          (record { waits = waits; quietly = at_once; state = inl then }),
+    );
   }
 
   -- a turn of a beginning that stands on top of the first alone
