@@ -18,9 +18,8 @@ use Rattle.flow_code.specs.declared.handlers.FlatHandler.{FlatHandler}
 use Rattle.flow_code.specs.declared.point.Point.{Point as FlatPoint}
 use Rattle.inline_expand.specs.Alone.{alone_points, flat_alone, handler_of, handlers_at, number_in}
 use Rattle.inline_expand.specs.Alone as alone
-use Rattle.member_link.specs.Bodies.{item_instr}
 use Rattle.member_link.specs.Laws.Renumbered.{IsSamePoint, op_renumbered}
-use Rattle.member_link.specs.Machine.Codes.{CodePoint, catch_in, catches_at, code_points, covers, instr_op, item_op, method_code, number_at, code_point, renumbered, run_point}
+use Rattle.member_link.specs.Machine.Codes.{CodePoint, catch_in, catches_at, code_points, covers, instr_op, method_code, number_at, code_point, renumbered, run_point}
 use Rattle.member_link.specs.Machine.Programs.{Catch, Code, Links, Point, number_of_first}
 use Rattle.member_link.specs.Machine.Replaced.{map_numbered}
 use Rattle.member_link.specs.RowScope.{RowScope}

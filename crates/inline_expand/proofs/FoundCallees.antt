@@ -1,5 +1,5 @@
 -- The method that a call runs, with its code and frames, as it is found.
-use Rattle.std.proofs.Common.{◌≡◌, ◌≢◌, ◌⊎◌, ◌↔◌, ℕ, List, Option, Some, None, IsTrue, refl, sym, ap, subst, ◌∙◌, inl, inr, length, slice_get, ◌≤◌}
+use Rattle.std.proofs.Common.{◌≡◌, ◌↔◌, ℕ, List, Some, None, sym, subst, ◌∙◌, slice_get}
 use Rattle.std.proofs.lemmas.Option.{none-some, same_Some}
 use Rattle.class_model.specs.declared.class_file.MethodAt.{MethodAt}
 use Rattle.class_model.specs.declared.frame.Frame.{Frame}
@@ -8,7 +8,7 @@ use Rattle.inline_expand.proofs.ReadyCalls.{from_callee, one_list, one_scope, to
 use Rattle.inline_expand.specs.Callees.{Calls, IsCallee, ResultSaysAtMost, frame_behind, is_callee}
 use Rattle.inline_expand.specs.Inner.Calls.{DecidesCall}
 use Rattle.inline_expand.specs.Inner.Coded.{IsShortCoded, Stands}
-use Rattle.inline_expand.specs.Inner.Founded.{Founded, founded}
+use Rattle.inline_expand.specs.Inner.Founded.{founded}
 use Rattle.inline_expand.specs.Inner.Ready.{CallsAtMost, Fits, IsReady}
 use Rattle.inline_expand.specs.Inner.ReadyCallees.{FindsCallee, IsCalleeFound, IsReadyCallee, IsTheCallee}
 use Rattle.inline_expand.specs.Sites.{HasFrames}

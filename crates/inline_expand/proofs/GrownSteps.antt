@@ -1,9 +1,8 @@
 -- Steps of a method, one after the other, and the expansion that they are.
-use Rattle.std.proofs.Common.{◌≡◌, ◌≢◌, ◌⊎◌, ◌+◌, ◌<◌, ◌≤◌, ℕ, zero, suc, List, [], ◌∷◌, ◌++◌, length, drop, slice_get, Option, Some, None, option_map, refl, sym, ap, subst, ◌∙◌, inl, inr, arith}
+use Rattle.std.proofs.Common.{◌≡◌, ◌+◌, ◌<◌, ◌≤◌, ℕ, zero, suc, List, [], ◌∷◌, ◌++◌, length, drop, slice_get, Option, Some, None, option_map, refl, sym, ap, subst, ◌∙◌, arith}
 use Rattle.std.proofs.lemmas.Option.{none-some, same_Some}
 use Rattle.std.specs.List.{AllByRecursion}
 use Rattle.class_model.specs.declared.class_file.MethodAt.{MethodAt}
-use Rattle.class_model.specs.declared.descriptor.Kind.{Kind}
 use Rattle.class_model.specs.declared.frame.Frame.{Frame}
 use Rattle.class_model.specs.declared.instr.Instr.{Instr}
 use Rattle.class_model.specs.declared.instr.Instr.TheVariants.{Invoke, Return}
@@ -11,11 +10,11 @@ use Rattle.class_model.specs.declared.instr.Placed.{Placed}
 use Rattle.class_tree.specs.Headers.{Name, Classes}
 use Rattle.inline_expand.proofs.ReadyCalls.{from_callee, one_scope}
 use Rattle.inline_expand.proofs.SiteLaws.{new_of_placed}
-use Rattle.inline_expand.specs.Callees.{Calls, IsCall, IsCallee, instr_at}
-use Rattle.inline_expand.specs.Expanded.{own_points, points_before, points_of}
+use Rattle.inline_expand.specs.Callees.{Calls, instr_at}
+use Rattle.inline_expand.specs.Expanded.{own_points, points_of}
 use Rattle.inline_expand.specs.Expansions.{Coded, Expands, Expansion, expands_none, expands_replaced, expands_site, expands_stays, no_more, replaced, site, stays}
 use Rattle.inline_expand.specs.Inner.Coded.{Stands}
-use Rattle.inline_expand.specs.Inner.Growths.{AreStepsFound, HasGrown, IsBodyFound, IsBuilt, IsStep, IsStepFound, IsWhole, MayGrow, kept_in}
+use Rattle.inline_expand.specs.Inner.Growths.{AreStepsFound, HasGrown, IsBodyFound, IsStep, IsStepFound, IsWhole, MayGrow, kept_in}
 use Rattle.inline_expand.specs.Inner.Places.{chain_of, host_of}
 use Rattle.inline_expand.specs.Inner.Replacements.{IsReplacement}
 use Rattle.inline_expand.specs.Inner.SiteTables.{class_made}

@@ -1,37 +1,32 @@
 -- Which methods are hosts, and what is answered of them.
-use Rattle.std.proofs.Common.{◌≡◌, ◌⊎◌, ◌||◌, ◌<◌, ℕ, zero, suc, Bool, true, false, List, [], ◌∷◌, length, slice_get, Option, Some, None, Result, Ok, Err, IsTrue, inl, inr, refl, sym, ap, subst, ◌∙◌, arith}
-use Rattle.std.proofs.lemmas.Bool.{cases_Bool, false≢true}
+use Rattle.std.proofs.Common.{◌≡◌, ◌⊎◌, ◌||◌, ◌<◌, ℕ, zero, suc, Bool, true, false, List, [], ◌∷◌, length, slice_get, Option, Some, None, Result, Ok, Err, IsTrue, refl, sym, ap, subst, ◌∙◌, arith}
+use Rattle.std.proofs.lemmas.Bool.{false≢true}
 use Rattle.std.proofs.lemmas.Option.{none-some, same_Some}
-use Rattle.std.specs.List.{AllByRecursion, list_any}
+use Rattle.std.specs.List.{list_any}
 use Rattle.class_model.specs.Laws.Lists.{AllByRecursion-weaker}
 use Rattle.class_model.specs.declared.class_file.MethodAt.{MethodAt}
 use Rattle.class_model.specs.declared.frame.Frame.{Frame}
 use Rattle.class_model.specs.declared.instr.Instr.{Instr}
 use Rattle.class_model.specs.declared.instr.Instr.TheVariants.{FloatAsk}
 use Rattle.class_model.specs.declared.instr.Placed.{Placed}
-use Rattle.class_tree.specs.Headers.{Classes, headers_of}
+use Rattle.class_tree.specs.Headers.{Classes}
 use Rattle.flow_code.specs.FlatCode.{FlatCode}
-use Rattle.flow_code.specs.declared.point.Site.{Site}
 use Rattle.flow_code.specs.declared.reason.KeptFault.{KeptFault}
 use Rattle.flow_code.specs.declared.reason.KeptFault.TheVariants as faults
-use Rattle.flow_code.specs.declared.reason.Reason.{Reason}
 use Rattle.flow_code.specs.declared.reason.Reason.TheVariants as reasons
 use Rattle.inline_expand.proofs.ExpandedFlat.{expanded-is-flat}
 use Rattle.inline_expand.proofs.ExpandedPoints.{points-length, sites-are-candidates}
 use Rattle.inline_expand.proofs.OneExpansion.{coded_once, one_expansion}
-use Rattle.inline_expand.proofs.ReadyCalls.{one_scope}
 use Rattle.inline_expand.proofs.ScopeParts.{scope-parts}
 use Rattle.inline_expand.specs.Callees.{Calls}
-use Rattle.inline_expand.specs.Candidates.{IsCandidate}
 use Rattle.inline_expand.specs.ExpandAnswers.{AnswersExpanded, HasFloat, IsExpanded, IsNoHost, IsOpenHost, IsTooLong, has_no_code, is_initialiser}
 use Rattle.inline_expand.specs.Expanded.{expanded, host_setting, points_of}
 use Rattle.inline_expand.specs.Expansions.{Coded, Expands, Expansion}
-use Rattle.inline_expand.specs.Inner.Coded.{Stands}
 use Rattle.inline_expand.specs.Inner.Growths.{IsHostExpansion, IsWhole}
 use Rattle.inline_expand.specs.Inner.Measures.{host_expansion}
 use Rattle.inline_expand.specs.Inner.Steps.{IsBody, coded_of}
 use Rattle.inline_expand.specs.Inner.TypedMethods.{IsTypedMethod}
-use Rattle.inline_expand.specs.Inner.WholeCodes.{AnswersWhole, IsHostFound, IsWholeCode, asks_float, whole_of}
+use Rattle.inline_expand.specs.Inner.WholeCodes.{AnswersWhole, IsHostFound, IsWholeCode, asks_float}
 use Rattle.inline_expand.specs.Sites.{HasFrames}
 use Rattle.inline_expand.specs.declared.coded.CodedMethod.{CodedMethod}
 use Rattle.inline_expand.specs.declared.expansions.Body.{Body}

@@ -80,6 +80,7 @@ mod TypedAloneNews
 mod TypedAloneNumbers
 mod TypedAlonePoints
 mod TypedMethods
+mod Types
 mod Walking
 mod WholeParts
 mod WideParts

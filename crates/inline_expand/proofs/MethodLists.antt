@@ -1,5 +1,5 @@
 -- Methods among those of a list.
-use Rattle.std.proofs.Common.{◌≡◌, ◌≢◌, ◌⊎◌, ℕ, zero, suc, ◌+◌, ◌<◌, List, [], ◌∷◌, ◌++◌, length, take, Option, Some, None, slice_get, slice_index_or, get_or, refl, sym, ap, subst, ◌∙◌, inl, inr, arith, Bool, true, false, is_some}
+use Rattle.std.proofs.Common.{◌≡◌, ◌≢◌, ◌⊎◌, ℕ, zero, suc, ◌<◌, List, [], ◌∷◌, ◌++◌, length, Option, Some, None, get_or, refl, sym, subst, ◌∙◌, inl, inr, arith, Bool, true, is_some}
 use Rattle.class_model.specs.declared.class_file.MethodAt.{MethodAt}
 use Rattle.inline_expand.proofs.Walking.{same_method}
 use Rattle.inline_expand.specs.Inner.MethodSets.{Adds, AddsAll}

@@ -1,5 +1,5 @@
 -- The expansion of a method is one, and so is its expanded flat code.
-use Rattle.std.proofs.Common.{◌≡◌, ◌≢◌, ℕ, List, [], ◌∷◌, Some, refl, sym, ap, subst, ◌∙◌}
+use Rattle.std.proofs.Common.{◌≡◌, ℕ, List, [], ◌∷◌, Some, refl, sym, ap, subst, ◌∙◌}
 use Rattle.std.proofs.lemmas.Option.{same_Some}
 use Rattle.class_model.specs.declared.class_file.MethodAt.{MethodAt}
 use Rattle.class_model.specs.declared.frame.Frame.{Frame}
@@ -11,7 +11,7 @@ use Rattle.inline_expand.proofs.Runs.SiteInitialisers.{calls_of}
 use Rattle.inline_expand.specs.Callees.{Calls}
 use Rattle.inline_expand.specs.ExpandAnswers.{IsExpanded}
 use Rattle.inline_expand.specs.Expanded.{expanded}
-use Rattle.inline_expand.specs.Expansions.{Coded, Expands, Expansion, expands_none, expands_replaced, expands_site, expands_stays, no_more, replaced, site, stays}
+use Rattle.inline_expand.specs.Expansions.{Coded, Expands, Expansion, expands_none, expands_replaced, expands_site, expands_stays, replaced, site, stays}
 use Rattle.inline_expand.specs.Sites.{HasFrames, IsReplaced, IsSite}
 use Rattle.member_link.specs.Scope.{Scope, class_of_new, instructions}
 use Rattle.type_rules.specs.TypedFrames.{FolderFrames}

@@ -1,5 +1,5 @@
 -- The methods that a method calls on its own uninitialised object, one instruction after the other.
-use Rattle.std.proofs.Common.{◌≡◌, ◌≢◌, ◌⊎◌, ◌==◌, ◌+◌, ◌<◌, ℕ, zero, suc, Bool, true, false, List, [], ◌∷◌, ◌++◌, length, slice_get, Option, Some, None, option_map, if◌then◌else◌, refl, sym, ap, subst, ◌∙◌, inl, inr, arith}
+use Rattle.std.proofs.Common.{◌≡◌, ◌≢◌, ◌⊎◌, ◌==◌, ◌+◌, ◌<◌, ℕ, suc, Bool, true, false, List, [], ◌∷◌, ◌++◌, length, slice_get, Option, Some, None, option_map, if◌then◌else◌, refl, sym, ap, subst, ◌∙◌, inl, inr, arith}
 use Rattle.std.proofs.lemmas.Bool.{cases_eq, eqb-true}
 use Rattle.std.proofs.lemmas.Option.{none-some, same_Some}
 use Rattle.class_model.specs.declared.class_file.ClassFile.{ClassFile}
@@ -13,9 +13,9 @@ use Rattle.inline_expand.proofs.MethodLists.{among_front, among_last, among_more
 use Rattle.inline_expand.proofs.ReadyCalls.{one_list, one_scope}
 use Rattle.inline_expand.specs.Callees.{MayStandIn, instr_at}
 use Rattle.inline_expand.specs.Inner.Coded.{Stands}
-use Rattle.inline_expand.specs.Inner.Founded.{Founded, founded}
+use Rattle.inline_expand.specs.Inner.Founded.{founded}
 use Rattle.inline_expand.specs.Inner.Ready.{CallsAtMost, CallsOnThis, Fits, IsReady, Needs}
-use Rattle.inline_expand.specs.Inner.ReadyCallees.{AddsKnown, AddsOwn, CallsBefore, CallsEach, CallsThese, FindsCallee, IsTheCallee, KnownCall}
+use Rattle.inline_expand.specs.Inner.ReadyCallees.{AddsKnown, CallsBefore, CallsEach, CallsThese, FindsCallee, IsTheCallee, KnownCall}
 use Rattle.inline_expand.specs.Inner.Stacks.{IsAmong}
 use Rattle.inline_expand.specs.Inner.Walks.{HasNeeds, NeedsThese}
 use Rattle.inline_expand.specs.declared.coded.CodedMethod.{CodedMethod}

@@ -1,5 +1,5 @@
 -- How many parameters a descriptor's text has, one after the other.
-use Rattle.std.proofs.Common.{◌≡◌, ◌==◌, ℕ, zero, suc, ◌+◌, ◌-◌, ◌<◌, ◌≤◌, not, take_while, Bool, true, false, List, [], ◌∷◌, length, drop, take, Option, Some, None, refl, sym, ap, subst, ◌∙◌, arith, if◌then◌else◌, length-drop, zero-add}
+use Rattle.std.proofs.Common.{◌≡◌, ◌==◌, ℕ, zero, suc, ◌+◌, ◌<◌, ◌≤◌, not, take_while, Bool, true, false, List, [], ◌∷◌, length, drop, take, Some, None, refl, sym, ap, subst, arith, if◌then◌else◌, length-drop, zero-add}
 use Rattle.std.proofs.lemmas.List.Sums.{take_while-cons}
 use Rattle.class_model.specs.Characters.{right_parenthesis, class_letter, left_bracket, semicolon}
 use Rattle.class_model.specs.Descriptors.{brackets, element_len, parameters_of, type_len, type_of, types_before}

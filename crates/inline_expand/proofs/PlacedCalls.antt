@@ -1,9 +1,9 @@
 -- Calls of initialisers behind a chain.
-use Rattle.std.proofs.Common.{◌≡◌, ◌≢◌, ◌⊎◌, ◌↔◌, ◌-◌, ◌+◌, ◌<◌, ◌≤◌, ℕ, List, [], ◌∷◌, length, Option, Some, None, refl, sym, ap, subst, ◌∙◌, inl, inr, arith}
+use Rattle.std.proofs.Common.{◌≡◌, ◌+◌, ◌<◌, ◌≤◌, ℕ, List, [], ◌∷◌, length, None, refl, sym, subst, inl, arith}
 use Rattle.class_model.specs.declared.class_file.MethodAt.{MethodAt}
 use Rattle.class_tree.specs.Headers.{Classes}
 use Rattle.inline_expand.proofs.ReadyCalls.{from_callee}
-use Rattle.inline_expand.proofs.ShallowCalls.{constructs_shallow, none_among, none_of_each, shallow_constructs}
+use Rattle.inline_expand.proofs.ShallowCalls.{constructs_shallow, shallow_constructs}
 use Rattle.inline_expand.specs.Callees.{Calls, IsCallee}
 use Rattle.inline_expand.specs.Inner.Chains.{IsNoneOf, IsShallow}
 use Rattle.inline_expand.specs.Inner.Places.{chain_of, host_of}

@@ -1,24 +1,22 @@
 -- A callee is what a call runs and may stand in the host's code with all that it calls on its own uninitialised object.
-use Rattle.std.proofs.Common.{◌≡◌, ◌≢◌, ◌⊎◌, ℕ, List, Option, Some, None, slice_get, refl, sym, ap, subst, ◌∙◌, inl, inr}
-use Rattle.std.proofs.lemmas.Option.{none-some, same_Some}
-use Rattle.class_model.specs.declared.class_file.ClassFile.{ClassFile}
-use Rattle.class_model.specs.declared.class_file.Method.{Method}
+use Rattle.std.proofs.Common.{◌≡◌, ◌≢◌, ◌⊎◌, ℕ, List, Some, None, sym, ap, subst, ◌∙◌, inl, inr}
+use Rattle.std.proofs.lemmas.Option.{same_Some}
 use Rattle.class_model.specs.declared.class_file.MethodAt.{MethodAt}
 use Rattle.class_model.specs.declared.frame.Frame.{Frame}
 use Rattle.class_model.specs.declared.frame.VType.TheVariants.{Uninit, UninitThis}
-use Rattle.class_tree.specs.Headers.{Classes, Name, headers_of}
+use Rattle.class_tree.specs.Headers.{Classes, headers_of}
 use Rattle.class_tree.specs.Laws.Decided.{same_bytes}
 use Rattle.class_tree.specs.Names.{object}
 use Rattle.inline_expand.proofs.Initialisations.{Found, found_or_not, new_is_not_this, one_object, one_reference}
-use Rattle.inline_expand.specs.Callees.{Calls, InitialisesAt, IsCallee, MayStandIn, ResultSaysAtMost, frame_behind, is_callee}
-use Rattle.inline_expand.specs.Inner.Founded.{Founded, founded}
+use Rattle.inline_expand.specs.Callees.{Calls, InitialisesAt, IsCallee, ResultSaysAtMost, frame_behind, is_callee}
+use Rattle.inline_expand.specs.Inner.Founded.{founded}
 use Rattle.inline_expand.specs.Inner.Initialised.{IsInitialisation, type_of_object}
-use Rattle.inline_expand.specs.Inner.Ready.{CallsAtMost, CallsOnThis, Fits, IsReady, Needs}
+use Rattle.inline_expand.specs.Inner.Ready.{CallsAtMost, CallsOnThis, IsReady, Needs}
 use Rattle.inline_expand.specs.declared.initialised.Object.{Object}
 use Rattle.inline_expand.specs.declared.initialised.Object.TheVariants.{New, This}
 use Rattle.inline_expand.specs.Sites.{HasFrames}
 use Rattle.member_link.specs.References.{Reference}
-use Rattle.member_link.specs.Scope.{Scope, own_descriptor, scope_at, scope_of}
+use Rattle.member_link.specs.Scope.{Scope, own_descriptor}
 use Rattle.member_link.specs.Signatures.{result_of}
 use Rattle.type_rules.specs.TypedFrames.{FolderFrames}
 

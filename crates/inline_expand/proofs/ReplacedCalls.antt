@@ -1,5 +1,5 @@
 -- Callees in place of calls.
-use Rattle.std.proofs.Common.{◌≡◌, ◌≢◌, ℕ, List, Option, Some, None, Bool, true, false, is_some, IsTrue, Bor, refl, sym, ap, subst, ◌∙◌}
+use Rattle.std.proofs.Common.{◌≡◌, ℕ, List, Option, Some, None, true, is_some, IsTrue, Bor, refl, sym, subst}
 use Rattle.std.specs.Option.{option_copied}
 use Rattle.class_model.specs.declared.class_file.MethodAt.{MethodAt}
 use Rattle.class_model.specs.declared.frame.Frame.{Frame}
@@ -17,7 +17,6 @@ use Rattle.inline_expand.specs.Inner.Replacements.{InitialisesKept, IsReplacemen
 use Rattle.inline_expand.specs.Inner.SiteTables.{IsSiteFound}
 use Rattle.inline_expand.specs.Sites.{Constructs, HasFrames, IsReplaced, IsSite, MayFollow}
 use Rattle.inline_expand.specs.declared.coded.CodedMethod.{CodedMethod}
-use Rattle.inline_expand.specs.declared.initialised.Object.{Object}
 use Rattle.inline_expand.specs.declared.initialised.Object.TheVariants as made
 use Rattle.member_link.specs.References.{Reference}
 use Rattle.member_link.specs.Scope.{Scope, is_init}

@@ -1,15 +1,15 @@
 -- A program whose hosts run flat code with callees in place of their calls runs as the folder's does.
-mod Positions
-mod PositionLaws
-mod Standings
-mod StandingLaws
+pub mod Positions
+pub mod PositionLaws
+pub mod Standings
+pub mod StandingLaws
 pub mod Setup
 mod FlatOps
-mod NativeMethods
-mod FlatCodes
+pub mod NativeMethods
+pub mod FlatCodes
 mod FlatHandlers
 mod MovedOps
-mod CalleeLaws
+pub mod CalleeLaws
 mod FlatOpParts
 mod FlatOpLaws
 mod FlatPoints
@@ -35,22 +35,22 @@ mod StandingBegins
 mod StandingMoves
 mod ClassInitialisers
 mod StandingFrames
-mod LinkedInstrs
-mod CalledNames
+pub mod LinkedInstrs
+pub mod CalledNames
 pub mod FlatSites
 pub mod SiteInitialisers
-mod Bars
+pub mod Bars
 mod CodedMethods
 pub mod CallTargets
-mod FolderReceivers
+pub mod FolderReceivers
 mod CallChoices
 mod TypedCalls
 mod CallWork
 mod QuietInert
-mod CallFrames
-mod CallLaws
+pub mod CallFrames
+pub mod CallLaws
 mod ReplacedCallLaws
-mod ArgumentRoom
+pub mod ArgumentRoom
 mod EntryFits
 mod StandingParts
 pub mod Assembled

@@ -1,20 +1,15 @@
 -- The call of an initialiser is replaced with all that it needs exactly where all this is near enough and none of it is in the chain.
-use Rattle.std.proofs.Common.{◌≡◌, ◌≢◌, ◌⊎◌, ℕ, zero, suc, ◌+◌, ◌<◌, ◌≤◌, List, [], ◌∷◌, length, refl, sym, ap, subst, ◌∙◌, inl, inr, arith}
-use Rattle.std.specs.List.{AllByRecursion}
+use Rattle.std.proofs.Common.{◌≡◌, ◌≢◌, ◌⊎◌, ℕ, zero, suc, ◌+◌, ◌<◌, List, [], ◌∷◌, length, refl, sym, subst, ◌∙◌, inl, inr, arith}
 use Rattle.class_model.specs.declared.class_file.MethodAt.{MethodAt}
-use Rattle.class_model.specs.declared.frame.Frame.{Frame}
-use Rattle.class_model.specs.declared.frame.VType.TheVariants.{UninitThis}
 use Rattle.class_tree.specs.Headers.{Classes}
-use Rattle.class_tree.specs.Names.{object}
 use Rattle.inline_expand.proofs.Founding.{no_circle, then_needs}
 use Rattle.inline_expand.proofs.ReadyCalls.{from_callee, need_here, one_callee, to_callee}
-use Rattle.inline_expand.specs.Callees.{Calls, InitialisesAt, IsCallee}
-use Rattle.inline_expand.specs.Inner.Chains.{AreShallow, IsNoneOf, IsShallow}
-use Rattle.inline_expand.specs.Inner.Founded.{Founded, Leads, founded, leads_at_once}
-use Rattle.inline_expand.specs.Inner.Ready.{CallsAtMost, CallsOnThis, Fits, IsReady, Needs}
+use Rattle.inline_expand.specs.Callees.{Calls}
+use Rattle.inline_expand.specs.Inner.Chains.{IsNoneOf, IsShallow}
+use Rattle.inline_expand.specs.Inner.Founded.{Leads, founded, leads_at_once}
+use Rattle.inline_expand.specs.Inner.Ready.{CallsAtMost, CallsOnThis, IsReady, Needs}
 use Rattle.inline_expand.specs.Inner.Stacks.{IsAmong}
-use Rattle.inline_expand.specs.Sites.{Constructs, HasFrames, MayFollow, constructs}
-use Rattle.member_link.specs.References.{Reference}
+use Rattle.inline_expand.specs.Sites.{Constructs, MayFollow, constructs}
 use Rattle.member_link.specs.Scope.{Scope}
 use Rattle.type_rules.specs.TypedFrames.{FolderFrames}
 

@@ -1,11 +1,10 @@
 -- The table of a method's candidate sites.
-use Rattle.std.proofs.Common.{◌≡◌, ◌≢◌, ◌⊎◌, ◌==◌, ◌+◌, ◌<◌, ◌≤◌, ℕ, zero, suc, Bool, true, false, List, [], ◌∷◌, ◌++◌, length, slice_get, slice_set, Option, Some, None, option_and_then, option_map, is_some, Bor, if◌then◌else◌, refl, sym, ap, subst, ◌∙◌, inl, inr, arith}
+use Rattle.std.proofs.Common.{◌≡◌, ◌≢◌, ◌⊎◌, ◌==◌, ◌+◌, ◌<◌, ℕ, zero, suc, Bool, true, false, List, [], ◌∷◌, ◌++◌, length, slice_get, slice_set, Option, Some, None, option_and_then, is_some, Bor, if◌then◌else◌, refl, sym, ap, subst, ◌∙◌, inl, inr, arith}
 use Rattle.std.proofs.lemmas.Bool.{cases_eq, eqb-true}
 use Rattle.std.proofs.lemmas.Option.{none-some, same_Some}
 use Rattle.std.specs.Option.{option_copied}
 use Rattle.class_model.specs.declared.class_file.MethodAt.{MethodAt}
 use Rattle.class_model.specs.declared.frame.Frame.{Frame}
-use Rattle.class_model.specs.declared.frame.VType.{VType}
 use Rattle.class_model.specs.declared.frame.VType.TheVariants.{Uninit, UninitThis}
 use Rattle.class_model.specs.declared.instr.Placed.{Placed}
 use Rattle.class_tree.specs.Headers.{Name, Classes}
@@ -14,8 +13,7 @@ use Rattle.inline_expand.proofs.Initialisations.{new_is_not_this, one_object}
 use Rattle.inline_expand.proofs.OwnCallees.{PlacedThere, instr_there}
 use Rattle.inline_expand.proofs.ReadyCalls.{one_list, one_scope}
 use Rattle.inline_expand.specs.Alone.{number_at}
-use Rattle.inline_expand.specs.Callees.{InitialisesAt, instr_at}
-use Rattle.inline_expand.specs.Candidates.{IsCandidate}
+use Rattle.inline_expand.specs.Callees.{InitialisesAt}
 use Rattle.inline_expand.specs.Inner.Coded.{Stands}
 use Rattle.inline_expand.specs.Inner.SiteTables.{AreCandidates, AreSites, IsCandidateOf, IsKeptSoFar, IsNewInitialised, IsSiteFound, IsSoFar, SpoilsAt, StaysOrFalls, class_made, joined, new_of}
 use Rattle.inline_expand.specs.Inner.Initialised.{IsInitialisation, type_of_object}

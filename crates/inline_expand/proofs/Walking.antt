@@ -9,7 +9,7 @@ use Rattle.member_link.specs.Scope.{Scope, scope_at, scope_of}
 use Rattle.type_rules.specs.TypedFrames.{FolderFrames}
 use Rattle.class_model.specs.declared.class_file.MethodAt.{MethodAt}
 use Rattle.inline_expand.proofs.Founding.{led_is_founded, needed_is_founded, no_circle, then_needs}
-use Rattle.inline_expand.specs.Inner.Founded.{Founded, Leads, founded, leads_at_once}
+use Rattle.inline_expand.specs.Inner.Founded.{Leads, founded, leads_at_once}
 use Rattle.inline_expand.specs.Inner.Stacks.{IsAmong, IsLeft, method_of, nearest, stacked}
 use Rattle.inline_expand.specs.Inner.Verdicts.{Judges, verdict}
 use Rattle.inline_expand.proofs.Seeing.{fewer_unseen}

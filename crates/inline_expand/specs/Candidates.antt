@@ -1,5 +1,5 @@
 -- Classes whose objects may be kept in local variables. It is this project's profile.
-use Rattle.std.specs.Prelude.{◌≡◌, ◌≤◌, ℕ, Bool, List, bytes_eq, codes, length, slice_get, Some, IsTrue, IsFalse}
+use Rattle.std.specs.Prelude.{◌≡◌, ◌≤◌, ℕ, Bool, bytes_eq, codes, length, slice_get, Some, IsTrue, IsFalse}
 use Rattle.std.specs.List.{AllByRecursion, list_any}
 use Rattle.class_model.specs.Descriptors.{parameter_units}
 use Rattle.class_model.specs.Header.{header_of}

@@ -5,7 +5,6 @@
 use Rattle.std.specs.Prelude.{◌==◌, ◌+◌, ℕ, not, ◌||◌, List, [], ◌∷◌, ◌++◌, Bool, pos, drop, length, map, reverse, take, replicate, Option, Some, None, if◌then◌else◌}
 use Rattle.class_model.specs.Descriptors.{kind_of, parameters_of, units_of}
 use Rattle.class_model.specs.Members.{has, STATIC}
-use Rattle.class_model.specs.declared.class_file.MethodAt.{MethodAt}
 use Rattle.class_model.specs.declared.descriptor.FieldType.{FieldType}
 use Rattle.class_model.specs.declared.descriptor.FieldType.TheVariants.{Byte, Short, Char, Bool as Boolean}
 use Rattle.class_model.specs.declared.descriptor.Kind.{Kind}
@@ -18,7 +17,7 @@ use Rattle.class_model.specs.declared.instr.Instr.{Instr}
 use Rattle.class_model.specs.declared.instr.Instr.TheVariants.{Const, Goto, Iinc, Load, Pure, Return, Store}
 use Rattle.class_model.specs.declared.instr.Placed.{Placed}
 use Rattle.class_model.specs.declared.opcodes.TheConstants.{I2B, I2C, I2S, IAND}
-use Rattle.class_tree.specs.Headers.{Name, Headers}
+use Rattle.class_tree.specs.Headers.{Headers}
 use Rattle.flow_code.specs.FlatCode.{FlatCode}
 use Rattle.flow_code.specs.declared.handlers.FlatHandler.{FlatHandler}
 use Rattle.flow_code.specs.declared.point.FlatInstr.TheVariants.{Of, NullTest}

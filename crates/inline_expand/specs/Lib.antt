@@ -4,6 +4,7 @@ pub mod Quiet
 pub mod FieldConstructors
 pub mod Candidates
 pub mod Callees
+pub mod ReadTypes
 pub mod Sites
 pub mod Expansions
 pub mod Expanded

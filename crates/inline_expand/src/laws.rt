@@ -6,8 +6,10 @@ ghost use Rattle.class_tree.specs.Hierarchy.{IsHierarchy};
 ghost use Rattle.class_tree.specs.Trees.{IsTree};
 ghost use Rattle.flow_code.specs.FlatCode.{FlatCode};
 ghost use Rattle.inline_expand.specs.AloneAnswers.{AreAlone, IsFlatAlone};
-ghost use Rattle.inline_expand.specs.ExpandAnswers.{IsExpanded};
+ghost use Rattle.inline_expand.specs.ExpandAnswers.{IsExpanded, IsNoHost};
 ghost use Rattle.inline_expand.specs.ExpandedPrograms.{AreExpanded, HasTypings, ReplacesByFlats};
+ghost use Rattle.inline_expand.specs.ReadTypes.{NoThisOutside, TypesFlat};
+ghost use Rattle.member_link.specs.Linked.{IsLinked};
 ghost use Rattle.member_link.specs.Machine.Classes.{program_of};
 ghost use Rattle.member_link.specs.Machine.Links.{AreLinksOf};
 ghost use Rattle.member_link.specs.Machine.Programs.{Links};
@@ -83,6 +85,42 @@ pub fn expanded_flat_codes_run_equally()
     typed_runs::a_run_starts_typed();
     typed_runs::a_step_stays_typed();
     typed_runs::an_action_stays_typed();
+}
+
+/// The typed points of the expanded flat code of a host type it, as the typing of code asks, where the object of a candidate site is read as one
+/// of its class: its `new` makes such an object, and a call of java/lang/Object.<init> takes it away (`TypesFlat`). Access is not asked. The
+/// folder is verified: it is linked, frames type it, and its program is typed by them. No frame of a method that is no instance initialiser
+/// has an uninitialised this, as code that nothing reaches may state (`NoThisOutside`).
+pub fn an_expanded_flat_code_is_typed()
+    ensures { (classes : Classes) (typed : FolderFrames) (links : Links) (typings : Typings)
+        (at : MethodAt) (flat : FlatCode) (s : Scope)
+        → IsTree classes
+        → IsLinked classes
+        → TypesFolder classes typed
+        → AreLinksOf (headers_of classes) links
+        → IsTypedProgram (program_of classes links) typings
+        → HasTypings classes typed typings
+        → NoThisOutside classes typed
+        → IsExpanded classes typed at flat
+        → ¬ IsNoHost classes at
+        → scope_at classes at ≡ Some s
+        → TypesFlat classes s flat }
+{
+    class_model::parameters_are_spelled();
+    class_model::a_descriptor_of_a_text();
+    code_bytes::a_class_file_has_read_methods();
+    code_bytes::instructions_are_consecutive();
+    member_link::a_linked_folder_passes_by_place();
+    member_link::a_look_up_finds_one_method();
+    member_link::a_found_method_is_above();
+    member_link::a_selection_chooses_one();
+    member_link::a_choice_can_be_run();
+    type_rules::a_typed_folder_types_each_method();
+    type_rules::a_typed_method_types_each_instruction();
+    type_rules::a_method_stands_in_order();
+    type_rules::frames_type_a_body_by_its_places();
+    type_rules::a_typed_body_goes_to_stated_frames();
+    typed_runs::a_step_stays_typed();
 }
 
 /// A method of a hierarchy has at most one expanded flat code.

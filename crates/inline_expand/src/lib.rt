@@ -44,5 +44,5 @@ pub use candidates::{Candidates, candidate};
 pub use expanding::{Expander, expand};
 pub use laws::{
     a_flat_code_alone_is_typed, a_method_has_one_expanded_flat_code,
-    expanded_flat_codes_run_equally, flat_codes_alone_run_equally,
+    an_expanded_flat_code_is_typed, expanded_flat_codes_run_equally, flat_codes_alone_run_equally,
 };

@@ -1,6 +1,5 @@
 -- The parts of the proof together: a program whose hosts run expanded flat codes runs as the folder's does.
-use Rattle.std.proofs.Common.{◌≡◌, ◌≢◌, ◌+◌, ◌++◌, ℕ, zero, suc, Bool, true, false, List, [], ◌∷◌, bytes_eq, length, reverse, map, slice_get, Option, Some, None, IsTrue, refl, sym, ap, subst, ◌∙◌, arith, inl, inr}
-use Rattle.std.proofs.lemmas.Bool.{false≢true}
+use Rattle.std.proofs.Common.{◌≡◌, ◌≢◌, ℕ, suc, Bool, true, false, List, [], ◌∷◌, bytes_eq, length, slice_get, Option, Some, None, IsTrue, refl, sym, ap, subst, ◌∙◌, arith, inr}
 use Rattle.std.proofs.lemmas.Option.{same_Some}
 use Rattle.std.proofs.lemmas.List.{length-reverse}
 use Rattle.std.proofs.lemmas.Slice.Eq.{bytes_eq-Decides}
@@ -16,29 +15,25 @@ use Rattle.class_model.specs.declared.header.Member.{Member}
 use Rattle.class_model.specs.declared.instr.Instr.{Instr}
 use Rattle.class_model.specs.declared.instr.Instr.TheVariants.{Return}
 use Rattle.class_model.specs.declared.instr.Placed.{Placed}
-use Rattle.flow_code.specs.FlatCode.{FlatCode}
 use Rattle.inline_expand.proofs.AloneProgram.{EachTyped, OneEach}
 use Rattle.inline_expand.proofs.Runs.Bars.{BarLaws, bars_alike, own_bar, own_static_bar}
-use Rattle.inline_expand.proofs.Runs.CallFrames.{StepsTyped}
 use Rattle.inline_expand.proofs.Runs.CallLaws.{CallLaws}
 use Rattle.inline_expand.proofs.Runs.CallTargets.{AreRead, RunsCode, runs_code}
 use Rattle.inline_expand.proofs.Runs.CalleeLaws.{Callee, CodeLaws, replaced_callee}
 use Rattle.inline_expand.proofs.Runs.CalleeReturns.{ReturnsAlone}
-use Rattle.inline_expand.proofs.Runs.EntryLaws.{units_of_arguments}
 use Rattle.inline_expand.proofs.Runs.FlatCodes.{own_code}
 use Rattle.inline_expand.proofs.Runs.FlatFacts.{FlatFacts}
 use Rattle.inline_expand.proofs.Runs.FlatOpLaws.{Bars, at_place, host_catches_at}
 use Rattle.inline_expand.proofs.Runs.FlatOps.{AtPlace, own_result}
 use Rattle.inline_expand.proofs.Runs.FlatPoints.{catches_there, flat_code_at, host_code, host_expands, host_flat, host_frames}
-use Rattle.inline_expand.proofs.Runs.LibraryTurns.{LibraryParts}
 use Rattle.inline_expand.proofs.Runs.OpTurns.{does_of}
 use Rattle.inline_expand.proofs.Runs.OwnOps.{OwnBars, own_point_in_both}
 use Rattle.inline_expand.proofs.Runs.OwnTurns.{OwnParts}
-use Rattle.inline_expand.proofs.Runs.Positions.{IsReplacedAt, Standing, inner_standing, instrs_of, scope_of}
+use Rattle.inline_expand.proofs.Runs.Positions.{IsReplacedAt, Standing, instrs_of}
 use Rattle.inline_expand.proofs.Runs.ReplacedCallLaws.{replaced_call}
 use Rattle.inline_expand.proofs.Runs.ReplacedCalls.{IsPlainMethod}
 use Rattle.inline_expand.proofs.Runs.SameBoth.{begin_alike, same_programs}
-use Rattle.inline_expand.proofs.Runs.SameStanding.{InFlat, InOwn, comparison}
+use Rattle.inline_expand.proofs.Runs.SameStanding.{InFlat}
 use Rattle.inline_expand.proofs.Runs.Setup.{IsSetup, Setup, after, before}
 use Rattle.inline_expand.proofs.Runs.Simulation.{Parts, runs_equally}
 use Rattle.inline_expand.proofs.Runs.SiteInitialisers.{no_clinit_stands, this_in_init}
@@ -48,10 +43,9 @@ use Rattle.inline_expand.proofs.Runs.StandingLaws.{as_replaced, becomes_as, stan
 use Rattle.inline_expand.proofs.Runs.StandingMore.{compares}
 use Rattle.inline_expand.proofs.Runs.StandingParts.{arguments_room}
 use Rattle.inline_expand.proofs.Runs.Standings.{IsStanding, Stands, callee_stands, host_stands}
-use Rattle.inline_expand.proofs.Runs.Together.{Basis}
 use Rattle.inline_expand.specs.Callees.{LeavesResult}
-use Rattle.inline_expand.specs.ExpandAnswers.{IsExpanded, is_initialiser as initialiser_is_no_host}
-use Rattle.inline_expand.specs.Expanded.{arguments, expanded}
+use Rattle.inline_expand.specs.ExpandAnswers.{is_initialiser as initialiser_is_no_host}
+use Rattle.inline_expand.specs.Expanded.{expanded}
 use Rattle.inline_expand.specs.Expansions.{Coded, Expands, Expansion}
 use Rattle.inline_expand.specs.Sites.{HasFrames}
 use Rattle.machine_values.specs.Frames.{MethodState}
@@ -62,9 +56,9 @@ use Rattle.machine_values.specs.declared.frame.RunFrame.TheVariants.{Method}
 use Rattle.machine_values.specs.declared.value.Value.{Value}
 use Rattle.member_link.specs.Machine.Acting.{act}
 use Rattle.member_link.specs.Machine.Codes.{return_op}
-use Rattle.member_link.specs.Machine.Ops.{Op, meaningless}
+use Rattle.member_link.specs.Machine.Ops.{meaningless}
 use Rattle.member_link.specs.Machine.Performing.{SYNCHRONIZED, is_initialiser}
-use Rattle.member_link.specs.Machine.Programs.{Point, Program, RunMethod, point_at}
+use Rattle.member_link.specs.Machine.Programs.{Point, Program, point_at}
 use Rattle.member_link.specs.Machine.Stepping.{is_library_turn}
 use Rattle.member_link.specs.Machine.Worlds.{World, start}
 use Rattle.member_link.specs.RowScope.{RowScope}

@@ -36,12 +36,10 @@ use Rattle.member_link.specs.Choices.{IsRunnable}
 use Rattle.member_link.specs.DeclaredMembers.{Declared, IsMethod, declared, declared_by, own_method}
 use Rattle.member_link.specs.FoundAbove.{IsMethodAbove}
 use Rattle.member_link.specs.Machine.CallSteps.{is_polymorphic}
-use Rattle.member_link.specs.Machine.Completions.{calls}
 use Rattle.member_link.specs.Machine.Links.{reference_to}
 use Rattle.member_link.specs.Machine.Programs.{RunClass, folder_number, headers_in}
 use Rattle.member_link.specs.Methods.{FindsMethod, IsInLibrary, IsPolymorphic, initialiser, of_array, of_class, polymorphic}
 use Rattle.member_link.specs.References.{Reference}
-use Rattle.member_link.specs.Rows.MemberRows.{receiver}
 use Rattle.member_link.specs.Scope.{Scope, scope_at}
 use Rattle.member_link.specs.Selection.{Choice, Selects, abstract_choice, chosen_method, of_initialiser, of_special}
 use Rattle.member_link.specs.SpecialStart.{StartsSpecial, at_named, at_superclass}
@@ -175,10 +173,10 @@ module _ (u : Setup) (is : IsSetup u) where
   pub moved : (Q : Headers → Type 0) → Q (headers_of u.classes) → Q (headers_in (before u))
   moved Q q = subst Q (sym headers) q
 
-  flat_there : (name : Name) → IsThere (headers_in (before u)) name → ¬ IsArray name
+  pub flat_there : (name : Name) → IsThere (headers_in (before u)) name → ¬ IsArray name
   flat_there name there = there_is_no_array (headers_in (before u)) sound is.program.hierarchy.no_array name there
 
-  at_or_below : (low high : Name) → ¬ IsArray low → IsSubtype (headers_in (before u)) low high → IsAtOrBelow (headers_in (before u)) low high
+  pub at_or_below : (low high : Name) → ¬ IsArray low → IsSubtype (headers_in (before u)) low high → IsAtOrBelow (headers_in (before u)) low high
   at_or_below low high flat sub = (class_decides (headers_in (before u)) sound is.program.hierarchy.no_array low high flat).0 sub
 
   -- ---- methods that are found under every descriptor

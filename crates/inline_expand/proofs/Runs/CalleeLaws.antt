@@ -1,5 +1,5 @@
 -- What is known of the instructions of methods that stand in flat code, and of their operations in the folder's program.
-use Rattle.std.proofs.Common.{◌≡◌, ◌==◌, ◌<◌, ◌+◌, ℕ, zero, suc, true, false, List, [], ◌∷◌, map, slice_get, bytes_eq, Option, Some, None, option_map, IsSome, refl, sym, ap, subst, ◌∙◌, arith, inl, inr, if◌then◌else◌}
+use Rattle.std.proofs.Common.{◌≡◌, ◌==◌, ◌<◌, ℕ, zero, suc, true, false, List, [], ◌∷◌, slice_get, bytes_eq, Option, Some, None, option_map, IsSome, refl, sym, ap, subst, ◌∙◌, arith, inl, inr, if◌then◌else◌}
 use Rattle.std.specs.Prelude.{option_and_then}
 use Rattle.std.proofs.lemmas.Option.{none-some, same_Some}
 use Rattle.std.proofs.lemmas.Slice.Eq.{bytes_eq-Decides}
@@ -46,7 +46,7 @@ use Rattle.member_link.specs.References.{Reference}
 use Rattle.member_link.specs.Scope.{Scope, class_of_new, instructions, row_scope, scope_at}
 use Rattle.member_link.specs.Signatures.{reference_of}
 use Rattle.type_rules.specs.Laws.InstructionOrder.{Ascend, ascend}
-use Rattle.type_rules.specs.MethodBodies.{body_of, point_of}
+use Rattle.type_rules.specs.MethodBodies.{body_of}
 use Rattle.typed_runs.specs.TypedPoints.{HasMethod, IsLinkedOp, TypedPoint}
 use Rattle.std.specs.Prelude.{Result, Ok, Err, codes, ◌⊎◌}
 

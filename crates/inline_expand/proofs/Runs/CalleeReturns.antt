@@ -1,5 +1,5 @@
 -- A turn of both where the first returns from a callee that stands in flat code: the second narrows the result, and goes behind the call.
-use Rattle.std.proofs.Common.{◌≡◌, ◌≢◌, ◌⊎◌, ◌<◌, ◌≤◌, ◌+◌, ◌++◌, ℕ, suc, Bool, true, false, List, [], ◌∷◌, length, map, reverse, slice_get, Option, Some, None, IsTrue, if◌then◌else◌, refl, sym, ap, subst, ◌∙◌, arith, inl, inr}
+use Rattle.std.proofs.Common.{◌≡◌, ◌≢◌, ◌+◌, ◌++◌, ℕ, suc, Bool, true, false, List, [], ◌∷◌, length, map, reverse, slice_get, Option, Some, None, if◌then◌else◌, refl, sym, ap, subst, ◌∙◌, arith}
 use Rattle.std.proofs.lemmas.List.{append_assoc}
 use Rattle.std.proofs.lemmas.Option.{same_Some}
 use Rattle.class_model.specs.Descriptors.{kind_of}
@@ -13,9 +13,9 @@ use Rattle.inline_expand.proofs.Runs.EntryLaws.{NarrowingStands, narrows_nothing
 use Rattle.inline_expand.proofs.Runs.FlatOps.{OpAt, ReturnStands, catches_in, narrowing_ops, own_result}
 use Rattle.inline_expand.proofs.Runs.OpTurns.{AtMethod, has_meaning, keeps_both, step_goes_on, turned_by_op}
 use Rattle.inline_expand.proofs.Runs.PositionLaws.{next_start, width}
-use Rattle.inline_expand.proofs.Runs.Positions.{Becomes, IsReplacedAt, Standing, inner_standing, instrs_of, scope_of, start_of}
+use Rattle.inline_expand.proofs.Runs.Positions.{Becomes, IsReplacedAt, Standing, inner_standing, instrs_of, start_of}
 use Rattle.inline_expand.proofs.Runs.ReplacedCalls.{IsPlainMethod}
-use Rattle.inline_expand.proofs.Runs.SameStanding.{Holds, InFlat, InPlace, Inside, SameStanding, SameTop, comparison, flat_stands, in_callee, in_host, is_awaited, settled}
+use Rattle.inline_expand.proofs.Runs.SameStanding.{InFlat, InPlace, Inside, SameStanding, flat_stands, in_callee, in_host, is_awaited, settled}
 use Rattle.inline_expand.proofs.Runs.Setup.{Setup, after, before}
 use Rattle.inline_expand.proofs.Runs.Together.{Basis, Related}
 use Rattle.inline_expand.specs.Expanded.{callee_of, points_of_callee}
@@ -31,17 +31,15 @@ use Rattle.member_link.specs.Machine.Performing.{resumed, returned}
 use Rattle.member_link.specs.Machine.Programs.{Point, Program, point_at, run_method}
 use Rattle.member_link.specs.Machine.Runs.{Run, turn}
 use Rattle.member_link.specs.Machine.Stepping.{ends_stuck, op_step, return_step}
-use Rattle.member_link.specs.Machine.Worlds.{World, going, stuck}
+use Rattle.member_link.specs.Machine.Worlds.{World}
 use Rattle.same_runs.specs.Laws.BothBegin.{counted}
 use Rattle.same_runs.specs.Laws.FieldWork.{narrowed_same}
 use Rattle.same_runs.specs.Laws.Moves.{same_joined, same_kind}
 use Rattle.same_runs.specs.Laws.Names.{names_themselves}
 use Rattle.same_runs.specs.Laws.QuietBeginnings.{standing}
 use Rattle.same_runs.specs.Renamings.{Names, SameValue, SameValues, and_value, no_values}
-use Rattle.same_runs.specs.SameMoves.{ShiftedUnits}
-use Rattle.same_runs.specs.SameWorlds.{SameAfter, both_go}
-use Rattle.same_runs.specs.Simulations.{Keeps, Quietly}
-use Rattle.typed_runs.specs.TypedWorlds.{TypedWorld}
+use Rattle.same_runs.specs.SameWorlds.{both_go}
+use Rattle.same_runs.specs.Simulations.{Keeps}
 
 -- ---- what is returned
 

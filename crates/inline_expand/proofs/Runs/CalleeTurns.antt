@@ -1,24 +1,21 @@
 -- A turn of the first at a call that flat code replaces: its class begins in the first alone, its receiver is null in both, or its frame
 -- is put on top in the first alone.
-use Rattle.std.proofs.Common.{◌≡◌, ◌≢◌, ◌<◌, ◌≤◌, ◌+◌, ◌-◌, ◌++◌, nat_le, ℕ, zero, suc, Bool, true, false, List, [], ◌∷◌, drop, length, map, replicate, reverse, slice_get, take, Option, Some, None, IsTrue, IsFalse, if◌then◌else◌, refl, sym, ap, subst, ◌∙◌, arith, inl, inr}
+use Rattle.std.proofs.Common.{◌≡◌, ◌<◌, ◌≤◌, ◌+◌, ◌-◌, ◌++◌, ℕ, zero, suc, Bool, true, false, List, [], ◌∷◌, drop, length, map, replicate, reverse, slice_get, take, Option, Some, None, IsTrue, IsFalse, if◌then◌else◌, refl, sym, ap, subst, ◌∙◌, arith}
 use Rattle.std.proofs.lemmas.Bool.{leb-true}
 use Rattle.std.proofs.lemmas.Option.{slice_get_within}
-use Rattle.std.proofs.lemmas.List.{append-nil, append_assoc, length-reverse, reverse-reverse, take-append-drop}
-use Rattle.class_model.specs.Descriptors.{kind_of, parameters_of, units_of}
-use Rattle.class_model.specs.Members.{has, STATIC}
+use Rattle.std.proofs.lemmas.List.{append-nil, append_assoc, reverse-reverse, take-append-drop}
 use Rattle.class_model.specs.declared.class_file.MethodAt.{MethodAt}
-use Rattle.class_model.specs.declared.descriptor.FieldType.{FieldType}
 use Rattle.class_model.specs.declared.descriptor.Kind.TheVariants as kinds
 use Rattle.class_model.specs.declared.frame.Frame.{Frame}
 use Rattle.class_model.specs.declared.instr.Placed.{Placed}
 use Rattle.flow_code.specs.FlatCode.{FlatCode}
 use Rattle.inline_expand.proofs.Runs.Entries.{GoesTo, Stores}
-use Rattle.inline_expand.proofs.Runs.EntryLaws.{arguments_units, fit_units, stores_quietly, turns_quietly, units_of_arguments}
+use Rattle.inline_expand.proofs.Runs.EntryLaws.{fit_units, stores_quietly, turns_quietly, units_of_arguments}
 use Rattle.inline_expand.proofs.Runs.FlatOps.{EntryStands, OpAt, catches_in}
 use Rattle.inline_expand.proofs.Runs.OpTurns.{AtMethod, keeps_both, turned_by_op}
-use Rattle.inline_expand.proofs.Runs.Positions.{IsReplacedAt, Standing, block_of, inner_standing, instrs_of, scope_of, start_of}
+use Rattle.inline_expand.proofs.Runs.Positions.{IsReplacedAt, Standing, block_of, inner_standing, scope_of, start_of}
 use Rattle.inline_expand.proofs.Runs.ReplacedCalls.{ComesTo, FitArguments, ReplacedCall, comes_to_begin, comes_to_call, comes_to_null}
-use Rattle.inline_expand.proofs.Runs.SameStanding.{InFlat, InPlace, Inside, SameStanding, SameTop, WaitsInFlat, comparison, flat_stands, in_callee, is_awaited}
+use Rattle.inline_expand.proofs.Runs.SameStanding.{InFlat, InPlace, Inside, SameStanding, WaitsInFlat, flat_stands, in_callee, is_awaited}
 use Rattle.inline_expand.proofs.Runs.Setup.{Setup, after, before}
 use Rattle.inline_expand.proofs.Runs.Standings.{Stands}
 use Rattle.inline_expand.proofs.Runs.FlatFacts.{FlatFacts}
@@ -28,13 +25,13 @@ use Rattle.inline_expand.proofs.Runs.StandingCodes.{AtPoints}
 use Rattle.inline_expand.proofs.Runs.StandingMore.{in_place_more, inside_more, standing_more}
 use Rattle.inline_expand.proofs.Runs.StandingMoves.{block_up, inside_with, kept_before, own_before}
 use Rattle.inline_expand.proofs.Runs.StandingUnwinds.{ThrowsInFlat, at_below, flat_unwinds, stands_unwind}
-use Rattle.inline_expand.proofs.Runs.Together.{Basis, Related, Together, alone_keeps, both_keep, turn_typed, weight}
-use Rattle.inline_expand.specs.Expanded.{Argument, arguments, arguments_from, expanded, points_before, tests_receiver, units_in}
+use Rattle.inline_expand.proofs.Runs.Together.{Basis, Related, alone_keeps, turn_typed, weight}
+use Rattle.inline_expand.specs.Expanded.{Argument, arguments, tests_receiver}
 use Rattle.inline_expand.specs.Expansions.{Coded, Expansion}
 use Rattle.machine_values.specs.Frames.{MethodState}
 use Rattle.machine_values.specs.Values.{has_kind, units_of_values}
 use Rattle.machine_values.specs.declared.frame.RunFrame.{RunFrame}
-use Rattle.machine_values.specs.declared.frame.RunFrame.TheVariants.{Beginning, Method}
+use Rattle.machine_values.specs.declared.frame.RunFrame.TheVariants.{Method}
 use Rattle.machine_values.specs.declared.value.Value.{Value}
 use Rattle.machine_values.specs.declared.value.Value.TheVariants.{Int, Long, Float, Double, Null, Ref}
 use Rattle.member_link.specs.Machine.Beginnings.{begun_memory, begun_on, frame_with}
@@ -43,16 +40,15 @@ use Rattle.member_link.specs.Machine.Codes.{method_code}
 use Rattle.member_link.specs.Machine.Locals.{local_value, width_of}
 use Rattle.member_link.specs.Machine.Ops.{Op, store_local, test_local}
 use Rattle.member_link.specs.Machine.Performing.{called, perform, raised}
-use Rattle.member_link.specs.Machine.Programs.{Point, Program, RunClass, code_at, point_at, run_method}
+use Rattle.member_link.specs.Machine.Programs.{Point, Program, RunClass, code_at, point_at}
 use Rattle.member_link.specs.Machine.Runs.{Run, turn}
 use Rattle.member_link.specs.Machine.Stepping.{is_library_turn, next_with, op_step, test_step, with_top}
 use Rattle.member_link.specs.Machine.Throwables.{null_pointer}
 use Rattle.member_link.specs.Machine.Work.{arity, work}
-use Rattle.member_link.specs.Machine.Worlds.{Memory, World, going, is_begun}
-use Rattle.member_link.specs.Scope.{Scope, own_descriptor}
+use Rattle.member_link.specs.Machine.Worlds.{World, is_begun}
 use Rattle.same_runs.specs.Laws.AloneTurn.{begins_fewer, operation_begins_alone}
 use Rattle.same_runs.specs.Laws.BothBegin.{counted}
-use Rattle.same_runs.specs.Laws.CaughtUp.{BothTurn, less, operands_of, turned_by_work}
+use Rattle.same_runs.specs.Laws.CaughtUp.{less, operands_of, turned_by_work}
 use Rattle.same_runs.specs.Laws.Moves.{same_kind, same_reversed}
 use Rattle.same_runs.specs.Laws.Operations.{step_works, taken_same}
 use Rattle.same_runs.specs.Laws.Performed.{raised_same}
@@ -60,11 +56,9 @@ use Rattle.same_runs.specs.Laws.QuietBeginnings.{quietly_then, standing}
 use Rattle.same_runs.specs.Laws.ShiftedUnits.{local_has, shifted_local}
 use Rattle.same_runs.specs.Laws.Stored.{Has}
 use Rattle.same_runs.specs.Renamings.{Names, NamesMore, SameValue, SameValues, and_value, no_values, same_null, same_reference}
-use Rattle.same_runs.specs.SameFrames.{Unwinds, catches_at}
 use Rattle.same_runs.specs.SameMemories.{IsInert, SameMemories}
-use Rattle.same_runs.specs.SameMoves.{KeepsOutside, ShiftedUnits}
-use Rattle.same_runs.specs.SameWorlds.{SameAfter, SameSeen}
-use Rattle.same_runs.specs.Simulations.{Keeps, Quietly, at_once}
+use Rattle.same_runs.specs.SameMoves.{ShiftedUnits}
+use Rattle.same_runs.specs.Simulations.{Keeps, at_once}
 use Rattle.typed_runs.specs.TypedWorlds.{TypedWorld}
 
 -- ---- arguments

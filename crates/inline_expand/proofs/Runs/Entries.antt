@@ -1,7 +1,5 @@
 -- Quiet turns of flat code around a callee: the arguments are stored, and the result is narrowed.
-use Rattle.std.specs.Prelude.{◌≡◌, ◌+◌, ◌-◌, ℕ, List, ◌∷◌, ◌++◌, length, replicate, Option, None}
-use Rattle.class_model.specs.declared.descriptor.FieldType.{FieldType}
-use Rattle.inline_expand.specs.Expanded.{Argument}
+use Rattle.std.specs.Prelude.{◌+◌, ◌-◌, ℕ, List, ◌∷◌, ◌++◌, length, replicate, Option, None}
 use Rattle.machine_values.specs.Frames.{MethodState}
 use Rattle.machine_values.specs.Values.{units_of_values}
 use Rattle.machine_values.specs.declared.frame.RunFrame.{RunFrame}

@@ -1,5 +1,5 @@
 -- A turn of both where the first stands in a method that has a place in flat code, at an instruction that stays.
-use Rattle.std.proofs.Common.{◌≡◌, ◌≢◌, ◌≤◌, ◌+◌, ◌++◌, ℕ, true, List, Option, None, [], ◌∷◌, length, map, Some, refl, sym, ap, subst, ◌∙◌}
+use Rattle.std.proofs.Common.{◌≡◌, ◌++◌, ℕ, List, Option, [], ◌∷◌, length, map, Some, refl, sym, ap, subst, ◌∙◌}
 use Rattle.std.proofs.lemmas.Bool.{leb-true}
 use Rattle.std.proofs.lemmas.List.{append-nil}
 use Rattle.class_model.specs.declared.class_file.MethodAt.{MethodAt}
@@ -7,7 +7,7 @@ use Rattle.class_model.specs.declared.descriptor.FieldType.{FieldType}
 use Rattle.class_model.specs.declared.instr.Placed.{Placed}
 use Rattle.inline_expand.proofs.Runs.FlatOps.{EndsHost, OpStands, catches_in}
 use Rattle.inline_expand.proofs.Runs.OpTurns.{AtMethod, Family, both_step, both_work_on, family_of, has_meaning, has_operands, keeps_both, means_nothing, moves, returns_nothing, returns_value, step_goes_on, works}
-use Rattle.inline_expand.proofs.Runs.Positions.{Standing, scope_of, start_of}
+use Rattle.inline_expand.proofs.Runs.Positions.{Standing, start_of}
 use Rattle.inline_expand.proofs.Runs.SameStanding.{InFlat, Inside, SameStanding, WaitsInFlat, comparison, in_callee, in_host, is_awaited}
 use Rattle.inline_expand.proofs.Runs.Setup.{Setup, after, before}
 use Rattle.inline_expand.proofs.Runs.FlatFacts.{FlatFacts}
@@ -32,9 +32,9 @@ use Rattle.same_runs.specs.Laws.Moved.{moved_is, moved_same}
 use Rattle.same_runs.specs.Laws.Operations.{WorksOnOperands, same_arity}
 use Rattle.same_runs.specs.Laws.Returned.{return_step_same, returned_same}
 use Rattle.same_runs.specs.Renamings.{Names, no_values, SameValues}
-use Rattle.same_runs.specs.SameMoves.{IsMove, Moves, moved}
+use Rattle.same_runs.specs.SameMoves.{IsMove, moved}
 use Rattle.same_runs.specs.SamePrograms.{SameOp, same_op, same_store, same_initialiser}
-use Rattle.same_runs.specs.SameWorlds.{Goes, Returns, SameAfter, SameSeen}
+use Rattle.same_runs.specs.SameWorlds.{Goes, SameAfter, SameSeen}
 use Rattle.same_runs.specs.Simulations.{Keeps}
 
 -- ---- operations that are moved

@@ -1,6 +1,5 @@
 -- A turn of both where the library's frame, or the beginning of a class, is on top of both.
-use Rattle.std.proofs.Common.{◌≡◌, ◌≢◌, ◌+◌, ℕ, Bool, true, false, List, [], ◌∷◌, Option, refl, sym, ap, subst, ◌∙◌, inl, inr}
-use Rattle.inline_expand.proofs.Runs.OpTurns.{AtMethod}
+use Rattle.std.proofs.Common.{◌≡◌, ◌+◌, ℕ, Bool, true, false, List, [], ◌∷◌, Option, refl, sym, ap, subst, ◌∙◌, inl, inr}
 use Rattle.inline_expand.proofs.Runs.SameStanding.{SameStanding, comparison}
 use Rattle.inline_expand.proofs.Runs.Setup.{Setup, after, before}
 use Rattle.inline_expand.proofs.Runs.FlatFacts.{FlatFacts}
@@ -15,12 +14,12 @@ use Rattle.member_link.specs.Machine.Acting.{act, is_fault}
 use Rattle.member_link.specs.Machine.Programs.{Program}
 use Rattle.member_link.specs.Machine.Runs.{Run, at_library_turn, behind_action, turn, turn_by}
 use Rattle.member_link.specs.Machine.Stepping.{is_library_turn}
-use Rattle.member_link.specs.Machine.Worlds.{Halt, World, going}
+use Rattle.member_link.specs.Machine.Worlds.{World, going}
 use Rattle.same_runs.specs.Laws.Acted.{act_same}
-use Rattle.same_runs.specs.Laws.BothBegin.{BeginsOn, beginning_kept}
+use Rattle.same_runs.specs.Laws.BothBegin.{beginning_kept}
 use Rattle.same_runs.specs.Renamings.{Names, SameHeld}
 use Rattle.same_runs.specs.SameMemories.{SameMemories}
-use Rattle.same_runs.specs.SameWorlds.{AtLibrary, SameAfter, both_go, both_landed, both_over, second_begins, SameSeen}
+use Rattle.same_runs.specs.SameWorlds.{SameAfter, both_go, both_landed, both_over, second_begins}
 use Rattle.same_runs.specs.Simulations.{Keeps, at_once}
 use Rattle.typed_runs.specs.TypedWorlds.{StaysTyped, TypedWorld}
 

@@ -1,12 +1,12 @@
 -- A turn of both runs at an operation, where each has a frame of a method on top.
-use Rattle.std.proofs.Common.{◌≡◌, ◌≢◌, ◌⊎◌, ◌+◌, nat_le, ℕ, zero, suc, Bool, true, false, List, [], ◌∷◌, ◌++◌, length, drop, Option, Some, None, IsTrue, IsFalse, refl, sym, ap, subst, ◌∙◌, arith, inl, inr}
+use Rattle.std.proofs.Common.{◌≡◌, ◌≢◌, nat_le, ℕ, Bool, true, false, List, [], ◌∷◌, ◌++◌, length, Option, Some, refl, ap, subst, ◌∙◌}
 use Rattle.class_model.specs.declared.descriptor.FieldType.{FieldType}
 use Rattle.inline_expand.proofs.Runs.SameStanding.{comparison}
 use Rattle.inline_expand.proofs.Runs.Setup.{Setup, after, before}
 use Rattle.inline_expand.proofs.Runs.Together.{Basis, Related, both_keep, turn_typed}
 use Rattle.machine_values.specs.Frames.{MethodState}
 use Rattle.machine_values.specs.declared.frame.RunFrame.{RunFrame}
-use Rattle.machine_values.specs.declared.frame.RunFrame.TheVariants.{Library, Method}
+use Rattle.machine_values.specs.declared.frame.RunFrame.TheVariants.{Method}
 use Rattle.machine_values.specs.declared.value.Value.{Value}
 use Rattle.member_link.specs.Machine.Ops.{Op, no_operation, meaningless, push_value, push_constant, load_local, store_local, increment_local, test_local, shuffle_stack, pure_arithmetic, division, float_arithmetic, jump_by_int, jump_by_ints, jump_by_references, jump_by_null, jump_to, table_switch, lookup_switch, return_nothing, return_value, throw_reference, get_static, put_static, get_field, put_field, call_static, call_virtual, call_interface, call_special, call_dynamic, new_object, new_array, new_arrays, load_element, store_element, array_length, check_cast, instance_of, enter_monitor, leave_monitor}
 use Rattle.member_link.specs.Machine.Programs.{Point, Program, point_at}
@@ -23,7 +23,7 @@ use Rattle.same_runs.specs.SameMoves.{IsMove, is_no_operation, is_load, is_store
 use Rattle.same_runs.specs.SamePrograms.{SameOp}
 use Rattle.same_runs.specs.SameWorlds.{Goes, SameAfter, SameSeen}
 use Rattle.same_runs.specs.Simulations.{Keeps, at_once}
-use Rattle.typed_runs.specs.TypedFrames.{Does, FramesConform, lowest, nothing_awaited, upon}
+use Rattle.typed_runs.specs.TypedFrames.{Does, FramesConform, nothing_awaited, upon}
 use Rattle.typed_runs.specs.TypedWorlds.{TypedWorld}
 
 -- ---- families of operations

@@ -1,7 +1,7 @@
 -- A turn of both where a method without flat code is on top: it runs its own code in both.
-use Rattle.std.proofs.Common.{◌≡◌, ◌++◌, ℕ, true, List, [], ◌∷◌, Some, IsSome, refl, sym, ap, subst, ◌∙◌}
+use Rattle.std.proofs.Common.{◌≡◌, ℕ, List, [], ◌∷◌, Some, sym, subst}
 use Rattle.std.proofs.lemmas.List.{append-nil}
-use Rattle.inline_expand.proofs.Runs.OpTurns.{AtMethod, Family, both_step, both_work_on, family_of, has_meaning, keeps_both, means_nothing, moves, returns_nothing, returns_value, step_goes_on, works}
+use Rattle.inline_expand.proofs.Runs.OpTurns.{AtMethod, Family, both_step, both_work_on, family_of, has_meaning, keeps_both, means_nothing, moves, returns_nothing, returns_value, works}
 use Rattle.inline_expand.proofs.Runs.SameStanding.{InOwn, SameStanding, comparison, is_awaited}
 use Rattle.inline_expand.proofs.Runs.Setup.{Setup, after, before}
 use Rattle.inline_expand.proofs.Runs.FlatFacts.{FlatFacts}
@@ -13,20 +13,17 @@ use Rattle.inline_expand.proofs.Runs.Together.{Basis, Related}
 use Rattle.machine_values.specs.Frames.{MethodState}
 use Rattle.machine_values.specs.declared.frame.RunFrame.{RunFrame}
 use Rattle.machine_values.specs.declared.frame.RunFrame.TheVariants.{Method}
-use Rattle.machine_values.specs.declared.value.Value.{Value}
 use Rattle.member_link.specs.Machine.Ops.{Op}
 use Rattle.member_link.specs.Machine.Programs.{Point, Program, point_at}
 use Rattle.member_link.specs.Machine.Runs.{Run}
 use Rattle.member_link.specs.Machine.Stepping.{op_step}
 use Rattle.same_runs.specs.Laws.BothBegin.{counted}
-use Rattle.same_runs.specs.Laws.CaughtUp.{less}
 use Rattle.same_runs.specs.Laws.MovedAlike.{moved_alike}
 use Rattle.same_runs.specs.Laws.Operations.{WorksOnOperands}
 use Rattle.same_runs.specs.Laws.Returned.{return_step_same, returned_same}
-use Rattle.same_runs.specs.Renamings.{Names, SameValues, no_values}
-use Rattle.same_runs.specs.SameMoves.{MovesAlike}
+use Rattle.same_runs.specs.Renamings.{Names, no_values}
 use Rattle.same_runs.specs.SamePrograms.{SameOp}
-use Rattle.same_runs.specs.SameWorlds.{Goes, Returns, SameAfter, SameSeen}
+use Rattle.same_runs.specs.SameWorlds.{Returns, SameAfter, SameSeen}
 use Rattle.same_runs.specs.Simulations.{Keeps}
 
 -- what other parts of the proof give

@@ -26,7 +26,7 @@ use Rattle.class_tree.specs.Names.{object}
 use Rattle.inline_expand.proofs.Runs.CallChoices.{special_chosen, special_start_is, virtual_chosen}
 use Rattle.inline_expand.proofs.Runs.CallFrames.{GoesOn, does, goes_on, row_of_instr}
 use Rattle.inline_expand.proofs.Runs.CallLaws.{CallLaws, callee_parts, headers, init_chosen, init_class, kinds_fit, links_to, moved, no_handle, plain_call, same_desc, start_below, text_is, text_named}
-use Rattle.inline_expand.proofs.Runs.CallTargets.{AreRead, HasClass, IsScopeOf, IsTarget, RunsCode, class_of_scope, is_target, numbered, op_of_instr, placed_is, runs_code, scope_has, scope_is}
+use Rattle.inline_expand.proofs.Runs.CallTargets.{AreRead, HasClass, IsScopeOf, IsTarget, RunsCode, class_of_scope, is_target, op_of_instr, placed_is, runs_code, scope_has, scope_is}
 use Rattle.inline_expand.proofs.Runs.CallWork.{RunsOn, found_init, found_named, init_runs, special_outcome, special_runs, static_comes, tested_comes, virtual_outcome, virtual_runs}
 use Rattle.inline_expand.proofs.Runs.FolderReceivers.{IsFolderClass, IsObjectUnder, receiver_under, subtype_under}
 use Rattle.inline_expand.proofs.Runs.QuietInert.{quiet_is_inert}

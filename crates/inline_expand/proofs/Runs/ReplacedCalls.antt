@@ -1,10 +1,10 @@
 -- What a call comes to that flat code replaces by the callee's own code.
-use Rattle.std.specs.Prelude.{◌≡◌, nat_le, ℕ, true, false, List, [], ◌∷◌, length, reverse, slice_get, take, Some, None, IsTrue, IsFalse}
+use Rattle.std.specs.Prelude.{◌≡◌, nat_le, ℕ, true, false, List, [], ◌∷◌, length, slice_get, Some, IsTrue, IsFalse}
 use Rattle.inline_expand.proofs.Runs.Setup.{Setup, before}
 use Rattle.inline_expand.specs.Expanded.{Argument, arguments, tests_receiver}
 use Rattle.inline_expand.specs.Expansions.{Coded}
 use Rattle.machine_values.specs.Frames.{MethodState}
-use Rattle.machine_values.specs.Values.{has_kind, units_of_values}
+use Rattle.machine_values.specs.Values.{has_kind}
 use Rattle.machine_values.specs.declared.value.Value.{Value}
 use Rattle.machine_values.specs.declared.value.Value.TheVariants.{Null, Ref}
 use Rattle.member_link.specs.Machine.Codes.{method_code}

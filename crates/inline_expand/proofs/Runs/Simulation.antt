@@ -1,6 +1,5 @@
 -- Each turn of the folder's program keeps runs related: so the program whose hosts run flat code runs equally.
-use Rattle.std.proofs.Common.{◌≡◌, ◌≢◌, ◌⊎◌, ◌<◌, ◌≤◌, ◌+◌, ◌++◌, ℕ, zero, suc, Bool, true, false, List, [], ◌∷◌, length, map, slice_get, Option, Some, None, IsTrue, refl, sym, ap, subst, ◌∙◌, arith, inl, inr}
-use Rattle.std.specs.List.{AllByRecursion}
+use Rattle.std.proofs.Common.{◌≡◌, ◌⊎◌, ◌≤◌, ◌++◌, ℕ, Bool, false, List, [], ◌∷◌, length, map, slice_get, Option, Some, None, refl, sym, ap, subst, ◌∙◌, arith, inl, inr}
 use Rattle.std.proofs.lemmas.Bool.{false≢true}
 use Rattle.std.proofs.lemmas.Option.{none-some}
 use Rattle.class_model.specs.declared.class_file.MethodAt.{MethodAt}
@@ -17,9 +16,9 @@ use Rattle.inline_expand.proofs.Runs.FlatTurns.{flat_turn}
 use Rattle.inline_expand.proofs.Runs.LibraryTurns.{LibraryParts, beginning_turn, library_turn}
 use Rattle.inline_expand.proofs.Runs.OpTurns.{AtMethod, does_of}
 use Rattle.inline_expand.proofs.Runs.OwnTurns.{OwnParts, own_turn}
-use Rattle.inline_expand.proofs.Runs.Positions.{IsReplacedAt, Standing, block_of, inner_standing, instrs_of, scope_of}
+use Rattle.inline_expand.proofs.Runs.Positions.{IsReplacedAt, block_of, inner_standing, instrs_of}
 use Rattle.inline_expand.proofs.Runs.ReplacedCalls.{IsPlainMethod, ReplacedCall}
-use Rattle.inline_expand.proofs.Runs.SameStanding.{Holds, InFlat, InOwn, SameStanding, comparison, beginnings_stand, flat_stands, is_awaited, libraries_stand, none_stand, own_stand}
+use Rattle.inline_expand.proofs.Runs.SameStanding.{Holds, InFlat, SameStanding, comparison, beginnings_stand, flat_stands, is_awaited, libraries_stand, none_stand, own_stand}
 use Rattle.inline_expand.proofs.Runs.Setup.{Setup, after, before}
 use Rattle.inline_expand.proofs.Runs.StandingCodes.{standing_of}
 use Rattle.inline_expand.proofs.Runs.Standings.{Stands}
@@ -29,22 +28,19 @@ use Rattle.inline_expand.specs.Expansions.{Coded, Expansion}
 use Rattle.inline_expand.specs.Sites.{HasFrames, IsReplaced}
 use Rattle.machine_values.specs.Frames.{MethodState}
 use Rattle.machine_values.specs.declared.action.Action.{Action}
-use Rattle.machine_values.specs.declared.event.End.{End}
-use Rattle.machine_values.specs.declared.event.Shown.{Shown}
 use Rattle.machine_values.specs.declared.frame.RunFrame.{RunFrame}
-use Rattle.machine_values.specs.declared.frame.RunFrame.TheVariants.{Beginning, Library, Method}
-use Rattle.machine_values.specs.declared.value.Value.{Value}
+use Rattle.machine_values.specs.declared.frame.RunFrame.TheVariants.{Beginning, Method}
 use Rattle.member_link.specs.Machine.Codes.{return_op}
 use Rattle.member_link.specs.Machine.Programs.{Point, Program, point_at}
-use Rattle.member_link.specs.Machine.Runs.{Run, begins_with, shown, turn}
+use Rattle.member_link.specs.Machine.Runs.{Run, begins_with, shown}
 use Rattle.member_link.specs.Machine.Stepping.{is_library_turn}
-use Rattle.member_link.specs.Machine.Worlds.{World, going, start}
+use Rattle.member_link.specs.Machine.Worlds.{World, start}
 use Rattle.same_runs.specs.EqualRuns.{EqualRuns}
 use Rattle.same_runs.specs.Laws.Simulated.{ends_over_same, ends_same, events_equal, shows_equal, simulated_equally}
 use Rattle.same_runs.specs.Renamings.{Names, no_references, none_held as no_held}
 use Rattle.same_runs.specs.SameMemories.{HasOwnConstants, SameMemories}
 use Rattle.same_runs.specs.SameWorlds.{no_events}
-use Rattle.same_runs.specs.Simulations.{IsSimulation, Keeps, Quietly, at_once, turn_first}
+use Rattle.same_runs.specs.Simulations.{Keeps, Quietly, at_once, turn_first}
 use Rattle.typed_runs.specs.TypedFrames.{FramesConform, nothing_awaited}
 use Rattle.typed_runs.specs.TypedWorlds.{TypedWorld}
 

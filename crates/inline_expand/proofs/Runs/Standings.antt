@@ -1,10 +1,9 @@
 -- The methods that stand in the flat code of a host: the host itself, and callees in place of calls of methods that stand there.
-use Rattle.std.specs.Prelude.{◌≡◌, ◌≤◌, ◌+◌, ℕ, List, [], ◌∷◌, length, Option, Some, None, IfSome}
+use Rattle.std.specs.Prelude.{◌≡◌, ◌≤◌, ◌+◌, ℕ, List, [], ◌∷◌, length, IfSome}
 use Rattle.class_model.specs.declared.class_file.MethodAt.{MethodAt}
 use Rattle.class_model.specs.declared.frame.Frame.{Frame}
 use Rattle.class_model.specs.declared.instr.Placed.{Placed}
 use Rattle.class_tree.specs.Headers.{Classes}
-use Rattle.flow_code.specs.FlatCode.{FlatCode}
 use Rattle.inline_expand.proofs.Runs.PositionLaws.{Fits}
 use Rattle.inline_expand.proofs.Runs.Positions.{IsReplacedAt, StandsFrom, Standing, frames_of, host_standing, inner_standing, instrs_of, points_of_standing, scope_of, start_of}
 use Rattle.inline_expand.specs.Alone.{number_in}

@@ -1,5 +1,5 @@
 -- Runs of both programs that go together, and how they do behind a turn of both, or of the first alone.
-use Rattle.std.proofs.Common.{◌≡◌, ◌≢◌, ◌⊎◌, ◌<◌, ◌≤◌, ◌+◌, ◌-◌, ◌*◌, ℕ, zero, suc, Bool, true, false, List, [], ◌∷◌, ◌++◌, length, map, slice_get, Option, Some, None, IsTrue, IsFalse, refl, sym, ap, subst, ◌∙◌, arith, inl, inr}
+use Rattle.std.proofs.Common.{◌≡◌, ◌≢◌, ◌⊎◌, ◌<◌, ◌≤◌, ◌+◌, ◌-◌, ◌*◌, ℕ, Bool, false, List, [], ◌∷◌, ◌++◌, length, map, slice_get, Some, refl, sym, ap, subst, ◌∙◌, arith, inl, inr}
 use Rattle.std.specs.List.{AllByRecursion}
 use Rattle.inline_expand.proofs.Runs.SameStanding.{SameStanding, SameTop, comparison, beginnings_stand, flat_stands, libraries_stand, none_stand, own_stand}
 use Rattle.inline_expand.proofs.Runs.Setup.{Setup, after, before}
@@ -7,14 +7,14 @@ use Rattle.machine_values.specs.declared.frame.RunFrame.{RunFrame}
 use Rattle.machine_values.specs.declared.frame.RunFrame.TheVariants.{Beginning}
 use Rattle.member_link.specs.Machine.Beginnings.{begun_memory, begun_on}
 use Rattle.member_link.specs.Machine.Programs.{Program, RunClass}
-use Rattle.member_link.specs.Machine.Runs.{Run, shown, turn, turn_by}
+use Rattle.member_link.specs.Machine.Runs.{Run, turn, turn_by}
 use Rattle.member_link.specs.Machine.Stepping.{is_library_turn, step}
-use Rattle.member_link.specs.Machine.Worlds.{Halt, Memory, World, going, is_begun, stuck}
+use Rattle.member_link.specs.Machine.Worlds.{Halt, Memory, World, going, stuck}
 use Rattle.same_runs.specs.Laws.AloneTurn.{AloneTurn, beginning_alone, begins_deeper, begins_fewer, is_over, unbegun_in}
 use Rattle.same_runs.specs.Laws.BothBegin.{counted}
-use Rattle.same_runs.specs.Laws.CaughtUp.{BothTurn, turn_keeps, turned_going}
+use Rattle.same_runs.specs.Laws.CaughtUp.{BothTurn, turn_keeps}
 use Rattle.same_runs.specs.Laws.QuietBeginnings.{BeginAlike, CaughtUp, quietly_then, second_catches_up, standing}
-use Rattle.same_runs.specs.Renamings.{Names, NamesMore}
+use Rattle.same_runs.specs.Renamings.{Names}
 use Rattle.same_runs.specs.SameMemories.{IsInert, SameMemories}
 use Rattle.same_runs.specs.SamePrograms.{SamePrograms}
 use Rattle.same_runs.specs.SameWorlds.{Compares, SameAfter, both_go, both_landed, both_over, second_begins, SameSeen}

@@ -1,5 +1,5 @@
 -- Chains of callees, and the initialisers that may follow them.
-use Rattle.std.specs.Prelude.{◌≡◌, ◌≢◌, ◌-◌, ℕ, zero, suc, List, [], ◌∷◌, Option, Some, None, length}
+use Rattle.std.specs.Prelude.{◌≢◌, ℕ, zero, suc, List}
 use Rattle.std.specs.List.{AllByRecursion}
 use Rattle.class_model.specs.declared.class_file.MethodAt.{MethodAt}
 use Rattle.class_tree.specs.Headers.{Classes}

@@ -1,5 +1,4 @@
 -- What fits, and so does what it needs, without a circle.
-use Rattle.std.specs.Prelude.{◌≡◌, ◌⊎◌}
 
 pub data Founded {A : Type 0} (Needs : A → A → Type 0) (Fits : A → Type 0) : A → Type 0 where
   founded : (one : A)

@@ -6,8 +6,6 @@ use Rattle.class_model.specs.declared.instr.Placed.{Placed}
 use Rattle.class_tree.specs.Headers.{Name, Classes}
 use Rattle.inline_expand.specs.Expanded.{points_of}
 use Rattle.inline_expand.specs.Expansions.{Expands, Expansion, no_more, replaced, site, stays}
-use Rattle.inline_expand.specs.Inner.Coded.{Stands}
-use Rattle.inline_expand.specs.Inner.ReadyCallees.{IsHostClass}
 use Rattle.inline_expand.specs.Inner.Steps.{Callee, callees_of, coded_of, expansion_by}
 use Rattle.inline_expand.specs.Inner.Walks.{AreRight}
 use Rattle.inline_expand.specs.Sites.{HasFrames, IsReplaced, IsSite}

@@ -1,5 +1,5 @@
 -- Methods that are marked as seen.
-use Rattle.std.specs.Prelude.{◌≡◌, ◌≢◌, List, None}
+use Rattle.std.specs.Prelude.{◌≢◌, List, None}
 use Rattle.class_model.specs.declared.class_file.MethodAt.{MethodAt}
 use Rattle.inline_expand.specs.Inner.Stacks.{IsAmong}
 use Rattle.inline_expand.specs.Inner.Verdicts.{verdict}

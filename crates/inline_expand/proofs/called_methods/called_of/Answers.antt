@@ -1,4 +1,4 @@
-use Rattle.std.proofs.Common.{◌≡◌, IfOk, subst}
+use Rattle.std.proofs.Common.{IfOk, subst}
 use Rattle.class_tree.specs.Headers.{Classes}
 use Rattle.inline_expand.specs.Inner.Calls.{DecidesCall}
 use Rattle.inline_expand.proofs.called_methods.called_of.Goals as goal

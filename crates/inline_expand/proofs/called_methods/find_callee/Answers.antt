@@ -1,9 +1,7 @@
-use Rattle.std.proofs.Common.{◌≡◌, Option, Some, None, ap, sym, ◌∙◌, refl, subst}
-use Rattle.class_model.specs.declared.class_file.MethodAt.{MethodAt}
+use Rattle.std.proofs.Common.{sym, ◌∙◌, subst}
 use Rattle.inline_expand.proofs.FoundCallees.{it_says, it_says_not, none_called, none_short}
 use Rattle.inline_expand.specs.Inner.Calls.{DecidesCall}
 use Rattle.inline_expand.specs.Inner.Coded.{IsShortCoded}
-use Rattle.inline_expand.specs.declared.coded.CodedMethod.{CodedMethod}
 use Rattle.inline_expand.proofs.called_methods.find_callee.Goals as goal
 
 pub returns-in_default : goal.returns-in_default

@@ -1,4 +1,4 @@
-use Rattle.std.proofs.Common.{◌≡◌, IsTrue, Some, None, ap, sym, ◌∙◌, refl}
+use Rattle.std.proofs.Common.{IsTrue, ap, sym, ◌∙◌, refl}
 use Rattle.std.specs.Option.{option_copied}
 use Rattle.inline_expand.proofs.FoundCallees.{says_at_frame, says_nothing}
 use Rattle.inline_expand.proofs.called_methods.says_at_most.Goals as goal

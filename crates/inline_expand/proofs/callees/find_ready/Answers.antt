@@ -1,7 +1,6 @@
-use Rattle.std.proofs.Common.{◌≡◌, Option, refl, sym, ap, ◌∙◌, subst}
+use Rattle.std.proofs.Common.{sym, ◌∙◌, subst}
 use Rattle.inline_expand.proofs.FoundCallees.{found_ready, found_unready, none_found}
 use Rattle.inline_expand.specs.Inner.ReadyCallees.{FindsCallee}
-use Rattle.inline_expand.specs.declared.coded.CodedMethod.{CodedMethod}
 use Rattle.inline_expand.proofs.callees.find_ready.Goals as goal
 
 pub returns-in_default-clause-callee : goal.returns-in_default-clause-callee

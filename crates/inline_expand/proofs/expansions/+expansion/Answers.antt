@@ -1,16 +1,13 @@
-use Rattle.std.proofs.Common.{◌≡◌, ◌<◌, ℕ, List, ◌∷◌, Option, Some, length, slice_get, refl, sym, ap, ◌∙◌, subst, arith}
+use Rattle.std.proofs.Common.{◌≡◌, ◌<◌, List, ◌∷◌, Some, length, slice_get, refl, sym, ap, ◌∙◌, subst, arith}
 use Rattle.std.proofs.lemmas.Option.{slice_get_read}
-use Rattle.class_model.specs.declared.class_file.MethodAt.{MethodAt}
 use Rattle.class_model.specs.declared.instr.Placed.{Placed}
-use Rattle.inline_expand.proofs.GrownSteps.{callee_of_body, grown_by_body, grown_by_none, grown_on, other_line, pushed_last, so_far_counted, so_far_expands, so_far_fails, so_far_more, so_far_none, step_of_body, whole_of_body}
+use Rattle.inline_expand.proofs.GrownSteps.{callee_of_body, grown_by_body, grown_on, other_line, pushed_last, so_far_counted, so_far_expands, so_far_fails, so_far_more, so_far_none, step_of_body, whole_of_body}
 use Rattle.inline_expand.specs.Inner.Growths.{AreStepsFound, IsStepFound}
 use Rattle.inline_expand.specs.Inner.Places.{chain_of, host_of}
 use Rattle.inline_expand.specs.Inner.Replacements.{IsReplacementFound}
 use Rattle.inline_expand.specs.Inner.Steps.{callees_of, expansion_by}
-use Rattle.inline_expand.specs.declared.coded.CodedMethod.{CodedMethod}
 use Rattle.inline_expand.specs.declared.expansions.Body.{Body}
 use Rattle.inline_expand.specs.declared.expansions.Growth.{Growth}
-use Rattle.inline_expand.specs.declared.expansions.Step.{Step}
 use Rattle.member_link.specs.Scope.{instructions}
 use Rattle.inline_expand.proofs.expansions.+expansion.Goals as goal
 

@@ -1,4 +1,4 @@
-use Rattle.std.proofs.Common.{◌≡◌, ℕ, ◌+◌, ◌-◌, ◌*◌, length}
+use Rattle.std.proofs.Common.{◌≡◌, ◌+◌, ◌-◌, ◌*◌, length}
 use Rattle.inline_expand.proofs.GrownSteps.{SoFar}
 use Rattle.inline_expand.specs.Inner.Growths.{HasGrown}
 use Rattle.inline_expand.specs.Inner.Places.{chain_of, host_of}

@@ -1,9 +1,8 @@
-use Rattle.std.proofs.Common.{◌≡◌, ℕ, List, [], ◌∷◌, Option, None, sym, subst, ◌∙◌, arith}
+use Rattle.std.proofs.Common.{[], None, subst, ◌∙◌, arith}
 use Rattle.inline_expand.proofs.GrownSteps.{kept_within, other_line}
 use Rattle.inline_expand.specs.Inner.Growths.{AreStepsFound}
 use Rattle.inline_expand.specs.Inner.Places.{chain_of, host_of}
 use Rattle.inline_expand.specs.declared.expansions.Growth.{Growth}
-use Rattle.inline_expand.specs.declared.expansions.Step.{Step}
 use Rattle.member_link.specs.Scope.{instructions}
 use Rattle.inline_expand.proofs.expansions.expansion_of.Goals as goal
 

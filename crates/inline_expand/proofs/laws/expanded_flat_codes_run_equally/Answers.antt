@@ -1,5 +1,4 @@
 use Rattle.std.proofs.Common.{subst}
-use Rattle.class_tree.specs.Headers.{Headers}
 use Rattle.class_tree.specs.Hierarchy.{IsHierarchy}
 use Rattle.inline_expand.proofs.Runs.Assembled.{RunLaws, expanded_runs_equally}
 use Rattle.inline_expand.proofs.Runs.CallTargets.{headers_are}

@@ -1,10 +1,7 @@
-use Rattle.std.proofs.Common.{◌≡◌, ◌-◌, ◌+◌, Option, Some, length, sym, subst, ◌∙◌, arith, IsTrue, true, ◌∷◌}
-use Rattle.class_tree.specs.Headers.{headers_of}
+use Rattle.std.proofs.Common.{◌≡◌, ◌-◌, ◌+◌, length, subst, arith}
 use Rattle.inline_expand.proofs.PlacedCalls.{constructs_if_shallow, shallow_if_constructs}
 use Rattle.inline_expand.proofs.ReadyCalls.{from_callee}
-use Rattle.inline_expand.specs.Inner.Chains.{IsShallow}
-use Rattle.inline_expand.specs.Inner.ReadyCallees.{IsCalleeFound, IsReadyCallee}
-use Rattle.inline_expand.specs.declared.coded.CodedMethod.{CodedMethod}
+use Rattle.inline_expand.specs.Inner.ReadyCallees.{IsCalleeFound}
 use Rattle.inline_expand.proofs.places.constructs_at.Goals as goal
 
 pub is_shallow-requires-clause-ready : goal.is_shallow-requires-clause-ready

@@ -1,7 +1,6 @@
-use Rattle.std.proofs.Common.{◌≡◌, Option, refl, sym, ap, ◌∙◌, subst}
+use Rattle.std.proofs.Common.{sym, ◌∙◌, subst}
 use Rattle.inline_expand.proofs.OwnCallees.{adds_nothing, adds_callee}
 use Rattle.inline_expand.specs.Inner.ReadyCallees.{FindsCallee}
-use Rattle.inline_expand.specs.declared.coded.CodedMethod.{CodedMethod}
 use Rattle.inline_expand.proofs.ready.add_own_callee.Goals as goal
 
 pub returns-then-not-calls_on_this : goal.returns-then-not-calls_on_this

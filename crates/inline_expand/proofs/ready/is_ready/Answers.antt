@@ -1,8 +1,8 @@
-use Rattle.std.proofs.Common.{◌≡◌, List, ◌∷◌, ap, sym, ◌∙◌, subst, Some, None, true, false, rules, Vec, Global, Option}
+use Rattle.std.proofs.Common.{sym, ◌∙◌, subst, Vec, Global, Option}
 use Rattle.std.specs.Option.{option_map}
 use Rattle.class_model.specs.declared.class_file.MethodAt.{MethodAt}
 use Rattle.inline_expand.proofs.Walking.{goes_down, met_fails, sees_more, unneeded_fails}
-use Rattle.inline_expand.specs.Inner.Walks.{Advances, GoesOn, HasNeeds, NeedsThese, Walks}
+use Rattle.inline_expand.specs.Inner.Walks.{HasNeeds, NeedsThese}
 use Rattle.inline_expand.proofs.ready.is_ready.Goals as goal
 
 pub returns-then-is_some-clause-ready : goal.returns-then-is_some-clause-ready

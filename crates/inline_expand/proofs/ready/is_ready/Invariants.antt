@@ -1,4 +1,3 @@
-use Rattle.std.proofs.Common.{◌≡◌, ℕ}
 use Rattle.inline_expand.specs.Inner.Unseen.{unseen}
 use Rattle.inline_expand.specs.Inner.Verdicts.{verdict}
 use Rattle.inline_expand.specs.Inner.Walks.{Walks}

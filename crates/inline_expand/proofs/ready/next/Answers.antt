@@ -1,4 +1,4 @@
-use Rattle.std.proofs.Common.{◌≡◌, List, ◌∷◌, ap, sym, ◌∙◌, subst, Some, None, true, false, rules}
+use Rattle.std.proofs.Common.{◌∷◌, ap, ◌∙◌, subst, true, rules}
 use Rattle.inline_expand.proofs.Walking.{judged_is_seen, left, skipped}
 use Rattle.inline_expand.specs.Inner.Walks.{Walks}
 use Rattle.inline_expand.specs.declared.visits.Visit.{Visit}

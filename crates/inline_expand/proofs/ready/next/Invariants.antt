@@ -1,4 +1,4 @@
-use Rattle.std.proofs.Common.{◌≡◌, ◌↔◌, None, length, ℕ, List}
+use Rattle.std.proofs.Common.{◌≡◌, None, length, ℕ}
 use Rattle.class_tree.specs.Headers.{Classes}
 use Rattle.type_rules.specs.TypedFrames.{FolderFrames}
 use Rattle.class_model.specs.declared.class_file.MethodAt.{MethodAt}

@@ -1,4 +1,4 @@
-use Rattle.std.proofs.Common.{◌≡◌, ◌-◌, ◌∙◌, List, suc, sym, ap, subst, arith, refl, rules, length, ◌==◌, IsTrue}
+use Rattle.std.proofs.Common.{◌≡◌, ◌-◌, ◌∙◌, List, sym, ap, subst, arith, length, ◌==◌}
 use Rattle.class_model.specs.declared.class_file.MethodAt.{MethodAt}
 use Rattle.inline_expand.proofs.ShallowLevels.{descends_on, ends, no_items, no_more_level, stops}
 use Rattle.inline_expand.specs.Inner.Chains.{IsNeeded, NoneIsOneOf}

@@ -1,4 +1,4 @@
-use Rattle.std.proofs.Common.{◌≡◌, List, Option, Vec, Global, None, Some, get_or, subst, sym}
+use Rattle.std.proofs.Common.{Option, Vec, Global, get_or, subst, sym}
 use Rattle.std.proofs.lemmas.List.{take_more}
 use Rattle.std.specs.Option.{option_map}
 use Rattle.class_model.specs.declared.class_file.MethodAt.{MethodAt}

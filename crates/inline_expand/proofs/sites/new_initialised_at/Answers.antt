@@ -1,4 +1,4 @@
-use Rattle.std.proofs.Common.{◌≡◌, sym, subst}
+use Rattle.std.proofs.Common.{sym, subst}
 use Rattle.inline_expand.proofs.SiteLaws.{new_of_call, no_new_call}
 use Rattle.inline_expand.specs.Inner.SiteTables.{IsNewInitialised}
 use Rattle.inline_expand.proofs.sites.new_initialised_at.Goals as goal

@@ -1,4 +1,4 @@
-use Rattle.std.proofs.Common.{◌≡◌, ℕ, Option, List, length, slice_get, refl, sym, ap, ◌∙◌, subst}
+use Rattle.std.proofs.Common.{ℕ, length, slice_get, refl, sym, ap, ◌∙◌, subst}
 use Rattle.inline_expand.proofs.SiteLaws.{site_found}
 use Rattle.inline_expand.specs.Inner.Places.{chain_of, host_of}
 use Rattle.inline_expand.specs.Inner.SiteTables.{IsSiteFound, joined}

@@ -1,4 +1,4 @@
-use Rattle.std.proofs.Common.{◌≡◌, ◌<◌, ℕ, List, Option, None, length, slice_get, slice_set, sym, ap, Bor, ◌∙◌, subst, rules}
+use Rattle.std.proofs.Common.{ℕ, List, Option, None, slice_get, slice_set, sym, ap, ◌∙◌, subst}
 use Rattle.std.specs.Option.{option_copied}
 use Rattle.class_tree.specs.Headers.{Name}
 use Rattle.inline_expand.proofs.SiteLaws.{copied_some, is_none_there, joined_within, no_site_stays, none_new_stays, one_falls, replaced_stays}

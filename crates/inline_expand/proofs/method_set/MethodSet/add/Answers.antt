@@ -1,6 +1,6 @@
-use Rattle.std.proofs.Common.{List, ◌++◌, ◌∷◌, [], ◌≡◌, ◌∙◌, ap}
+use Rattle.std.proofs.Common.{List, ◌++◌, ◌∷◌, [], ◌∙◌, ap}
 use Rattle.class_model.specs.declared.class_file.MethodAt.{MethodAt}
-use Rattle.inline_expand.proofs.MethodLists.{adds_last, adds_none, come_among, stay_among}
+use Rattle.inline_expand.proofs.MethodLists.{adds_last, come_among, stay_among}
 use Rattle.inline_expand.proofs.method_set.MethodSet.add.Goals as goal
 
 pub invariant_of-self-in_err-judge : goal.invariant_of-self-in_err-judge

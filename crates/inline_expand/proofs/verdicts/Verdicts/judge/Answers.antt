@@ -1,4 +1,3 @@
-use Rattle.std.proofs.Common.{rules}
 use Rattle.inline_expand.proofs.Walking.{apart_keys}
 use Rattle.inline_expand.proofs.verdicts.Verdicts.judge.Goals as goal
 
