@@ -49,6 +49,7 @@ mod StandingUnits
 mod FirstFrames
 mod ArrayKinds
 mod StackDepths
+mod ThisWithin
 mod ObjectsApart
 mod SiteObjects
 mod StayingCalls

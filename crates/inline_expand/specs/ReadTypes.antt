@@ -7,7 +7,7 @@
 -- before it is read. Access is not asked, since it was checked where the instruction stood before.
 --
 -- Every typed point counts as a stated frame. So what types a body is here said point by point, and it is the same where there is no site.
-use Rattle.std.specs.Prelude.{◌≡◌, ◌==◌, ◌+◌, ◌&&◌, ℕ, Bool, false, List, [], ◌∷◌, map, slice_get, Option, Some, None, option_map, is_some, IfSome, if◌then◌else◌}
+use Rattle.std.specs.Prelude.{◌≡◌, ◌==◌, ◌+◌, ◌&&◌, ℕ, Bool, false, List, [], ◌∷◌, map, Option, Some, None, option_map, is_some, IfSome, if◌then◌else◌}
 use Rattle.std.specs.List.{AllByRecursion}
 use Rattle.class_model.specs.Pool.{constant_at}
 use Rattle.class_model.specs.declared.class_file.MethodAt.{MethodAt}
@@ -22,7 +22,8 @@ use Rattle.flow_code.specs.declared.point.FlatInstr.{FlatInstr}
 use Rattle.flow_code.specs.declared.point.FlatInstr.TheVariants.{Of}
 use Rattle.flow_code.specs.declared.point.Point.{Point}
 use Rattle.flow_code.specs.declared.point.Site.{Site}
-use Rattle.inline_expand.specs.Sites.{HasFrames}
+use Rattle.inline_expand.specs.ExpandAnswers.{IsExpanded}
+use Rattle.inline_expand.specs.Expansions.{Coded, Expansion, no_more, replaced, site, stays}
 use Rattle.member_link.specs.Bodies.{catch_frame, item_falls_through, item_row, item_targets}
 use Rattle.member_link.specs.BodyTyping.{IsThrowable, MayGoTo, RowHolds}
 use Rattle.member_link.specs.Machine.CallSteps.{is_object_init}
@@ -41,7 +42,7 @@ use Rattle.type_rules.specs.TypedFrames.{FolderFrames}
 -- the class of the candidate site at a point, if one is there
 abbrev pub class_of_site : List Site → ℕ → Option Name
 class_of_site [] at = None
-class_of_site (site ∷ sites) at = if site.at == at then Some site.class else class_of_site sites at
+class_of_site (one ∷ others) at = if one.at == at then Some one.class else class_of_site others at
 
 abbrev pub read_type : FlatCode → VType → VType
 read_type flat (Uninit at) = of_site (class_of_site flat.sites at) where
@@ -145,13 +146,22 @@ pub record TypesFlat (classes : Classes) (s : Scope) (flat : FlatCode) : Type 0 
 
 -- ---- code that nothing reaches
 
--- No frame of a method that is no instance initialiser has an uninitialised this. Only in code that nothing reaches may such a frame be
+-- No frame of the method has an uninitialised this, if it is no instance initialiser. Only in code that nothing reaches may such a frame be
 -- stated; there the object of a callee would be taken for the caller's.
-abbrev pub NoThisOutside : Classes → FolderFrames → Type 0
-NoThisOutside classes typed =
-    (at : MethodAt) (s : Scope) (frames : List Frame)
-    → HasFrames classes typed at s frames
-    → is_init s ≡ false
-    → (k : ℕ) (frame : Frame)
-    → slice_get frames k ≡ Some frame
-    → NoUninitThis frame.locals × NoUninitThis frame.stack
+abbrev pub NoThisIn : Coded → Type 0
+NoThisIn coded =
+    is_init coded.scope ≡ false
+    → AllByRecursion (λ frame. NoUninitThis frame.locals × NoUninitThis frame.stack) coded.frames
+
+-- so of each callee that stands in place of a call, and of those that stand in it
+abbrev pub NoThisWithin : Expansion → Type 0
+NoThisWithin no_more = Unit {0}
+NoThisWithin (stays more) = NoThisWithin more
+NoThisWithin (site class more) = NoThisWithin more
+NoThisWithin (replaced callee inner more) =
+    NoThisIn callee × NoThisWithin inner × NoThisWithin more
+
+-- so of each method that stands in the flat code of a host: the host and its callees
+abbrev pub NoThisOutside : {classes : Classes} {typed : FolderFrames} {at : MethodAt} {flat : FlatCode}
+    → IsExpanded classes typed at flat → Type 0
+NoThisOutside is = NoThisIn is.host × NoThisWithin is.expansion

@@ -17,11 +17,12 @@ use Rattle.inline_expand.proofs.Types.FirstFrames.{frames_entered, frames_long}
 use Rattle.inline_expand.proofs.Types.FrameFacts.{FrameFacts}
 use Rattle.inline_expand.proofs.Types.OwnPoints.{TypingLaws}
 use Rattle.inline_expand.proofs.Types.StandingRows.{flat_rows, host_no_init, narrow_this}
+use Rattle.inline_expand.proofs.Types.ThisWithin.{NoThisStanding}
 use Rattle.inline_expand.proofs.Types.ThroughClass.{ArrayInterfaces}
 use Rattle.inline_expand.specs.ExpandAnswers.{IsNoHost}
 use Rattle.inline_expand.specs.Expanded.{arguments, expanded}
 use Rattle.inline_expand.specs.Expansions.{Coded, Expands, Expansion}
-use Rattle.inline_expand.specs.ReadTypes.{NoThisOutside, TypesFlat}
+use Rattle.inline_expand.specs.ReadTypes.{TypesFlat}
 use Rattle.inline_expand.specs.Sites.{HasFrames}
 use Rattle.member_link.specs.Rows.Operands.{topmost}
 use Rattle.member_link.specs.Scope.{Scope, instructions}
@@ -39,9 +40,10 @@ pub record ReplacedRows (s : Scope) (host : Coded) (e : Expansion) : Type 0 wher
       (topmost (length (arguments g.scope 0)) frame.stack)
 
 module _ (u : Setup) (is_setup : IsSetup u) (call_laws : CallLaws) (laws : TypingLaws) (one : OneEach) (types_known : KnownTypes u.classes u.typed)
-    (arrays : ArrayInterfaces (headers_of u.classes)) (outside : NoThisOutside u.classes u.typed)
+    (arrays : ArrayInterfaces (headers_of u.classes))
     (host : Coded) (e : Expansion) (has : HasFrames u.classes u.typed host.at host.scope host.frames)
-    (expands : Expands u.classes u.typed host.at [] host.at (instructions host.scope) e) (no_host : ¬ IsNoHost u.classes host.at) where
+    (expands : Expands u.classes u.typed host.at [] host.at (instructions host.scope) e) (no_host : ¬ IsNoHost u.classes host.at)
+    (outside : NoThisStanding host e) where
   facts : FrameFacts u.classes u.typed
   facts = record {
     long = frames_long laws is_setup.types is_setup.tree.folder;

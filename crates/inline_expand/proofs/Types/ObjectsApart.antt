@@ -19,9 +19,9 @@ use Rattle.inline_expand.proofs.Types.InstrStarts.{Order, before, behind, order_
 use Rattle.inline_expand.proofs.Types.OwnPoints.{TypingLaws}
 use Rattle.inline_expand.proofs.Types.PlacedMembers.{IsWithout}
 use Rattle.inline_expand.proofs.Types.StandingPlaces.{callee_here, host_scope_is, replaced_is_call, start_number}
+use Rattle.inline_expand.proofs.Types.ThisWithin.{NoThisStanding}
 use Rattle.inline_expand.specs.Expanded.{Setting, arguments, callee_of, host_setting, overlaid, points_before, points_of_callee, set_frame, set_type}
 use Rattle.inline_expand.specs.Expansions.{Coded, Expansion}
-use Rattle.inline_expand.specs.ReadTypes.{NoThisOutside}
 use Rattle.inline_expand.specs.Sites.{HasFrames}
 use Rattle.member_link.specs.Rows.MemberRows.{NoUninitThis}
 use Rattle.member_link.specs.Rows.Operands.{lowest_of, topmost, under}
@@ -126,7 +126,7 @@ none_set t other (entry ∷ entries) = (no_this_set t other entry, none_set t ot
 
 module _ (laws : TypingLaws) {classes : Classes} {typed : FolderFrames} (host : Coded) (e : Expansion)
     (stands : (chain : List MethodAt) (p : Standing) → IsStanding host e chain p → Stands classes typed host e chain p)
-    (s : Scope) (is_host : scope_at classes host.at ≡ Some s) (no_init : is_init s ≡ false) (outside : NoThisOutside classes typed) where
+    (s : Scope) (is_host : scope_at classes host.at ≡ Some s) (no_init : is_init s ≡ false) (outside : NoThisStanding host e) where
   host_no_init : is_init host.scope ≡ false
   host_no_init = ap is_init (host_scope_is laws host e stands s is_host) ∙ no_init
 
@@ -165,7 +165,7 @@ module _ (laws : TypingLaws) {classes : Classes} {typed : FolderFrames} (host : 
         → NoUninitThis (set_frame p.setting frame).locals × NoUninitThis (set_frame p.setting frame).stack
     by (inl other) = set (none_set p.setting other frame.locals) (none_set p.setting other frame.stack)
     by (inr none) =
-        let without = outside p.setting.coded.at (scope_of p) (frames_of p) (stands chain p standing).has none k frame has in
+        let without = outside chain p standing none k frame has in
         set (all_mapped IsNoThis IsNoThis (set_type p.setting) (no_this_kept p.setting) frame.locals without.0)
         (all_mapped IsNoThis IsNoThis (set_type p.setting) (no_this_kept p.setting) frame.stack without.1)
 

@@ -1,5 +1,5 @@
 -- The rows of the instructions that stay, of each method that stands in flat code, hold in their place.
-use Rattle.std.proofs.Common.{◌≡◌, ◌≢◌, ◌==◌, ◌+◌, ℕ, Bool, true, false, List, bytes_eq, slice_get, Option, Some, None, refl, sym, ap, subst, ◌∙◌, inl, inr}
+use Rattle.std.proofs.Common.{◌≡◌, ◌≢◌, ◌==◌, ◌+◌, ℕ, ◌∷◌, Bool, true, false, List, bytes_eq, slice_get, Option, Some, None, refl, sym, ap, subst, ◌∙◌, inl, inr}
 use Rattle.std.proofs.lemmas.Bool.{eqb-true, false≢true}
 use Rattle.std.proofs.lemmas.Option.{none-some}
 use Rattle.std.proofs.lemmas.Slice.Eq.{bytes_eq-Decides}
@@ -19,7 +19,7 @@ use Rattle.flow_code.specs.FlatCode.{FlatCode}
 use Rattle.flow_code.specs.declared.point.Point.{Point}
 use Rattle.inline_expand.proofs.Runs.CallLaws.{CallLaws}
 use Rattle.inline_expand.proofs.Runs.CalleeLaws.{replaced_callee}
-use Rattle.inline_expand.proofs.Runs.Positions.{Standing, becomes, frames_of, inner_setting, instrs_of, scope_of, start_of}
+use Rattle.inline_expand.proofs.Runs.Positions.{Standing, becomes, frames_of, inner_setting, inner_standing, instrs_of, scope_of, start_of}
 use Rattle.inline_expand.proofs.Runs.Setup.{IsSetup, Setup}
 use Rattle.inline_expand.proofs.Runs.Standings.{IsStanding, Stands, callee_stands, host_stands}
 use Rattle.inline_expand.proofs.Types.FlatParts.{EntryPart, IsOwn}
@@ -37,11 +37,12 @@ use Rattle.inline_expand.proofs.Types.StackDepths.{has_depth}
 use Rattle.inline_expand.proofs.Types.StandingPlaces.{callee_here, new_apart, new_at, new_kept, numbers_apart, own_major, own_pool, start_number}
 use Rattle.inline_expand.proofs.Types.StandingUnits.{HasNarrowThis, folder_paired, has_units}
 use Rattle.inline_expand.proofs.Types.StayingCalls.{no_result, on_new, on_this}
+use Rattle.inline_expand.proofs.Types.ThisWithin.{NoThisStanding}
 use Rattle.inline_expand.specs.Callees.{NamesInitialiser}
 use Rattle.inline_expand.specs.Expanded.{Setting, expanded, host_setting, return_points, set_frame}
 use Rattle.inline_expand.specs.ExpandAnswers.{IsNoHost, is_initialiser}
 use Rattle.inline_expand.specs.Expansions.{Coded, Expansion}
-use Rattle.inline_expand.specs.ReadTypes.{MayGoToPoint, NoThisOutside, TypesFlat, TypesPoint}
+use Rattle.inline_expand.specs.ReadTypes.{MayGoToPoint, TypesFlat, TypesPoint}
 use Rattle.same_runs.specs.FlatBodies.{flat_entry}
 use Rattle.std.specs.Prelude.{IsSome}
 use Rattle.member_link.specs.References.{Reference}
@@ -50,7 +51,7 @@ use Rattle.member_link.specs.Scope.{Scope, class_of_new, instructions, is_init, 
 module _ (u : Setup) (is_setup : IsSetup u) (call_laws : CallLaws) (laws : TypingLaws) (facts : FrameFacts u.classes u.typed)
     (host : Coded) (e : Expansion)
     (stands : (chain : List MethodAt) (p : Standing) → IsStanding host e chain p → Stands u.classes u.typed host e chain p)
-    (s : Scope) (is_host : scope_at u.classes host.at ≡ Some s) (no_init : is_init s ≡ false) (outside : NoThisOutside u.classes u.typed) where
+    (s : Scope) (is_host : scope_at u.classes host.at ≡ Some s) (no_init : is_init s ≡ false) (outside : NoThisStanding host e) where
   -- uninitialised objects are those of news
   made : NamesNews u.classes u.typed
   made = names_news laws is_setup.types
@@ -104,8 +105,8 @@ module _ (u : Setup) (is_setup : IsSetup u) (call_laws : CallLaws) (laws : Typin
         let site = site_setting u is_setup call_laws laws facts host e stands s is_host no_init (callee_stands k placed called g inner below at) is in
         record { this = Some site.0; is = site_this site.0 site.1 refl }
     by false is =
-        let known = callee_here laws host e stands s is_host below at in
-        record { this = None; is = no_this_there (outside g.at g.scope g.frames known.callee is j frame has) refl }
+        let without = outside (g.at ∷ chain) (inner_standing p k placed called g inner) (callee_stands k placed called g inner below at) is j frame has in
+        record { this = None; is = no_this_there without refl }
 
   pub narrow_this : (chain : List MethodAt) (p : Standing) → IsStanding host e chain p → (k : ℕ) (frame : Frame)
       → slice_get (frames_of p) k ≡ Some frame → HasNarrowThis p.setting frame

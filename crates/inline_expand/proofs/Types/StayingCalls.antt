@@ -33,11 +33,12 @@ use Rattle.inline_expand.proofs.Types.OwnPoints.{TypingLaws}
 use Rattle.inline_expand.proofs.Types.SiteObjects.{call, init_row_at, initialises as callee_initialises, row_of_callee, there}
 use Rattle.inline_expand.proofs.Types.SitesThere.{is_own, made_by, own_true, site_here}
 use Rattle.inline_expand.proofs.Types.StandingPlaces.{host_scope_is, new_at, new_is_own, number_of_instr, start_number}
+use Rattle.inline_expand.proofs.Types.ThisWithin.{NoThisStanding}
 use Rattle.inline_expand.specs.Alone.{number_in}
 use Rattle.inline_expand.specs.Callees.{InitialisesAt, IsCall, IsCallee}
 use Rattle.inline_expand.specs.Expanded.{expanded}
 use Rattle.inline_expand.specs.Expansions.{Coded, Expansion}
-use Rattle.inline_expand.specs.ReadTypes.{NoThisOutside, class_of_site}
+use Rattle.inline_expand.specs.ReadTypes.{class_of_site}
 use Rattle.inline_expand.specs.Sites.{Constructs, HasFrames, IsReplaced, IsSite, constructs}
 use Rattle.member_link.specs.BodyTyping.{RowHolds}
 use Rattle.member_link.specs.Machine.CallSteps.{is_object_init}
@@ -119,7 +120,7 @@ inner_constructs {classes} {typed} {host} (constructs chain from at callee scope
 module _ (u : Setup) (is_setup : IsSetup u) (call_laws : CallLaws) (laws : TypingLaws) (facts : FrameFacts u.classes u.typed)
     (host : Coded) (e : Expansion)
     (stands : (chain : List MethodAt) (p : Standing) → IsStanding host e chain p → Stands u.classes u.typed host e chain p)
-    (s : Scope) (is_host : scope_at u.classes host.at ≡ Some s) (no_init : is_init s ≡ false) (outside : NoThisOutside u.classes u.typed) where
+    (s : Scope) (is_host : scope_at u.classes host.at ≡ Some s) (no_init : is_init s ≡ false) (outside : NoThisStanding host e) where
   host_none : is_init host.scope ≡ false
   host_none = ap is_init (host_scope_is laws host e stands s is_host) ∙ no_init
 
@@ -269,7 +270,7 @@ module _ (u : Setup) (is_setup : IsSetup u) (call_laws : CallLaws) (laws : Typin
       no_this_here : is_init (scope_of p) ≡ false → receiver frame r.desc ≢ types.UninitThis
       no_this_here none =
           of_lowest (λ (type : VType). type ≢ types.UninitThis) (λ same. absurd cc) (length (parameters_of r.desc) + 1) frame.stack
-          (outside p.setting.coded.at (scope_of p) (frames_of p) known_stands.has none k frame has).1
+          (outside chain p standing none k frame has).1
 
       pub on_this : bytes_eq r.name init ≡ true → receiver frame r.desc ≡ types.UninitThis → is_object_init r ≡ true
       on_this named_init on = by (bytes_eq r.class object) refl (is_init (scope_of p)) refl where

@@ -19,6 +19,7 @@ use Rattle.inline_expand.proofs.Types.OwnPoints.{TypingLaws, own_headers, scope_
 use Rattle.inline_expand.proofs.Types.ReplacedCallRows.{replaced_says}
 use Rattle.inline_expand.proofs.Types.ReplacedRows.{RowSays}
 use Rattle.inline_expand.proofs.Types.StandingRows.{host_no_init}
+use Rattle.inline_expand.proofs.Types.ThisWithin.{NoThisStanding, no_this_standing}
 use Rattle.inline_expand.proofs.Types.ThroughClass.{ArrayInterfaces}
 use Rattle.inline_expand.specs.ExpandAnswers.{IsExpanded, IsNoHost}
 use Rattle.inline_expand.specs.Expanded.{expanded}
@@ -29,7 +30,7 @@ use Rattle.member_link.specs.Linked.{IsLinked}
 use Rattle.member_link.specs.Scope.{Scope, instructions, scope_at}
 
 module _ (u : Setup) (is_setup : IsSetup u) (linked : IsLinked u.classes) (name_laws : NameLaws) (call_laws : CallLaws) (laws : TypingLaws)
-    (one : OneEach) (outside : NoThisOutside u.classes u.typed) where
+    (one : OneEach) where
   facts : FrameFacts u.classes u.typed
   facts = frame_facts name_laws laws is_setup.tree linked is_setup.hierarchy is_setup.types
 
@@ -40,7 +41,8 @@ module _ (u : Setup) (is_setup : IsSetup u) (linked : IsLinked u.classes) (name_
   arrays at s is = subst ArrayInterfaces (scope_headers u.classes at s is) (arrays_known is_setup.tree at s is)
 
   module _ (host : Coded) (e : Expansion) (has : HasFrames u.classes u.typed host.at host.scope host.frames)
-      (expands : Expands u.classes u.typed host.at [] host.at (instructions host.scope) e) (no_host : ¬ IsNoHost u.classes host.at) where
+      (expands : Expands u.classes u.typed host.at [] host.at (instructions host.scope) e) (no_host : ¬ IsNoHost u.classes host.at)
+      (outside : NoThisStanding host e) where
     stands : (chain : List MethodAt) (p : Standing) → IsStanding host e chain p → Stands u.classes u.typed host e chain p
     stands chain p standing = stands_so laws.types_each one u.classes u.typed is_setup.types host e has expands standing
 
@@ -64,15 +66,18 @@ module _ (u : Setup) (is_setup : IsSetup u) (linked : IsLinked u.classes) (name_
     -- and so of all instructions
     pub rows : MethodRows u.classes host.scope host e
     rows =
-        method_rows u is_setup call_laws laws one known (arrays host.at host.scope has.is_scope) outside host e has expands no_host replaced_rows
+        method_rows u is_setup call_laws laws one known (arrays host.at host.scope has.is_scope) host e has expands no_host outside
+        replaced_rows
 
   -- The typed points of the flat code of a host type it.
-  pub types_expanded : (at : MethodAt) (flat : FlatCode) → IsExpanded u.classes u.typed at flat → ¬ IsNoHost u.classes at
+  pub types_expanded : (at : MethodAt) (flat : FlatCode) → (is : IsExpanded u.classes u.typed at flat) → ¬ IsNoHost u.classes at
+      → NoThisOutside is
       → (s : Scope) → scope_at u.classes at ≡ Some s
       → TypesFlat u.classes s flat
-  types_expanded at flat is no_host s scope =
+  types_expanded at flat is no_host outside s scope =
       expanded_types laws one is_setup.types is_setup.tree.folder known is_setup.hierarchy (arrays at s scope) at flat is s scope
       (rows is.host is.expansion
       (subst (λ (a : MethodAt). HasFrames u.classes u.typed a is.host.scope is.host.frames) (sym is.own) is.is_host)
       (subst (λ (a : MethodAt). Expands u.classes u.typed a [] a (instructions is.host.scope) is.expansion) (sym is.own) is.expands)
-      (subst (λ (a : MethodAt). ¬ IsNoHost u.classes a) (sym is.own) no_host))
+      (subst (λ (a : MethodAt). ¬ IsNoHost u.classes a) (sym is.own) no_host)
+      (no_this_standing is.host is.expansion outside))
