@@ -28,6 +28,7 @@ bench: bin/pea
 	bash bench/rewriting.sh
 	bash bench/library.sh
 	bash bench/verify.sh
+	bash bench/expand.sh
 	bash bench/sizes.sh
 	bash bench/run.sh
 	bash bench/jar.sh
