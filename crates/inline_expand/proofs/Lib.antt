@@ -8,6 +8,7 @@ mod CallUnits
 mod CalledMethods
 mod CalleeParts
 mod ConstructorLaws
+mod CutMethods
 mod DecidedRuns
 mod DescriptorTexts
 mod ExpandedFlat
