@@ -44,6 +44,7 @@ mod PlainCalls
 mod InitCalls
 mod InitCallees
 mod StatedUnits
+mod EachFrame
 mod TypedUnits
 mod StandingUnits
 mod FirstFrames

@@ -1,12 +1,11 @@
 -- The uninitialised objects of the frames of a typed method are those of its news.
-use Rattle.std.proofs.Common.{◌≡◌, ◌≢◌, ◌+◌, ℕ, zero, suc, Bool, true, false, List, [], ◌∷◌, length, map, slice_get, Option, Some, None, option_map, if◌then◌else◌, refl, sym, ap, subst, ◌∙◌, arith}
-use Rattle.std.specs.Prelude.{IsSome, ◌==◌, ◌&&◌, ◌||◌}
+use Rattle.std.proofs.Common.{◌≡◌, ◌≢◌, ℕ, zero, suc, Bool, true, false, List, [], ◌∷◌, length, slice_get, Option, Some, None, if◌then◌else◌, refl, sym, ap, ◌∙◌}
+use Rattle.std.specs.Prelude.{◌==◌, ◌&&◌, ◌||◌}
 use Rattle.std.specs.List.{AllByRecursion}
 use Rattle.std.proofs.lemmas.Bool.{eqb-true, eq-eqb, false≢true}
 use Rattle.std.proofs.lemmas.List.{length-map}
-use Rattle.std.proofs.lemmas.Option.{none-some, same_Some, slice_get-map, slice_get_within}
+use Rattle.std.proofs.lemmas.Option.{none-some, same_Some}
 use Rattle.class_model.specs.Frames.{is_new, is_new_at}
-use Rattle.class_model.specs.Laws.Lists.{at_index}
 use Rattle.class_model.specs.Methods.{home_of}
 use Rattle.class_model.specs.declared.frame.Frame.{Frame}
 use Rattle.class_model.specs.declared.frame.VType.{VType}
@@ -15,20 +14,19 @@ use Rattle.class_model.specs.declared.instr.Instr.{Instr}
 use Rattle.class_model.specs.declared.instr.Instr.TheVariants.{New}
 use Rattle.class_model.specs.declared.instr.Placed.{Placed}
 use Rattle.class_tree.specs.Headers.{Classes, Name}
-use Rattle.inline_expand.proofs.TypedAloneNumbers.{frame_found, is_number, number_of_next, number_of_placed}
+use Rattle.inline_expand.proofs.Types.EachFrame.{each_frame}
 use Rattle.inline_expand.proofs.Types.ObjectsApart.{IsMadeIn, MadeAt, NamesNews}
 use Rattle.inline_expand.proofs.Types.OwnPoints.{IsTyped, TypingLaws, typed_method}
 use Rattle.inline_expand.proofs.Types.PlacedMembers.{IsWithout}
 use Rattle.inline_expand.proofs.Types.RowNews.{row_without}
 use Rattle.inline_expand.proofs.Types.StandingPlaces.{new_at}
 use Rattle.inline_expand.proofs.Types.StatedNews.{AreNewIn, entry_news, stated_news}
-use Rattle.inline_expand.proofs.Types.Units.{item_there}
-use Rattle.member_link.specs.Bodies.{Body, falls_through, flows_on}
-use Rattle.member_link.specs.BodyTyping.{FlowsInto, PointFits, Reaches, RowHolds, begins_at, frame_at}
+use Rattle.member_link.specs.Bodies.{falls_through, flows_on}
+use Rattle.member_link.specs.BodyTyping.{RowHolds}
 use Rattle.member_link.specs.Rows.Row.{access_aside, row_frame}
 use Rattle.member_link.specs.Rows.Table.{row_of}
 use Rattle.member_link.specs.Scope.{Scope, class_of_new, instructions, row_scope}
-use Rattle.type_rules.specs.MethodBodies.{body_of, point_of}
+use Rattle.type_rules.specs.MethodBodies.{point_of}
 use Rattle.type_rules.specs.Stated.{entry, stated_at}
 use Rattle.type_rules.specs.TypedFrames.{FolderFrames}
 use Rattle.type_rules.specs.Verified.{TypesFolder}
@@ -126,9 +124,6 @@ module _ (s : Scope) where
     stack : AreNewIn (instructions s) frame.stack
 
   module _ (frames : List Frame) (typed : IsTyped s frames) (one_each : length frames ≡ length (instructions s)) where
-    abbrev body : Body
-    body = body_of s
-
     entry_has : HasNews (entry s)
     entry_has = record { locals = entry_news (instructions s) (home_of s.class) s.method s.part; stack = tt }
 
@@ -137,18 +132,6 @@ module _ (s : Scope) where
     stated_has place frame is =
         let has = stated_news (home_of s.class) s.method s.part place frame s.part.attrs is in
         record { locals = has.0; stack = has.1 }
-
-    -- what flows into a place
-    reached_has : (place : ℕ) (flows found : Frame) → HasNews flows → frame_at body frames place ≡ Some found
-        → Reaches body.scope flows found (body.stated place) → HasNews found
-    reached_has place flows found has is_at reaches = by (stated_at s place) refl reaches where
-      by : (stated : Option Frame) → stated_at s place ≡ stated → Reaches body.scope flows found stated → HasNews found
-      by (Some stated) is reaches =
-          let same : found ≡ stated = typed.has.stated place found stated is_at is in
-          subst HasNews (sym same) (stated_has place stated is)
-      by None is same = subst HasNews same has
-
-    -- ---- behind an instruction
 
     flowing : (falls : Bool) (found : Option Frame) (flows : Frame) → (if falls then found else None) ≡ Some flows → found ≡ Some flows
     flowing true found flows is = is
@@ -175,61 +158,9 @@ module _ (s : Scope) where
               row_without (row_scope s) frame at (without_one at none frame.locals has.locals) (without_one at none frame.stack has.stack)
               (no_class at none) placed.at placed.instr (other at none) held flows goes
 
-    -- ---- by the numbers of instructions
-
-    fits_at : (k : ℕ) (placed : Placed) → slice_get (instructions s) k ≡ Some placed → PointFits body frames (point_of s placed)
-    fits_at k placed is =
-        at_index (PointFits body frames) body.points k (point_of s placed) typed.has.points
-        (slice_get-map (point_of s) (instructions s) k ∙ ap (option_map (point_of s)) is)
-
-    at_place : (k : ℕ) (placed : Placed) (frame : Frame) → slice_get (instructions s) k ≡ Some placed → slice_get frames k ≡ Some frame
-        → (other : Frame) → frame_at body frames placed.at ≡ Some other → other ≡ frame
-    at_place k placed frame is has other there =
-        same_Some other frame
-        (sym (frame_found s (instructions s) frames placed.at other there)
-        ∙ ap (slice_get frames) (number_of_placed s (instructions s) typed.order k placed is) ∙ has)
-
-    first_has : (instrs : List Placed) → instructions s ≡ instrs → (frame : Frame) → slice_get frames 0 ≡ Some frame → HasNews frame
-    first_has [] are frame has =
-        let some = slice_get_within frames 0 frame has in
-        let none : length (instructions s) ≡ 0 = ap length are in
-        absurd (omega (arith, some, one_each, none))
-    first_has (first ∷ instrs) are frame has =
-        let is : slice_get (instructions s) 0 ≡ Some first = ap (λ (all : List Placed). slice_get all 0) are in
-        let into : FlowsInto body frames first.at (Some (entry s)) =
-        subst (λ (place : ℕ). FlowsInto body frames place (Some (entry s)))
-        (ap (λ (all : List Placed). begins_at (map (point_of s) all) (length s.part.code)) are) typed.has.entry in
-        subst HasNews (at_place 0 first frame is has into.0 into.1)
-        (reached_has first.at (entry s) into.0 entry_has into.1 into.2)
-
-    next_has : (place : ℕ) (frame : Frame) → frame_at body frames place ≡ Some frame → (flows : Option Frame)
-        → ((after : Frame) → flows ≡ Some after → HasNews after)
-        → FlowsInto body frames place flows → HasNews frame
-    next_has place frame is_at None has into = by (stated_at s place) refl (into frame is_at) where
-      by : (stated : Option Frame) → stated_at s place ≡ stated → IsSome stated → HasNews frame
-      by None none some = absurd cc
-      by (Some stated) is some = subst HasNews (sym (typed.has.stated place frame stated is_at is)) (stated_has place stated is)
-    next_has place frame is_at (Some after) has into =
-        let same : into.0 ≡ frame = same_Some into.0 frame (sym into.1 ∙ is_at) in
-        subst HasNews same (reached_has place after into.0 (has after refl) into.1 into.2)
-
     -- Each frame.
     typed_news : (k : ℕ) (frame : Frame) → slice_get frames k ≡ Some frame → HasNews frame
-    typed_news zero frame has = first_has (instructions s) refl frame has
-    typed_news (suc k) frame has =
-        let within = slice_get_within frames (suc k) frame has in
-        let before = item_there frames k (omega (arith, within)) in
-        let one = item_there (instructions s) k (omega (arith, within, one_each)) in
-        let next = is_number (instructions s) (one.0.at + one.0.len) (suc k)
-        (number_of_next s (instructions s) typed.order k one.0 one.1) (omega (arith, within, one_each)) in
-        let fits = fits_at k one.0 one.1 in
-        let here : fits.frame ≡ before.0 = at_place k one.0 before.0 one.1 before.1 fits.frame fits.is_at in
-        let fits_next = fits_at (suc k) next.placed next.stands in
-        let there : fits_next.frame ≡ frame = at_place (suc k) next.placed frame next.stands has fits_next.frame fits_next.is_at in
-        let earlier = subst HasNews (sym here) (typed_news k before.0 before.1) in
-        next_has (one.0.at + one.0.len) frame
-        (subst (λ (place : ℕ). frame_at body frames place ≡ Some frame) next.place_is (fits_next.is_at ∙ ap Some there))
-        (flows_on (point_of s one.0) fits.frame) (λ after is. behind_has k one.0 one.1 fits.frame after earlier fits.row is) fits.next
+    typed_news = each_frame s frames typed one_each HasNews entry_has stated_has behind_has
 
 -- In each typed folder uninitialised objects are those of news.
 pub names_news : TypingLaws → {classes : Classes} {typed : FolderFrames} → TypesFolder classes typed → NamesNews classes typed
