@@ -29,6 +29,7 @@ bench: bin/pea
 	bash bench/library.sh
 	bash bench/verify.sh
 	bash bench/expand.sh
+	bash bench/optimise.sh
 	bash bench/sizes.sh
 	bash bench/run.sh
 	bash bench/jar.sh

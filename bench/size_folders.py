@@ -5,8 +5,10 @@ import struct
 import sys
 
 NOP, ACONST_NULL, ICONST_0, FCONST_0 = b"\0", b"\1", b"\3", b"\x0b"
-ISTORE_0, FSTORE_0, RETURN, ATHROW = b"\x3b", b"\x43", b"\xb1", b"\xbf"
-INVOKESTATIC, INVOKEINTERFACE, POP, TABLESWITCH, LOOKUPSWITCH = b"\xb8", b"\xb9", b"\x57", b"\xaa", b"\xab"
+ALOAD_0, ISTORE_0, FSTORE_0, RETURN, ATHROW = b"\x2a", b"\x3b", b"\x43", b"\xb1", b"\xbf"
+INVOKEVIRTUAL, INVOKESPECIAL, INVOKESTATIC, INVOKEINTERFACE, NEW = b"\xb6", b"\xb7", b"\xb8", b"\xb9", b"\xbb"
+POP, DUP, TABLESWITCH, LOOKUPSWITCH = b"\x57", b"\x59", b"\xaa", b"\xab"
+FIELD, METHOD, INTERFACE_METHOD = b"\x09", b"\x0a", b"\x0b"
 PUBLIC, STATIC, SUPER, INTERFACE, ABSTRACT = 1, 8, 0x20, 0x200, 0x400
 MOST = 65_535
 INT, FLOAT, OBJECT = b"\1", b"\2", b"\7"
@@ -20,13 +22,19 @@ def u4(number):
     return struct.pack(">I", number)
 
 
+def plain(number):
+    """The name of the class of a number, with five digits: classes are then in the order of their numbers."""
+    return f"C{number:05}"
+
+
 class ClassFile:
     """A class file that is put together: constants are found or added."""
 
-    def __init__(self, name="M", flags=PUBLIC | SUPER, above="java/lang/Object"):
+    def __init__(self, name="M", flags=PUBLIC | SUPER, above="java/lang/Object", interfaces=()):
         self.entries, self.indices = [], {}
         self.flags, self.fields, self.methods = flags, [], []
         self.this, self.above = self.type(name), self.type(above)
+        self.interfaces = [self.type(one) for one in interfaces]
 
     def constant(self, content, again=False):
         if again or content not in self.indices:
@@ -44,33 +52,47 @@ class ClassFile:
     def method_of(self, name, desc, again=False):
         """A reference to a method of the class itself."""
         member = self.constant(b"\x0c" + u2(self.text(name)) + u2(self.text(desc)))
-        return self.constant(b"\x0a" + u2(self.this) + u2(member), again)
+        return self.constant(METHOD + u2(self.this) + u2(member), again)
+
+    def member(self, tag, owner, name, desc):
+        """A reference, with this tag, to a member of a class or interface."""
+        member = self.constant(b"\x0c" + u2(self.text(name)) + u2(self.text(desc)))
+        return self.constant(tag + u2(self.type(owner)) + u2(member))
 
     def interface_method(self, owner, name, desc):
         """A reference to a method of an interface."""
-        member = self.constant(b"\x0c" + u2(self.text(name)) + u2(self.text(desc)))
-        return self.constant(b"\x0b" + u2(self.type(owner)) + u2(member))
+        return self.member(INTERFACE_METHOD, owner, name, desc)
 
-    def field(self, name, desc):
-        self.fields.append(u2(PUBLIC | STATIC) + u2(self.text(name)) + u2(self.text(desc)) + u2(0))
+    def call(self, opcode, owner, name, desc="()V"):
+        """A call of a class's method."""
+        return opcode + u2(self.member(METHOD, owner, name, desc))
+
+    def new(self, owner):
+        """A `new` of a class."""
+        return NEW + u2(self.type(owner))
+
+    def field(self, name, desc, flags=PUBLIC | STATIC):
+        self.fields.append(u2(flags) + u2(self.text(name)) + u2(self.text(desc)) + u2(0))
 
     def abstract(self, name, desc):
         self.methods.append(u2(PUBLIC | ABSTRACT) + u2(self.text(name)) + u2(self.text(desc)) + u2(0))
 
-    def method(self, name, desc, code, stack=1, local_units=0, handlers=(), frames=()):
-        """A static method; handlers are (start, end, at, catch type), frames the entries of a StackMapTable, joined."""
+    def method(self, name, desc, code, stack=1, local_units=0, handlers=(), frames=(), flags=PUBLIC | STATIC):
+        """A method, static by its flags if they are not given; handlers are (start, end, at, catch type), frames the entries of a
+        StackMapTable, joined."""
         inner = u2(0)
         if frames:
             table = u2(len(frames)) + b"".join(frames)
             inner = u2(1) + u2(self.text("StackMapTable")) + u4(len(table)) + table
         rows = b"".join(struct.pack(">HHHH", *handler) for handler in handlers)
         content = u2(stack) + u2(local_units) + u4(len(code)) + code + u2(len(handlers)) + rows + inner
-        head = u2(PUBLIC | STATIC) + u2(self.text(name)) + u2(self.text(desc)) + u2(1)
+        head = u2(flags) + u2(self.text(name)) + u2(self.text(desc)) + u2(1)
         self.methods.append(head + u2(self.text("Code")) + u4(len(content)) + content)
 
     def write(self, folder, path):
         whole = b"\xca\xfe\xba\xbe" + u2(0) + u2(52) + u2(len(self.entries) + 1) + b"".join(self.entries)
-        whole += u2(self.flags) + u2(self.this) + u2(self.above) + u2(0)
+        whole += u2(self.flags) + u2(self.this) + u2(self.above)
+        whole += u2(len(self.interfaces)) + b"".join(u2(one) for one in self.interfaces)
         whole += u2(len(self.fields)) + b"".join(self.fields)
         whole += u2(len(self.methods)) + b"".join(self.methods) + u2(0)
         with open(os.path.join(folder, path), "wb") as file:
@@ -234,12 +256,48 @@ def wide_stores(count, folder):
     made.write(folder, "M.class")
 
 
+def pushes(count, folder):
+    """A method that pushes so many values and pops them."""
+    made = ClassFile()
+    made.method("m", "()V", ICONST_0 * count + POP * count + RETURN, count)
+    made.write(folder, "M.class")
+
+
+def constructor_calls(count, folder):
+    """So many calls of a constructor whose descriptor has 20,000 bytes, by one constant, 8,000 in each method."""
+    made, desc = ClassFile(), long_type(folder, 20_000)
+    code = ALOAD_0 + made.call(INVOKESPECIAL, "java/lang/Object", "<init>") + RETURN
+    made.method("<init>", desc, code, 1, 2, flags=PUBLIC)
+    call = NEW + u2(made.this) + ACONST_NULL + INVOKESPECIAL + u2(made.method_of("<init>", desc))
+    for number in range(count // 8_000):
+        made.method(f"m{number}", "()V", call * 8_000 + RETURN, 2)
+    made.write(folder, "M.class")
+
+
+def chain_calls(count, folder):
+    """A chain of so many classes, and four times as many calls, on an object of the lowest, of a method of the highest."""
+    above = "java/lang/Object"
+    for number in range(count):
+        name = plain(number)
+        made = ClassFile(name, above=above)
+        if number == 0:
+            made.method("f", "()V", RETURN, 0, 1, flags=PUBLIC)
+        made.write(folder, f"{name}.class")
+        above = name
+    made = ClassFile()
+    call = ALOAD_0 + made.call(INVOKEVIRTUAL, above, "f")
+    for number in range(count // 4_000):
+        made.method(f"m{number}", f"(L{above};)V", call * 16_000 + RETURN, 1, 1)
+    made.write(folder, "M.class")
+
+
 def field_types(count):
     """So many field descriptors, no two of which are equal."""
     return ["[" * (number // 8) + "BCDFIJSZ"[number % 8] for number in range(count)]
 
 
 def fields(count, folder):
+    """A class with so many fields of 256 types."""
     made, types = ClassFile(), field_types(256)
     for number in range(count):
         made.field(f"f{number // 256}", types[number % 256])
@@ -247,6 +305,7 @@ def fields(count, folder):
 
 
 def methods(count, folder):
+    """A class with so many abstract methods of 256 descriptors."""
     made, types = ClassFile(flags=PUBLIC | SUPER | ABSTRACT), field_types(256)
     for number in range(count):
         made.abstract(f"f{number // 256}", f"({types[number % 256]})V")
@@ -318,8 +377,8 @@ def deep(count, folder):
 SHAPES = {
     made.__name__.replace("_", "-"): made
     for made in (
-        nops, handlers, targets, changes, calls, references, interface_calls, same_descriptors, same_descriptors_code,
-        same_types, full, wide, wide_handlers, wide_stores,
+        nops, handlers, targets, changes, calls, constructor_calls, chain_calls, references, interface_calls,
+        same_descriptors, same_descriptors_code, same_types, full, wide, wide_handlers, wide_stores, pushes,
         fields, methods, constants, texts, tiny, tables, lookups, names, deep,
     )
 }

@@ -3,6 +3,19 @@
 # How many methods the class files of a folder have, constructors and static initialisers included.
 methods() { find "$1" -name '*.class' -print0 | xargs -0 javap -p | grep -cE '^  .*(\(.*\).*|static \{\});$'; }
 
+# planned RELEASE METHODS: the last run printed a line for each of so many methods, each with a reason, and initialisers are no hosts
+planned() {
+    if [ "$status" = 0 ] && [ "$(wc -l <"$work/printed")" = "$2" ] &&
+        ! grep -Evq '^[^ ]+ [^ ]+ [^ ]+ (Host|Float|Expanded|NoSite|Wide|NoGain)$' "$work/printed" &&
+        ! grep -E ' <(cl)?init> ' "$work/printed" | grep -qv ' Host$'; then
+        passed=$((passed + 1))
+        echo "ok Java $1, a reason for each method: $(cut -d' ' -f4 "$work/printed" | sort | uniq -c | awk '{ printf "%s%s %s", sep, $1, $2; sep = ", " }')"
+    else
+        failed=$((failed + 1))
+        echo "FAILED Java $1, a reason for each method (status $status): $(head -n 1 "$work/printed")"
+    fi
+}
+
 # compiled_java RELEASE: checks the sources of a release
 compiled_java() {
     local files
@@ -17,6 +30,8 @@ compiled_java() {
         check "Java $1, verified methods" 0 "verified $files $(methods in)" true
         run optimise in out --lib "$jdk"
         check "Java $1, kept methods" 0 "done files=$files classes=$files rewritten=0 kept=$(methods in)" true
+        run plan in --lib "$jdk"
+        planned "$1" "$(methods in)"
     else
         skipped "Java $1, kept methods" "javap is missing"
     fi

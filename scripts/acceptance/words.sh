@@ -24,6 +24,9 @@ optimise|in||--lib|lib
 optimize|in|out|--lib|lib
 --lib|lib|optimise|in|out
 verify|in
+plan|in
+plan|in|out|--lib|lib
+plan|in|--lib|lib|--steps|1
 WORDS
 
 # Right words in other orders.

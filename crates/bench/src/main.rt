@@ -16,7 +16,8 @@
 //! - `joins`, `below` or `kept`: two states of so many virtual objects and sixteen times as many fields are joined, or compared, or equal
 //!   ones are joined and the joins kept; it counts joins that keep the last site, answers by yes, or joins;
 //! - `straight` or `nested`: plans are made of straight code of so many points and 256 sites, or of six loops in one another; it counts the
-//!   points that are reached, and one for each plan that saves something.
+//!   points that are reached, and one for each plan that saves something. In `linked` and `looped` these objects are stored into one another;
+//!   in `joined` control goes from every second point to the last, and in `caught` divisions throw to 64 handlers (`bench/sizes.sh`).
 #![tactic(auto)]
 
 mod codes;
@@ -38,6 +39,7 @@ use expansions::expand_folder;
 use flats::make_flats;
 use layouts::{decode_laid, lay_out};
 use links::link;
+use plan_input::Uses;
 use plans::{plan_nested, plan_straight};
 use states::{ask_below, join_states, keep_joins};
 use std::alloc::Global;
@@ -100,8 +102,12 @@ fn count_rewriting(alloc: Global, what: &str, count: u32, times: u32) -> Option<
         "flats" => make_flats(alloc, count, times),
         "joins" => join_states(alloc, count.try_into().ok()?, times),
         "below" => ask_below(alloc, count.try_into().ok()?, times),
-        "straight" => plan_straight(alloc, count, times),
-        "nested" => plan_nested(alloc, count, times),
+        "straight" => plan_straight(alloc, Uses::Ints, count, times),
+        "nested" => plan_nested(alloc, Uses::Ints, count, times),
+        "linked" => plan_straight(alloc, Uses::Objects, count, times),
+        "looped" => plan_nested(alloc, Uses::Objects, count, times),
+        "joined" => plan_straight(alloc, Uses::Jumps, count, times),
+        "caught" => plan_straight(alloc, Uses::Divisions, count, times),
         "kept" => keep_joins(alloc, count.try_into().ok()?, times),
         _ => None,
     }

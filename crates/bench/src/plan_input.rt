@@ -1,37 +1,65 @@
 //! Flat code of so many points and about 256 sites, of which plans are made.
 use cases_notation::{Input, last_method};
 use cases_rewrite::PlanCode;
-use class_model::opcodes::{IFEQ, INVOKESTATIC};
+use class_model::opcodes::{IDIV, IFEQ, INVOKESTATIC};
 use class_model::{
     Attr, FieldType, Frame, Instr, Kind, ListOf, LocalTypeList, MethodAt, NoMemory, Text, VType,
 };
 use class_tree::Tree;
 use code_bytes::decode;
-use flow_code::{FlatHandlerList, FlatInstr, Point, PointList, Site, SiteList};
+use flow_code::{FlatHandler, FlatHandlerList, FlatInstr, Point, PointList, Site, SiteList};
 use std::alloc::Global;
 use std::cmp::Ordering;
 
 // A pair of ints, and a class with a method that names what the points name: a field, a class and a method to which objects are passed.
-const FOLDER: &str = "public P Object / field public x I / field public y I | \
+const INTS: &str = "public P Object / field public x I / field public y I | \
 public L Object / method public+static use (LP;)V / \
 method public+static run ()V, exact, new P, getfield P x I, invokestatic L use (LP;)V";
 
-/// The hierarchy of the classes that the points name.
-pub(crate) fn folder(alloc: Global) -> Option<Tree> {
-    Input::of(alloc, FOLDER, "").ok()?.build(alloc).ok()
+// The same where the field is another such pair.
+const PAIRS: &str = "public P Object / field public x LP; / field public y I | \
+public L Object / method public+static use (LP;)V / \
+method public+static run ()V, exact, new P, getfield P x LP;, invokestatic L use (LP;)V";
+
+/// What the blocks of a code do with their objects.
+#[derive(Clone, Copy, PartialEq, Eq)]
+pub(crate) enum Uses {
+    /// Ints are written and read.
+    Ints,
+    /// The object of the block before is written and read.
+    Objects,
+    /// Nothing, and control goes to the end by many ways.
+    Jumps,
+    /// Nothing, and divisions throw to many handlers.
+    Divisions,
 }
 
-/// Straight code of so many points: blocks with a site each, whose object is stored into one of 16 local units, written and read.
-pub(crate) fn straight(alloc: Global, tree: &Tree, count: u32) -> Option<PlanCode> {
+/// The hierarchy of the classes that the points name.
+pub(crate) fn folder(alloc: Global, uses: Uses) -> Option<Tree> {
+    let text = if uses == Uses::Objects { PAIRS } else { INTS };
+    Input::of(alloc, text, "").ok()?.build(alloc).ok()
+}
+
+// How many handlers stand around divisions.
+const HANDLERS: u16 = 64;
+
+/// Straight code of so many points: blocks with a site each, whose object is stored into one of 16 local units and used so.
+pub(crate) fn straight(alloc: Global, tree: &Tree, uses: Uses, count: u32) -> Option<PlanCode> {
+    let caught = if uses == Uses::Divisions { HANDLERS } else { 0 };
     let shape = Shape {
         levels: 1,
         slots: 16,
         sites: sites_in(count, 1),
-        points: count.saturating_sub(1),
+        points: count.saturating_sub(1).saturating_sub(u32::from(caught)),
+        uses,
+        caught,
     };
     let mut maker = Maker::new(alloc, tree, shape)?;
     maker.push_blocks(0).ok()?;
     maker.push(Instr::Return(None), 0, shape.sites, b"").ok()?;
+    for _ in 0..caught {
+        maker.push(Instr::Throw, 0, shape.sites, b"t").ok()?;
+    }
     maker.end()
 }
 
@@ -40,13 +68,15 @@ const LEVELS: u16 = 6;
 
 /// Six loops in one another, of so many points in all: each begins with blocks as those of straight code, and objects of each level are
 /// passed to a method in the innermost loop.
-pub(crate) fn nested(alloc: Global, tree: &Tree, count: u32) -> Option<PlanCode> {
+pub(crate) fn nested(alloc: Global, tree: &Tree, uses: Uses, count: u32) -> Option<PlanCode> {
     let shape = Shape {
         levels: LEVELS,
         slots: 3,
         sites: sites_in(count, LEVELS),
         // without the tests, the calls, the jumps back and the return
         points: count.saturating_sub(31) / 6,
+        uses,
+        caught: 0,
     };
     let mut maker = Maker::new(alloc, tree, shape)?;
     for level in 0..LEVELS {
@@ -72,13 +102,16 @@ fn sites_in(count: u32, levels: u16) -> u16 {
     most.min((fit & 0xFFFF) as u16).max(1)
 }
 
-// How many levels there are, how many local units with objects, sites and points of straight code each has.
+// How many levels there are, how many local units with objects, sites and points of straight code each has, what its blocks do, and
+// how many handlers stand around divisions.
 #[derive(Clone, Copy)]
 struct Shape {
     levels: u16,
     slots: u16,
     sites: u16,
     points: u32,
+    uses: Uses,
+    caught: u16,
 }
 
 // Points and sites that are appended, and what they name.
@@ -88,8 +121,13 @@ struct Maker {
     shape: Shape,
     host: MethodAt,
     class: Text,
+    thrown: Text,
     // the constants of the class, of its field and of the method
     names: [u16; 3],
+    // those of the next points
+    handlers: FlatHandlerList,
+    // the point that the block begins with
+    begun: usize,
     points: PointList,
     sites: SiteList,
 }
@@ -102,7 +140,10 @@ impl Maker {
             shape,
             host,
             class: Text::of_bytes(alloc, b"P").ok()?,
+            thrown: Text::of_bytes(alloc, b"java/lang/Throwable").ok()?,
             names: names_in(alloc, code_of(tree, host)?)?,
+            handlers: FlatHandlerList::new(alloc),
+            begun: 0,
             points: ListOf::new(alloc),
             sites: ListOf::new(alloc),
         })
@@ -132,7 +173,7 @@ impl Maker {
                 instr,
             },
             typed,
-            handlers: FlatHandlerList::new(self.alloc),
+            handlers: self.handlers.copy()?,
         })?;
         Ok(())
     }
@@ -153,7 +194,7 @@ impl Maker {
             self.push_objects(&mut frame.locals, set)?;
         }
         for letter in stack {
-            frame.stack.push(self.type_of(*letter == b'p')?)?;
+            frame.stack.push(self.type_of(*letter)?)?;
         }
         Ok(frame)
     }
@@ -162,7 +203,7 @@ impl Maker {
     fn push_objects(&self, locals: &mut LocalTypeList, set: u16) -> Result<(), NoMemory> {
         for slot in 0..self.shape.slots {
             locals.push(if slot < set {
-                self.type_of(true)?
+                self.type_of(b'p')?
             } else {
                 VType::Top
             })?;
@@ -170,11 +211,12 @@ impl Maker {
         Ok(())
     }
 
-    fn type_of(&self, is_object: bool) -> Result<VType, NoMemory> {
-        if is_object {
-            Ok(VType::Object(self.class.copy()?))
-        } else {
-            Ok(VType::Int)
+    // The type of a letter: a pair, a throwable, or an int.
+    fn type_of(&self, letter: u8) -> Result<VType, NoMemory> {
+        match letter {
+            b'p' => Ok(VType::Object(self.class.copy()?)),
+            b't' => Ok(VType::Object(self.thrown.copy()?)),
+            _ => Ok(VType::Int),
         }
     }
 
@@ -200,22 +242,88 @@ impl Maker {
         Ok(())
     }
 
-    // Appends a block of so many points: a new object, which is stored, written and read.
+    // Appends a block of so many points: a new object, which is stored and used.
     fn push_block(&mut self, level: u16, site: u16, size: u32) -> Result<(), NoMemory> {
         let local = self.local(level, site);
+        self.begun = self.points.len();
         self.push_site()?;
         self.push(Instr::New(self.names[0]), level, site, b"")?;
         self.push(Instr::Store(Kind::Ref, local), level, site, b"p")?;
         let stored = site.saturating_add(1);
-        let uses = size.saturating_sub(2) / 3;
-        for number in 0..uses {
-            self.push(Instr::Load(Kind::Ref, local), level, stored, b"")?;
-            self.push_use(number % 2 == 0, level, stored)?;
+        match self.shape.uses {
+            Uses::Ints | Uses::Objects => self.push_uses(level, site, size)?,
+            Uses::Jumps | Uses::Divisions => {
+                if site >= self.shape.slots {
+                    self.push_ways(site, size)?;
+                }
+            }
         }
-        for _ in uses.saturating_mul(3).saturating_add(2)..size {
+        for _ in self.points.len().saturating_sub(self.begun)..size as usize {
             self.push(Instr::Nop, level, stored, b"")?;
         }
         Ok(())
+    }
+
+    // Appends writes and reads of the fields of an object, as many as a block of so many points has room for.
+    fn push_uses(&mut self, level: u16, site: u16, size: u32) -> Result<(), NoMemory> {
+        let stored = site.saturating_add(1);
+        for number in 0..size.saturating_sub(2) / 3 {
+            self.push(
+                Instr::Load(Kind::Ref, self.local(level, site)),
+                level,
+                stored,
+                b"",
+            )?;
+            if self.shape.uses == Uses::Ints {
+                self.push_use(number % 2 == 0, level, stored)?;
+            } else {
+                self.push_link(number % 2 == 0, level, site)?;
+            }
+        }
+        Ok(())
+    }
+
+    // Appends jumps to the end of straight code, or divisions inside handlers that stand behind it.
+    fn push_ways(&mut self, site: u16, size: u32) -> Result<(), NoMemory> {
+        let stored = site.saturating_add(1);
+        let end = self.shape.points;
+        if self.shape.uses == Uses::Jumps {
+            for _ in 0..size.saturating_sub(2) / 2 {
+                self.push(Instr::Load(Kind::Int, 0), 0, stored, b"")?;
+                self.push(Instr::If(IFEQ, end), 0, stored, b"i")?;
+            }
+            return Ok(());
+        }
+        if self.handlers.is_empty() {
+            for number in 0..self.shape.caught {
+                let to = (end as usize)
+                    .saturating_add(1)
+                    .saturating_add(usize::from(number));
+                self.handlers.push(FlatHandler {
+                    to,
+                    catch_class: None,
+                })?;
+            }
+        }
+        for _ in 0..size.saturating_sub(2) / 4 {
+            self.push(Instr::Load(Kind::Int, 0), 0, stored, b"")?;
+            self.push(Instr::Load(Kind::Int, 0), 0, stored, b"i")?;
+            self.push(Instr::Divide(IDIV), 0, stored, b"ii")?;
+            self.push(Instr::Store(Kind::Int, 0), 0, stored, b"i")?;
+        }
+        Ok(())
+    }
+
+    // Appends a write of the object of the site before into the field of the object on the stack, or a read.
+    fn push_link(&mut self, writes: bool, level: u16, site: u16) -> Result<(), NoMemory> {
+        let stored = site.saturating_add(1);
+        let other = self.local(level, site.saturating_sub(1));
+        if writes && site > 0 {
+            self.push(Instr::Load(Kind::Ref, other), level, stored, b"p")?;
+            return self.push(Instr::PutField(self.names[1]), level, stored, b"pp");
+        }
+        self.push(Instr::GetField(self.names[1]), level, stored, b"p")?;
+        self.push(Instr::Store(Kind::Ref, other), level, stored, b"p")
     }
 
     // Appends a write or a read of the field of the object on the stack.
@@ -232,7 +340,11 @@ impl Maker {
     // Appends the site of the next point.
     fn push_site(&mut self) -> Result<(), NoMemory> {
         let mut fields = ListOf::new(self.alloc);
-        fields.push(FieldType::Int)?;
+        fields.push(if self.shape.uses == Uses::Objects {
+            FieldType::Named(self.class.copy()?)
+        } else {
+            FieldType::Int
+        })?;
         fields.push(FieldType::Int)?;
         self.sites.push(Site {
             at: self.points.len(),

@@ -1,22 +1,22 @@
 //! Plans of flat code.
-use crate::plan_input::{folder, nested, straight};
+use crate::plan_input::{Uses, folder, nested, straight};
 use cases_rewrite::PlanCode;
 use class_tree::Tree;
 use plan_flow::Plan;
 use std::alloc::Global;
 
-/// Makes plans of straight code of so many points so many times, and counts the points that are reached, and one for each plan that
-/// saves something.
-pub(crate) fn plan_straight(alloc: Global, count: u32, times: u32) -> Option<u64> {
-    let tree = folder(alloc)?;
-    let code = straight(alloc, &tree, count)?;
+/// Makes plans of straight code of so many points, whose objects are used so, so many times, and counts the points that are reached, and
+/// one for each plan that saves something.
+pub(crate) fn plan_straight(alloc: Global, uses: Uses, count: u32, times: u32) -> Option<u64> {
+    let tree = folder(alloc, uses)?;
+    let code = straight(alloc, &tree, uses, count)?;
     count_plans(alloc, &tree, &code, times)
 }
 
 /// The same of six loops in one another.
-pub(crate) fn plan_nested(alloc: Global, count: u32, times: u32) -> Option<u64> {
-    let tree = folder(alloc)?;
-    let code = nested(alloc, &tree, count)?;
+pub(crate) fn plan_nested(alloc: Global, uses: Uses, count: u32, times: u32) -> Option<u64> {
+    let tree = folder(alloc, uses)?;
+    let code = nested(alloc, &tree, uses, count)?;
     count_plans(alloc, &tree, &code, times)
 }
 

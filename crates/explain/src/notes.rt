@@ -25,6 +25,7 @@ pub fn usage(alloc: Global) -> Result<String, NoMemory> {
     let mut lines = Lines::new(alloc);
     lines.put("pea: error: these words are no command\n");
     lines.put("  pea verify IN --lib LIB\n");
+    lines.put("  pea plan IN --lib LIB\n");
     lines.put("  pea optimise IN OUT --lib LIB\n");
     lines.put("  pea run IN SCRIPT --lib LIB [--steps N]\n");
     lines.put("  each of IN, OUT and LIB is a folder, and OUT is neither IN nor LIB\n");

@@ -1,5 +1,5 @@
 -- Calls of instance initialisers, as they are found.
-use Rattle.std.proofs.Common.{◌≡◌, ◌≢◌, ◌⊎◌, ℕ, List, Option, Some, None, refl, sym, ap, subst, ◌∙◌, inl, inr}
+use Rattle.std.proofs.Common.{◌≡◌, ◌≢◌, ◌⊎◌, ℕ, List, Option, Some, None, IsTrue, refl, sym, ap, subst, ◌∙◌, inl, inr}
 use Rattle.std.proofs.lemmas.Bool.{cases_eq}
 use Rattle.std.proofs.lemmas.Option.{none-some, same_Some}
 use Rattle.class_model.specs.Names.{init}
@@ -18,7 +18,7 @@ use Rattle.inline_expand.specs.declared.initialised.Object.{Object}
 use Rattle.inline_expand.specs.declared.initialised.Object.TheVariants.{New, This}
 use Rattle.member_link.specs.References.{Reference}
 use Rattle.member_link.specs.Rows.MemberRows.{receiver}
-use Rattle.member_link.specs.Scope.{Scope}
+use Rattle.member_link.specs.Scope.{Scope, is_init}
 
 -- ---- types of objects
 
@@ -123,8 +123,9 @@ this_of_type This e = refl
 this_of_type (New at) e = absurd (new_is_not_this at e)
 
 module _ (s : Scope) (frames : List Frame) (at : ℕ) (call : Initialisation) (is : Initialises s frames at call) where
-  pub is_on_this : IsOtherOnThis call → CallsOnThis s frames at
-  is_on_this on = record {
+  pub is_on_this : IsTrue (is_init s) → IsOtherOnThis call → CallsOnThis s frames at
+  is_on_this own on = record {
+    own = own;
     reference = is.reference;
     is = subst (λ (o : Object). InitialisesAt s frames at (type_of_object o) is.reference) on.0 is.is;
     other = λ e. on.1 (sym is.class ∙ e);

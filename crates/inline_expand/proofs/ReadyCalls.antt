@@ -1,5 +1,6 @@
 -- A callee is what a call runs and may stand in the host's code with all that it calls on its own uninitialised object.
-use Rattle.std.proofs.Common.{◌≡◌, ◌≢◌, ◌⊎◌, ℕ, List, Some, None, sym, ap, subst, ◌∙◌, inl, inr}
+use Rattle.std.proofs.Common.{◌≡◌, ◌≢◌, ◌⊎◌, ℕ, Bool, true, false, List, Some, None, IsTrue, refl, sym, ap, subst, ◌∙◌, inl, inr}
+use Rattle.std.proofs.lemmas.Bool.{false≢true}
 use Rattle.std.proofs.lemmas.Option.{same_Some}
 use Rattle.class_model.specs.declared.class_file.MethodAt.{MethodAt}
 use Rattle.class_model.specs.declared.frame.Frame.{Frame}
@@ -16,24 +17,28 @@ use Rattle.inline_expand.specs.declared.initialised.Object.{Object}
 use Rattle.inline_expand.specs.declared.initialised.Object.TheVariants.{New, This}
 use Rattle.inline_expand.specs.Sites.{HasFrames}
 use Rattle.member_link.specs.References.{Reference}
-use Rattle.member_link.specs.Scope.{Scope, own_descriptor}
+use Rattle.member_link.specs.Scope.{Scope, is_init, own_descriptor}
 use Rattle.member_link.specs.Signatures.{result_of}
 use Rattle.type_rules.specs.TypedFrames.{FolderFrames}
 
 -- ---- the call on its own object is there, or not
 
 pub on_this_or_not : (s : Scope) (frames : List Frame) (at : ℕ) → CallsOnThis s frames at ⊎ (¬ CallsOnThis s frames at)
-on_this_or_not s frames at = of_found (found_or_not s frames at) where
-  open_this : (reference : Reference) → InitialisesAt s frames at UninitThis reference → (reference.class ≡ object) ⊎ (reference.class ≢ object) → CallsOnThis s frames at ⊎ (¬ CallsOnThis s frames at)
-  open_this reference is (inl e) = inr (λ on. on.other (ap (λ (r : Reference). r.class) (one_reference s frames at UninitThis UninitThis on.reference reference on.is is) ∙ e))
-  open_this reference is (inr other) = inl (record { reference = reference; is = is; other = other })
+on_this_or_not s frames at = of_method (is_init s) refl where
+  open_this : IsTrue (is_init s) → (reference : Reference) → InitialisesAt s frames at UninitThis reference → (reference.class ≡ object) ⊎ (reference.class ≢ object) → CallsOnThis s frames at ⊎ (¬ CallsOnThis s frames at)
+  open_this own reference is (inl e) = inr (λ on. on.other (ap (λ (r : Reference). r.class) (one_reference s frames at UninitThis UninitThis on.reference reference on.is is) ∙ e))
+  open_this own reference is (inr other) = inl (record { own = own; reference = reference; is = is; other = other })
 
-  of_found : Found s frames at ⊎ IsInitialisation s frames at None → CallsOnThis s frames at ⊎ (¬ CallsOnThis s frames at)
-  of_found (inr none) = inr (λ on. none This on.reference on.is)
-  of_found (inl found) = of_object found.object found.reference found.is where
+  of_found : IsTrue (is_init s) → Found s frames at ⊎ IsInitialisation s frames at None → CallsOnThis s frames at ⊎ (¬ CallsOnThis s frames at)
+  of_found own (inr none) = inr (λ on. none This on.reference on.is)
+  of_found own (inl found) = of_object found.object found.reference found.is where
     of_object : (object : Object) (reference : Reference) → InitialisesAt s frames at (type_of_object object) reference → CallsOnThis s frames at ⊎ (¬ CallsOnThis s frames at)
-    of_object This reference is = open_this reference is (same_bytes reference.class object)
+    of_object This reference is = open_this own reference is (same_bytes reference.class object)
     of_object (New new) reference is = inr (λ on. new_is_not_this new (one_object s frames at (Uninit new) UninitThis reference on.reference is on.is))
+
+  of_method : (b : Bool) → is_init s ≡ b → CallsOnThis s frames at ⊎ (¬ CallsOnThis s frames at)
+  of_method true own = of_found own (found_or_not s frames at)
+  of_method false none = inr (λ on. false≢true (sym none ∙ on.own))
 
 -- ---- what stands at numbers stands there once
 
@@ -64,7 +69,7 @@ module _ (classes : Classes) (typed : FolderFrames) where
     from_callee host _ _ _ (is_callee from at callee host_class caller scope before frames inner is_host is_caller are_before is_scope are_frames calls stands result parts) =
         let has : HasFrames classes typed callee scope frames = record { is_scope = is_scope; are_frames = are_frames } in
         let part : (within : ℕ) → CallsOnThis scope frames within → CallsAtMost classes typed callee within (inner within) × IsReady classes typed host (inner within) =
-        λ within on. from_callee host callee within (inner within) (parts within on.reference on.is on.other) in (
+        λ within on. from_callee host callee within (inner within) (parts within on.reference on.own on.is on.other) in (
           record {
             caller = caller;
             before = before;
@@ -120,8 +125,8 @@ module _ (classes : Classes) (typed : FolderFrames) where
       is_callee from at callee fits.host_class calls.caller fits.scope calls.before fits.frames (inner_at callee fits.scope fits.frames fits.is fits.called)
       fits.is_host calls.is_caller.is_scope calls.is_caller.are_frames fits.is.is_scope fits.is.are_frames calls.calls fits.stands
       (result_here from at callee fits.scope fits.frames fits.is calls)
-      (λ within reference init other.
-      let on : CallsOnThis fits.scope fits.frames within = record { reference = reference; is = init; other = other } in
+      (λ within reference own init other.
+      let on : CallsOnThis fits.scope fits.frames within = record { own = own; reference = reference; is = init; other = other } in
       let inner = inner_at callee fits.scope fits.frames fits.is fits.called within in
       to_callee host inner (parts inner (inner_needed callee fits.scope fits.frames fits.is fits.called within on)) callee within
       (inner_called callee fits.scope fits.frames fits.is fits.called within on))

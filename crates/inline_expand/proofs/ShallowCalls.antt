@@ -44,7 +44,7 @@ module _ (classes : Classes) (typed : FolderFrames) (host : MethodAt)
         none_of_each outer own (λ other is. none_among (host ∷ chain) own other follows.other (within other is)),
         λ need needs.
             let on = need_here classes typed once own need scope frames has needs in
-            constructs_shallow (own ∷ chain) own needs.within (parts needs.within on.reference on.is on.other) outer left
+            constructs_shallow (own ∷ chain) own needs.within (parts needs.within on.reference on.own on.is on.other) outer left
             (λ other is. wider other (within other is)) (omega (arith, six)) need needs.calls,
       ) where
         same : own ≡ callee
@@ -85,8 +85,8 @@ module _ (classes : Classes) (typed : FolderFrames) (host : MethodAt)
       (to_callee classes typed host.class callee ready from at calls)
       (shallow_follows outer chain left callee six ready shallow.0 each)
       fits.is
-      (λ within reference init other.
-      let on : CallsOnThis fits.scope fits.frames within = record { reference = reference; is = init; other = other } in
+      (λ within reference own init other.
+      let on : CallsOnThis fits.scope fits.frames within = record { own = own; reference = reference; is = init; other = other } in
       let inner = fits.called within on in
       let need : Needs classes typed callee inner.0 = record { scope = fits.scope; frames = fits.frames; is = fits.is; within = within; on_this = on; calls = inner.1 } in
       shallow_constructs outer left (callee ∷ chain) callee within inner.0 (omega (arith, six)) inner.1 (parts inner.0 need) (shallow.1 inner.0 need)

@@ -41,7 +41,7 @@ use Rattle.member_link.specs.Overriding.{Overrides, package_of}
 use Rattle.member_link.specs.References.{NamesElementClass, Reference}
 use Rattle.member_link.specs.Rows.MemberRows.{receiver}
 use Rattle.member_link.specs.Rows.Operands.{lowest_of}
-use Rattle.member_link.specs.Scope.{Scope, instructions, own_descriptor, scope_at}
+use Rattle.member_link.specs.Scope.{Scope, instructions, is_init, own_descriptor, scope_at}
 use Rattle.member_link.specs.Selection.{Selects, chosen_method}
 use Rattle.member_link.specs.Signatures.{reference_of, result_of}
 use Rattle.member_link.specs.SpecialStart.{StartsSpecial}
@@ -289,9 +289,9 @@ pub record InitialisesAt (s : Scope) (frames : List Frame) (at : ℕ) (object : 
   pub before : frame_before s frames at ≡ Some frame
   pub on : receiver frame reference.desc ≡ object
 
--- The call at an offset of a method may be replaced by the callee's code, in a host of the class of this number. The calls of
--- initialisers on an initialiser's own uninitialised object may be replaced too, or are of java/lang/Object. It is the
--- least such relation.
+-- The call at an offset of a method may be replaced by the callee's code, in a host of the class of this number. If the callee is an
+-- instance initialiser, its calls of initialisers on its own uninitialised object may be replaced too, or are of java/lang/Object. It is
+-- the least such relation. (Of another method only code that nothing reaches may state such an object: nothing is asked of its calls.)
 pub data IsCallee (classes : Classes) (typed : FolderFrames) (host : ℕ) : MethodAt → ℕ → MethodAt
     → Type 0 where
   is_callee : (from : MethodAt) (at : ℕ) (callee : MethodAt)
@@ -308,6 +308,7 @@ pub data IsCallee (classes : Classes) (typed : FolderFrames) (host : ℕ) : Meth
       → frame_behind caller before at ≡ Some behind
       → ResultSaysAtMost (headers_of classes) (result_of (own_descriptor scope)) behind)
       → ((within : ℕ) (reference : Reference)
+      → IsTrue (is_init scope)
       → InitialisesAt scope frames within UninitThis reference
       → reference.class ≢ object
       → IsCallee classes typed host callee within (inner within))

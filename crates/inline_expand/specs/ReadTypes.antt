@@ -161,7 +161,7 @@ NoThisWithin (site class more) = NoThisWithin more
 NoThisWithin (replaced callee inner more) =
     NoThisIn callee × NoThisWithin inner × NoThisWithin more
 
--- so of each method that stands in the flat code of a host: the host and its callees
+-- so of each callee that stands in the flat code of a host. Of the host nothing is asked: an uninitialised this of its frames stays one.
 abbrev pub NoThisOutside : {classes : Classes} {typed : FolderFrames} {at : MethodAt} {flat : FlatCode}
     → IsExpanded classes typed at flat → Type 0
-NoThisOutside is = NoThisIn is.host × NoThisWithin is.expansion
+NoThisOutside is = NoThisWithin is.expansion

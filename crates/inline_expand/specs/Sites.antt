@@ -36,6 +36,7 @@ pub data Constructs (classes : Classes) (typed : FolderFrames) (host : MethodAt)
       → MayFollow host chain callee
       → HasFrames classes typed callee scope frames
       → ((within : ℕ) (reference : Reference)
+      → IsTrue (is_init scope)
       → InitialisesAt scope frames within UninitThis reference
       → reference.class ≢ object
       → Constructs classes typed host (callee ∷ chain) callee within)

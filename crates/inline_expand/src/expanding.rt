@@ -36,7 +36,7 @@ use type_rules::{TypedFolder, a_typed_folder_types_each_method};
 /// - `Expanded`: the flat code has more than 8,000 points;
 /// - `NoSite`: it has no candidate site;
 /// - `Wide`: it has more than 256 sites, or 4,096 local units of the sites' fields; or the written code would have more than 65,535
-///   local units, or a deeper stack.
+///   local units; or the greatest depth of its typed stacks, in units, plus 70 passes 65,535.
 ///
 /// `NoMemory`, where memory runs out.
 pub fn expand(

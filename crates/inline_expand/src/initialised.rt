@@ -53,11 +53,14 @@ pub(crate) fn initialisation_at<'a>(method: &CodedMethod<'a>, at: u32) -> Option
     })
 }
 
-/// Whether a call of an instance initialiser, other than that of java/lang/Object, on the method's own uninitialised
-/// object stands at an offset.
+/// Whether the method is an instance initialiser and a call of one, other than that of java/lang/Object, on the method's own
+/// uninitialised object stands at an offset.
 pub(crate) fn calls_on_this(method: &CodedMethod<'_>, at: u32) -> bool
     ensures { IsTrue result ↔ CallsOnThis method.now.host method.now.frames.now at }
 {
+    if !method.host.is_initialiser() {
+        return false;
+    }
     match initialisation_at(method, at) {
         Some(call) => is_other_on_this(&call),
         None => false,

@@ -89,8 +89,8 @@ pub fn expanded_flat_codes_run_equally()
 
 /// The typed points of the expanded flat code of a host type it, as the typing of code asks, where the object of a candidate site is read as one
 /// of its class: its `new` makes such an object, and a call of java/lang/Object.<init> takes it away (`TypesFlat`). Access is not asked. The
-/// folder is verified: it is linked, frames type it, and its program is typed by them. Of the methods that stand in the flat code, none that is
-/// no instance initialiser has a frame with an uninitialised this, as code that nothing reaches may state (`NoThisOutside`).
+/// folder is verified: it is linked, frames type it, and its program is typed by them. None of the callees that stand in the flat code, unless it
+/// is an instance initialiser, has a frame with an uninitialised this, as code that nothing reaches may state (`NoThisOutside`).
 pub fn an_expanded_flat_code_is_typed()
     ensures { (classes : Classes) (typed : FolderFrames) (links : Links) (typings : Typings)
         (at : MethodAt) (flat : FlatCode) (s : Scope)

@@ -1,5 +1,5 @@
-//! Which methods may stand in the code of a host with all that they call on their own uninitialised object: an
-//! instance initialiser calls one of its own class or of its superclass, and so on upwards.
+//! Which methods may stand in the code of a host. An instance initialiser calls one of its own class or of its superclass on
+//! its own uninitialised object, and so on upwards: it may stand there with all of these.
 ghost use Rattle.std.specs.Prelude.{◌≡◌, ◌↔◌, IfOk, OnOk, IsTrue};
 ghost use Rattle.std.specs.Option.{option_map};
 ghost use Rattle.inline_expand.specs.Inner.Coded.{Stands};
@@ -29,8 +29,8 @@ pub(crate) struct HostClass<'a> {
     pub(crate) class: &'a ClassFile,
 }
 
-/// Whether a method may stand in a host's code with all that it calls on its own uninitialised object. What is found of
-/// a method on the way is kept among the verdicts, so that each method is looked at once.
+/// Whether a method may stand in a host's code, an initialiser with all that it calls on its own uninitialised object. What
+/// is found of a method on the way is kept among the verdicts, so that each method is looked at once.
 ///
 /// # Errors
 /// `NoMemory`, where memory runs out.
@@ -78,8 +78,9 @@ fn next(verdicts: &mut Verdicts, stack: &mut Stack) -> Result<Option<MethodAt>, 
     Ok(None)
 }
 
-/// The methods that a method calls on its own uninitialised object, if it may stand in a host's code; none where it may not,
-/// or one of these calls can't be replaced.
+/// The methods that an initialiser calls on its own uninitialised object, if it may stand in a host's code; none where it may not,
+/// or one of these calls can't be replaced. Another method calls no such method: only code that nothing reaches may state such an
+/// object in it.
 ///
 /// # Errors
 /// `NoMemory`, where memory runs out.
@@ -103,7 +104,7 @@ pub(crate) fn needs(
     Ok(own_callees(alloc, host, &method)?)
 }
 
-// The methods that a method calls on its own uninitialised object; none where one of these calls can't be replaced.
+// The methods that an initialiser calls on its own uninitialised object; none where one of these calls can't be replaced.
 fn own_callees(
     alloc: Global,
     host: HostClass<'_>,
@@ -125,8 +126,8 @@ fn own_callees(
     Ok(Some(callees))
 }
 
-// Appends the method that the call at an offset runs, if the call is on the method's own uninitialised object. It answers whether
-// there is no such call or it can be replaced.
+// Appends the method that the call at an offset runs, if the method is an initialiser and the call is on its own uninitialised
+// object. It answers whether there is no such call or it can be replaced.
 fn add_own_callee(
     alloc: Global,
     host: HostClass<'_>,

@@ -21,3 +21,4 @@ mod ArithmeticRuns
 mod NarrowingRuns
 mod HandlersRuns
 mod StuckRuns
+pub mod StackRuns

@@ -14,4 +14,5 @@ pub mod ArithmeticCases
 pub mod NarrowingCases
 pub mod HandlersCases
 pub mod StuckCases
+pub mod StackCases
 pub mod Laws

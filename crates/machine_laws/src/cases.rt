@@ -2,6 +2,7 @@
 ghost use Rattle.machine_laws.specs.ArithmeticCases.{RunArithmetic};
 ghost use Rattle.machine_laws.specs.HandlersCases.{RunHandlers};
 ghost use Rattle.machine_laws.specs.NarrowingCases.{RunNarrowing};
+ghost use Rattle.machine_laws.specs.StackCases.{MoveEntries, TakeJumps};
 ghost use Rattle.machine_laws.specs.StuckCases.{RunStuck};
 ghost use Rattle.machine_laws.specs.ArraysCases.{RunArrays};
 ghost use Rattle.machine_laws.specs.CallsCases.{RunCalls};
@@ -70,4 +71,10 @@ pub fn programs_show_which_handler_catches()
 /// Programs that do not verify.
 pub fn programs_show_what_is_stuck()
     ensures { RunStuck }
+{}
+
+/// Each form of the instructions that move stack entries, and each conditional jump.
+pub fn programs_show_what_the_stack_holds()
+    ensures entries { MoveEntries }
+    ensures jumps { TakeJumps }
 {}

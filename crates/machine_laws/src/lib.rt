@@ -12,11 +12,11 @@ pub use bounds::{
 };
 pub use cases::{
     programs_show_what_arithmetic_gives, programs_show_what_calls_run, programs_show_what_is_stuck,
-    programs_show_what_the_library_is_asked, programs_show_where_values_are_narrowed,
-    programs_show_which_actions_are_faults, programs_show_which_handler_catches,
-    programs_show_which_stores_are_final, programs_show_which_throwables_are_raised,
-    programs_show_who_begins_a_class, programs_show_who_holds_a_monitor,
-    worked_programs_run_as_written,
+    programs_show_what_the_library_is_asked, programs_show_what_the_stack_holds,
+    programs_show_where_values_are_narrowed, programs_show_which_actions_are_faults,
+    programs_show_which_handler_catches, programs_show_which_stores_are_final,
+    programs_show_which_throwables_are_raised, programs_show_who_begins_a_class,
+    programs_show_who_holds_a_monitor, worked_programs_run_as_written,
 };
 pub use laws::{
     a_program_in_which_nothing_is_replaced_is_itself, a_run_goes_on_where_it_stopped,

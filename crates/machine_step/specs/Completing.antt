@@ -34,7 +34,7 @@ completion_of memory operands (completed.Asks asked) = made.asks (asked_of opera
 completion_of memory operands completed.Stuck = made.ends halts.stuck
 completion_of memory operands completed.ArrayTooLong = made.ends halts.array_too_long
 
--- an operation that gives nothing leaves the memory as it was
+-- what comes to anything but Gives leaves the memory as it was
 abbrev pub Keeps : Memory → Memory → Completed → Type 0
 Keeps before after (completed.Gives value) = Unit {0}
 Keeps before after completed = after ≡ before

@@ -1,5 +1,5 @@
 //! Operations with what they name resolved, and with what they answered last. Contracts see through them what the operation is
-//! (specs/Inner/RunOps).
+//! (`specs/RunOps.antt`).
 use class_model::{FieldType, Kind, MethodAt, PairList, TargetList, Text};
 use machine_values::{Constant, Value};
 use member_link::Reference;

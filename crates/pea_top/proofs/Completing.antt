@@ -3,7 +3,7 @@ use Rattle.std.proofs.Common.{◌≡◌, ◌≢◌, ◌≤◌, List, [], ◌∷�
 use Rattle.std.proofs.lemmas.List.{append-nil}
 use Rattle.std.specs.Prelude.{◌↔◌}
 use Rattle.std.specs.List.{flat_map, AllByRecursion}
-use Rattle.pea_top.specs.Words.{Word, Command, Optimise, Verify, Run, name_of, positionals_of, HasSteps, CommandOption, lib_option, steps_option, Part, Positional, Separate, Joined, words_of, IsPart, positionals, values_of, Spells}
+use Rattle.pea_top.specs.Words.{Word, Command, Optimise, Verify, Plan, Run, name_of, positionals_of, HasSteps, CommandOption, lib_option, steps_option, Part, Positional, Separate, Joined, words_of, IsPart, positionals, values_of, Spells}
 use Rattle.pea_top.specs.Seen.{AreOf, Completes, AreBehindName}
 use Rattle.pea_top.proofs.WordGrammar.{same_part, not_empty}
 
@@ -97,11 +97,13 @@ no_part_first ps vs word rest command none h = none_by h.parts h.spelled h.each
 two_at_most : (command : Command) → length (positionals_of command) ≤ 2
 two_at_most (Optimise input output library) = omega arith
 two_at_most (Verify input library) = omega arith
+two_at_most (Plan input library) = omega arith
 two_at_most (Run input script library steps) = omega arith
 
 one_at_most : (command : Command) (values : List Word) → HasSteps command values → length values ≤ 1
 one_at_most (Optimise input output library) values h = omega (arith, ap length h)
 one_at_most (Verify input library) values h = omega (arith, ap length h)
+one_at_most (Plan input library) values h = omega (arith, ap length h)
 one_at_most (Run input script library steps) [] h = omega arith
 one_at_most (Run input script library steps) (word ∷ []) h = omega arith
 one_at_most (Run input script library steps) (first ∷ second ∷ values) h = absurd h

@@ -1,4 +1,4 @@
--- The files of a folder, put in their order under another root.
+-- Files put in their order under a root, which are a folder.
 use Rattle.std.proofs.Common.{◌≡◌, ◌≢◌, ℕ, zero, suc, ◌+◌, ◌<◌, Bool, true, false, List, [], ◌∷◌, ◌++◌, map, cond, bytes_eq, Option, Some, None, Decides, refl, sym, ap, ◌∙◌, subst, arith}
 use Rattle.std.specs.Cmp.Lexicographic.{slice_cmp}
 use Rattle.std.specs.List.{AllByRecursion}
@@ -12,7 +12,7 @@ use Rattle.std.proofs.lemmas.Slice.Eq.{bytes_eq-Decides}
 use Rattle.host_tree.specs.Host.{Bytes, Folder, Files, times}
 use Rattle.host_tree.specs.Laws.Names.{times-cons}
 use Rattle.pea_top.specs.declared.folder.NamedFile.{NamedFile}
-use Rattle.pea_top.specs.Effects.{IsCopied, IsPartlyCopied}
+use Rattle.pea_top.specs.Effects.{ArePut, ArePartlyPut}
 use Rattle.pea_top.specs.Folders.{IsBytesBefore}
 use Rattle.pea_top.specs.Inner.Reading.{AreFiles}
 use Rattle.pea_top.specs.Inner.Writing.{content_after, Puts, PutsSome}
@@ -67,13 +67,13 @@ times-some folder files name bytes are there = are.names.once name ∙ ap (λ o.
 times-none : (folder : Folder) (files : List NamedFile) (name : Bytes) → AreFiles folder files → folder name ≡ None → times name (names_of files) ≡ 0
 times-none folder files name are there = are.names.once name ∙ ap (λ o. cond (is_some o) 1 0) there
 
--- all of the files of the input were put
-pub IsCopied-puts : (input output : Bytes) (files : List NamedFile) (old new : Files) → AreFiles (old input) files → Puts output files old new → IsCopied input output old new
-IsCopied-puts input output files old new are puts = record {
+-- all of the files were put
+pub files_are_put : (final : Folder) (output : Bytes) (files : List NamedFile) (old new : Files) → AreFiles final files → Puts output files old new → ArePut final output old new
+files_are_put final output files old new are puts = record {
   put = λ name bytes there.
-      let once = times-some (old input) files name bytes are there in
-      puts.put name ∙ content_after-here (old input) files name (old output name) are.contents (omega (arith, once)) ∙ there;
-  kept = λ name none. puts.put name ∙ content_after-absent files name (old output name) (times-none (old input) files name are none);
+      let once = times-some final files name bytes are there in
+      puts.put name ∙ content_after-here final files name (old output name) are.contents (omega (arith, once)) ∙ there;
+  kept = λ name none. puts.put name ∙ content_after-absent files name (old output name) (times-none final files name are none);
   others = puts.others;
 }
 
@@ -90,7 +90,7 @@ none_from zero none = refl
 none_from (suc n) none = absurd (none (omega arith))
 
 -- the files around one whose write failed
-module _ (input output : Bytes) (done : List NamedFile) (failing : NamedFile) (left : List NamedFile) (old new : Files) (are : AreFiles (old input) (done ++ failing ∷ left))
+module _ (final : Folder) (output : Bytes) (done : List NamedFile) (failing : NamedFile) (left : List NamedFile) (old new : Files) (are : AreFiles final (done ++ failing ∷ left))
     (put : (name : Bytes) → name ≢ failing.name → new output name ≡ content_after done name (old output name))
     (others : (other name : Bytes) → other ≢ output → new other name ≡ old other name) where
   names_parts : names_of (done ++ failing ∷ left) ≡ names_of done ++ failing.name ∷ names_of left
@@ -102,34 +102,34 @@ module _ (input output : Bytes) (done : List NamedFile) (failing : NamedFile) (l
   times_parts : (name : Bytes) → times name (names_of (done ++ failing ∷ left)) ≡ times name (names_of done) + (cond (bytes_eq name failing.name) 1 0 + times name (names_of left))
   times_parts name = ap (times name) names_parts ∙ sum_by-append _ (names_of done) (failing.name ∷ names_of left) ∙ ap (λ n. times name (names_of done) + n) (times-cons name failing.name (names_of left))
 
-  there_failing : old input failing.name ≡ Some failing.bytes
-  there_failing = (contents_after (old input) done (failing ∷ left) are.contents).0
+  there_failing : final failing.name ≡ Some failing.bytes
+  there_failing = (contents_after final done (failing ∷ left) are.contents).0
 
-  put_before : (name bytes : Bytes) → IsBytesBefore name failing.name → old input name ≡ Some bytes → new output name ≡ Some bytes
+  put_before : (name bytes : Bytes) → IsBytesBefore name failing.name → final name ≡ Some bytes → new output name ≡ Some bytes
   put_before name bytes before there =
       let other = IsBytesBefore-other name failing.name before in
       let apart : cond {A = ℕ} (bytes_eq name failing.name) 1 0 ≡ 0 = cond-false (bytes_eq name failing.name) 1 0 (false_from_ne_true (bytes_eq name failing.name) (λ e. other ((bytes_eq-Decides name failing.name).0 e))) in
       let none_later = none_from (times name (names_of left)) (λ some. later_not_before (names_of done) failing.name (names_of left) in_order name some before) in
-      let once = times-some (old input) (done ++ failing ∷ left) name bytes are there in
+      let once = times-some final (done ++ failing ∷ left) name bytes are there in
       let earlier : 0 < times name (names_of done) = omega (arith, times_parts name) in
-      put name other ∙ content_after-here (old input) done name (old output name) (contents_before (old input) done (failing ∷ left) are.contents) earlier ∙ there
+      put name other ∙ content_after-here final done name (old output name) (contents_before final done (failing ∷ left) are.contents) earlier ∙ there
 
   kept_absent : (name : Bytes) → times name (names_of done) ≡ 0 → name ≢ failing.name → new output name ≡ old output name
   kept_absent name none other = put name other ∙ content_after-absent done name (old output name) none
 
-  IsPartlyCopied-parts : IsPartlyCopied input output old new
-  IsPartlyCopied-parts = record {
+  partly_put : ArePartlyPut final output old new
+  partly_put = record {
     failing = failing.name;
-    is_input = ap is_some there_failing;
+    is_written = ap is_some there_failing;
     before = put_before;
     after = λ name behind. kept_absent name (none_from _ (λ some. earlier_not_after (names_of done) failing.name (names_of left) in_order name some behind)) (λ same. IsBytesBefore-other failing.name name behind (sym same));
     kept = λ name none other.
-        let nowhere = times-none (old input) (done ++ failing ∷ left) name are none in
+        let nowhere = times-none final (done ++ failing ∷ left) name are none in
         kept_absent name (omega (arith, times_parts name)) other;
     others = others;
   }
 
--- some of the files of the input were put
-pub IsPartlyCopied-puts : (input output : Bytes) (files : List NamedFile) (old new : Files) → AreFiles (old input) files → PutsSome output files old new → IsPartlyCopied input output old new
-IsPartlyCopied-puts input output files old new are puts =
-    IsPartlyCopied-parts input output puts.done puts.failing puts.left old new (subst (AreFiles (old input)) puts.parts are) puts.put puts.others
+-- some of the files were put
+pub files_are_partly_put : (final : Folder) (output : Bytes) (files : List NamedFile) (old new : Files) → AreFiles final files → PutsSome output files old new → ArePartlyPut final output old new
+files_are_partly_put final output files old new are puts =
+    partly_put final output puts.done puts.failing puts.left old new (subst (AreFiles final) puts.parts are) puts.put puts.others

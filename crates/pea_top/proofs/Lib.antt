@@ -22,3 +22,8 @@ pub mod OneLinkProblem
 pub mod OneTypeFailure
 pub mod OneScript
 pub mod OneAnswer
+pub mod ReadFiles
+pub mod WritingFiles
+pub mod WrittenFiles
+pub mod Meanings
+pub mod Complete

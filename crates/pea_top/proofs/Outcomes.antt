@@ -1,5 +1,5 @@
 -- What the parts of a call leave and print, as the words see it.
-use Rattle.std.proofs.Common.{◌≡◌, ◌⊎◌, ℕ, true, false, List, map, length, arith, refl, sym, ◌∙◌, subst, inl, inr}
+use Rattle.std.proofs.Common.{◌≡◌, ◌⊎◌, ℕ, ◌-◌, true, false, List, map, length, arith, refl, sym, ◌∙◌, subst, inl, inr}
 use Rattle.std.proofs.lemmas.Bool.{false≢true}
 use Rattle.std.proofs.lemmas.List.{length-map}
 use Rattle.class_model.specs.Header.{HeaderOf}
@@ -9,7 +9,13 @@ use Rattle.host_tree.specs.Counts.{NeverFalls, Rose}
 use Rattle.host_tree.specs.Host.{Bytes, Folder, Files, SameFiles, IsPrefixPrinted}
 use Rattle.host_tree.specs.declared.call.HostCall.{HostCall}
 use Rattle.host_tree.specs.declared.call.HostCall.TheVariants as calls
+use Rattle.class_rewrite.specs.Optimised.{IsOptimised}
+use Rattle.class_rewrite.specs.Reports.{rewritten_count}
+use Rattle.class_rewrite.specs.declared.folder.Optimised.{Optimised}
 use Rattle.class_tree.specs.Headers.{Classes}
+use Rattle.std.proofs.lemmas.List.Sorted.{length_permutation}
+use Rattle.type_rules.specs.TypedFrames.{FolderFrames}
+use Rattle.type_rules.specs.Verified.{TypesFolder}
 use Rattle.machine_values.specs.declared.action.Action.{Action}
 use Rattle.member_link.specs.Machine.Runs.{shown_after}
 use Rattle.script_text.specs.Events.{events_text}
@@ -18,9 +24,13 @@ use Rattle.pea_top.specs.Inner.CommandEffects.{some_files, all_files, LeavesWrit
 use Rattle.pea_top.specs.Inner.Deciding.{AreInput, IsWork, IsPrepared, AreReady, IsShown, IsOutcome, Stands, IsStop}
 use Rattle.pea_top.specs.Effects.{DoneFiles, IsNeverStuck, LeavesDone, LeavesPart, IsRunText, IsDoneText, IsSummary, PrintsPart, PrintsLine, before_work, in_refusal, in_writes, in_print, Leaves}
 use Rattle.pea_top.specs.Folders.{HasClassFiles}
-use Rattle.pea_top.specs.Inner.Reading.{AreGoodFiles, StopsAt, status_of}
+use Rattle.pea_top.specs.Inner.Optimising.{IsOutput, IsReported}
+use Rattle.pea_top.specs.Inner.Reading.{AreFiles, AreGoodFiles, StopsAt, status_of}
+use Rattle.pea_top.specs.Lines.{summary_line}
+use Rattle.pea_top.specs.Optimising.{AreFinal, AreOptimised, IsPlanText}
+use Rattle.pea_top.specs.declared.optimising.Output.{Output}
 use Rattle.pea_top.specs.Status.{Ending, completed, refused, failed, out_of_memory, ending, is_refused, line_of}
-use Rattle.pea_top.specs.Words.{Word, Command, Optimise, Verify, Run, input_of, library_of, Spells}
+use Rattle.pea_top.specs.Words.{Word, Command, Optimise, Verify, Plan, Run, input_of, library_of, Spells}
 use Rattle.pea_top.specs.Inner.Writing.{Puts, PutsSome}
 use Rattle.pea_top.specs.declared.folder.NamedFile.{NamedFile}
 use Rattle.pea_top.specs.declared.reading.ReadStop.{ReadStop}
@@ -29,7 +39,8 @@ use Rattle.pea_top.specs.declared.status.Status.{Status}
 use Rattle.pea_top.specs.declared.work.Work.{Work}
 use Rattle.pea_top.specs.declared.work.Work.TheVariants as works
 use Rattle.pea_top.specs.declared.status.Status.TheVariants.{Usage, Malformed, Version, HostFault, NoMemory}
-use Rattle.pea_top.proofs.Copying.{IsCopied-puts, IsPartlyCopied-puts}
+use Rattle.pea_top.proofs.Copying.{files_are_put, files_are_partly_put}
+use Rattle.pea_top.proofs.WrittenFiles.{written_final, written_same}
 
 -- files that are the same are one value
 one_value : {old mid : Files} → SameFiles old mid → mid ≡ old
@@ -105,15 +116,17 @@ stop_then words old mid new before text after status same same_text stop =
 -- ---- a command that is carried out
 
 -- the script of a run is there
-script_there : (command : Command) (old : Files) (count : ℕ) (classes : List ClassFile) (work : Work) → IsWork command old count classes work → HasScript command old
-script_there (Optimise input output library) old count classes work is = tt
-script_there (Verify input library) old count classes work is = tt
-script_there (Run input script library steps) old count classes (works.Write folder line) never = absurd never
-script_there (Run input script library steps) old count classes (works.Print line) never = absurd never
-script_there (Run input script library steps) old count classes (works.Run actions most) is = (actions, is.0)
+script_there : (command : Command) (old : Files) (classes : List ClassFile) (work : Work) → IsWork command old classes work → HasScript command old
+script_there (Optimise input output library) old classes work is = tt
+script_there (Verify input library) old classes work is = tt
+script_there (Plan input library) old classes work is = tt
+script_there (Run input script library steps) old classes (works.Optimise folder names) never = absurd never
+script_there (Run input script library steps) old classes works.Plan never = absurd never
+script_there (Run input script library steps) old classes (works.Print line) never = absurd never
+script_there (Run input script library steps) old classes (works.Run actions most) is = (actions, is.0)
 
 pub prepared_script : {command : Command} {old : Files} {files : List NamedFile} {classes : List ClassFile} {headers : List Header} {work : Work} → IsPrepared command old files classes headers work → HasScript command old
-prepared_script {command} {old} {files} {classes} {headers} {work} prepared = script_there command old (length files) classes work prepared.is_work
+prepared_script {command} {old} {files} {classes} {headers} {work} prepared = script_there command old classes work prepared.is_work
 
 module _ (words : List Word) (command : Command) (spelled : Spells command words) (old : Files) {files : List NamedFile} {tree : Classes} {work : Work} (ready : AreReady command old files tree work) where
   can_do : CanDo words old
@@ -141,26 +154,63 @@ module _ (words : List Word) (command : Command) (spelled : Spells command words
   part_of_summary : (text before after : Bytes) → IsDoneText command old (length files) ready.classes text → IsPrefixPrinted text before after → PrintsPart words old before after
   part_of_summary text before after is prefix = record { line = text; is_line = is_summary text is; prefix = prefix }
 
--- the files of the input are written, and then a line is printed
+-- what was read and verified is optimised as these
+optimised_as : {command : Command} {old : Files} {files : List NamedFile} {tree : Classes} {work : Work} (ready : AreReady command old files tree work) (typed : FolderFrames) → TypesFolder tree typed → (optimised : Optimised) → IsOptimised tree typed optimised
+    → AreOptimised (old (input_of command)) (old (library_of command)) tree optimised
+optimised_as {command} {old} {files} {tree} ready typed types optimised is = record {
+  classes = ready.classes;
+  headers = ready.headers;
+  read = input_read ready.prepared.input;
+  arranged = ready.arranged;
+  verified = record { tree = ready.verified.tree; linked = ready.verified.linked; typed = typed; types = types };
+  is = is;
+}
+
+-- the files of the input are optimised and written, and then a line is printed
 module _ (words : List Word) (input output library : Word) (spelled : Spells (Optimise input output library) words) (old new : Files) {files : List NamedFile} {tree : Classes} {work : Work} (ready : AreReady (Optimise input output library) old files tree work)
-    (line : Bytes) (is_line : IsDoneText (Optimise input output library) old (length files) ready.classes line) (before after : Bytes) where
-  copies : Puts output files old new → LeavesDone words old new
-  copies puts = record { command = Optimise input output library; spelled = spelled; files = IsCopied-puts input output files old new ready.prepared.input.good.are puts }
+    (typed : FolderFrames) (types : TypesFolder tree typed) (out : Output) (is : IsOutput tree typed files out) (before after : Bytes) where
+  optimised : AreOptimised (old input) (old library) tree is.optimised
+  optimised = optimised_as ready typed types is.optimised is.is
 
-  partly_copies : PutsSome output files old new → LeavesPart words old new
-  partly_copies puts = record { command = Optimise input output library; spelled = spelled; files = IsPartlyCopied-puts input output files old new ready.prepared.input.good.are puts }
+  out_are : AreFiles (old input) out.files.items
+  out_are = subst (AreFiles (old input)) (sym (written_same tree is.optimised.classes files out.files.items is.written)) ready.prepared.input.good.are
 
-  written : (Refuses : Type 0) (e : Ending) → LeavesWritten output files line old new before after e → CauseOf words old Refuses e × Stands words old new before after e
-  written Refuses completed left = (can_do words _ spelled old ready, (copies left.0, record { line = line; is_line = is_summary words _ spelled old ready line is_line; printed = left.1 }))
+  finals : AreFinal tree is.optimised.classes (old input) (old input)
+  finals = written_final tree is.optimised.classes (old input) files out.files.items ready.prepared.input.good.are is.written
+
+  is_line : IsDoneText (Optimise input output library) old (length files) ready.classes out.line.items
+  is_line = record {
+    tree = tree;
+    optimised = is.optimised;
+    are = optimised;
+    is = subst (λ (count : ℕ). out.line.items ≡ summary_line (length files) count (rewritten_count is.optimised.report) (length is.optimised.report - rewritten_count is.optimised.report)) (length_permutation ready.classes tree.folder ready.arranged.folder_same) is.line;
+  }
+
+  are_put : Puts output out.files.items old new → LeavesDone words old new
+  are_put puts = record {
+    command = Optimise input output library;
+    spelled = spelled;
+    files = record { tree = tree; optimised = is.optimised; are = optimised; final = old input; are_final = finals; put = files_are_put (old input) output out.files.items old new out_are puts };
+  }
+
+  are_partly_put : PutsSome output out.files.items old new → LeavesPart words old new
+  are_partly_put puts = record {
+    command = Optimise input output library;
+    spelled = spelled;
+    files = record { tree = tree; optimised = is.optimised; are = optimised; final = old input; are_final = finals; put = files_are_partly_put (old input) output out.files.items old new out_are puts };
+  }
+
+  written : (Refuses : Type 0) (e : Ending) → LeavesWritten output out.files.items out.line.items old new before after e → CauseOf words old Refuses e × Stands words old new before after e
+  written Refuses completed left = (can_do words _ spelled old ready, (are_put left.0, record { line = out.line.items; is_line = is_summary words _ spelled old ready out.line.items is_line; printed = left.1 }))
   written Refuses (refused refusal) never = absurd never
   written Refuses (failed calls.List) never = absurd never
   written Refuses (failed calls.Read) never = absurd never
-  written Refuses (failed calls.Write) left = (can_do words _ spelled old ready, (partly_copies left.0, left.1))
-  written Refuses (failed calls.Print) left = (can_do words _ spelled old ready, (copies left.0, part_of_summary words _ spelled old ready line before after is_line left.1))
-  written Refuses out_of_memory (some_files puts none) = (tt, in_writes (can_do words _ spelled old ready) (partly_copies puts) none)
-  written Refuses out_of_memory (all_files puts prefix) = (tt, in_print (can_do words _ spelled old ready) (copies puts) (part_of_summary words _ spelled old ready line before after is_line prefix))
+  written Refuses (failed calls.Write) left = (can_do words _ spelled old ready, (are_partly_put left.0, left.1))
+  written Refuses (failed calls.Print) left = (can_do words _ spelled old ready, (are_put left.0, part_of_summary words _ spelled old ready out.line.items before after is_line left.1))
+  written Refuses out_of_memory (some_files puts none) = (tt, in_writes (can_do words _ spelled old ready) (are_partly_put puts) none)
+  written Refuses out_of_memory (all_files puts prefix) = (tt, in_print (can_do words _ spelled old ready) (are_put puts) (part_of_summary words _ spelled old ready out.line.items before after is_line prefix))
 
-  stop_written : (status : Status) → LeavesWritten output files line old new before after (ending status) → IsStop words old new before after status
+  stop_written : (status : Status) → LeavesWritten output out.files.items out.line.items old new before after (ending status) → IsStop words old new before after status
   stop_written status left =
       let both = written (IsAnswer words old status) (ending status) left in
       record { cause = both.0; stands = both.1 }
@@ -187,7 +237,10 @@ module _ (words : List Word) (command : Command) (spelled : Spells command words
 
 -- what carrying out the work leaves, as its calls say
 abbrev pub WorkLeaves : Work → List NamedFile → Classes → Files → Files → Bytes → Bytes → Ending → Type 0
-WorkLeaves (works.Write folder line) files tree old new before after e = LeavesWritten folder.now files line.items old new before after e
+WorkLeaves (works.Optimise folder names) files tree old new before after e =
+    (typed : FolderFrames) × TypesFolder tree typed × (out : Output) × IsOutput tree typed files out × LeavesWritten folder.now out.files.items out.line.items old new before after e
+WorkLeaves works.Plan files tree old new before after e =
+    (typed : FolderFrames) × TypesFolder tree typed × (text : Bytes) × IsReported tree typed text × LeavesPrinted text old new before after e
 WorkLeaves (works.Print line) files tree old new before after e = LeavesPrinted line.items old new before after e
 WorkLeaves (works.Run actions most) files tree old new before after e = (text : Bytes) × (IsShown tree actions most text × LeavesPrinted text old new before after e)
 
@@ -210,16 +263,25 @@ module _ (words : List Word) (old new : Files) {files : List NamedFile} {tree : 
 
   -- the work of a command was carried out, or that stopped
   pub stop_carried : (command : Command) → Spells command words → (work : Work) → AreReady command old files tree work → (status : Status) → WorkLeaves work files tree old new before after (ending status) → IsStop words old new before after status
-  stop_carried (Optimise input output library) spelled (works.Write folder line) ready status left =
-      stop_written words input output library spelled old new ready line.items ready.prepared.is_work.1 before after status
-      (subst (λ (root : Bytes). LeavesWritten root files line.items old new before after (ending status)) ready.prepared.is_work.0 left)
+  stop_carried (Optimise input output library) spelled (works.Optimise folder names) ready status (typed, types, out, is, left) =
+      stop_written words input output library spelled old new ready typed types out is before after status
+      (subst (λ (root : Bytes). LeavesWritten root out.files.items out.line.items old new before after (ending status)) ready.prepared.is_work left)
+  stop_carried (Optimise input output library) spelled works.Plan ready status left = absurd ready.prepared.is_work
   stop_carried (Optimise input output library) spelled (works.Print line) ready status left = absurd ready.prepared.is_work
   stop_carried (Optimise input output library) spelled (works.Run actions most) ready status left = absurd ready.prepared.is_work
-  stop_carried (Verify input library) spelled (works.Write folder line) ready status left = absurd ready.prepared.is_work
+  stop_carried (Verify input library) spelled (works.Optimise folder names) ready status left = absurd ready.prepared.is_work
+  stop_carried (Verify input library) spelled works.Plan ready status left = absurd ready.prepared.is_work
   stop_carried (Verify input library) spelled (works.Print line) ready status left =
       stop_printed words _ spelled old new ready (λ same. same) line.items ready.prepared.is_work before after status left
   stop_carried (Verify input library) spelled (works.Run actions most) ready status left = absurd ready.prepared.is_work
-  stop_carried (Run input script library steps) spelled (works.Write folder line) ready status left = absurd ready.prepared.is_work
+  stop_carried (Plan input library) spelled (works.Optimise folder names) ready status left = absurd ready.prepared.is_work
+  stop_carried (Plan input library) spelled works.Plan ready status (typed, types, text, is, left) =
+      let is_text : IsPlanText (old input) (old library) text = record { tree = tree; optimised = is.optimised; are = optimised_as ready typed types is.optimised is.is; is = is.text_is } in
+      stop_printed words _ spelled old new ready (λ same. same) text is_text before after status left
+  stop_carried (Plan input library) spelled (works.Print line) ready status left = absurd ready.prepared.is_work
+  stop_carried (Plan input library) spelled (works.Run actions most) ready status left = absurd ready.prepared.is_work
+  stop_carried (Run input script library steps) spelled (works.Optimise folder names) ready status left = absurd ready.prepared.is_work
+  stop_carried (Run input script library steps) spelled works.Plan ready status left = absurd ready.prepared.is_work
   stop_carried (Run input script library steps) spelled (works.Print line) ready status left = absurd ready.prepared.is_work
   stop_carried (Run input script library steps) spelled (works.Run actions most) ready status (text, (shown, left)) =
       let is_text = run_text input script library steps (works.Run actions most) ready actions most text ready.prepared.is_work.0 ready.prepared.is_work.1 shown in

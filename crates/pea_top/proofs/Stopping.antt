@@ -18,7 +18,7 @@ use Rattle.pea_top.specs.Inner.Linking.{link_status}
 use Rattle.pea_top.specs.Inner.Linking.{IsLinkFault}
 use Rattle.pea_top.specs.Inner.Scripts.{IsCommandStop, script_status}
 use Rattle.pea_top.specs.Inner.Verifying.{verify_status}
-use Rattle.pea_top.specs.Words.{Word, Command, Optimise, Verify, Run, input_of, library_of, Spells}
+use Rattle.pea_top.specs.Words.{Word, Command, Optimise, Verify, Plan, Run, input_of, library_of, Spells}
 use Rattle.pea_top.specs.declared.script.ScriptStop.{ScriptStop}
 use Rattle.pea_top.specs.declared.script.ScriptStop.TheVariants as scripts
 use Rattle.pea_top.specs.declared.status.Status.TheVariants.{Unlinked, Unverified, BadScript, Absent}
@@ -57,6 +57,10 @@ module _ (words : List Word) (old new : Files) (before after : Bytes) (same : Sa
   stop_making (Verify input library) spelled read scripts.Fault never = absurd never
   stop_making (Verify input library) spelled read (scripts.Outside line bytes) never = absurd never
   stop_making (Verify input library) spelled read scripts.NoMemory is = stop_no_memory words old new before after same none
+  stop_making (Plan input library) spelled read (scripts.Absent name) never = absurd never
+  stop_making (Plan input library) spelled read scripts.Fault never = absurd never
+  stop_making (Plan input library) spelled read (scripts.Outside line bytes) never = absurd never
+  stop_making (Plan input library) spelled read scripts.NoMemory is = stop_no_memory words old new before after same none
   stop_making (Run input script library steps) spelled read (scripts.Absent name) is =
       let at_name = subst (λ (missing : Bytes). Spells (Run input missing library steps) words × (old [] missing ≡ None)) (sym is.0) (spelled, is.1) in
       stop_refused words old new before after same none (Absent name) refl

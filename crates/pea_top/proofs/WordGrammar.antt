@@ -2,7 +2,7 @@
 use Rattle.std.proofs.Common.{◌≡◌, ◌≢◌, ℕ, List, [], ◌∷◌, ◌++◌, get_or, refl, sym, ap, subst, ◌∙◌, arith}
 use Rattle.std.specs.Prelude.{codes}
 use Rattle.std.specs.List.{flat_map, AllByRecursion}
-use Rattle.pea_top.specs.Words.{Word, Command, Optimise, Verify, Run, name_of, positionals_of, library_of, HasSteps, CommandOption, lib_option, steps_option, option_name, Part, Positional, Separate, Joined, words_of, IsOperand, IsPart, positionals, values_of, Spells}
+use Rattle.pea_top.specs.Words.{Word, Command, Optimise, Verify, Plan, Run, name_of, positionals_of, library_of, HasSteps, CommandOption, lib_option, steps_option, option_name, Part, Positional, Separate, Joined, words_of, IsOperand, IsPart, positionals, values_of, Spells}
 
 -- an operand does not begin with a dash
 not_dashed : (word rest : Word) → IsOperand word → word ≢ 45 ∷ rest
@@ -83,17 +83,30 @@ same_steps input script library steps others [] h i = h ∙ sym i
 same_steps input script library steps others (word ∷ []) h i = sym h.number.value ∙ i.number.value
 same_steps input script library steps others (first ∷ second ∷ values) h i = absurd h
 
+-- the names of two commands differ in their first letter
+verify_not_plan : codes "verify" ≢ codes "plan"
+verify_not_plan e =
+    let letters : 118 ≡ 112 = ap (λ letters. get_or letters 0 0) e in
+    absurd (omega (arith, letters))
+
 -- a command is given by its name, its positional words and the values of its options
 same_words : (one other : Command) (values : List Word) → name_of one ≡ name_of other → positionals_of one ≡ positionals_of other
     → library_of one ∷ [] ≡ library_of other ∷ [] → HasSteps one values → HasSteps other values → one ≡ other
 same_words (Optimise input output library) (Optimise input' output' library') values n p l h i = cc
 same_words (Optimise input output library) (Verify input' library') values n p l h i = cc
+same_words (Optimise input output library) (Plan input' library') values n p l h i = cc
 same_words (Optimise input output library) (Run input' script' library' steps') values n p l h i = cc
 same_words (Verify input library) (Optimise input' output' library') values n p l h i = cc
 same_words (Verify input library) (Verify input' library') values n p l h i = cc
+same_words (Verify input library) (Plan input' library') values n p l h i = absurd (verify_not_plan n)
 same_words (Verify input library) (Run input' script' library' steps') values n p l h i = cc
+same_words (Plan input library) (Optimise input' output' library') values n p l h i = cc
+same_words (Plan input library) (Verify input' library') values n p l h i = absurd (verify_not_plan (sym n))
+same_words (Plan input library) (Plan input' library') values n p l h i = cc
+same_words (Plan input library) (Run input' script' library' steps') values n p l h i = cc
 same_words (Run input script library steps) (Optimise input' output' library') values n p l h i = cc
 same_words (Run input script library steps) (Verify input' library') values n p l h i = cc
+same_words (Run input script library steps) (Plan input' library') values n p l h i = cc
 same_words (Run input script library steps) (Run input' script' library' steps') values n p l h i =
     let numbers : steps ≡ steps' = same_steps input script library steps steps' values h i in
     cc

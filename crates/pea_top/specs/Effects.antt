@@ -6,7 +6,7 @@ use Rattle.class_model.specs.declared.class_file.ClassFile.{ClassFile}
 use Rattle.class_model.specs.declared.header.Header.{Header}
 use Rattle.class_tree.specs.Headers.{Classes}
 use Rattle.class_tree.specs.Trees.{IsArranged}
-use Rattle.host_tree.specs.Host.{Bytes, Files, SameFiles, IsPrefixPrinted}
+use Rattle.host_tree.specs.Host.{Bytes, Folder, Files, SameFiles, IsPrefixPrinted}
 use Rattle.host_tree.specs.declared.call.HostCall.TheVariants as calls
 use Rattle.machine_step.specs.Programs.{IsProgram}
 use Rattle.machine_values.specs.declared.action.Action.{Action}
@@ -14,44 +14,49 @@ use Rattle.member_link.specs.Machine.Programs.{Program}
 use Rattle.member_link.specs.Machine.Runs.{shown_after}
 use Rattle.machine_values.specs.declared.event.End.TheVariants as ends
 use Rattle.script_text.specs.Events.{events_text}
-use Rattle.pea_top.specs.Words.{Word, Command, Optimise, Verify, Run, input_of, Spells}
+use Rattle.pea_top.specs.Words.{Word, Command, Optimise, Verify, Plan, Run, input_of, Spells}
 use Rattle.pea_top.specs.Folders.{IsBytesBefore, AreNames, AreReadAs, HasClassFiles}
-use Rattle.pea_top.specs.Lines.{summary_line, verified_line}
+use Rattle.pea_top.specs.Lines.{verified_line}
+use Rattle.pea_top.specs.Optimising.{IsOptimisedLine, IsPlanText, PutsOptimised}
 use Rattle.pea_top.specs.Status.{Ending, completed, refused, failed, out_of_memory, line_of, refusal_line}
 use Rattle.pea_top.specs.Answer.{CanDo, IsAnswer, IsScriptThere}
 use Rattle.pea_top.specs.declared.status.Status.{Status}
 
--- The output has its old files with the files of the input put in, and every other root is as before.
-pub record IsCopied (input output : Bytes) (old new : Files) : Type 0 where
-  pub put : (name bytes : Bytes) → old input name ≡ Some bytes → new output name ≡ Some bytes
-  pub kept : (name : Bytes) → old input name ≡ None → new output name ≡ old output name
+-- The output has its old files with these put in, and every other root is as before.
+pub record ArePut (final : Folder) (output : Bytes) (old new : Files) : Type 0 where
+  pub put : (name bytes : Bytes) → final name ≡ Some bytes → new output name ≡ Some bytes
+  pub kept : (name : Bytes) → final name ≡ None → new output name ≡ old output name
   pub others : (root name : Bytes) → root ≢ output → new root name ≡ old root name
 
 -- The write of one name failed: the names before it have their final bytes, of that one nothing is said,
 -- and all else is as before.
-pub record IsPartlyCopied (input output : Bytes) (old new : Files) : Type 0 where
+pub record ArePartlyPut (final : Folder) (output : Bytes) (old new : Files) : Type 0 where
   pub failing : Bytes
-  pub is_input : IsSome (old input failing)
+  pub is_written : IsSome (final failing)
   pub before :
       (name bytes : Bytes)
       → IsBytesBefore name failing
-      → old input name ≡ Some bytes
+      → final name ≡ Some bytes
       → new output name ≡ Some bytes
   pub after : (name : Bytes) → IsBytesBefore failing name → new output name ≡ old output name
   pub kept :
-      (name : Bytes) → old input name ≡ None → name ≢ failing → new output name ≡ old output name
+      (name : Bytes) → final name ≡ None → name ≢ failing → new output name ≡ old output name
   pub others : (root name : Bytes) → root ≢ output → new root name ≡ old root name
 
 -- the files after a command that was done
 abbrev pub DoneFiles : Command → Files → Files → Type 0
-DoneFiles (Optimise input output library) old new = IsCopied input output old new
+DoneFiles (Optimise input output library) old new =
+    PutsOptimised (λ final. ArePut final output old new) (old input) (old library)
 DoneFiles (Verify input library) old new = SameFiles old new
+DoneFiles (Plan input library) old new = SameFiles old new
 DoneFiles (Run input script library steps) old new = SameFiles old new
 
--- the files after a command of which a write failed; verifying and running write nothing
+-- the files after a command of which a write failed; only optimising writes any
 abbrev pub PartFiles : Command → Files → Files → Type 0
-PartFiles (Optimise input output library) old new = IsPartlyCopied input output old new
+PartFiles (Optimise input output library) old new =
+    PutsOptimised (λ final. ArePartlyPut final output old new) (old input) (old library)
 PartFiles (Verify input library) old new = ⊥
+PartFiles (Plan input library) old new = ⊥
 PartFiles (Run input script library steps) old new = ⊥
 
 -- for the command that the words spell
@@ -91,9 +96,11 @@ pub record IsRunText (files : Files) (script library : Word) (steps : ℕ) (clas
 -- what is printed of a command that was done, over so many files of its input, of which these are its class files
 abbrev pub IsDoneText : Command → Files → ℕ → List ClassFile → Bytes → Type 0
 IsDoneText (Optimise input output library) files count classes text =
-    text ≡ summary_line count (length classes) (method_count classes)
+    IsOptimisedLine (files input) (files library) count (length classes) text
 IsDoneText (Verify input library) files count classes text =
     text ≡ verified_line (length classes) (method_count classes)
+IsDoneText (Plan input library) files count classes text =
+    IsPlanText (files input) (files library) text
 IsDoneText (Run input script library steps) files count classes text =
     IsRunText files script library steps classes text
 
@@ -162,6 +169,7 @@ Leaves words old new PrintRose before after out_of_memory = Unfinished words old
 abbrev pub IsWriting : Command → Type 0
 IsWriting (Optimise input output library) = Unit {0}
 IsWriting (Verify input library) = ⊥
+IsWriting (Plan input library) = ⊥
 IsWriting (Run input script library steps) = ⊥
 
 -- the words spell no command that writes

@@ -2,6 +2,8 @@
 -- without them, so a reader of the definitions may pass them over.
 pub mod Reading
 pub mod ReadingSteps
+pub mod ReadFiles
+pub mod Optimising
 pub mod Scripts
 pub mod Linking
 pub mod Verifying

@@ -5,7 +5,9 @@ pub mod Status
 pub mod Linking
 pub mod Verifying
 pub mod Answer
+pub mod Optimising
 pub mod Effects
+pub mod Meaning
 pub mod CommandView
 pub mod Seen
 pub mod Inner

@@ -7,38 +7,44 @@ use Rattle.std.specs.Str.Parse.{IsNumeral, digits_value}
 abbrev pub Word : Type 0
 Word = List ℕ
 
--- What the words ask for: to optimise the folder input into the folder output, to verify the folder input, or to run it by a
--- script, in at most so many steps, with the library's folder.
+-- What the words ask for: to optimise the folder input into the folder output, to verify the folder input, to say what becomes of each
+-- of its methods, or to run it by a script, in at most so many steps, with the library's folder.
 pub data Command : Type 0 where
   Optimise : (input output library : Word) → Command
   Verify : (input library : Word) → Command
+  Plan : (input library : Word) → Command
   Run : (input script library : Word) (steps : ℕ) → Command
 
 abbrev pub name_of : Command → Word
 name_of (Optimise input output library) = codes "optimise"
 name_of (Verify input library) = codes "verify"
+name_of (Plan input library) = codes "plan"
 name_of (Run input script library steps) = codes "run"
 
 abbrev pub input_of : Command → Word
 input_of (Optimise input output library) = input
 input_of (Verify input library) = input
+input_of (Plan input library) = input
 input_of (Run input script library steps) = input
 
 abbrev pub library_of : Command → Word
 library_of (Optimise input output library) = library
 library_of (Verify input library) = library
+library_of (Plan input library) = library
 library_of (Run input script library steps) = library
 
 -- the positional words of its spelling, in order
 abbrev pub positionals_of : Command → List Word
 positionals_of (Optimise input output library) = input ∷ output ∷ []
 positionals_of (Verify input library) = input ∷ []
+positionals_of (Plan input library) = input ∷ []
 positionals_of (Run input script library steps) = input ∷ script ∷ []
 
 -- the output differs as text from the input and from the library
 abbrev pub IsApart : Command → Type 0
 IsApart (Optimise input output library) = (output ≢ input) × (output ≢ library)
 IsApart (Verify input library) = Unit {0}
+IsApart (Plan input library) = Unit {0}
 IsApart (Run input script library steps) = Unit {0}
 
 -- ---- options

@@ -10,7 +10,7 @@ use class_model::{
     bytes_are_one_class_file, one_first_fault,
 };
 use class_tree::a_folder_is_told_once;
-use script_text::a_script_has_actions_or_a_first_line_outside;
+use script_text::a_script_has_no_line_outside;
 use verify_folder::a_folder_fails_once;
 
 /// Words spell one command at most.
@@ -35,5 +35,5 @@ pub fn words_and_files_have_one_answer()
     a_library_file_is_told_once();
     a_folder_is_told_once();
     a_folder_fails_once();
-    a_script_has_actions_or_a_first_line_outside();
+    a_script_has_no_line_outside();
 }

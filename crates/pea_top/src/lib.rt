@@ -6,6 +6,7 @@ mod folder;
 mod laws;
 mod lines;
 mod linking;
+mod optimising;
 mod progress;
 mod reading;
 mod script;

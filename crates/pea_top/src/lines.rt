@@ -1,27 +1,32 @@
 //! The printed lines.
 ghost use Rattle.std.specs.Prelude.{◌≡◌, ◌<◌, ◌++◌, codes, IfOk, OnOk};
 ghost use Rattle.std.specs.List.{flat_map};
-ghost use Rattle.pea_top.specs.Lines.{hex_digit, printed_byte, printed_text, summary_line, verified_line};
+ghost use Rattle.class_tree.specs.Headers.{headers_of};
+ghost use Rattle.pea_top.specs.Lines.{hex_digit, member_text, numbers_text, printed_byte, printed_text, report_line, report_text, summary_line, verified_line};
 ghost use Rattle.pea_top.specs.Status.{refusal_line};
 
 use crate::status::Status;
 use class_model::{Member, NoMemory, Text};
-use class_tree::LinkRule;
+use class_rewrite::{Line, Report, is_rewritten, reason_name};
+use class_tree::{LinkRule, Place, Tree};
 use host_tree::FileName;
 use std::alloc::Global;
 use type_rules::TypeRule;
 
-/// The line that sums up what was optimised: how many files were written, how many of them are class files, and how many
-/// methods these have.
+/// The line that sums up what was optimised: how many files were written, how many of them are class files, how many methods were
+/// rewritten, and how many were kept.
 pub(crate) fn summary(
     alloc: Global,
     files: usize,
     classes: usize,
-    kept: u128,
+    rewritten: usize,
+    kept: usize,
 ) -> Result<Vec<u8>, NoMemory>
-    ensures { IfOk result (λ line. line.items ≡ summary_line files classes kept) }
+    ensures { IfOk result (λ line. line.items ≡ summary_line files classes rewritten kept) }
 {
-    let text = format!(in alloc; "done files={files} classes={classes} rewritten=0 kept={kept}\n")?;
+    let text = format!(in alloc;
+        "done files={files} classes={classes} rewritten={rewritten} kept={kept}\n"
+    )?;
     Ok(text.into_bytes())
 }
 
@@ -134,13 +139,75 @@ fn member_refusal(
         ++ codes " " ++ printed_text member.now.desc ++ back.now) }
 {
     let mut line = Vec::from_slice(alloc, front)?;
-    push_text(&mut line, class.bytes())?;
-    line.push(b' ')?;
-    push_text(&mut line, member.name.bytes())?;
-    line.push(b' ')?;
-    push_text(&mut line, member.desc.bytes())?;
+    push_member(&mut line, class, member)?;
     line.extend_from_slice(back.as_bytes())?;
     Ok(line)
+}
+
+/// Appends a member as it is named in a line.
+fn push_member(line: &mut Vec<u8>, class: &Text, member: &Member) -> Result<(), NoMemory>
+    ensures { OnOk result (line.new.items ≡ line.old.items ++ member_text class.now member.now) }
+{
+    push_text(line, class.bytes())?;
+    line.push(b' ')?;
+    push_text(line, member.name.bytes())?;
+    line.push(b' ')?;
+    push_text(line, member.desc.bytes())
+}
+
+/// The lines that say what becomes of each method of a folder.
+pub(crate) fn report_text(alloc: Global, tree: &Tree, report: &Report) -> Result<Vec<u8>, NoMemory>
+    ensures { IfOk result (λ text. text.items ≡ report_text (headers_of tree.now) report.now) }
+{
+    let mut text = Vec::new(alloc);
+    for line in report.as_slice() {
+        push_report_line(alloc, &mut text, tree, line)?;
+    }
+    Ok(text)
+}
+
+/// Appends the line that says what becomes of a method.
+fn push_report_line(
+    alloc: Global,
+    text: &mut Vec<u8>,
+    tree: &Tree,
+    line: &Line,
+) -> Result<(), NoMemory>
+    ensures { OnOk result
+        (text.new.items ≡ text.old.items ++ report_line (headers_of tree.now) line.now) }
+{
+    let Some(header) = tree.header(Place::Folder(line.at.class)) else {
+        return Ok(());
+    };
+    let Some(method) = header.methods.get(line.at.method) else {
+        return Ok(());
+    };
+    push_member(text, &header.name, method)?;
+    text.push(b' ')?;
+    text.extend_from_slice(reason_name(line.reason).as_bytes())?;
+    push_numbers(alloc, text, line)?;
+    text.push(b'\n')?;
+    Ok(())
+}
+
+/// Appends the numbers of a method that is rewritten.
+fn push_numbers(alloc: Global, text: &mut Vec<u8>, line: &Line) -> Result<(), NoMemory>
+    ensures { OnOk result (text.new.items ≡ text.old.items ++ numbers_text line.now) }
+{
+    if is_rewritten(line.reason) {
+        let Line {
+            sites,
+            news,
+            enters,
+            bytes,
+            ..
+        } = *line;
+        let numbers = format!(in alloc;
+            " sites={sites} news={news} enters={enters} bytes={bytes}"
+        )?;
+        text.extend_from_slice(numbers.as_bytes())?;
+    }
+    Ok(())
 }
 
 /// Appends a text as it is printed.

@@ -11,6 +11,7 @@ ghost use Rattle.class_model.specs.Spelling.{class_bytes};
 ghost use Rattle.pea_top.specs.Answer.{Refusal, IsRefusedClass};
 ghost use Rattle.pea_top.specs.Folders.{AreNames, names_class_file};
 ghost use Rattle.pea_top.specs.Inner.Reading.{IsReadOrWhy, IsLibraryOrWhy, IsInputOrWhy, status_of};
+ghost use Rattle.pea_top.specs.Inner.ReadFiles.{AreClassesOf, IsReadClass};
 ghost use Rattle.pea_top.specs.Inner.ReadingSteps.{IsCallStop, IsFileOrWhy, IsHeaderOrWhy, IsWhyNot, stop_at};
 ghost use Rattle.pea_top.specs.declared.reading.ReadStop.TheVariants.{NoMemory as no_memory};
 
@@ -125,6 +126,7 @@ pub(crate) fn read_input<H: Host>(
     ensures write_count { H.faults host.new HostCall.Write ≡ H.faults host.old HostCall.Write }
     ensures found { IsTrue H.tells
         → IsInputOrWhy (H.file host.old folder.now) (H.file host.old library.now) result }
+    ensures pairs { IfOk result (λ input. AreClassesOf input.files.items input.classes) }
     ensures classes { IfOk result (λ input. AllByRecursion IsClassFile input.classes) }
     ensures headers { IfOk result (λ input. AllByRecursion IsLibraryClass input.headers) }
     ensures fault { (call : HostCall)
@@ -178,6 +180,7 @@ fn read_files<H: Host>(
     ensures printed { IsTrue H.tells → H.printed host.new ≡ H.printed host.old }
     ensures counts { CountsOnly HostCall.Read (H.faults host.old) (H.faults host.new) }
     ensures found { IsTrue H.tells → IsReadOrWhy (H.file host.old root.now) result }
+    ensures pairs { IfOk result (λ read. AreClassesOf read.0.items read.1) }
     ensures classes { IfOk result (λ read. AllByRecursion IsClassFile read.1) }
     ensures cause { (call : HostCall)
         → IsErrOf result (ReadStop.Fault call)
@@ -211,6 +214,7 @@ fn read_file<H: Host>(
     ensures printed { IsTrue H.tells → H.printed host.new ≡ H.printed host.old }
     ensures counts { CountsOnly HostCall.Read (H.faults host.old) (H.faults host.new) }
     ensures found { IsTrue H.tells → IsFileOrWhy (H.file host.old root.now) name result }
+    ensures pair { IfOk result (λ read. IsReadClass read.0 read.1) }
     ensures class_file { IfOk result (λ read. IfSome read.1 IsClassFile) }
     ensures cause { (call : HostCall)
         → IsErrOf result (ReadStop.Fault call)
@@ -280,6 +284,7 @@ fn file_of(
     bytes: ByteList,
 ) -> Result<(NamedFile, Option<ClassFile>), ReadStop>
     ensures file { (folder : Folder) → folder name ≡ Some bytes → IsFileOrWhy folder name result }
+    ensures pair { IfOk result (λ read. IsReadClass read.0 read.1) }
     ensures class_file { IfOk result (λ read. IfSome read.1 IsClassFile) }
     ensures no_fault { (call : HostCall) → ¬ IsErrOf result (ReadStop.Fault call) }
 {

@@ -1,23 +1,26 @@
 //! The top call.
-ghost use Rattle.std.specs.Prelude.{◌≡◌, ◌⊎◌, List, map, string_bytes, IsTrue, IsErrOf};
+ghost use Rattle.std.specs.Prelude.{◌≡◌, ◌≢◌, ◌⊎◌, List, map, string_bytes, IsTrue, IsErrOf};
 ghost use Rattle.std.specs.List.{AllByRecursion};
 ghost use Rattle.class_tree.specs.Headers.{IsClassFile, IsLibraryClass};
 ghost use Rattle.host_tree.specs.declared.call.HostCall.{HostCall};
 ghost use Rattle.host_tree.specs.Host.{Bytes, Files};
 ghost use Rattle.host_tree.specs.Counts.{NeverFalls, Rose, CountsOnly};
 ghost use Rattle.member_link.specs.Linked.{IsLinked};
-ghost use Rattle.pea_top.specs.Words.{Word, Command as grammar_command, Spells, IsUsage};
+ghost use Rattle.pea_top.specs.Words.{Word, Command as grammar_command, Optimise, Spells, IsUsage};
+ghost use Rattle.pea_top.specs.Meaning.{MeansTheSame, under_names};
 ghost use Rattle.pea_top.specs.CommandView.{command_view};
 ghost use Rattle.pea_top.specs.Status.{ending};
 ghost use Rattle.pea_top.specs.Inner.Ended.{ended};
-ghost use Rattle.pea_top.specs.Answer.{HasCause};
+ghost use Rattle.pea_top.specs.Answer.{CanDo, HasCause, IsAnswer};
 ghost use Rattle.pea_top.specs.Effects.{IsWriting, SpellNoWrite, Leaves};
+ghost use Rattle.pea_top.specs.Inner.ReadFiles.{AreClassesOf, AreFilesFor, HasNames};
 ghost use Rattle.pea_top.specs.Inner.Deciding.{AreInput, WritesFiles, IsPrepared, AreArranged, IsOutcome, IsStop};
 
 use crate::explaining::{
     explain_linking, explain_reading, explain_script, explain_usage, explain_verifying, note_input,
 };
 use crate::folder::NamedFile;
+use crate::laws::{words_and_files_have_one_answer, words_spell_one_command};
 use crate::lines::refusal;
 use crate::linking::{link, link_status};
 use crate::reading::{Input, read_input, status_of};
@@ -26,6 +29,7 @@ use crate::status::Status;
 use crate::verifying::{verify_for, verify_status};
 use crate::words::{Command, command_of};
 use crate::work::{Work, carry_out, work_of};
+use class_model::bytes_are_one_class_file;
 use class_tree::Tree;
 use explain::Outlines;
 use host_tree::{Host, HostFail};
@@ -35,7 +39,8 @@ use std::alloc::Global;
 ///
 /// `optimise IN OUT --lib LIB` reads the folder IN and the class files of the folder LIB whole, links them and verifies
 /// those of IN, and only then writes the files of IN under the same names into the folder OUT, which is not cleared, and
-/// prints one line. `verify IN --lib LIB` decides the same, writes no file and prints one line. `run IN SCRIPT --lib LIB`
+/// prints one line. `verify IN --lib LIB` decides the same, writes no file and prints one line. `plan IN --lib LIB` decides the same,
+/// writes no file and prints what becomes of each method when IN is optimised, and why. `run IN SCRIPT --lib LIB`
 /// decides the same and that the file SCRIPT is a script, runs the folder IN by it, in at most as many steps as `--steps N`
 /// says or else 1,000,000, writes no file, and prints the events of the run and its end.
 ///
@@ -73,7 +78,32 @@ pub fn pea<H: Host>(alloc: Global, words: &[String], host: &mut H) -> Status
         → Leaves (map string_bytes words.now) (H.file host.old) (H.file host.new)
         (Rose (H.faults host.old HostCall.Print) (H.faults host.new HostCall.Print))
         (H.printed host.old) (H.printed host.new) (ending result) }
+
+    // Each answer that words and files determine is given where no list or read failed, if memory suffices; that a command is done also
+    // where no write and no print failed.
+    ensures answered { (answer : Status)
+        → IsTrue H.tells
+        → IsAnswer (map string_bytes words.now) (H.file host.old) answer
+        → answer ≢ Status.Done
+        → ¬ Rose (H.faults host.old HostCall.List) (H.faults host.new HostCall.List)
+        → ¬ Rose (H.faults host.old HostCall.Read) (H.faults host.new HostCall.Read)
+        → (result ≡ answer) ⊎ (result ≡ Status.NoMemory) }
+    ensures complete { IsTrue H.tells
+        → CanDo (map string_bytes words.now) (H.file host.old)
+        → ((call : HostCall) → ¬ Rose (H.faults host.old call) (H.faults host.new call))
+        → (result ≡ Status.Done) ⊎ (result ≡ Status.NoMemory) }
+
+    // The headline: what was written of a folder means what was read.
+    ensures meaning { (input output library : Word)
+        → IsTrue H.tells
+        → result ≡ Status.Done
+        → Spells (Optimise input output library) (map string_bytes words.now)
+        → MeansTheSame (H.file host.old input) (H.file host.old library)
+        (under_names (H.file host.old input) (H.file host.new output)) }
 {
+    words_and_files_have_one_answer();
+    words_spell_one_command();
+    bytes_are_one_class_file();
     match run(alloc, words, host) {
         Ok(()) => Status::Done,
         Err(stop) => refuse(alloc, host, stop),
@@ -152,6 +182,7 @@ fn decide<H: Host>(
         input.headers }
     requires classes { AllByRecursion IsClassFile input.classes }
     requires headers { AllByRecursion IsLibraryClass input.headers }
+    requires pairs { AreClassesOf input.files.items input.classes }
     ensures not_usage { ¬ IsErrOf result Status.Usage }
     ensures fault { (call : HostCall)
         → IsErrOf result (Status.HostFault call)
@@ -187,6 +218,8 @@ fn link_input<H: Host>(
 ) -> Result<(), Status>
     requires classes { AllByRecursion IsClassFile input.classes }
     requires headers { AllByRecursion IsLibraryClass input.headers }
+    requires pairs { AreClassesOf input.files.items input.classes }
+    requires names { HasNames work.now input.classes }
     ensures not_usage { ¬ IsErrOf result Status.Usage }
     ensures not_absent { (name : Bytes) → ¬ IsErrOf result (Status.Absent name) }
     ensures fault { (call : HostCall)
@@ -205,7 +238,7 @@ fn link_input<H: Host>(
 {
     let library = Outlines::of(alloc, input.headers.as_slice());
     match link(alloc, host, input.classes, input.headers) {
-        Ok(tree) => verify(alloc, host, &tree, input.files.as_slice(), work),
+        Ok(tree) => verify(alloc, host, &tree, input.files, work),
         Err(stop) => {
             explain_linking(alloc, host, input.files.as_slice(), &library, &stop);
             Err(link_status(stop.fault))
@@ -218,10 +251,11 @@ fn verify<H: Host>(
     alloc: Global,
     host: &mut H,
     tree: &Tree,
-    files: &[NamedFile],
+    files: Vec<NamedFile>,
     work: &Work<'_>,
 ) -> Result<(), Status>
-    requires { IsLinked tree.now }
+    requires linked { IsLinked tree.now }
+    requires files { AreFilesFor files.items tree.now work.now }
     ensures not_usage { ¬ IsErrOf result Status.Usage }
     ensures not_absent { (name : Bytes) → ¬ IsErrOf result (Status.Absent name) }
     ensures fault { (call : HostCall)
@@ -234,7 +268,7 @@ fn verify<H: Host>(
     ensures stop { (command : grammar_command) (words : List Word)
         → Spells command words
         → IsTrue H.tells
-        → AreArranged command (H.file host.old) files.now tree.now work.now
+        → AreArranged command (H.file host.old) files.items tree.now work.now
         → IsStop words (H.file host.old) (H.file host.new) (H.printed host.old) (H.printed host.new)
         (ended result) }
 {

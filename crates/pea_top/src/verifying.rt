@@ -15,7 +15,7 @@ use std::alloc::Global;
 use type_rules::{TypedFolder, VerifyFault};
 use verify_folder::{check_next, verify_next};
 
-/// Verifies a hierarchy, and shows how many of its classes are verified. The frames are kept for a run alone.
+/// Verifies a hierarchy, and shows how many of its classes are verified. The frames are not kept where only a line is to be printed.
 pub(crate) fn verify_for<H: Host>(
     alloc: Global,
     host: &mut H,
@@ -29,12 +29,14 @@ pub(crate) fn verify_for<H: Host>(
     ensures counts { (call : HostCall) → H.faults host.new call ≡ H.faults host.old call }
 {
     match work {
-        Work::Run { .. } => match verify_all(alloc, host, tree) {
-            Ok(typed) => Ok(Some(typed)),
+        Work::Print { .. } => match check_all(alloc, host, tree) {
+            Ok(()) => Ok(None),
             Err(fault) => Err(fault),
         },
-        Work::Write { .. } | Work::Print { .. } => match check_all(alloc, host, tree) {
-            Ok(()) => Ok(None),
+        Work::Optimise { .. } | Work::Plan | Work::Run { .. } => match verify_all(
+            alloc, host, tree,
+        ) {
+            Ok(typed) => Ok(Some(typed)),
             Err(fault) => Err(fault),
         },
     }

@@ -6,8 +6,8 @@ ghost use Rattle.pea_top.specs.Words.{Command as grammar_command};
 ghost use Rattle.pea_top.specs.CommandView.{command_view};
 ghost use Rattle.pea_top.specs.Seen.{option_view, Makes, MakesNone, EndsCommand, AreBehindName, Leads, Fails, Adds, IsTooMany};
 
-/// What the words ask for: to optimise the folder `input` into the folder `output`, to verify the folder `input`, or to run it by
-/// the file `script` for at most `steps` steps. Each uses the folder of the library.
+/// What the words ask for: to optimise the folder `input` into the folder `output`, to verify the folder `input`, to say what becomes of
+/// each of its methods, or to run it by the file `script` for at most `steps` steps. Each uses the folder of the library.
 #[derive(Clone, Copy, Debug)]
 pub(crate) enum Command<'a> {
     Optimise {
@@ -16,6 +16,10 @@ pub(crate) enum Command<'a> {
         library: &'a str,
     },
     Verify {
+        input: &'a str,
+        library: &'a str,
+    },
+    Plan {
         input: &'a str,
         library: &'a str,
     },
@@ -35,6 +39,7 @@ impl<'a> Command<'a> {
         match self {
             Command::Optimise { input, .. }
             | Command::Verify { input, .. }
+            | Command::Plan { input, .. }
             | Command::Run { input, .. } => input,
         }
     }
@@ -46,6 +51,7 @@ impl<'a> Command<'a> {
         match self {
             Command::Optimise { library, .. }
             | Command::Verify { library, .. }
+            | Command::Plan { library, .. }
             | Command::Run { library, .. } => library,
         }
     }
@@ -101,6 +107,7 @@ pub(crate) fn command_of(words: &[String]) -> Option<Command<'_>>
     match name.as_str() {
         "optimise" => arguments.optimise(),
         "verify" => arguments.verify(),
+        "plan" => arguments.plan(),
         "run" => arguments.run(),
         _ => None,
     }
@@ -259,6 +266,22 @@ impl<'a> Arguments<'a> {
             return None;
         }
         Some(Command::Verify { input, library })
+    }
+
+    /// The command that says what becomes of each method, where these are its arguments.
+    fn plan(self) -> Option<Command<'a>>
+        ensures name { IfSome result (λ command. name_of (command_view command) ≡ codes "plan") }
+        ensures some { IfSome result (λ command. Makes self.entry (command_view command)) }
+        ensures none { IfNone result (MakesNone self.entry (codes "plan")) }
+    {
+        let Positionals::One(input) = self.positional else {
+            return None;
+        };
+        let library = self.library?;
+        if self.steps.is_some() {
+            return None;
+        }
+        Some(Command::Plan { input, library })
     }
 
     /// The command that runs, where these are its arguments.

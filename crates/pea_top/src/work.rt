@@ -1,5 +1,6 @@
 //! What is left to do of a command whose files were read.
-ghost use Rattle.std.specs.Prelude.{◌≡◌, ◌⊎◌, List, length, IsTrue, IfOk, IfErr, IsErrOf};
+ghost use Rattle.std.specs.Prelude.{◌≡◌, ◌⊎◌, List, Some, IsSome, IsTrue, IfOk, IfErr, IsErrOf};
+ghost use Rattle.class_model.specs.Header.{header_of};
 ghost use Rattle.host_tree.specs.declared.call.HostCall.{HostCall};
 ghost use Rattle.host_tree.specs.Host.{Bytes, Files, SameFiles};
 ghost use Rattle.host_tree.specs.Counts.{NeverFalls, Rose, CountsOnly};
@@ -14,16 +15,18 @@ ghost use Rattle.type_rules.specs.Verified.{TypesFolder};
 ghost use Rattle.pea_top.specs.Inner.Verifying.{IsKept};
 ghost use Rattle.pea_top.specs.Inner.Deciding.{AreReady, IsShown, IsWork, WritesFiles, IsStop};
 ghost use Rattle.pea_top.specs.Inner.Ended.{ended};
+ghost use Rattle.pea_top.specs.Inner.ReadFiles.{AreFilesFor, HasNames, class_names};
 ghost use Rattle.pea_top.specs.Inner.Scripts.{IsCommandStop};
 
 use crate::folder::NamedFile;
-use crate::lines::{summary, verified};
+use crate::lines::verified;
+use crate::optimising::{output_of, plan_text};
 use crate::reading::Input;
 use crate::script::{ScriptStop, read_actions};
 use crate::status::Status;
 use crate::words::Command;
 use crate::writing::write_files;
-use class_model::{ByteList, ClassFile, NoMemory};
+use class_model::{ByteList, ClassFile, NoMemory, Text};
 use class_tree::Tree;
 use host_tree::{Host, HostCall, HostFail};
 use machine_run::a_tree_has_a_program;
@@ -36,8 +39,11 @@ use type_rules::TypedFolder;
 /// What is left to do of a command, once its class files are linked and verified.
 #[derive(Debug, Drop)]
 pub(crate) enum Work<'a> {
-    /// To write the files of the input into this folder, and print this line.
-    Write { output: &'a str, line: Vec<u8> },
+    /// To optimise the input, write its files into this folder, and print the line that sums them up. The names are those of the classes
+    /// of its class files, in order.
+    Optimise { output: &'a str, names: Vec<Text> },
+    /// To print what becomes of each method.
+    Plan,
     /// To print this line.
     Print { line: Vec<u8> },
     /// To run these actions of the library, in at most so many steps, and print what the run shows.
@@ -55,8 +61,8 @@ pub(crate) fn work_of<'a, H: Host>(
     ensures printed { IsTrue H.tells → H.printed host.new ≡ H.printed host.old }
     ensures counts { CountsOnly HostCall.Read (H.faults host.old) (H.faults host.new) }
     ensures work { IsTrue H.tells
-        → IfOk result (IsWork (command_view command.entry) (H.file host.old)
-        (length input.now.files.items) input.now.classes) }
+        → IfOk result (IsWork (command_view command.entry) (H.file host.old) input.now.classes) }
+    ensures names { IfOk result (λ work. HasNames work input.now.classes) }
     ensures writes { IfOk result
         (λ work. WritesFiles work → IsWriting (command_view command.entry)) }
     ensures stop { IsTrue H.tells
@@ -67,16 +73,15 @@ pub(crate) fn work_of<'a, H: Host>(
         → IsErrOf result (ScriptStop.Absent name)
         → IsTrue H.tells ⊎ Rose (H.faults host.old HostCall.Read) (H.faults host.new HostCall.Read) }
 {
-    let files = input.files.len();
-    let classes = input.classes.len();
-    let methods = methods(input.classes.as_slice());
+    let classes = input.classes.as_slice();
     match command {
         Command::Optimise { output, .. } => {
-            let line = summary(alloc, files, classes, methods)?;
-            Ok(Work::Write { output, line })
+            let names = names_of(alloc, classes)?;
+            Ok(Work::Optimise { output, names })
         }
+        Command::Plan { .. } => Ok(Work::Plan),
         Command::Verify { .. } => {
-            let line = verified(alloc, classes, methods)?;
+            let line = verified(alloc, classes.len(), methods(classes))?;
             Ok(Work::Print { line })
         }
         Command::Run { script, steps, .. } => {
@@ -86,17 +91,39 @@ pub(crate) fn work_of<'a, H: Host>(
     }
 }
 
+// The names of the classes of class files.
+fn names_of(alloc: Global, classes: &[ClassFile]) -> Result<Vec<Text>, NoMemory>
+    ensures { IfOk result (λ names. names.items ≡ class_names classes.now) }
+{
+    let mut names = Vec::with_capacity(alloc, classes.len())?;
+    for class in classes {
+        names.push(name_of(alloc, class)?)?;
+    }
+    Ok(names)
+}
+
+// The name of the class of a class file.
+fn name_of(alloc: Global, class: &ClassFile) -> Result<Text, NoMemory>
+    ensures { IfOk result (λ name. name ≡ (header_of class.now).name) }
+{
+    match class.pool.class_name(class.this_class) {
+        Some(name) => name.copy(),
+        None => Text::of_plain(alloc, b""),
+    }
+}
+
 /// Does what is left of a command whose class files are linked and verified.
 pub(crate) fn carry_out<H: Host>(
     alloc: Global,
     host: &mut H,
     tree: &Tree,
     typed: Option<&TypedFolder>,
-    files: &[NamedFile],
+    files: Vec<NamedFile>,
     work: &Work<'_>,
 ) -> Result<(), Status>
     requires linked { IsLinked tree.now }
     requires kept { IsKept tree.now work.now (option_copied typed) }
+    requires files { AreFilesFor files.items tree.now work.now }
     ensures not_usage { ¬ IsErrOf result Status.Usage }
     ensures not_absent { (name : Bytes) → ¬ IsErrOf result (Status.Absent name) }
     ensures fault { (call : HostCall)
@@ -109,20 +136,50 @@ pub(crate) fn carry_out<H: Host>(
     ensures stop { (command : grammar_command) (words : List Word)
         → Spells command words
         → IsTrue H.tells
-        → AreReady command (H.file host.old) files.now tree.now work.now
+        → AreReady command (H.file host.old) files.items tree.now work.now
         → IsStop words (H.file host.old) (H.file host.new) (H.printed host.old) (H.printed host.new)
         (ended result) }
 {
     match work {
-        Work::Write { output, line } => write_out(alloc, host, output, files, line.as_slice()),
         Work::Print { line } => finish(alloc, host, line.as_slice()),
-        Work::Run { actions, steps } => match typed {
-            Some(typed) => match run_text(alloc, tree, typed, actions, *steps) {
+        Work::Optimise { output, names } => {
+            let typed = kept(typed);
+            match output_of(alloc, tree, typed, files, names.as_slice()) {
+                Ok(written) => write_out(
+                    alloc,
+                    host,
+                    output,
+                    written.files.as_slice(),
+                    written.line.as_slice(),
+                ),
+                Err(NoMemory) => Err(Status::NoMemory),
+            }
+        }
+        Work::Plan => {
+            let typed = kept(typed);
+            match plan_text(alloc, tree, typed) {
                 Ok(text) => finish(alloc, host, text.as_slice()),
                 Err(NoMemory) => Err(Status::NoMemory),
-            },
-            None => unreachable!(),
-        },
+            }
+        }
+        Work::Run { actions, steps } => {
+            let typed = kept(typed);
+            match run_text(alloc, tree, typed, actions, *steps) {
+                Ok(text) => finish(alloc, host, text.as_slice()),
+                Err(NoMemory) => Err(Status::NoMemory),
+            }
+        }
+    }
+}
+
+// The frames that were kept.
+fn kept<'t>(typed: Option<&'t TypedFolder>) -> &'t TypedFolder
+    requires { IsSome (option_copied typed) }
+    ensures { option_copied typed.entry ≡ Some result.now }
+{
+    match typed {
+        Some(typed) => typed,
+        None => unreachable!(),
     }
 }
 

@@ -1,8 +1,7 @@
 -- The row of each instruction of flat code: what it asks to be made, what it moves, and its edges. It is this project's profile.
-use Rattle.std.specs.Prelude.{◌==◌, ◌+◌, ◌-◌, ◌&&◌, ℕ, zero, suc, Bool, List, [], ◌∷◌, ◌++◌, map, length, slice_set, bytes_eq, Option, Some, None, if◌then◌else◌}
+use Rattle.std.specs.Prelude.{◌==◌, ◌+◌, ◌-◌, ℕ, zero, suc, Bool, List, [], ◌∷◌, ◌++◌, map, length, slice_set, Option, Some, None, if◌then◌else◌}
 use Rattle.class_model.specs.Descriptors.{parameters_of}
 use Rattle.class_model.specs.Instructions.{targets}
-use Rattle.class_model.specs.Names.{init}
 use Rattle.class_model.specs.Pool.{Constants, constant_at}
 use Rattle.class_model.specs.PoolChecks.{class_at, descriptor_at}
 use Rattle.class_model.specs.declared.descriptor.FieldType.{FieldType}
@@ -14,12 +13,12 @@ use Rattle.class_model.specs.declared.opcodes.TheConstants.{IF_ACMPEQ, IFNULL, I
 use Rattle.class_model.specs.declared.pool.Const.{Const as PoolConst}
 use Rattle.class_model.specs.declared.pool.Const.TheVariants as consts
 use Rattle.class_tree.specs.Headers.{Name}
-use Rattle.class_tree.specs.Names.{object}
 use Rattle.flow_code.specs.declared.handlers.FlatHandler.{FlatHandler}
 use Rattle.flow_code.specs.declared.point.FlatInstr.{FlatInstr}
 use Rattle.flow_code.specs.declared.point.FlatInstr.TheVariants.{Of, NullTest}
 use Rattle.flow_code.specs.declared.point.Point.{Point}
 use Rattle.member_link.specs.Bodies.{falls_through}
+use Rattle.member_link.specs.Machine.CallSteps.{is_object_init}
 use Rattle.member_link.specs.References.{Reference}
 use Rattle.member_link.specs.Rows.ArithmeticRows.{Operation, operation_in, pure_operations, divide_operations, float_operations}
 use Rattle.member_link.specs.Rows.ShuffleRows.{Form, form_in, forms_of}
@@ -114,10 +113,6 @@ positions row = row.asks ++ change_asks row.change
 abbrev pub result_given : Option FieldType → List Source
 result_given None = []
 result_given (Some type) = plain_value ∷ []
-
--- a call of java/lang/Object's instance initialiser, which does nothing
-abbrev pub is_object_init : Reference → Bool
-is_object_init method = bytes_eq method.class object && bytes_eq method.name init
 
 -- how many operands a call takes besides its arguments
 abbrev pub receivers : ℕ → ℕ

@@ -76,8 +76,8 @@ impl Plan {
         Some(&self.point(at)?.state)
     }
 
-    /// The sites whose objects are made on an edge of a point, by the edge's number, if the point is reached and has such an
-    /// edge.
+    /// The sites whose objects are made on an edge of a point, if the point is reached and has such an edge. `edge` is the
+    /// edge's number, counted from 0 among the edges that `effect` gives in the state without the sites of `made_at`.
     pub fn made_on(&self, at: usize, edge: usize) -> Option<&SiteSet>
         ensures { option_copied result
             ≡ option_map (λ edge. edge.made)

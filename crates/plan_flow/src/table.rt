@@ -9,6 +9,7 @@ ghost use Rattle.member_link.specs.Machine.Links.{AreLinksOf};
 ghost use Rattle.member_link.specs.Machine.Programs.{Links};
 ghost use Rattle.member_link.specs.Rows.ShuffleRows.{form_in, forms_of};
 ghost use Rattle.member_link.specs.Signatures.{result_of};
+ghost use Rattle.member_link.specs.Machine.CallSteps.{is_object_init};
 ghost use Rattle.plan_flow.specs.Inner.RowViews.{asked_by, change_of, described_row, given_by, plan_row};
 ghost use Rattle.plan_flow.specs.Narrow.{HasFewLocals, IsNarrow};
 ghost use Rattle.plan_flow.specs.PlanScope.{scope_of, site_at as site_of_point};
@@ -210,7 +211,7 @@ fn call_row(types: &Frame, opcode: u8, method: Option<Reference>) -> Row
 
 // Whether a method is the instance initialiser of java/lang/Object, which does nothing.
 fn is_object_init(method: &Reference) -> bool
-    ensures { result ≡ tables.is_object_init method.now }
+    ensures { result ≡ is_object_init method.now }
 {
     method.class.bytes() == OBJECT && method.name.bytes() == INIT
 }

@@ -16,7 +16,7 @@ pub fn a_script_has_one_list_of_actions()
 {}
 
 /// A script has no line outside the grammar, and bytes have at most one first line outside.
-pub fn a_script_has_actions_or_a_first_line_outside()
+pub fn a_script_has_no_line_outside()
     ensures not_both { (bytes : Bytes) (actions : List Action) (line : ℕ)
         → IsScript bytes actions
         → ¬ IsFirstOutside (lines_of bytes) line }

@@ -17,9 +17,8 @@ mod words;
 
 pub use events::print_events;
 pub use laws::{
-    a_printed_script_reads_back, a_printed_text_is_one_text,
-    a_script_has_actions_or_a_first_line_outside, a_script_has_one_list_of_actions,
-    hexadecimal_digits_are_one_number,
+    a_printed_script_reads_back, a_printed_text_is_one_text, a_script_has_no_line_outside,
+    a_script_has_one_list_of_actions, hexadecimal_digits_are_one_number,
 };
 pub use printed::push_text;
 pub use printed_scripts::print_script;

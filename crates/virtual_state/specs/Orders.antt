@@ -21,7 +21,7 @@ pub record IsJoin (state other joined : State) : Type 0 where
 abbrev pub HaveSamePlaces : State → State → Type 0
 HaveSamePlaces state other = map is_unusable state.slots ≡ map is_unusable other.slots
 
--- states, of which each is below the next one and another one
+-- a state and others, of which each is below the next one and different from it
 abbrev pub IsChain : State → List State → Type 0
 IsChain state [] = Unit {0}
 IsChain state (next ∷ states) = IsBelow state next × (state ≢ next) × IsChain next states

@@ -1,7 +1,5 @@
--- The uninitialised objects of a method that stands in flat code: those of its callers have other numbers than what it makes, and in no callee
--- is the host's own.
+-- The uninitialised objects of a method that stands in flat code: those of its callers have other numbers than what it makes.
 use Rattle.std.proofs.Common.{◌≡◌, ◌≢◌, ◌+◌, ◌-◌, ◌≤◌, ◌<◌, ℕ, zero, suc, false, List, [], ◌∷◌, ◌++◌, length, map, take, drop, replicate, slice_get, Some, refl, sym, ap, subst, ◌∙◌, arith, ◌⊎◌, inl, inr}
-use Rattle.std.specs.Prelude.{IsSome}
 use Rattle.std.specs.List.{AllByRecursion}
 use Rattle.std.proofs.lemmas.Option.{same_Some, slice_get_within}
 use Rattle.class_model.specs.declared.class_file.MethodAt.{MethodAt}
@@ -19,11 +17,9 @@ use Rattle.inline_expand.proofs.Types.InstrStarts.{Order, before, behind, order_
 use Rattle.inline_expand.proofs.Types.OwnPoints.{TypingLaws}
 use Rattle.inline_expand.proofs.Types.PlacedMembers.{IsWithout}
 use Rattle.inline_expand.proofs.Types.StandingPlaces.{callee_here, host_scope_is, replaced_is_call, start_number}
-use Rattle.inline_expand.proofs.Types.ThisWithin.{NoThisStanding}
-use Rattle.inline_expand.specs.Expanded.{Setting, arguments, callee_of, host_setting, overlaid, points_before, points_of_callee, set_frame, set_type}
+use Rattle.inline_expand.specs.Expanded.{arguments, callee_of, host_setting, overlaid, points_before, points_of_callee, set_frame, set_type}
 use Rattle.inline_expand.specs.Expansions.{Coded, Expansion}
 use Rattle.inline_expand.specs.Sites.{HasFrames}
-use Rattle.member_link.specs.Rows.MemberRows.{NoUninitThis}
 use Rattle.member_link.specs.Rows.Operands.{lowest_of, topmost, under}
 use Rattle.member_link.specs.Scope.{Scope, instructions, is_init, scope_at}
 use Rattle.type_rules.specs.TypedFrames.{FolderFrames}
@@ -90,46 +86,15 @@ all_mapped : (P Q : VType → Type 0) (f : VType → VType) → ((type : VType) 
 all_mapped P Q f goes [] all = tt
 all_mapped P Q f goes (entry ∷ entries) all = (goes entry all.0, all_mapped P Q f goes entries all.1)
 
-all_both : (P Q R : VType → Type 0) → ((type : VType) → P type → Q type → R type) → (entries : List VType)
-    → AllByRecursion P entries → AllByRecursion Q entries → AllByRecursion R entries
-all_both P Q R goes [] all also = tt
-all_both P Q R goes (entry ∷ entries) all also = (goes entry all.0 also.0, all_both P Q R goes entries all.1 also.1)
-
 all_any : (P Q : VType → Type 0) → ((type : VType) → P type → Q type) → (entries : List VType) → AllByRecursion P entries → AllByRecursion Q entries
 all_any P Q goes [] all = tt
 all_any P Q goes (entry ∷ entries) all = (goes entry all.0, all_any P Q goes entries all.1)
 
--- ---- an uninitialised this
-
-abbrev IsNoThis : VType → Type 0
-IsNoThis type = type ≢ types.UninitThis
-
-no_this_set : (t : Setting) → t.this ≢ types.UninitThis → (type : VType) → set_type t type ≢ types.UninitThis
-no_this_set t other types.UninitThis = other
-no_this_set t other (types.Uninit at) = λ e. absurd cc
-no_this_set t other types.Top = λ e. absurd cc
-no_this_set t other types.Int = λ e. absurd cc
-no_this_set t other types.Float = λ e. absurd cc
-no_this_set t other types.Long = λ e. absurd cc
-no_this_set t other types.Double = λ e. absurd cc
-no_this_set t other types.Null = λ e. absurd cc
-no_this_set t other (types.Object name) = λ e. absurd cc
-
-no_this_kept : (t : Setting) (type : VType) → type ≢ types.UninitThis → set_type t type ≢ types.UninitThis
-no_this_kept t types.UninitThis other = absurd (other refl)
-no_this_kept t (types.Uninit at) other = λ e. absurd cc
-no_this_kept t type other = other
-
-none_set : (t : Setting) → t.this ≢ types.UninitThis → (entries : List VType) → NoUninitThis (map (set_type t) entries)
-none_set t other [] = tt
-none_set t other (entry ∷ entries) = (no_this_set t other entry, none_set t other entries)
+-- ---- the host, and numbers
 
 module _ (laws : TypingLaws) {classes : Classes} {typed : FolderFrames} (host : Coded) (e : Expansion)
     (stands : (chain : List MethodAt) (p : Standing) → IsStanding host e chain p → Stands classes typed host e chain p)
-    (s : Scope) (is_host : scope_at classes host.at ≡ Some s) (no_init : is_init s ≡ false) (outside : NoThisStanding host e) where
-  host_no_init : is_init host.scope ≡ false
-  host_no_init = ap is_init (host_scope_is laws host e stands s is_host) ∙ no_init
-
+    (s : Scope) (is_host : scope_at classes host.at ≡ Some s) (no_init : is_init s ≡ false) where
   -- the host's setting
   pub host_setting_is : IsHostSetting s (host_setting host e)
   host_setting_is = record {
@@ -139,57 +104,6 @@ module _ (laws : TypingLaws) {classes : Classes} {typed : FolderFrames} (host : 
     below_locals = tops_without _;
     below_stack = tt;
   }
-
-  -- no uninitialised this among what its callers have; its own is none, or its frames have none
-  record IsFree (p : Standing) : Type 0 where
-    locals : NoUninitThis p.setting.below.locals
-    stack : NoUninitThis p.setting.below.stack
-    own : (p.setting.this ≢ types.UninitThis) ⊎ (is_init (scope_of p) ≡ false)
-    callee : IsSome p.setting.behind → p.setting.this ≢ types.UninitThis
-
-  set_free : {chain : List MethodAt} {p : Standing} → IsStanding host e chain p → IsFree p → (k : ℕ) (frame : Frame)
-      → slice_get (frames_of p) k ≡ Some frame
-      → NoUninitThis (set_frame p.setting frame).locals × NoUninitThis (set_frame p.setting frame).stack
-  set_free {chain} {p} standing free k frame has = by free.own where
-    t : Setting
-    t = p.setting
-
-    set : NoUninitThis (map (set_type p.setting) frame.locals) → NoUninitThis (map (set_type p.setting) frame.stack)
-        → NoUninitThis (set_frame p.setting frame).locals × NoUninitThis (set_frame p.setting frame).stack
-    set locals stack = (
-      all_laid IsNoThis p.setting.unit (map (set_type p.setting) frame.locals) p.setting.below.locals locals free.locals,
-      all_joined IsNoThis p.setting.below.stack (map (set_type p.setting) frame.stack) free.stack stack,
-    )
-
-    by : (p.setting.this ≢ types.UninitThis) ⊎ (is_init (scope_of p) ≡ false)
-        → NoUninitThis (set_frame p.setting frame).locals × NoUninitThis (set_frame p.setting frame).stack
-    by (inl other) = set (none_set p.setting other frame.locals) (none_set p.setting other frame.stack)
-    by (inr none) =
-        let without = outside chain p standing none k frame has in
-        set (all_mapped IsNoThis IsNoThis (set_type p.setting) (no_this_kept p.setting) frame.locals without.0)
-        (all_mapped IsNoThis IsNoThis (set_type p.setting) (no_this_kept p.setting) frame.stack without.1)
-
-  free : {chain : List MethodAt} {p : Standing} → IsStanding host e chain p → IsFree p
-  free host_stands = record {
-    locals = tops_without _;
-    stack = tt;
-    own = inr host_no_init;
-    callee = λ some. absurd cc;
-  }
-  free (callee_stands {p = p} k placed frame g inner below at) =
-      let set = set_free below (free below) k frame at.has_frame in
-      let this = of_lowest IsNoThis (λ is. absurd cc) (length (arguments g.scope (block_of p k))) (set_frame p.setting frame).stack set.1 in
-      record {
-        locals = set.0;
-        stack = all_taken IsNoThis _ (set_frame p.setting frame).stack set.1;
-        own = inl this;
-        callee = λ some. this;
-      }
-
-  -- No callee has an uninitialised this of the host.
-  pub callee_has_no_this : (chain : List MethodAt) (p : Standing) → IsStanding host e chain p → IsSome p.setting.behind
-      → p.setting.this ≢ types.UninitThis
-  callee_has_no_this chain p standing some = (free standing).callee some
 
   -- ---- numbers
 

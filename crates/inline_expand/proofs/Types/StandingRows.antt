@@ -1,5 +1,5 @@
 -- The rows of the instructions that stay, of each method that stands in flat code, hold in their place.
-use Rattle.std.proofs.Common.{◌≡◌, ◌≢◌, ◌==◌, ◌+◌, ℕ, ◌∷◌, Bool, true, false, List, bytes_eq, slice_get, Option, Some, None, refl, sym, ap, subst, ◌∙◌, inl, inr}
+use Rattle.std.proofs.Common.{◌≡◌, ◌≢◌, ◌==◌, ℕ, ◌∷◌, Bool, true, false, List, bytes_eq, slice_get, Option, Some, None, refl, sym, ap, subst, ◌∙◌, inl, inr}
 use Rattle.std.proofs.lemmas.Bool.{eqb-true, false≢true}
 use Rattle.std.proofs.lemmas.Option.{none-some}
 use Rattle.std.proofs.lemmas.Slice.Eq.{bytes_eq-Decides}
@@ -16,22 +16,20 @@ use Rattle.class_model.specs.declared.instr.Placed.{Placed}
 use Rattle.class_model.specs.declared.opcodes.TheConstants.{INVOKESPECIAL}
 use Rattle.class_tree.specs.Headers.{Classes, Name, headers_of}
 use Rattle.flow_code.specs.FlatCode.{FlatCode}
-use Rattle.flow_code.specs.declared.point.Point.{Point}
 use Rattle.inline_expand.proofs.Runs.CallLaws.{CallLaws}
 use Rattle.inline_expand.proofs.Runs.CalleeLaws.{replaced_callee}
 use Rattle.inline_expand.proofs.Runs.Positions.{Standing, becomes, frames_of, inner_setting, inner_standing, instrs_of, scope_of, start_of}
 use Rattle.inline_expand.proofs.Runs.Setup.{IsSetup, Setup}
 use Rattle.inline_expand.proofs.Runs.Standings.{IsStanding, Stands, callee_stands, host_stands}
-use Rattle.inline_expand.proofs.Types.FlatParts.{EntryPart, IsOwn}
+use Rattle.inline_expand.proofs.Types.FlatParts.{IsOwn}
 use Rattle.inline_expand.proofs.Types.FlatPlaces.{IsHostSetting, StandsInFlat, ThisIs, host_this, no_this_there, site_this}
 use Rattle.inline_expand.proofs.Types.FlatRows.{FlatRow, NewStaysAt, SpecialStays, StaysInFlat, named_by}
-use Rattle.inline_expand.proofs.Types.FlatTyped.{types_flat}
 use Rattle.inline_expand.proofs.Types.FrameFacts.{FrameFacts}
 use Rattle.inline_expand.proofs.Types.NewsOfFrames.{names_news}
-use Rattle.inline_expand.proofs.Types.ObjectsApart.{NamesNews, callee_has_no_this, callers_without, host_setting_is}
-use Rattle.inline_expand.proofs.Types.OwnPoints.{row_at, PlacedRow, TypingLaws, own_headers, scope_headers}
+use Rattle.inline_expand.proofs.Types.ObjectsApart.{NamesNews, callers_without, host_setting_is}
+use Rattle.inline_expand.proofs.Types.OwnPoints.{row_at, TypingLaws, own_headers, scope_headers}
 use Rattle.inline_expand.proofs.Types.PlacedMembers.{IsWithout}
-use Rattle.inline_expand.proofs.Types.RowConditions.{RowConditions, flat_row_by, rows_in_place}
+use Rattle.inline_expand.proofs.Types.RowConditions.{RowConditions, flat_row_by}
 use Rattle.inline_expand.proofs.Types.SiteObjects.{site_setting}
 use Rattle.inline_expand.proofs.Types.StackDepths.{has_depth}
 use Rattle.inline_expand.proofs.Types.StandingPlaces.{callee_here, new_apart, new_at, new_kept, numbers_apart, own_major, own_pool, start_number}
@@ -39,12 +37,9 @@ use Rattle.inline_expand.proofs.Types.StandingUnits.{HasNarrowThis, folder_paire
 use Rattle.inline_expand.proofs.Types.StayingCalls.{no_result, on_new, on_this}
 use Rattle.inline_expand.proofs.Types.ThisWithin.{NoThisStanding}
 use Rattle.inline_expand.specs.Callees.{NamesInitialiser}
-use Rattle.inline_expand.specs.Expanded.{Setting, expanded, host_setting, return_points, set_frame}
+use Rattle.inline_expand.specs.Expanded.{Setting, expanded, host_setting}
 use Rattle.inline_expand.specs.ExpandAnswers.{IsNoHost, is_initialiser}
 use Rattle.inline_expand.specs.Expansions.{Coded, Expansion}
-use Rattle.inline_expand.specs.ReadTypes.{MayGoToPoint, TypesFlat, TypesPoint}
-use Rattle.same_runs.specs.FlatBodies.{flat_entry}
-use Rattle.std.specs.Prelude.{IsSome}
 use Rattle.member_link.specs.References.{Reference}
 use Rattle.member_link.specs.Scope.{Scope, class_of_new, instructions, is_init, scope_at}
 
@@ -63,7 +58,7 @@ module _ (u : Setup) (is_setup : IsSetup u) (call_laws : CallLaws) (laws : Typin
   host_headers = scope_headers u.classes host.at s is_host
 
   host_is : IsHostSetting s (host_setting host e)
-  host_is = host_setting_is laws host e stands s is_host no_init outside
+  host_is = host_setting_is laws host e stands s is_host no_init
 
   -- a special call of what is no initialiser is of the host
   special_of_host : {chain : List MethodAt} {p : Standing} → IsStanding host e chain p → (k : ℕ) (placed : Placed)
@@ -105,7 +100,7 @@ module _ (u : Setup) (is_setup : IsSetup u) (call_laws : CallLaws) (laws : Typin
         let site = site_setting u is_setup call_laws laws facts host e stands s is_host no_init (callee_stands k placed called g inner below at) is in
         record { this = Some site.0; is = site_this site.0 site.1 refl }
     by false is =
-        let without = outside (g.at ∷ chain) (inner_standing p k placed called g inner) (callee_stands k placed called g inner below at) is j frame has in
+        let without = outside (g.at ∷ chain) (inner_standing p k placed called g inner) (callee_stands k placed called g inner below at) refl is j frame has in
         record { this = None; is = no_this_there without refl }
 
   pub narrow_this : (chain : List MethodAt) (p : Standing) → IsStanding host e chain p → (k : ℕ) (frame : Frame)
@@ -128,7 +123,7 @@ module _ (u : Setup) (is_setup : IsSetup u) (call_laws : CallLaws) (laws : Typin
         let number : p.setting.number at ≡ start_of p new.number =
         ap p.setting.number (sym new.offset) ∙ start_number laws host e stands s is_host standing new.number new.placed new.is in
         subst (λ (n : ℕ). IsWithout (types.Uninit n) p.setting.below.locals × IsWithout (types.Uninit n) p.setting.below.stack) (sym number)
-        (callers_without laws host e stands s is_host no_init outside made standing new.number new.placed new.is)
+        (callers_without laws host e stands s is_host no_init made standing new.number new.placed new.is)
 
     pub stands_in_flat : StandsInFlat u.classes s (expanded host e) p.setting
     stands_in_flat = record {
@@ -149,7 +144,7 @@ module _ (u : Setup) (is_setup : IsSetup u) (call_laws : CallLaws) (laws : Typin
         below = λ none.
             subst (λ (n : ℕ). IsWithout (types.Uninit n) p.setting.below.locals × IsWithout (types.Uninit n) p.setting.below.stack)
             (sym (start_number laws host e stands s is_host standing k placed is))
-            (callers_without laws host e stands s is_host no_init outside made standing k placed is);
+            (callers_without laws host e stands s is_host no_init made standing k placed is);
       }
 
       special_stays : (opcode index count : ℕ) → placed.instr ≡ Invoke opcode index count → (opcode == INVOKESPECIAL) ≡ true
@@ -159,7 +154,7 @@ module _ (u : Setup) (is_setup : IsSetup u) (call_laws : CallLaws) (laws : Typin
         on_new = on_new u is_setup call_laws laws facts host e stands s is_host no_init outside standing k placed frame is has own opcode index count
             instr special r named;
         on_this = λ named_init on site. on_this u is_setup call_laws laws facts host e stands s is_host no_init outside standing k placed frame is has
-            own opcode index count instr special r named named_init on;
+            own opcode index count instr special r named named_init on site;
         no_result = no_result u is_setup call_laws laws facts host e stands s is_host no_init outside standing k placed frame is has own opcode index
             count instr special r named;
         other = special_of_host standing k placed is opcode index count instr (eqb-true opcode INVOKESPECIAL special) r named;
@@ -182,18 +177,7 @@ module _ (u : Setup) (is_setup : IsSetup u) (call_laws : CallLaws) (laws : Typin
         depth = has_depth laws is_setup.types facts host e stands s host_headers standing k placed frame is has;
       }
 
-  -- The rows of instructions that stay.
-  pub standing_rows : (chain : List MethodAt) (p : Standing) → IsStanding host e chain p → (k : ℕ) (placed : Placed) (frame : Frame)
-      → slice_get (instrs_of p) k ≡ Some placed
-      → slice_get (frames_of p) k ≡ Some frame
-      → IsOwn (becomes p.expansion k)
-      → (p.setting.behind ≢ None → (kind : Option Kind) → placed.instr ≢ Return kind)
-      → PlacedRow u.classes s (expanded host e) p.setting (start_of p k) placed frame
-  standing_rows chain p standing k placed frame is has own no_return =
-      rows_in_place laws is_setup.types facts host e stands s host_headers chain p standing k placed frame is has
-      (row_conditions standing k placed frame is has own no_return)
-
-  -- The same, as rows of points in flat code.
+  -- The rows of instructions that stay, as rows of points in flat code.
   pub flat_rows : (chain : List MethodAt) (p : Standing) → IsStanding host e chain p → (k : ℕ) (placed : Placed) (frame : Frame)
       → slice_get (instrs_of p) k ≡ Some placed
       → slice_get (frames_of p) k ≡ Some frame
@@ -203,32 +187,6 @@ module _ (u : Setup) (is_setup : IsSetup u) (call_laws : CallLaws) (laws : Typin
   flat_rows chain p standing k placed frame is has own no_return =
       flat_row_by u.classes s (expanded host e) p.setting placed frame (row_conditions standing k placed frame is has own no_return)
       (row_at laws is_setup.types facts host e stands s host_headers standing k placed frame is has)
-
-  -- In no callee is the uninitialised object an uninitialised this.
-  pub this_known : (chain : List MethodAt) (p : Standing) → IsStanding host e chain p → IsSome p.setting.behind → p.setting.this ≢ types.UninitThis
-  this_known = callee_has_no_this laws host e stands s is_host no_init outside
-
-  -- What is left of the parts of the whole: returns, entries and the beginning.
-  pub record OtherParts : Type 0 where
-    pub returns : (chain : List MethodAt) (p : Standing) → IsStanding host e chain p → (k : ℕ) (placed : Placed) (frame : Frame)
-        → slice_get (instrs_of p) k ≡ Some placed
-        → slice_get (frames_of p) k ≡ Some frame
-        → IsOwn (becomes p.expansion k)
-        → (behind : ℕ) → p.setting.behind ≡ Some behind
-        → (kind : Option Kind) → placed.instr ≡ Return kind
-        → (n : ℕ) (point : Point) → slice_get (return_points p.setting placed.at (set_frame p.setting frame) behind) n ≡ Some point
-        → TypesPoint u.classes s (expanded host e) (start_of p k + n) point
-    pub entries : (number : ℕ) (point : Point) → EntryPart host e number point → TypesPoint u.classes s (expanded host e) number point
-    pub begins : MayGoToPoint u.classes s (expanded host e) (Some (flat_entry s (expanded host e))) 0
-
-  -- The typed points type the flat code, if those of returns, of entries and of the beginning do.
-  pub types_with_rows : OtherParts → TypesFlat u.classes s (expanded host e)
-  types_with_rows others = types_flat laws is_setup.types facts host e stands s host_headers this_known (record {
-    rows = standing_rows;
-    returns = others.returns;
-    entries = others.entries;
-    begins = others.begins;
-  })
 
 -- a host is no instance initialiser
 pub host_no_init : (classes : Classes) (at : MethodAt) (s : Scope) → scope_at classes at ≡ Some s → ¬ IsNoHost classes at → is_init s ≡ false

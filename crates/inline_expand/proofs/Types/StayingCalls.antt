@@ -1,6 +1,6 @@
 -- Special calls that stay in flat code: an initialiser is called on the object of no candidate site, but that of java/lang/Object on the object
 -- of an initialiser that is a callee.
-use Rattle.std.proofs.Common.{◌≡◌, ◌≢◌, ◌==◌, ◌+◌, ℕ, Bool, true, false, List, ◌∷◌, bytes_eq, length, slice_get, Option, Some, None, option_map, IsTrue, refl, sym, ap, subst, ◌∙◌}
+use Rattle.std.proofs.Common.{◌≡◌, ◌≢◌, ◌==◌, ◌+◌, ℕ, Bool, true, false, List, ◌∷◌, bytes_eq, length, slice_get, Option, Some, None, option_map, IsSome, IsTrue, refl, sym, ap, subst, ◌∙◌}
 use Rattle.std.proofs.lemmas.Bool.{eqb-true, false≢true}
 use Rattle.std.proofs.lemmas.Option.{same_Some}
 use Rattle.std.proofs.lemmas.Slice.Eq.{bytes_eq-Decides}
@@ -38,7 +38,7 @@ use Rattle.inline_expand.specs.Alone.{number_in}
 use Rattle.inline_expand.specs.Callees.{InitialisesAt, IsCall, IsCallee}
 use Rattle.inline_expand.specs.Expanded.{expanded}
 use Rattle.inline_expand.specs.Expansions.{Coded, Expansion}
-use Rattle.inline_expand.specs.ReadTypes.{class_of_site}
+use Rattle.inline_expand.specs.ReadTypes.{class_of_site, is_site_object}
 use Rattle.inline_expand.specs.Sites.{Constructs, HasFrames, IsReplaced, IsSite, constructs}
 use Rattle.member_link.specs.BodyTyping.{RowHolds}
 use Rattle.member_link.specs.Machine.CallSteps.{is_object_init}
@@ -104,10 +104,10 @@ inner_constructs : {classes : Classes} {typed : FolderFrames} {host : MethodAt} 
     → Constructs classes typed host chain from at
     → (g : Coded) → HasFrames classes typed g.at g.scope g.frames
     → ((callee : MethodAt) (scope : Scope) → IsCallee classes typed host.class from at callee → scope_at classes callee ≡ Some scope → callee ≡ g.at)
-    → (within : ℕ) (r : Reference) → InitialisesAt g.scope g.frames within types.UninitThis r → r.class ≢ object
+    → (within : ℕ) (r : Reference) → is_init g.scope ≡ true → InitialisesAt g.scope g.frames within types.UninitThis r → r.class ≢ object
     → Constructs classes typed host (g.at ∷ chain) g.at within
 inner_constructs {classes} {typed} {host} (constructs chain from at callee scope frames callee_is follows has on_this) g has_own one within r
-    initialises other =
+    own initialises other =
     let same : callee ≡ g.at = one callee scope callee_is has.is_scope in
     let scopes : g.scope ≡ scope = same_Some g.scope scope (sym has_own.is_scope ∙ ap (scope_at classes) (sym same) ∙ has.is_scope) in
     let all : g.frames ≡ frames =
@@ -115,7 +115,7 @@ inner_constructs {classes} {typed} {host} (constructs chain from at callee scope
     let there : InitialisesAt scope frames within types.UninitThis r =
     subst (λ (x : Scope). InitialisesAt x frames within types.UninitThis r) scopes
     (subst (λ (f : List Frame). InitialisesAt g.scope f within types.UninitThis r) all initialises) in
-    subst (λ (c : MethodAt). Constructs classes typed host (c ∷ chain) c within) same (on_this within r there other)
+    subst (λ (c : MethodAt). Constructs classes typed host (c ∷ chain) c within) same (on_this within r (ap is_init (sym scopes) ∙ own) there other)
 
 module _ (u : Setup) (is_setup : IsSetup u) (call_laws : CallLaws) (laws : TypingLaws) (facts : FrameFacts u.classes u.typed)
     (host : Coded) (e : Expansion)
@@ -123,6 +123,12 @@ module _ (u : Setup) (is_setup : IsSetup u) (call_laws : CallLaws) (laws : Typin
     (s : Scope) (is_host : scope_at u.classes host.at ≡ Some s) (no_init : is_init s ≡ false) (outside : NoThisStanding host e) where
   host_none : is_init host.scope ≡ false
   host_none = ap is_init (host_scope_is laws host e stands s is_host) ∙ no_init
+
+  -- the object of a candidate site is that of a callee alone
+  callee_of_site : {chain : List MethodAt} {p : Standing} → IsStanding host e chain p → is_site_object (expanded host e) p.setting.this ≡ true
+      → IsSome p.setting.behind
+  callee_of_site host_stands site = absurd cc
+  callee_of_site (callee_stands k placed frame g inner below at) site = refl
 
   -- an initialiser that is a callee constructs by each call on its own object
   own_constructs : {chain : List MethodAt} {p : Standing} → IsStanding host e chain p → is_init (scope_of p) ≡ true
@@ -135,7 +141,7 @@ module _ (u : Setup) (is_setup : IsSetup u) (call_laws : CallLaws) (laws : Typin
       let row = row_of_callee u is_setup call_laws laws facts host e stands s is_host no_init below k placed frame g inner at is in
       inner_constructs (by (receiver frame init_call.reference.desc) refl row.further) g known.callee (λ callee scope is_callee has_scope.
       one_callee u is_setup call_laws p.setting.coded.at (scope_of p) known.caller.is_scope init_call.is_call init_call.of_init callee g.at scope g.scope
-      (calls_of is_callee known.caller.is_scope) has_scope known.calls known.callee.is_scope) within r initialises other
+      (calls_of is_callee known.caller.is_scope) has_scope known.calls known.callee.is_scope) within r is initialises other
     where
       by : (object : VType)
           → receiver frame (call u is_setup call_laws laws facts host e stands s is_host no_init below k placed frame g inner at is).reference.desc
@@ -266,17 +272,19 @@ module _ (u : Setup) (is_setup : IsSetup u) (call_laws : CallLaws) (laws : Typin
           (in_frames (λ (x : Scope). λ (all : List Frame). IsTrue (is_init x)) known_stands.has has_other own_init, found)) in
           not_replaced so.0 so.1
 
-      -- in a method that is no initialiser there is none
-      no_this_here : is_init (scope_of p) ≡ false → receiver frame r.desc ≢ types.UninitThis
-      no_this_here none =
+      -- in a callee that is no initialiser there is none
+      no_this_here : IsSome p.setting.behind → is_init (scope_of p) ≡ false → receiver frame r.desc ≢ types.UninitThis
+      no_this_here callee none =
           of_lowest (λ (type : VType). type ≢ types.UninitThis) (λ same. absurd cc) (length (parameters_of r.desc) + 1) frame.stack
-          (outside chain p standing none k frame has).1
+          (outside chain p standing callee none k frame has).1
 
-      pub on_this : bytes_eq r.name init ≡ true → receiver frame r.desc ≡ types.UninitThis → is_object_init r ≡ true
-      on_this named_init on = by (bytes_eq r.class object) refl (is_init (scope_of p)) refl where
+      pub on_this : bytes_eq r.name init ≡ true → receiver frame r.desc ≡ types.UninitThis
+          → is_site_object (expanded host e) p.setting.this ≡ true
+          → is_object_init r ≡ true
+      on_this named_init on site = by (bytes_eq r.class object) refl (is_init (scope_of p)) refl where
         by : (same : Bool) → bytes_eq r.class object ≡ same → (initialiser : Bool) → is_init (scope_of p) ≡ initialiser → is_object_init r ≡ true
         by true same initialiser own_is = rw (same, named_init) refl
-        by false other false own_is = absurd (no_this_here own_is on)
+        by false other false own_is = absurd (no_this_here (callee_of_site standing site) own_is on)
         by false other true own_is =
             absurd (no_construct_of_this named_init on own_is
             (λ class. false≢true (sym other ∙ (bytes_eq-Decides r.class object).1 class)))

@@ -1,5 +1,5 @@
--- Of the methods that stand in flat code, none that is no instance initialiser has a frame with an uninitialised this.
-use Rattle.std.proofs.Common.{◌≡◌, ℕ, zero, suc, false, List, slice_get, Some, subst}
+-- Of the callees that stand in flat code, none that is no instance initialiser has a frame with an uninitialised this.
+use Rattle.std.proofs.Common.{◌≡◌, ℕ, zero, suc, false, List, slice_get, Some, IsSome, subst}
 use Rattle.class_model.specs.Laws.Lists.{at_index}
 use Rattle.class_model.specs.declared.class_file.MethodAt.{MethodAt}
 use Rattle.class_model.specs.declared.frame.Frame.{Frame}
@@ -10,11 +10,12 @@ use Rattle.inline_expand.specs.ReadTypes.{NoThisIn, NoThisWithin}
 use Rattle.member_link.specs.Rows.MemberRows.{NoUninitThis}
 use Rattle.member_link.specs.Scope.{is_init}
 
--- said of each method that stands in the flat code
+-- said of each callee that stands in the flat code
 abbrev pub NoThisStanding : Coded → Expansion → Type 0
 NoThisStanding host e =
     (chain : List MethodAt) (p : Standing)
     → IsStanding host e chain p
+    → IsSome p.setting.behind
     → is_init (scope_of p) ≡ false
     → (k : ℕ) (frame : Frame)
     → slice_get (frames_of p) k ≡ Some frame
@@ -34,13 +35,15 @@ no_this_at (stays more) (suc k) all = no_this_at more k all
 no_this_at (site class more) (suc k) all = no_this_at more k all
 no_this_at (replaced g inner more) (suc k) all = no_this_at more k all.2
 
-module _ (host : Coded) (e : Expansion) (all : NoThisIn host × NoThisWithin e) where
-  of_standing : {chain : List MethodAt} {p : Standing} → IsStanding host e chain p → NoThisIn p.setting.coded × NoThisWithin p.expansion
-  of_standing host_stands = all
+module _ (host : Coded) (e : Expansion) (all : NoThisWithin e) where
+  of_standing : {chain : List MethodAt} {p : Standing} → IsStanding host e chain p
+      → (IsSome p.setting.behind → NoThisIn p.setting.coded) × NoThisWithin p.expansion
+  of_standing host_stands = (λ some. absurd cc, all)
   of_standing (callee_stands {p = p} k placed frame g inner below at) =
-      subst NoThisAs at.becomes (no_this_at p.expansion k (of_standing below).1)
+      let found = subst NoThisAs at.becomes (no_this_at p.expansion k (of_standing below).1) in
+      (λ some. found.0, found.1)
 
-  -- Where it is said of the host and of its callees, it holds of each that stands.
+  -- Where it is said of the callees, it holds of each that stands.
   pub no_this_standing : NoThisStanding host e
-  no_this_standing chain p standing none k frame has =
-      at_index (λ (f : Frame). NoUninitThis f.locals × NoUninitThis f.stack) (frames_of p) k frame ((of_standing standing).0 none) has
+  no_this_standing chain p standing callee none k frame has =
+      at_index (λ (f : Frame). NoUninitThis f.locals × NoUninitThis f.stack) (frames_of p) k frame ((of_standing standing).0 callee none) has

@@ -1,5 +1,5 @@
--- Methods that may stand in a host's code with all that they call on their own uninitialised object.
-use Rattle.std.specs.Prelude.{◌≡◌, ◌≢◌, ℕ, List, Some, slice_get}
+-- Methods that may stand in a host's code, initialisers with all that they call on their own uninitialised object.
+use Rattle.std.specs.Prelude.{◌≡◌, ◌≢◌, ℕ, List, Some, slice_get, IsTrue}
 use Rattle.class_model.specs.declared.class_file.ClassFile.{ClassFile}
 use Rattle.class_model.specs.declared.class_file.MethodAt.{MethodAt}
 use Rattle.class_model.specs.declared.frame.Frame.{Frame}
@@ -10,7 +10,7 @@ use Rattle.inline_expand.specs.Callees.{Calls, InitialisesAt, MayStandIn, Result
 use Rattle.inline_expand.specs.Inner.Founded.{Founded}
 use Rattle.inline_expand.specs.Sites.{HasFrames}
 use Rattle.member_link.specs.References.{Reference}
-use Rattle.member_link.specs.Scope.{Scope, own_descriptor}
+use Rattle.member_link.specs.Scope.{Scope, is_init, own_descriptor}
 use Rattle.member_link.specs.Signatures.{result_of}
 use Rattle.type_rules.specs.TypedFrames.{FolderFrames}
 
@@ -29,8 +29,9 @@ pub record CallsAtMost (classes : Classes) (typed : FolderFrames) (from : Method
       → frame_behind caller before at ≡ Some behind
       → ResultSaysAtMost (headers_of classes) (result_of (own_descriptor scope)) behind
 
--- the call at an offset of an initialiser, other than that of java/lang/Object, on the uninitialised object of this one
+-- the method is an initialiser, and at an offset calls one, other than that of java/lang/Object, on its own uninitialised object
 pub record CallsOnThis (scope : Scope) (frames : List Frame) (at : ℕ) : Type 0 where
+  pub own : IsTrue (is_init scope)
   pub reference : Reference
   pub is : InitialisesAt scope frames at UninitThis reference
   pub other : reference.class ≢ object

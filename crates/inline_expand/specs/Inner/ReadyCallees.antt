@@ -32,7 +32,7 @@ FindsCallee classes typed from at None =
     → CallsAtMost classes typed from at callee
     → ¬ IsReady classes typed host callee
 
--- the methods that a method calls on its own uninitialised object
+-- the methods that an initialiser calls on its own uninitialised object
 pub record CallsEach (classes : Classes) (typed : FolderFrames) (method : CodedMethod)
     (callees : List MethodAt)
     : Type 0 where

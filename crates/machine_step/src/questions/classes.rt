@@ -1,5 +1,5 @@
 //! Classes of the folder by name and number, and classes by name.
-ghost use Rattle.std.specs.Prelude.{◌≡◌, IfSome, IfNone, Some, None, slice_get};
+ghost use Rattle.std.specs.Prelude.{◌≡◌, IsSome, IfSome, IfNone, Some, None, slice_get};
 ghost use Rattle.std.specs.Option.{option_copied};
 ghost use Rattle.class_tree.specs.Headers.{class_named as class_in, headers_of};
 ghost use Rattle.member_link.specs.Machine.Programs.{Program, folder_number, header_named, is_interface_named, name_of_class};
@@ -22,6 +22,8 @@ pub fn folder_number(tree: &Tree, name: &Text) -> Option<usize>
 pub fn class_name(tree: &Tree, class: usize) -> Option<&Text>
     ensures some { IfSome result (λ name.
         (P : Program) → IsProgram tree.now P → name.now ≡ name_of_class P class) }
+    ensures there { IfSome result (λ _.
+        (P : Program) → IsProgram tree.now P → IsSome (slice_get P.classes class)) }
     ensures none { IfNone result
         ((P : Program) → IsProgram tree.now P → slice_get P.classes class ≡ None) }
 {

@@ -13,7 +13,7 @@ use Rattle.member_link.specs.References.{Reference}
 -- or of a conditional jump is its opcode.
 pub data Op : Type 0 where
   no_operation : Op
-  -- an instruction whose constant is none that it could name, or whose return is of another kind than the method's result
+  -- an instruction whose constant lacks what it needs, whose opcode is none of its form, or that returns another kind than the method's result
   meaningless : Op
   -- ---- constants
   push_value : Value → Op

@@ -16,9 +16,9 @@ use Rattle.pea_top.specs.Answer.{HasCause, IsScriptThere}
 use Rattle.pea_top.specs.Effects.{IsNeverStuck, method_count, Leaves}
 use Rattle.pea_top.specs.Folders.{HasClassFiles}
 use Rattle.pea_top.specs.Inner.Reading.{AreGoodFiles}
-use Rattle.pea_top.specs.Lines.{summary_line, verified_line}
+use Rattle.pea_top.specs.Lines.{verified_line}
 use Rattle.pea_top.specs.Status.{Ending, completed, refused, failed, out_of_memory, ending}
-use Rattle.pea_top.specs.Words.{Word, Command, Optimise, Verify, Run, input_of, library_of}
+use Rattle.pea_top.specs.Words.{Word, Command, Optimise, Verify, Plan, Run, input_of, library_of}
 use Rattle.pea_top.specs.declared.folder.NamedFile.{NamedFile}
 use Rattle.pea_top.specs.declared.status.Status.{Status}
 use Rattle.pea_top.specs.declared.work.Work.{Work}
@@ -31,22 +31,21 @@ pub record AreInput (command : Command) (old : Files) (files : List NamedFile)
   pub good : AreGoodFiles (old (input_of command)) files classes
   pub library : HasClassFiles HeaderOf (old (library_of command)) headers
 
--- what is left to do of a command, over so many files of its input, of which these are its class files
-abbrev pub IsWork : Command → Files → ℕ → List ClassFile → Work → Type 0
-IsWork (Optimise input output library) old count classes (works.Write folder line) =
-    (folder.now ≡ output)
-    × (line.items ≡ summary_line count (length classes) (method_count classes))
-IsWork (Verify input library) old count classes (works.Print line) =
+-- what is left to do of a command, whose input has these class files
+abbrev pub IsWork : Command → Files → List ClassFile → Work → Type 0
+IsWork (Optimise input output library) old classes (works.Optimise folder names) =
+    folder.now ≡ output
+IsWork (Verify input library) old classes (works.Print line) =
     line.items ≡ verified_line (length classes) (method_count classes)
-IsWork (Run input script library steps) old count classes (works.Run actions most) =
+IsWork (Plan input library) old classes works.Plan = Unit {0}
+IsWork (Run input script library steps) old classes (works.Run actions most) =
     IsScriptThere old script actions × (most ≡ steps)
-IsWork command old count classes work = ⊥
+IsWork command old classes work = ⊥
 
 -- the work writes files
 abbrev pub WritesFiles : Work → Type 0
-WritesFiles (works.Write folder line) = Unit {0}
-WritesFiles (works.Print line) = ⊥
-WritesFiles (works.Run actions most) = ⊥
+WritesFiles (works.Optimise folder names) = Unit {0}
+WritesFiles work = ⊥
 
 -- the text of what a program of these classes shows by these actions, in at most so many steps
 pub record IsShown (tree : Classes) (actions : List Action) (steps : ℕ) (text : Bytes) : Type 0 where
@@ -60,7 +59,7 @@ pub record IsPrepared (command : Command) (old : Files) (files : List NamedFile)
     (classes : List ClassFile) (headers : List Header) (work : Work)
     : Type 0 where
   pub input : AreInput command old files classes headers
-  pub is_work : IsWork command old (length files) classes work
+  pub is_work : IsWork command old classes work
 
 -- these files with their class files and headers, which are the hierarchy
 pub record AreArranged (command : Command) (old : Files) (files : List NamedFile) (tree : Classes)

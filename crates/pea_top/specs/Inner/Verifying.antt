@@ -17,11 +17,11 @@ verify_status (faults.Unverified class method offset rule) =
     statuses.Unverified class method offset rule
 verify_status faults.NoMemory = statuses.NoMemory
 
--- frames type the folder, and are kept for a run
+-- frames type the folder, and are kept but where only a line is to be printed
 abbrev pub IsKept : Classes → Work → Option FolderFrames → Type 0
-IsKept classes (works.Run actions most) None = ⊥
-IsKept classes (works.Run actions most) (Some typed) = TypesFolder classes typed
-IsKept classes work kept = (typed : FolderFrames) × TypesFolder classes typed
+IsKept classes (works.Print line) kept = (typed : FolderFrames) × TypesFolder classes typed
+IsKept classes work None = ⊥
+IsKept classes work (Some typed) = TypesFolder classes typed
 
 -- so it is, or the folder fails first in this
 abbrev pub IsVerifiedFor : Classes → Work → Result (Option FolderFrames) VerifyFault → Type 0

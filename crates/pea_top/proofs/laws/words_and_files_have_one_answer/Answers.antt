@@ -28,7 +28,7 @@ returns c = λ words files one other h i.
     } in
     let types : TypeLaws = record { none = c.a_folder_fails_once.ensures.none; one = c.a_folder_fails_once.ensures.one } in
     let scripts : ScriptLaws = record {
-      none = c.a_script_has_actions_or_a_first_line_outside.ensures.not_both;
-      one = c.a_script_has_actions_or_a_first_line_outside.ensures.one_line;
+      none = c.a_script_has_no_line_outside.ensures.not_both;
+      one = c.a_script_has_no_line_outside.ensures.one_line;
     } in
     one_answer (record { classes = classes; headers = headers; trees = trees; types = types; scripts = scripts }) words files one other h i

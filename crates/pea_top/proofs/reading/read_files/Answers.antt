@@ -3,6 +3,8 @@ use Rattle.std.proofs.lemmas.List.{append-nil, nil_from_length}
 use Rattle.std.proofs.lemmas.Result.{err_from_is_err_and}
 use Rattle.host_tree.specs.declared.call.HostCall.TheVariants.{Read}
 use Rattle.pea_top.proofs.CallCounts.{CountsOnly-trans}
+use Rattle.pea_top.specs.Inner.ReadFiles.{no_files}
+use Rattle.pea_top.proofs.ReadFiles.{one_more_class, one_more_other}
 use Rattle.pea_top.proofs.FolderReads.{All-push, next_there}
 use Rattle.pea_top.proofs.FileReads.{IsFileOrWhy-same, no_file_read, one_more_file, all_files_read, why_from_file}
 use Rattle.pea_top.proofs.reading.read_files.Goals as goal
@@ -13,6 +15,7 @@ loop-name-init g c = record {
   printed = λ told. refl;
   counts = record { own = record { later = omega arith; stands = λ last. last }; others = λ other differs. refl };
   read = λ told. rw (c.in_ok-files.ensures.items, c.new-classes.ensures) (no_file_read _ c.into_iter-name-iterator.ensures.into_iter_gives.0);
+  pairs = rw (c.in_ok-files.ensures.items, c.new-classes.ensures) no_files;
   class_files = rw c.new-classes.ensures tt;
 }
 
@@ -40,6 +43,7 @@ loop-name-preserved-in-Continue-branch-4 g c = record {
       let read = rw c.in-Some.ensures.steps.0 at (c.loop-name.invariant.read told) in
       let found = IsFileOrWhy-same (c.loop-name.invariant.files told c.args.root.now) c.in-Some.name (Ok (c.in_ok-file.file, c.in_ok-file.class)) (c.in_ok-file.ensures.found told) in
       rw (c.in_ok-push.ensures.items, c.in_ok-push-2.ensures.ok) (rw c.in-Some-class.is at (one_more_file read found.0 found.1));
+  pairs = rw (c.in_ok-push.ensures.items, c.in_ok-push-2.ensures.ok) (one_more_class c.in_ok-file.file c.in-Some-class.class c.loop-name.invariant.pairs (rw c.in-Some-class.is at c.in_ok-file.ensures.pair));
   class_files = rw c.in_ok-push-2.ensures.ok (All-push _ c.loop-name.classes c.in-Some-class.class c.loop-name.invariant.class_files (rw c.in-Some-class.is at c.in_ok-file.ensures.class_file));
 }
 
@@ -52,6 +56,7 @@ loop-name-preserved g c = record {
       let read = rw c.in-Some.ensures.steps.0 at (c.loop-name.invariant.read told) in
       let found = IsFileOrWhy-same (c.loop-name.invariant.files told c.args.root.now) c.in-Some.name (Ok (c.in_ok-file.file, c.in_ok-file.class)) (c.in_ok-file.ensures.found told) in
       rw c.in_ok-push.ensures.items (rw (c.in_default.is, append-nil) at (one_more_file read found.0 found.1));
+  pairs = rw c.in_ok-push.ensures.items (one_more_other c.in_ok-file.file c.loop-name.invariant.pairs (rw c.in_default.is at c.in_ok-file.ensures.pair));
   class_files = c.loop-name.invariant.class_files;
 }
 

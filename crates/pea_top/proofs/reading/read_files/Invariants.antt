@@ -5,6 +5,7 @@ use Rattle.class_tree.specs.Headers.{IsClassFile}
 use Rattle.host_tree.specs.Host.{SameFiles}
 use Rattle.host_tree.specs.Counts.{CountsOnly}
 use Rattle.host_tree.specs.declared.call.HostCall.TheVariants.{Read}
+use Rattle.pea_top.specs.Inner.ReadFiles.{AreClassesOf}
 use Rattle.pea_top.proofs.FileReads.{HasReadFiles}
 use Rattle.pea_top.proofs.reading.read_files.Given as goal
 
@@ -15,5 +16,6 @@ invariant-loop-name g l =
       printed : IsTrue g.H.Host.tells → g.H.Host.printed l.host ≡ g.H.Host.printed l.initial.host;
       counts : CountsOnly Read (g.H.Host.faults l.initial.host) (g.H.Host.faults l.host);
       read : IsTrue g.H.Host.tells → HasReadFiles (g.H.Host.file l.initial.host l.root) l.fn.names.items (into_iter_items l.name-iterator) l.files.items l.classes;
+      pairs : AreClassesOf l.files.items l.classes;
       class_files : AllByRecursion IsClassFile l.classes;
     }

@@ -27,3 +27,9 @@ returns-in-run-clause-none c =
     let split = ap (λ words. map string_bytes words) c.in_ok-name.ensures.cases.0 in
     let named = sym c.as_str.ensures.value ∙ c.in-run.is in
     none_then c.run.result (unspelled _ _ _ _ c.in_ok-arguments.arguments split named c.in_ok-arguments.ensures.some) c.run.ensures.none
+
+pub returns-in-plan-clause-none : goal.returns-in-plan-clause-none
+returns-in-plan-clause-none c =
+    let split = ap (λ words. map string_bytes words) c.in_ok-name.ensures.cases.0 in
+    let named = sym c.as_str.ensures.value ∙ c.in-plan.is in
+    none_then c.plan.result (unspelled _ _ _ _ c.in_ok-arguments.arguments split named c.in_ok-arguments.ensures.some) c.plan.ensures.none

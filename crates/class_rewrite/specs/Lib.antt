@@ -1,0 +1,7 @@
+pub mod Reasons
+pub mod ReasonNames
+pub mod Reports
+pub mod Written
+pub mod Optimised
+pub mod Laws
+pub mod Inner

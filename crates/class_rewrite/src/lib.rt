@@ -1,0 +1,11 @@
+//! The rewriting of a folder: what becomes of each method and why, and the folder that is written.
+#![tactic(auto)]
+
+mod folder;
+mod laws;
+mod reasons;
+mod report;
+
+pub use folder::{Optimised, optimise_folder};
+pub use laws::{a_method_has_one_reason, a_written_folder_runs_the_same};
+pub use report::{Line, Report, is_rewritten, reason_name, rewritten};
