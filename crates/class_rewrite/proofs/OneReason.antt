@@ -6,8 +6,8 @@ use Rattle.class_tree.specs.Headers.{Classes}
 use Rattle.flow_code.specs.FlatCode.{FlatCode}
 use Rattle.flow_code.specs.declared.reason.Reason.{Reason}
 use Rattle.flow_code.specs.declared.reason.Reason.TheVariants as reasons
-use Rattle.inline_expand.specs.ExpandAnswers.{HasNoSite, IsExpanded, IsWide}
-use Rattle.type_rules.specs.TypedFrames.{FolderFrames}
+use Rattle.expanded_code.specs.ExpandAnswers.{HasNoSite, IsExpanded, IsWide}
+use Rattle.flow_code.specs.TypedFrames.{FolderFrames}
 
 module _ (classes : Classes) (typed : FolderFrames) (at : MethodAt) (same : (one other : FlatCode) → IsExpanded classes typed at one → IsExpanded classes typed at other → one ≡ other) where
   pub one_reason : (one other : Reason) → HasReason classes typed at one → HasReason classes typed at other → one ≡ other

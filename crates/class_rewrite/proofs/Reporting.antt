@@ -12,8 +12,8 @@ use Rattle.class_tree.specs.Headers.{Classes}
 use Rattle.flow_code.specs.declared.reason.KeptFault.TheVariants.{Kept}
 use Rattle.flow_code.specs.declared.reason.Reason.{Reason}
 use Rattle.flow_code.specs.declared.reason.Reason.TheVariants as reasons
-use Rattle.inline_expand.specs.ExpandAnswers.{AnswersExpanded}
-use Rattle.type_rules.specs.TypedFrames.{FolderFrames}
+use Rattle.expanded_code.specs.ExpandAnswers.{AnswersExpanded}
+use Rattle.flow_code.specs.TypedFrames.{FolderFrames}
 
 -- a reason that is answered is the method's
 pub kept_reason : (classes : Classes) (typed : FolderFrames) (at : MethodAt) (reason : Reason) → AnswersExpanded classes typed at (Err (Kept reason)) → HasReason classes typed at reason

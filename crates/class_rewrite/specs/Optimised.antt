@@ -8,7 +8,7 @@ use Rattle.class_tree.specs.Headers.{Classes}
 use Rattle.machine_step.specs.Programs.{IsProgram}
 use Rattle.member_link.specs.Machine.Programs.{Program}
 use Rattle.member_link.specs.Machine.SameRuns.{SameRuns}
-use Rattle.type_rules.specs.TypedFrames.{FolderFrames}
+use Rattle.flow_code.specs.TypedFrames.{FolderFrames}
 use Rattle.type_rules.specs.Verified.{IsVerified}
 
 -- other class files with the same library

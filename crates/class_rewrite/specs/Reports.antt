@@ -8,7 +8,7 @@ use Rattle.class_rewrite.specs.declared.report.Line.{Line}
 use Rattle.class_tree.specs.Headers.{Classes}
 use Rattle.flow_code.specs.declared.reason.Reason.{Reason}
 use Rattle.flow_code.specs.declared.reason.Reason.TheVariants.{Rewritten}
-use Rattle.type_rules.specs.TypedFrames.{FolderFrames}
+use Rattle.flow_code.specs.TypedFrames.{FolderFrames}
 
 -- ---- the methods of a folder
 

@@ -12,7 +12,7 @@ ghost use Rattle.flow_code.specs.declared.reason.Reason.{Reason};
 ghost use Rattle.machine_step.specs.Programs.{IsProgram};
 ghost use Rattle.member_link.specs.Linked.{IsLinked};
 ghost use Rattle.member_link.specs.Machine.Programs.{Program};
-ghost use Rattle.type_rules.specs.TypedFrames.{FolderFrames};
+ghost use Rattle.flow_code.specs.TypedFrames.{FolderFrames};
 ghost use Rattle.type_rules.specs.Verified.{TypesFolder};
 
 use inline_expand::a_method_has_one_expanded_flat_code;

@@ -1,2 +1,3 @@
 pub mod FlatCode
 pub mod FlatRoom
+pub mod TypedFrames

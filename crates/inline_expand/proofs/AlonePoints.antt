@@ -8,7 +8,7 @@ use Rattle.class_model.specs.declared.frame.Frame.{Frame}
 use Rattle.class_model.specs.declared.instr.Placed.{Placed}
 use Rattle.flow_code.specs.declared.handlers.FlatHandler.{FlatHandler}
 use Rattle.flow_code.specs.declared.point.Point.{Point}
-use Rattle.inline_expand.specs.Alone.{alone_point, alone_points, handler_by}
+use Rattle.expanded_code.specs.Alone.{alone_point, alone_points, handler_by}
 use Rattle.inline_expand.specs.Inner.Hosts.{CoversAlike}
 use Rattle.inline_expand.specs.Inner.Numbers.{handlers_for, number_by}
 use Rattle.inline_expand.specs.declared.numbers.Numbers.{Numbers}

@@ -23,7 +23,7 @@ use Rattle.class_model.specs.declared.class_file.MethodAt.{MethodAt}
 use Rattle.class_model.specs.declared.fault.FileRule.TheVariants as rules
 use Rattle.class_tree.specs.Headers.{Classes, IsClassFile}
 use Rattle.code_bytes.specs.Codes.{HasReadMethods}
-use Rattle.inline_expand.proofs.CutMethods.{AreRaw, class_cut}
+use Rattle.expanded_code.specs.Laws.CutMethods.{AreRaw, class_cut}
 use Rattle.inline_expand.proofs.ReadMethods.{method_was_read}
 use Rattle.inline_expand.proofs.ScopeParts.{scope-parts}
 use Rattle.inline_expand.specs.Inner.Steps.{IsCallable}

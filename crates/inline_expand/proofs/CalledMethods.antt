@@ -8,10 +8,10 @@ use Rattle.class_model.specs.declared.instr.Instr.TheVariants.{Invoke}
 use Rattle.class_model.specs.declared.instr.Placed.{Placed}
 use Rattle.class_tree.specs.Headers.{Classes, headers_of}
 use Rattle.class_tree.specs.Hierarchy.{IsHierarchy}
-use Rattle.inline_expand.specs.Alone.{number_at}
-use Rattle.inline_expand.specs.Callees.{Calls, IsCall, Runs, StandsAt, instr_at, own_name}
+use Rattle.expanded_code.specs.Alone.{number_at}
+use Rattle.expanded_code.specs.Callees.{Calls, IsCall, Runs, StandsAt, instr_at, own_name}
 use Rattle.inline_expand.specs.Inner.Calls.{Called, DecidesCall, DecidesRun, call_at, called_as, called_by}
-use Rattle.inline_expand.proofs.AloneCode.{found-instr, or_behind}
+use Rattle.expanded_code.specs.Laws.NumberedInstrs.{found-instr, or_behind}
 use Rattle.inline_expand.proofs.DecidedRuns.{HasLaws, runs_once}
 use Rattle.inline_expand.proofs.FoundMethods.{stands_once}
 use Rattle.member_link.specs.CodedMethods.{placed_at}

@@ -10,7 +10,7 @@ use Rattle.class_tree.specs.Headers.{Name, Classes, Headers, class_named, header
 use Rattle.class_tree.specs.Hierarchy.{IsHierarchy}
 use Rattle.class_tree.specs.Laws.Headers.{same_class}
 use Rattle.class_tree.specs.Names.{is_interface}
-use Rattle.inline_expand.specs.Callees.{Finds, IsClass, IsOverriddenByNone, Runs, StandsAt, runs_special, runs_static, runs_virtual}
+use Rattle.expanded_code.specs.Callees.{Finds, IsClass, IsOverriddenByNone, Runs, StandsAt, runs_special, runs_static, runs_virtual}
 use Rattle.inline_expand.specs.Inner.Calls.{Decides}
 use Rattle.inline_expand.specs.Inner.Found.{folder_method}
 use Rattle.inline_expand.proofs.FoundMethods.{numbers_stand, standing_numbers}

@@ -31,12 +31,12 @@ use Rattle.class_tree.specs.Names.{object}
 use Rattle.inline_expand.proofs.AloneFlat.{all-append}
 use Rattle.inline_expand.proofs.FolderNames.{of_folder}
 use Rattle.member_link.specs.Laws.ResultTexts.{type_of_spelled}
-use Rattle.inline_expand.proofs.SuperChains.{chain_is, has_superclass}
-use Rattle.inline_expand.specs.Candidates.{HasRoom, IsCandidate}
-use Rattle.inline_expand.specs.FieldConstructors.{constructor_descriptor, field_types}
+use Rattle.expanded_code.specs.Laws.SuperChains.{chain_is, has_superclass}
+use Rattle.expanded_code.specs.Candidates.{HasRoom, IsCandidate}
+use Rattle.expanded_code.specs.FieldConstructors.{constructor_descriptor, field_types}
 use Rattle.inline_expand.specs.Inner.ConstructorWords.{field_descs}
 use Rattle.inline_expand.specs.Inner.FieldTypes.{IsShortDescriptor}
-use Rattle.inline_expand.specs.Quiet.{chain}
+use Rattle.expanded_code.specs.Quiet.{chain}
 
 -- ---- texts that stand one behind the other
 

@@ -10,7 +10,7 @@ use Rattle.class_tree.specs.Hierarchy.{IsHierarchy}
 use Rattle.class_tree.specs.Order.{header_at, member_place, place_of}
 use Rattle.class_tree.specs.declared.place.Place.{Place}
 use Rattle.class_tree.specs.declared.place.Place.TheVariants.{Folder, Library}
-use Rattle.inline_expand.specs.Callees.{StandsAt}
+use Rattle.expanded_code.specs.Callees.{StandsAt}
 use Rattle.inline_expand.specs.Inner.Found.{folder_method, method_numbers}
 use Rattle.member_link.specs.DeclaredMembers.{Declared}
 use Rattle.member_link.specs.Found.{AreSame, IsMethodFound}

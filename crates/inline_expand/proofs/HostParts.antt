@@ -18,21 +18,21 @@ use Rattle.inline_expand.proofs.ExpandedFlat.{expanded-is-flat}
 use Rattle.inline_expand.proofs.ExpandedPoints.{points-length, sites-are-candidates}
 use Rattle.inline_expand.proofs.OneExpansion.{coded_once, one_expansion}
 use Rattle.inline_expand.proofs.ScopeParts.{scope-parts}
-use Rattle.inline_expand.specs.Callees.{Calls}
-use Rattle.inline_expand.specs.ExpandAnswers.{AnswersExpanded, HasFloat, IsExpanded, IsNoHost, IsOpenHost, IsTooLong, has_no_code, is_initialiser}
-use Rattle.inline_expand.specs.Expanded.{expanded, host_setting, points_of}
-use Rattle.inline_expand.specs.Expansions.{Coded, Expands, Expansion}
+use Rattle.expanded_code.specs.Callees.{Calls}
+use Rattle.expanded_code.specs.ExpandAnswers.{AnswersExpanded, HasFloat, IsExpanded, IsNoHost, IsOpenHost, IsTooLong, has_no_code, is_initialiser}
+use Rattle.expanded_code.specs.Expanded.{expanded, host_setting, points_of}
+use Rattle.expanded_code.specs.Expansions.{Coded, Expands, Expansion}
 use Rattle.inline_expand.specs.Inner.Growths.{IsHostExpansion, IsWhole}
 use Rattle.inline_expand.specs.Inner.Measures.{host_expansion}
 use Rattle.inline_expand.specs.Inner.Steps.{IsBody, coded_of}
 use Rattle.inline_expand.specs.Inner.TypedMethods.{IsTypedMethod}
 use Rattle.inline_expand.specs.Inner.WholeCodes.{AnswersWhole, IsHostFound, IsWholeCode, asks_float}
-use Rattle.inline_expand.specs.Sites.{HasFrames}
+use Rattle.expanded_code.specs.Sites.{HasFrames}
 use Rattle.inline_expand.specs.declared.coded.CodedMethod.{CodedMethod}
 use Rattle.inline_expand.specs.declared.expansions.Body.{Body}
 use Rattle.inline_expand.specs.declared.expansions.HostBodies.{HostBodies}
 use Rattle.member_link.specs.Scope.{Scope, instructions, is_clinit, is_init, scope_at}
-use Rattle.type_rules.specs.TypedFrames.{FolderFrames, typed_frames_at}
+use Rattle.flow_code.specs.TypedFrames.{FolderFrames, typed_frames_at}
 use Rattle.type_rules.specs.Verified.{TypesMethod}
 
 -- ---- arithmetic of float and double

@@ -11,7 +11,7 @@ use Rattle.class_tree.specs.Order.{header_at, place_of}
 use Rattle.class_tree.specs.declared.place.Place.{Place}
 use Rattle.class_tree.specs.Subtype.{IsChain}
 use Rattle.std.proofs.lemmas.List.{append-nil}
-use Rattle.inline_expand.proofs.SuperChains.{of_each_class}
+use Rattle.expanded_code.specs.Laws.SuperChains.{of_each_class}
 use Rattle.class_tree.specs.Subtype.IsChain.{root, below}
 use Rattle.std.proofs.Common.{is_some, IsSome, IsTrue, ◌↔◌}
 use Rattle.std.proofs.lemmas.Bool.{false≢true}

@@ -17,7 +17,7 @@ use Rattle.class_tree.specs.declared.place.Place.TheVariants.{Folder}
 use Rattle.inline_expand.specs.declared.candidates.Judged.{Judged}
 use Rattle.inline_expand.proofs.FolderNames.{in_folder_at, of_folder}
 use Rattle.inline_expand.proofs.SoundClasses.{sound_above, sound_fit, sound_free, sound_narrow, there_judged}
-use Rattle.inline_expand.proofs.SuperChains.{has_superclass}
+use Rattle.expanded_code.specs.Laws.SuperChains.{has_superclass}
 use Rattle.inline_expand.specs.Inner.CandidateWords.{AreKept, IsFileOf, IsFitAt, IsJudged, IsKept, IsSound, own_descs, units_of_all}
 use Rattle.inline_expand.specs.Inner.ConstructorWords.{HasFree, field_descs, handled_of}
 

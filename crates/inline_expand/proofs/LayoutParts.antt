@@ -2,8 +2,8 @@
 use Rattle.std.proofs.Common.{◌≡◌, ◌+◌, ◌≤◌, ℕ, zero, suc, List, [], ◌∷◌, ◌++◌, get_or, length, map, slice_get, Option, Some, None, refl, sym, ap, ◌∙◌, arith, append_assoc}
 use Rattle.class_model.specs.declared.instr.Instr.{Instr}
 use Rattle.class_model.specs.declared.instr.Placed.{Placed}
-use Rattle.inline_expand.specs.Expanded.{own_points, points_before, points_of, points_of_callee, units_in}
-use Rattle.inline_expand.specs.Expansions.{Expansion, no_more, replaced, site, stays}
+use Rattle.expanded_code.specs.Expanded.{own_points, points_before, points_of, points_of_callee, units_in}
+use Rattle.expanded_code.specs.Expansions.{Expansion, no_more, replaced, site, stays}
 use Rattle.inline_expand.specs.Inner.Layouts.{AreLayouts, IsLayout, IsShape, capped, points_by, replacing, starts_from, step_points, units_of_callee}
 use Rattle.inline_expand.specs.Inner.Steps.{Callee, callee_by, callees_behind, expansion_by, replaced_by}
 use Rattle.inline_expand.specs.declared.expanded.layouts.Layout.{Layout}

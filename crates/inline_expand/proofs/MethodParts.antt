@@ -7,10 +7,10 @@ use Rattle.class_model.specs.declared.instr.Instr.{Instr}
 use Rattle.class_model.specs.declared.instr.Instr.TheVariants.{Return}
 use Rattle.class_model.specs.declared.instr.Placed.{Placed}
 use Rattle.flow_code.specs.declared.point.Point.{Point}
-use Rattle.inline_expand.specs.Expanded.{Setting, callee_of, callee_setting, instr_points, own_points, points_before, points_from, points_of, points_of_callee, points_of_entry, return_points, set_frame, units_in}
+use Rattle.expanded_code.specs.Expanded.{Setting, callee_of, callee_setting, instr_points, own_points, points_before, points_from, points_of, points_of_callee, points_of_entry, return_points, set_frame, units_in}
 use Rattle.inline_expand.proofs.LayoutParts.{next-start, next-units, units_by}
 use Rattle.inline_expand.proofs.Overlays.{le-cases}
-use Rattle.inline_expand.specs.Expansions.{Expansion, no_more, replaced, site, stays}
+use Rattle.expanded_code.specs.Expansions.{Expansion, no_more, replaced, site, stays}
 use Rattle.inline_expand.specs.Inner.Layouts.{points_by, replacing, starts_from, step_points, units_of_callee}
 use Rattle.inline_expand.specs.Inner.CalleePlaces.{StandsFrom, callee_in, callee_points, method_of}
 use Rattle.inline_expand.specs.Inner.Settings.{own_point, setting_of}

@@ -4,7 +4,7 @@ use Rattle.std.proofs.lemmas.Option.{same_Some}
 use Rattle.class_model.specs.Laws.Lists.{none_behind}
 use Rattle.class_model.specs.declared.frame.VType.{VType}
 use Rattle.class_model.specs.declared.frame.VType.TheVariants.{Top, Uninit}
-use Rattle.inline_expand.specs.Alone.{numbered_type}
+use Rattle.expanded_code.specs.Alone.{numbered_type}
 use Rattle.inline_expand.specs.Inner.Hosts.{uninit_of}
 
 module _ {A : Type 0} (f : A → A) where

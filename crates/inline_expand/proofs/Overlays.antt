@@ -2,7 +2,7 @@
 use Rattle.std.proofs.Common.{◌⊎◌, ◌≡◌, ◌+◌, ◌-◌, ◌<◌, ◌≤◌, ℕ, zero, suc, List, [], ◌∷◌, ◌++◌, length, map, take, drop, replicate, slice_set, inl, inr, refl, sym, ap, subst, ◌∙◌, arith, append-nil, append_assoc, length-append}
 use Rattle.std.proofs.lemmas.List.{drop-drop, drop-replicate, length-map, length-replicate, map-append, replicate-append-replicate, take-append-drop, length-take-le, take_all}
 use Rattle.class_model.specs.declared.frame.VType.{VType}
-use Rattle.inline_expand.specs.Expanded.{overlaid}
+use Rattle.expanded_code.specs.Expanded.{overlaid}
 use Rattle.inline_expand.specs.Inner.Frames.{put_at}
 
 pub le-cases : (m n : ℕ) → (m ≤ n) ⊎ (n < m)

@@ -4,7 +4,7 @@ use Rattle.std.proofs.lemmas.Bool.{cases_eq}
 use Rattle.std.proofs.lemmas.Option.{same_Some, slice_get_cases, slice_get_within}
 use Rattle.class_model.specs.declared.header.Member.{Member}
 use Rattle.class_tree.specs.Headers.{Headers}
-use Rattle.inline_expand.specs.Callees.{IsOverriddenByNone}
+use Rattle.expanded_code.specs.Callees.{IsOverriddenByNone}
 use Rattle.inline_expand.specs.Inner.FolderMethods.{AreAlike}
 use Rattle.member_link.specs.DeclaredMembers.{Declared}
 use Rattle.member_link.specs.Found.{IsMethodFound}

@@ -11,7 +11,7 @@ use Rattle.class_tree.specs.Headers.{Classes}
 use Rattle.inline_expand.proofs.Founding.{needed_is_founded}
 use Rattle.inline_expand.proofs.MethodLists.{among_front, among_last, among_more}
 use Rattle.inline_expand.proofs.ReadyCalls.{one_list, one_scope}
-use Rattle.inline_expand.specs.Callees.{MayStandIn, instr_at}
+use Rattle.expanded_code.specs.Callees.{MayStandIn, instr_at}
 use Rattle.inline_expand.specs.Inner.Coded.{Stands}
 use Rattle.inline_expand.specs.Inner.Founded.{founded}
 use Rattle.inline_expand.specs.Inner.Ready.{CallsAtMost, CallsOnThis, Fits, IsReady, Needs}
@@ -21,7 +21,7 @@ use Rattle.inline_expand.specs.Inner.Walks.{HasNeeds, NeedsThese}
 use Rattle.inline_expand.specs.declared.coded.CodedMethod.{CodedMethod}
 use Rattle.member_link.specs.CodedMethods.{placed_at}
 use Rattle.member_link.specs.Scope.{Scope, instructions}
-use Rattle.type_rules.specs.TypedFrames.{FolderFrames}
+use Rattle.flow_code.specs.TypedFrames.{FolderFrames}
 
 -- ---- an instruction at an offset has a number
 

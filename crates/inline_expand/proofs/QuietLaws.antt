@@ -19,10 +19,10 @@ use Rattle.class_tree.specs.Layouts.{superclasses}
 use Rattle.class_tree.specs.declared.place.Place.{Place}
 use Rattle.class_tree.specs.declared.place.Place.TheVariants.{Folder, Library}
 use Rattle.inline_expand.proofs.FolderNames.{in_folder_at, of_folder}
-use Rattle.inline_expand.proofs.SuperChains.{chain_is, chain_of_object, of_each_class, superclasses_is, superclasses_of_root}
+use Rattle.expanded_code.specs.Laws.SuperChains.{chain_is, chain_of_object, of_each_class, superclasses_is, superclasses_of_root}
 use Rattle.inline_expand.specs.Inner.QuietWords.{IsInterfaceThere, IsQuietItself, IsSilent, IsSilentAt, IsSilentItself}
 use Rattle.member_link.specs.Access.{IsAtOrBelow}
-use Rattle.inline_expand.specs.Quiet.{IsOfFolder, IsQuiet, chain, declares_initialiser}
+use Rattle.expanded_code.specs.Quiet.{IsOfFolder, IsQuiet, chain, declares_initialiser}
 
 -- ---- silent classes
 

@@ -5,8 +5,8 @@ use Rattle.class_model.specs.declared.descriptor.Kind.{Kind}
 use Rattle.class_model.specs.declared.instr.Instr.{Instr}
 use Rattle.class_model.specs.declared.instr.Instr.TheVariants.{Iinc, Load, Store}
 use Rattle.flow_code.specs.declared.point.FlatInstr.TheVariants.{Of}
-use Rattle.inline_expand.specs.Alone.{handlers_by}
-use Rattle.inline_expand.specs.Expanded.{Narrowing, Setting, narrows, point_in, with_unit}
+use Rattle.expanded_code.specs.Alone.{handlers_by}
+use Rattle.expanded_code.specs.Expanded.{Narrowing, Setting, narrows, point_in, with_unit}
 use Rattle.inline_expand.specs.Inner.Numbers.{handlers_for, number_by}
 use Rattle.inline_expand.specs.Inner.Settings.{IsSpot, caught_by, number_in, setting_of}
 use Rattle.inline_expand.specs.declared.expanded.settings.Call.{Call}

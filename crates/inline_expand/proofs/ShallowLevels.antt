@@ -10,7 +10,7 @@ use Rattle.inline_expand.specs.Inner.MethodSets.{Adds, AddsAll}
 use Rattle.inline_expand.specs.Inner.Ready.{IsReady, Needs}
 use Rattle.inline_expand.specs.Inner.Stacks.{IsAmong}
 use Rattle.inline_expand.specs.Inner.Walks.{NeedsThese}
-use Rattle.type_rules.specs.TypedFrames.{FolderFrames}
+use Rattle.flow_code.specs.TypedFrames.{FolderFrames}
 
 -- ---- lists
 

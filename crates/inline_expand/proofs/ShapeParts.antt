@@ -8,7 +8,7 @@ use Rattle.class_model.specs.Laws.Lists.{AllByRecursion-weaker}
 use Rattle.class_model.specs.Members.{STATIC, has}
 use Rattle.class_model.specs.Methods.{units_at_call}
 use Rattle.class_model.specs.declared.descriptor.FieldType.{FieldType}
-use Rattle.inline_expand.specs.Expanded.{Argument, arguments, arguments_from}
+use Rattle.expanded_code.specs.Expanded.{Argument, arguments, arguments_from}
 use Rattle.inline_expand.specs.Inner.Layouts.{AreParameters, EndsBy, argument_from}
 use Rattle.inline_expand.specs.declared.expanded.shapes.Parameter.{Parameter}
 use Rattle.member_link.specs.Scope.{Scope, own_descriptor}

@@ -29,15 +29,15 @@ use Rattle.member_link.specs.Scope.{Scope, is_init}
 use Rattle.inline_expand.proofs.ConstructorLaws.{constructor_is}
 use Rattle.inline_expand.proofs.FolderNames.{folder_name, in_folder_at, of_folder}
 use Rattle.inline_expand.proofs.QuietLaws.{quiet_is}
-use Rattle.inline_expand.proofs.SuperChains.{chain_is, chain_of_object, has_superclass, superclasses_is, superclasses_of_root}
+use Rattle.expanded_code.specs.Laws.SuperChains.{chain_is, chain_of_object, has_superclass, superclasses_is, superclasses_of_root}
 use Rattle.inline_expand.proofs.StoredClasses.{before_stored, stored_before}
-use Rattle.inline_expand.specs.Candidates.{HasNoFinalizer, HasRoom, Initialises, IsCandidate, KeepsFinals, declares_finalizer}
-use Rattle.inline_expand.specs.FieldConstructors.{field_types}
+use Rattle.expanded_code.specs.Candidates.{HasNoFinalizer, HasRoom, Initialises, IsCandidate, KeepsFinals, declares_finalizer}
+use Rattle.expanded_code.specs.FieldConstructors.{field_types}
 use Rattle.inline_expand.specs.Inner.CandidateWords.{IsFileOf, IsFit, IsFitAt, IsJudged, IsSound, own_descs, units_of_all}
 use Rattle.inline_expand.specs.Inner.ConstructorWords.{HasFree, field_descs, handled_of}
 use Rattle.inline_expand.specs.Inner.QuietWords.{IsQuietItself}
 use Rattle.inline_expand.specs.Inner.StoreWords.{IsStored}
-use Rattle.inline_expand.specs.Quiet.{chain}
+use Rattle.expanded_code.specs.Quiet.{chain}
 
 -- ---- lists
 

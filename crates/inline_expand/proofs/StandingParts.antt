@@ -12,7 +12,7 @@ use Rattle.class_model.specs.declared.frame.VType.{VType}
 use Rattle.class_model.specs.declared.instr.Placed.{Placed}
 use Rattle.class_model.specs.declared.memory.NoMemory.{NoMemory}
 use Rattle.class_tree.specs.Headers.{Headers}
-use Rattle.inline_expand.specs.Callees.{LeavesResult, SayAtMost, SaysAtMost}
+use Rattle.expanded_code.specs.Callees.{LeavesResult, SayAtMost, SaysAtMost}
 use Rattle.member_link.specs.Laws.ResultTexts.{result_spelled}
 use Rattle.member_link.specs.Signatures.{result_of}
 

@@ -6,7 +6,7 @@ use Rattle.class_model.specs.declared.class_file.ClassFile.{ClassFile}
 use Rattle.class_model.specs.declared.class_file.Method.{Method}
 use Rattle.class_tree.specs.Headers.{Classes, headers_of}
 use Rattle.member_link.specs.Scope.{Scope, scope_at, scope_of}
-use Rattle.type_rules.specs.TypedFrames.{FolderFrames}
+use Rattle.flow_code.specs.TypedFrames.{FolderFrames}
 use Rattle.class_model.specs.declared.class_file.MethodAt.{MethodAt}
 use Rattle.inline_expand.proofs.Founding.{led_is_founded, needed_is_founded, no_circle, then_needs}
 use Rattle.inline_expand.specs.Inner.Founded.{Leads, founded, leads_at_once}

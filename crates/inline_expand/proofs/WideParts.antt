@@ -5,7 +5,7 @@ use Rattle.class_model.specs.Frames.{depth}
 use Rattle.class_model.specs.Laws.Lists.{drop_item}
 use Rattle.class_model.specs.declared.frame.Frame.{Frame}
 use Rattle.flow_code.specs.declared.point.Point.{Point}
-use Rattle.inline_expand.specs.ExpandAnswers.{greatest_depth}
+use Rattle.expanded_code.specs.ExpandAnswers.{greatest_depth}
 use Rattle.inline_expand.specs.Inner.WideWords.{counted}
 
 pub next-depth : (points : List Point) (at : ℕ) (typed : Frame) → Some typed ≡ option_map (λ (point : Point). point.typed) (slice_get points at)

@@ -1,14 +1,2 @@
-pub mod Alone
-pub mod AloneAnswers
-pub mod Quiet
-pub mod FieldConstructors
-pub mod Candidates
-pub mod Callees
-pub mod ReadTypes
-pub mod Sites
-pub mod Expansions
-pub mod Expanded
-pub mod ExpandAnswers
-pub mod ExpandedPrograms
 pub mod TypedClasses
 pub mod Inner

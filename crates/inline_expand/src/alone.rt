@@ -1,7 +1,7 @@
 //! The flat code of a method by itself.
 ghost use Rattle.std.specs.Prelude.{◌≡◌, IfOk, length};
-ghost use Rattle.inline_expand.specs.Alone.{alone_point, alone_points, flat_alone, handlers_at};
-ghost use Rattle.inline_expand.specs.AloneAnswers.{AnswersAlone};
+ghost use Rattle.expanded_code.specs.Alone.{alone_point, alone_points, flat_alone, handlers_at};
+ghost use Rattle.expanded_code.specs.AloneAnswers.{AnswersAlone};
 ghost use Rattle.inline_expand.specs.Inner.Hosts.{HasUnits};
 ghost use Rattle.member_link.specs.Scope.{instructions};
 ghost use Rattle.type_rules.specs.Typed.{Typed};

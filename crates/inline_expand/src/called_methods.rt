@@ -3,7 +3,7 @@ ghost use Rattle.std.specs.Prelude.{◌≡◌, ◌↔◌, IfOk, IsTrue, Some};
 ghost use Rattle.class_model.specs.declared.frame.Frame.{Frame};
 ghost use Rattle.class_tree.specs.Headers.{headers_of};
 ghost use Rattle.code_bytes.specs.Codes.{IsReadMethod};
-ghost use Rattle.inline_expand.specs.Callees.{ResultSaysAtMost, frame_behind};
+ghost use Rattle.expanded_code.specs.Callees.{ResultSaysAtMost, frame_behind};
 ghost use Rattle.inline_expand.specs.Inner.Calls.{DecidesCall};
 ghost use Rattle.inline_expand.specs.Inner.Coded.{Stands};
 ghost use Rattle.inline_expand.specs.Inner.ReadyCallees.{FindsCallee, IsHostClass};

@@ -1,7 +1,7 @@
 //! Calls in whose place the called method's code may stand.
 ghost use Rattle.std.specs.Prelude.{◌≡◌, IfOk, IfSome, IfNone, OnOk};
 ghost use Rattle.class_model.specs.declared.class_file.MethodAt.{MethodAt as Method};
-ghost use Rattle.inline_expand.specs.Callees.{IsCallee};
+ghost use Rattle.expanded_code.specs.Callees.{IsCallee};
 ghost use Rattle.inline_expand.specs.Inner.Coded.{Stands};
 ghost use Rattle.inline_expand.specs.Inner.ReadyCallees.{IsCalleeFound, IsHostClass};
 ghost use Rattle.inline_expand.specs.Inner.Walks.{AreRight};

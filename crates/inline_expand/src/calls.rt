@@ -6,7 +6,7 @@ ghost use Rattle.class_model.specs.Names.{init};
 ghost use Rattle.class_model.specs.declared.class_file.MethodAt.{MethodAt};
 ghost use Rattle.class_tree.specs.Headers.{Classes, Name, headers_of};
 ghost use Rattle.class_tree.specs.Hierarchy.{IsHierarchy};
-ghost use Rattle.inline_expand.specs.Callees.{Calls, IsClass};
+ghost use Rattle.expanded_code.specs.Callees.{Calls, IsClass};
 ghost use Rattle.inline_expand.specs.Inner.Calls.{DecidesCall, DecidesRun, call_at, call_meant, called_by};
 ghost use Rattle.member_link.specs.MemberRefs.{reference_meant};
 ghost use Rattle.member_link.specs.Methods.{IsInLibrary, IsPolymorphic};

@@ -8,7 +8,7 @@ ghost use Rattle.class_tree.specs.Names.{object};
 ghost use Rattle.class_tree.specs.Order.{place_of};
 ghost use Rattle.class_tree.specs.declared.place.Place.TheVariants.{Folder};
 ghost use Rattle.class_model.specs.Header.{header_of};
-ghost use Rattle.inline_expand.specs.Candidates.{IsCandidate, declares_finalizer};
+ghost use Rattle.expanded_code.specs.Candidates.{IsCandidate, declares_finalizer};
 ghost use Rattle.inline_expand.specs.Inner.CandidateWords.{IsFileOf, IsFitAt, IsJudged, IsKept, IsKnown, IsLeft, own_descs, units_of_all};
 
 use crate::field_constructors::has_free_constructor;

@@ -7,7 +7,7 @@ ghost use Rattle.class_model.specs.declared.header.Header.{Header};
 ghost use Rattle.class_tree.specs.Headers.{headers_of};
 ghost use Rattle.class_tree.specs.Names as names;
 ghost use Rattle.class_tree.specs.Order.{header_at};
-ghost use Rattle.inline_expand.specs.Callees.{IsClass};
+ghost use Rattle.expanded_code.specs.Callees.{IsClass};
 
 use class_model::{ACC_INTERFACE, ClassFile, NoMemory, Text, has};
 use class_tree::{Place, Tree, a_tree_is_a_hierarchy};

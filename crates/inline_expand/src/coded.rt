@@ -1,7 +1,7 @@
 //! Methods with code and the frames that type them.
 ghost use Rattle.std.specs.Prelude.{◌≡◌, IfOk, length};
 ghost use Rattle.std.specs.Option.{option_copied, option_map};
-ghost use Rattle.inline_expand.specs.Callees.{frame_before, frame_behind};
+ghost use Rattle.expanded_code.specs.Callees.{frame_before, frame_behind};
 ghost use Rattle.inline_expand.specs.Inner.Coded.{IsCoded, IsShortCoded};
 ghost use Rattle.member_link.specs.Scope.{scope_at};
 

@@ -1,7 +1,7 @@
 //! The flat code of a method with its callees in place of their calls.
 ghost use Rattle.std.specs.Prelude.{◌≡◌, ◌↔◌, ◌⊎◌, IfOk, IsTrue};
 ghost use Rattle.std.specs.List.{list_any};
-ghost use Rattle.inline_expand.specs.ExpandAnswers.{AnswersExpanded};
+ghost use Rattle.expanded_code.specs.ExpandAnswers.{AnswersExpanded};
 ghost use Rattle.inline_expand.specs.Inner.Walks.{AreRight};
 ghost use Rattle.inline_expand.specs.Inner.WholeCodes.{IsHostFound, asks_float};
 ghost use Rattle.member_link.specs.Scope.{is_clinit, is_init};

@@ -5,7 +5,7 @@ ghost use Rattle.inline_expand.specs.Inner.Growths.{HasGrown, IsExpansionFound, 
 ghost use Rattle.inline_expand.specs.Inner.Places.{IsPlace, chain_of, host_of};
 ghost use Rattle.inline_expand.specs.Inner.SiteTables.{AreSites};
 ghost use Rattle.inline_expand.specs.Inner.Walks.{AreRight};
-ghost use Rattle.inline_expand.specs.Sites.{IsReplaced};
+ghost use Rattle.expanded_code.specs.Sites.{IsReplaced};
 ghost use Rattle.member_link.specs.Scope.{instructions};
 
 use crate::calls::a_call_runs_one_method;

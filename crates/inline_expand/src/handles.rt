@@ -2,7 +2,7 @@
 ghost use Rattle.std.specs.Prelude.{◌≡◌, ◌++◌, ◌<◌, ℕ, List, Some, IfOk, OnOk};
 ghost use Rattle.std.specs.Option.{option_copied, option_map};
 ghost use Rattle.class_tree.specs.Headers.{Name, headers_of};
-ghost use Rattle.inline_expand.specs.FieldConstructors.{handled};
+ghost use Rattle.expanded_code.specs.FieldConstructors.{handled};
 ghost use Rattle.member_link.specs.MemberRefs.{reference_meant};
 ghost use Rattle.inline_expand.specs.Inner.ConstructorWords.{AreHandled, handled_in, handled_of, handled_of_pool};
 

@@ -4,7 +4,7 @@ ghost use Rattle.class_model.specs.Checks.{AllHold};
 ghost use Rattle.class_model.specs.Instructions.{decoded};
 ghost use Rattle.class_tree.specs.Headers.{headers_of};
 ghost use Rattle.code_bytes.specs.Decoding.{decoding_checks};
-ghost use Rattle.inline_expand.specs.Alone.{number_at};
+ghost use Rattle.expanded_code.specs.Alone.{number_at};
 ghost use Rattle.inline_expand.specs.Inner.Hosts.{HasUnits};
 ghost use Rattle.member_link.specs.Scope.{instructions, is_init, scope_at};
 

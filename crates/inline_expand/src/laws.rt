@@ -1,127 +1,13 @@
-//! Laws of flat code: functions that do nothing, whose contracts say what always holds.
-ghost use Rattle.std.specs.Prelude.{◌≡◌, Some};
+//! A law of expanded flat code: a function that does nothing, whose contract says what always holds.
+ghost use Rattle.std.specs.Prelude.{◌≡◌};
 ghost use Rattle.class_model.specs.declared.class_file.MethodAt.{MethodAt};
 ghost use Rattle.class_tree.specs.Headers.{Classes, headers_of};
 ghost use Rattle.class_tree.specs.Hierarchy.{IsHierarchy};
-ghost use Rattle.class_tree.specs.Trees.{IsTree};
+ghost use Rattle.expanded_code.specs.ExpandAnswers.{IsExpanded};
 ghost use Rattle.flow_code.specs.FlatCode.{FlatCode};
-ghost use Rattle.inline_expand.specs.AloneAnswers.{AreAlone, IsFlatAlone};
-ghost use Rattle.inline_expand.specs.ExpandAnswers.{IsExpanded, IsNoHost};
-ghost use Rattle.inline_expand.specs.ExpandedPrograms.{AreExpanded, HasTypings, ReplacesByFlats};
-ghost use Rattle.inline_expand.specs.ReadTypes.{NoThisOutside, TypesFlat};
-ghost use Rattle.member_link.specs.Linked.{IsLinked};
-ghost use Rattle.member_link.specs.Machine.Classes.{program_of};
-ghost use Rattle.member_link.specs.Machine.Links.{AreLinksOf};
-ghost use Rattle.member_link.specs.Machine.Programs.{Links};
-ghost use Rattle.member_link.specs.Machine.Replaced.{Replacement, replaced};
-ghost use Rattle.member_link.specs.Scope.{Scope, scope_at};
-ghost use Rattle.same_runs.specs.EqualRuns.{EqualRuns};
-ghost use Rattle.same_runs.specs.FlatBodies.{body_of_flat, typed_points};
-ghost use Rattle.same_runs.specs.Flats.{Flats, flat_program};
-ghost use Rattle.type_rules.specs.Typed.{TypesBody};
-ghost use Rattle.type_rules.specs.TypedFrames.{FolderFrames};
-ghost use Rattle.type_rules.specs.Verified.{TypesFolder};
-ghost use Rattle.typed_runs.specs.TypedPrograms.{IsTypedProgram, Typings};
+ghost use Rattle.flow_code.specs.TypedFrames.{FolderFrames};
 
 use crate::calls::a_call_runs_one_method;
-
-/// To the machine the flat code of a method by itself is the method's own code. So a program in which any methods run such
-/// flat codes is the program of the folder, and runs equally.
-pub fn flat_codes_alone_run_equally()
-    ensures program { (classes : Classes) (typed : FolderFrames) (links : Links) (flats : Flats)
-        → TypesFolder classes typed
-        → AreAlone classes typed flats
-        → flat_program classes links flats ≡ program_of classes links }
-    ensures runs { (classes : Classes) (typed : FolderFrames) (links : Links) (flats : Flats)
-        → TypesFolder classes typed
-        → AreAlone classes typed flats
-        → EqualRuns (program_of classes links) (flat_program classes links flats) }
-{
-    type_rules::a_typed_folder_types_each_method();
-    type_rules::a_typed_method_types_each_instruction();
-    same_runs::programs_that_are_equal_run_equally();
-}
-
-/// The typed points of the flat code of a method by itself type it.
-pub fn a_flat_code_alone_is_typed()
-    ensures { (classes : Classes) (typed : FolderFrames) (at : MethodAt) (flat : FlatCode) (s : Scope)
-        → TypesFolder classes typed
-        → IsFlatAlone classes typed at flat
-        → scope_at classes at ≡ Some s
-        → TypesBody (body_of_flat classes s flat) (typed_points flat) }
-{
-    type_rules::a_typed_folder_types_each_method();
-    type_rules::a_method_stands_in_order();
-    type_rules::frames_type_a_body_by_its_places();
-    type_rules::a_typed_body_goes_to_stated_frames();
-}
-
-/// A program in which any hosts run their expanded flat codes, callees in place of their calls, runs equally: for every list of
-/// actions it shows the same events with equal counts and the same end, and it goes on exactly where the program of the folder does. The
-/// folder is verified: frames type it, and its program is typed by them (`a_verified_folder_is_a_typed_program` of never_stuck).
-pub fn expanded_flat_codes_run_equally()
-    ensures { (classes : Classes) (typed : FolderFrames) (links : Links) (typings : Typings)
-        (flats : Flats) (r : Replacement)
-        → IsTree classes
-        → TypesFolder classes typed
-        → AreLinksOf (headers_of classes) links
-        → IsTypedProgram (program_of classes links) typings
-        → HasTypings classes typed typings
-        → AreExpanded classes typed flats
-        → ReplacesByFlats classes links flats r
-        → EqualRuns (program_of classes links) (replaced (program_of classes links) r) }
-{
-    code_bytes::a_class_file_has_read_methods();
-    code_bytes::instructions_are_consecutive();
-    member_link::a_look_up_finds_one_field();
-    member_link::a_found_field_is_above();
-    member_link::a_look_up_finds_one_method();
-    member_link::a_found_method_is_above();
-    member_link::a_selection_chooses_one();
-    member_link::a_choice_can_be_run();
-    type_rules::a_typed_folder_types_each_method();
-    type_rules::a_typed_method_types_each_instruction();
-    type_rules::a_method_stands_in_order();
-    typed_runs::a_run_starts_typed();
-    typed_runs::a_step_stays_typed();
-    typed_runs::an_action_stays_typed();
-}
-
-/// The typed points of the expanded flat code of a host type it, as the typing of code asks, where the object of a candidate site is read as one
-/// of its class: its `new` makes such an object, and a call of java/lang/Object.<init> takes it away (`TypesFlat`). Access is not asked. The
-/// folder is verified: it is linked, frames type it, and its program is typed by them. None of the callees that stand in the flat code, unless it
-/// is an instance initialiser, has a frame with an uninitialised this, as code that nothing reaches may state (`NoThisOutside`).
-pub fn an_expanded_flat_code_is_typed()
-    ensures { (classes : Classes) (typed : FolderFrames) (links : Links) (typings : Typings)
-        (at : MethodAt) (flat : FlatCode) (s : Scope)
-        → IsTree classes
-        → IsLinked classes
-        → TypesFolder classes typed
-        → AreLinksOf (headers_of classes) links
-        → IsTypedProgram (program_of classes links) typings
-        → HasTypings classes typed typings
-        → (is : IsExpanded classes typed at flat)
-        → ¬ IsNoHost classes at
-        → NoThisOutside is
-        → scope_at classes at ≡ Some s
-        → TypesFlat classes s flat }
-{
-    class_model::parameters_are_spelled();
-    class_model::a_descriptor_of_a_text();
-    code_bytes::a_class_file_has_read_methods();
-    code_bytes::instructions_are_consecutive();
-    member_link::a_linked_folder_passes_by_place();
-    member_link::a_look_up_finds_one_method();
-    member_link::a_found_method_is_above();
-    member_link::a_selection_chooses_one();
-    member_link::a_choice_can_be_run();
-    type_rules::a_typed_folder_types_each_method();
-    type_rules::a_typed_method_types_each_instruction();
-    type_rules::a_method_stands_in_order();
-    type_rules::frames_type_a_body_by_its_places();
-    type_rules::a_typed_body_goes_to_stated_frames();
-    typed_runs::a_step_stays_typed();
-}
 
 /// A method of a hierarchy has at most one expanded flat code.
 pub fn a_method_has_one_expanded_flat_code()

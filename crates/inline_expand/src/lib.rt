@@ -42,7 +42,4 @@ pub use alone::flat_alone;
 pub use callees::callee;
 pub use candidates::{Candidates, candidate};
 pub use expanding::{Expander, expand};
-pub use laws::{
-    a_flat_code_alone_is_typed, a_method_has_one_expanded_flat_code,
-    an_expanded_flat_code_is_typed, expanded_flat_codes_run_equally, flat_codes_alone_run_equally,
-};
+pub use laws::a_method_has_one_expanded_flat_code;

@@ -1,7 +1,7 @@
 //! Frames whose uninitialised objects are named by numbers.
 ghost use Rattle.std.specs.Prelude.{◌≡◌, ◌<◌, length, map, slice_get, slice_set, Some, IfOk, OnOk};
 ghost use Rattle.std.specs.Option.{option_copied};
-ghost use Rattle.inline_expand.specs.Alone.{number_at, numbered_frame, numbered_type};
+ghost use Rattle.expanded_code.specs.Alone.{number_at, numbered_frame, numbered_type};
 ghost use Rattle.inline_expand.specs.Inner.Hosts.{uninit_of};
 
 use crate::host::Host;

@@ -1,6 +1,6 @@
 //! Numbers of points in place of the offsets of instructions.
 ghost use Rattle.std.specs.Prelude.{◌≡◌};
-ghost use Rattle.inline_expand.specs.Alone.{number_at};
+ghost use Rattle.expanded_code.specs.Alone.{number_at};
 ghost use Rattle.inline_expand.specs.Inner.Numbers.{number_by, placed_by};
 
 use crate::host::Host;

@@ -6,7 +6,7 @@ ghost use Rattle.class_model.specs.declared.header.Header.{Header};
 ghost use Rattle.class_model.specs.declared.header.Member.{Member};
 ghost use Rattle.class_tree.specs.Headers.{headers_of};
 ghost use Rattle.class_tree.specs.Order.{header_at};
-ghost use Rattle.inline_expand.specs.Callees.{IsOpenClassAt, IsOpenConstant, IsOpenField, IsOpenFieldAt, IsOpenFieldReference, IsOpenMethod, IsOpenMethodAt, IsOpenMethodReference, NamesOpen};
+ghost use Rattle.expanded_code.specs.Callees.{IsOpenClassAt, IsOpenConstant, IsOpenField, IsOpenFieldAt, IsOpenFieldReference, IsOpenMethod, IsOpenMethodAt, IsOpenMethodReference, NamesOpen};
 ghost use Rattle.inline_expand.specs.Inner.Open.{WillBeOpened};
 ghost use Rattle.member_link.specs.MemberRefs.{reference_meant};
 ghost use Rattle.member_link.specs.DeclaredMembers as declared;

@@ -1,7 +1,7 @@
 //! Methods that no method of the folder overrides (JVM Specification SE 8, 5.4.5).
 ghost use Rattle.std.specs.Prelude.{◌≡◌, ◌↔◌, Some, IsTrue, slice_get};
 ghost use Rattle.class_tree.specs.Headers.{headers_of};
-ghost use Rattle.inline_expand.specs.Callees.{IsOverriddenByNone};
+ghost use Rattle.expanded_code.specs.Callees.{IsOverriddenByNone};
 ghost use Rattle.member_link.specs.DeclaredMembers.{Declared};
 ghost use Rattle.member_link.specs.Found.{IsMethodFound};
 ghost use Rattle.member_link.specs.Overriding.{Overrides};

@@ -3,7 +3,7 @@ ghost use Rattle.std.specs.Prelude.{◌≡◌, ◌↔◌, IfOk, OnOk, IsTrue};
 ghost use Rattle.inline_expand.specs.Inner.Coded.{Stands};
 ghost use Rattle.inline_expand.specs.Inner.Places.{IsPlace, chain_of, host_of};
 ghost use Rattle.inline_expand.specs.Inner.Walks.{AreRight};
-ghost use Rattle.inline_expand.specs.Sites.{Constructs, MayFollow};
+ghost use Rattle.expanded_code.specs.Sites.{Constructs, MayFollow};
 
 use crate::callees::find_ready;
 use crate::calls::a_call_runs_one_method;

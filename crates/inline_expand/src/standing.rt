@@ -7,7 +7,7 @@ ghost use Rattle.class_model.specs.Methods.{this_units};
 ghost use Rattle.class_model.specs.declared.class_file.MethodAt.{MethodAt};
 ghost use Rattle.class_tree.specs.Headers.{headers_of};
 ghost use Rattle.code_bytes.specs.Codes.{IsReadMethod};
-ghost use Rattle.inline_expand.specs.Callees.{IsNoHandle, IsPlain, LeavesResult, MayStandIn, NamesInitialiser, ResultSaysAtMost, SayAtMost, SaysAtMost};
+ghost use Rattle.expanded_code.specs.Callees.{IsNoHandle, IsPlain, LeavesResult, MayStandIn, NamesInitialiser, ResultSaysAtMost, SayAtMost, SaysAtMost};
 ghost use Rattle.inline_expand.specs.Inner.Standing.{AreOpen, ArePlain, HasForm, HasPlainCode, IsInitialiserAt, IsQuietIfStatic, NameInitialisers, ReturnAlone, TakesDeclared};
 ghost use Rattle.member_link.specs.Rows.Operands.{lowest_of};
 ghost use Rattle.member_link.specs.Scope.{Scope, instructions, own_descriptor, scope_at};

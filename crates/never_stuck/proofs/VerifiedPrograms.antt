@@ -35,7 +35,7 @@ use Rattle.never_stuck.proofs.TypedMethods.{scope_with, method_typed}
 use Rattle.type_rules.specs.Checks.{IsTypedAt}
 use Rattle.type_rules.specs.MethodBodies.{body_of}
 use Rattle.type_rules.specs.Typed.{Typed, TypesBody, flows_into}
-use Rattle.type_rules.specs.TypedFrames.{FolderFrames, typed_frames_at}
+use Rattle.flow_code.specs.TypedFrames.{FolderFrames, typed_frames_at}
 use Rattle.type_rules.specs.Verified.{IsVerified, TypesFolder, TypesMethod}
 use Rattle.typed_runs.specs.TypedPoints.{Typing}
 use Rattle.typed_runs.specs.TypedPrograms.{Typings, IsTypedMethod, IsTypedProgram}

@@ -1,7 +1,7 @@
 use Rattle.std.proofs.Common.{◌≡◌, refl, subst}
 use Rattle.std.specs.Prelude.{Option, None, Some, IsSome}
 use Rattle.class_tree.specs.Headers.{Classes}
-use Rattle.type_rules.specs.TypedFrames.{FolderFrames}
+use Rattle.flow_code.specs.TypedFrames.{FolderFrames}
 use Rattle.type_rules.specs.Verified.{TypesFolder}
 use Rattle.pea_top.specs.Inner.Verifying.{IsKept}
 use Rattle.pea_top.specs.declared.work.Work.{Work}

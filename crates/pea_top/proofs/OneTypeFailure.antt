@@ -4,7 +4,7 @@ use Rattle.class_model.specs.declared.class_file.ClassFile.{ClassFile}
 use Rattle.class_model.specs.declared.header.Header.{Header}
 use Rattle.class_tree.specs.Headers.{Classes, Headers, headers_of}
 use Rattle.class_tree.specs.Trees.{IsArranged, IsTree}
-use Rattle.type_rules.specs.TypedFrames.{FolderFrames}
+use Rattle.flow_code.specs.TypedFrames.{FolderFrames}
 use Rattle.type_rules.specs.Verified.{AreTypedClasses}
 use Rattle.verify_folder.specs.Verifying.{Failure, ClassesFail}
 use Rattle.pea_top.specs.Verifying.{AreVerified, IsTypeFailure}

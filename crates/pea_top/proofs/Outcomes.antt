@@ -14,7 +14,7 @@ use Rattle.class_rewrite.specs.Reports.{rewritten_count}
 use Rattle.class_rewrite.specs.declared.folder.Optimised.{Optimised}
 use Rattle.class_tree.specs.Headers.{Classes}
 use Rattle.std.proofs.lemmas.List.Sorted.{length_permutation}
-use Rattle.type_rules.specs.TypedFrames.{FolderFrames}
+use Rattle.flow_code.specs.TypedFrames.{FolderFrames}
 use Rattle.type_rules.specs.Verified.{TypesFolder}
 use Rattle.machine_values.specs.declared.action.Action.{Action}
 use Rattle.member_link.specs.Machine.Runs.{shown_after}

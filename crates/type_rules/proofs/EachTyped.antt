@@ -11,7 +11,7 @@ use Rattle.member_link.specs.Bodies.{Body, BodyPoint, flows_on}
 use Rattle.type_rules.specs.Checks.{IsTypedAt}
 use Rattle.member_link.specs.Scope.{scope_at, scope_of}
 use Rattle.type_rules.specs.Typed.{AreTyped, TypesBody, flows_into}
-use Rattle.type_rules.specs.TypedFrames.{FolderFrames, typed_frames_at}
+use Rattle.flow_code.specs.TypedFrames.{FolderFrames, typed_frames_at}
 use Rattle.type_rules.specs.Verified.{AreTypedClasses, AreTypedMethods, TypesFolder, TypesMethod}
 
 -- ---- methods

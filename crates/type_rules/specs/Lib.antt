@@ -1,5 +1,4 @@
 pub mod Rule
-pub mod TypedFrames
 pub mod Stated
 pub mod Handlers
 pub mod MethodBodies

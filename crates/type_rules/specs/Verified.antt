@@ -8,7 +8,7 @@ use Rattle.class_tree.specs.Trees.{IsTree}
 use Rattle.member_link.specs.Linked.{IsLinked}
 use Rattle.member_link.specs.Scope.{Scope, scope_of}
 use Rattle.type_rules.specs.Typed.{Typed}
-use Rattle.type_rules.specs.TypedFrames.{FolderFrames}
+use Rattle.flow_code.specs.TypedFrames.{FolderFrames}
 
 -- the frames of a method with code type it, and one without has none
 abbrev pub TypesMethod : Option Scope → Option (List Frame) → Type 0

@@ -12,7 +12,7 @@ ghost use Rattle.member_link.specs.Scope.{Scope, scope_at};
 ghost use Rattle.type_rules.specs.Checks.{IsTypedAt};
 ghost use Rattle.type_rules.specs.MethodBodies.{body_of};
 ghost use Rattle.type_rules.specs.Typed.{BodyFails, Typed, TypesBody, flows_into};
-ghost use Rattle.type_rules.specs.TypedFrames.{FolderFrames, typed_frames_at};
+ghost use Rattle.flow_code.specs.TypedFrames.{FolderFrames, typed_frames_at};
 ghost use Rattle.type_rules.specs.Verified.{TypesFolder, TypesMethod};
 ghost use Rattle.type_rules.specs.declared.fault.TypeRule.{TypeRule};
 

@@ -2,7 +2,7 @@
 ghost use Rattle.std.specs.Prelude.{◌≡◌, [], ◌∷◌, ◌++◌, OnOk, OnErr};
 ghost use Rattle.std.specs.Option.{option_copied, option_and_then};
 ghost use Rattle.std.specs.List.{slice_get};
-ghost use Rattle.type_rules.specs.TypedFrames.{typed_frames_at};
+ghost use Rattle.flow_code.specs.TypedFrames.{typed_frames_at};
 
 use class_model::{Frame, ListOf, MethodAt, NoMemory};
 use std::alloc::Global;

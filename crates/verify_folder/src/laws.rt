@@ -2,7 +2,7 @@
 ghost use Rattle.std.specs.Prelude.{◌≡◌, List};
 ghost use Rattle.class_model.specs.declared.class_file.ClassFile.{ClassFile};
 ghost use Rattle.class_tree.specs.Headers.{Headers};
-ghost use Rattle.type_rules.specs.TypedFrames.{FolderFrames};
+ghost use Rattle.flow_code.specs.TypedFrames.{FolderFrames};
 ghost use Rattle.type_rules.specs.Verified.{AreTypedClasses};
 ghost use Rattle.verify_folder.specs.Verifying.{ClassesFail, Failure};
 

@@ -4,7 +4,7 @@ use Rattle.class_model.specs.declared.class_file.ClassFile.{ClassFile}
 use Rattle.class_rewrite.specs.Reports.{AreLines, class_methods_from, methods_from}
 use Rattle.class_rewrite.specs.declared.report.Line.{Line}
 use Rattle.class_tree.specs.Headers.{Classes}
-use Rattle.type_rules.specs.TypedFrames.{FolderFrames}
+use Rattle.flow_code.specs.TypedFrames.{FolderFrames}
 
 -- these are the lines of the first so many classes
 abbrev pub AreFirstLines : Classes → FolderFrames → ℕ → List Line → Type 0

@@ -6,7 +6,7 @@ use Rattle.class_rewrite.specs.Written.{AreWrittenClasses, AreWrittenMethods, Is
 use Rattle.class_tree.specs.Headers.{Classes}
 use Rattle.flow_code.specs.declared.reason.Reason.{Reason}
 use Rattle.flow_code.specs.declared.reason.Reason.TheVariants as reasons
-use Rattle.type_rules.specs.TypedFrames.{FolderFrames}
+use Rattle.flow_code.specs.TypedFrames.{FolderFrames}
 
 kept_for : (reason : Reason) (method written : Method) → IsWrittenFor reason method written → written ≡ method
 kept_for reasons.Host method written same = same

@@ -5,7 +5,7 @@ use Rattle.class_model.specs.declared.class_file.MethodAt.{MethodAt}
 use Rattle.class_model.specs.declared.instr.Instr.{Instr}
 use Rattle.class_model.specs.declared.instr.Instr.TheVariants.{Invoke}
 use Rattle.class_tree.specs.Headers.{Name, Classes, headers_of}
-use Rattle.inline_expand.specs.Callees.{Calls, Runs, StandsAt, instr_at}
+use Rattle.expanded_code.specs.Callees.{Calls, Runs, StandsAt, instr_at}
 use Rattle.member_link.specs.MemberRefs.{reference_meant}
 use Rattle.inline_expand.specs.declared.calls.Call.{Call}
 use Rattle.member_link.specs.DeclaredMembers.{Declared}

@@ -14,12 +14,12 @@ use Rattle.class_tree.specs.declared.place.Place.{Place}
 use Rattle.inline_expand.specs.declared.candidates.Judged.{Judged}
 use Rattle.inline_expand.specs.declared.candidates.Judged.TheVariants.{Unknown, Unsound, Sound}
 use Rattle.class_tree.specs.declared.place.Place.TheVariants.{Folder}
-use Rattle.inline_expand.specs.Candidates.{HasNoFinalizer, HasRoom, declares_finalizer}
-use Rattle.inline_expand.specs.FieldConstructors.{field_types}
+use Rattle.expanded_code.specs.Candidates.{HasNoFinalizer, HasRoom, declares_finalizer}
+use Rattle.expanded_code.specs.FieldConstructors.{field_types}
 use Rattle.inline_expand.specs.Inner.ConstructorWords.{AreHandled, field_descs, handled_of}
 use Rattle.inline_expand.specs.Inner.QuietWords.{IsQuietItself}
 use Rattle.inline_expand.specs.Inner.StoreWords.{IsStored, StoredBefore}
-use Rattle.inline_expand.specs.Quiet.{chain}
+use Rattle.expanded_code.specs.Quiet.{chain}
 
 -- a class by itself
 pub record IsFit (classes : Classes) (name : Name) : Type 0 where

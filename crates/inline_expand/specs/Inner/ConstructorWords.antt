@@ -10,7 +10,7 @@ use Rattle.class_tree.specs.Headers.{Name, Headers}
 use Rattle.class_tree.specs.Layouts.{instance_fields}
 use Rattle.class_tree.specs.Names.{is_member}
 use Rattle.member_link.specs.References.{Reference}
-use Rattle.inline_expand.specs.FieldConstructors.{handled}
+use Rattle.expanded_code.specs.FieldConstructors.{handled}
 
 -- the descriptors of the fields of an object of a class
 abbrev pub field_descs : Headers → Name → List (List ℕ)

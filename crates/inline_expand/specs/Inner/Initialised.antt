@@ -4,7 +4,7 @@ use Rattle.class_model.specs.declared.frame.Frame.{Frame}
 use Rattle.class_model.specs.declared.frame.VType.{VType}
 use Rattle.class_model.specs.declared.frame.VType.TheVariants.{Top, Uninit, UninitThis}
 use Rattle.class_tree.specs.Names.{object}
-use Rattle.inline_expand.specs.Callees.{InitialisesAt}
+use Rattle.expanded_code.specs.Callees.{InitialisesAt}
 use Rattle.inline_expand.specs.declared.initialised.Initialisation.{Initialisation}
 use Rattle.inline_expand.specs.declared.initialised.Object.{Object}
 use Rattle.inline_expand.specs.declared.initialised.Object.TheVariants.{New, This}

@@ -10,8 +10,8 @@ use Rattle.class_model.specs.declared.instr.Instr.{Instr}
 use Rattle.class_model.specs.declared.instr.Instr.TheVariants.{Const, Pure}
 use Rattle.class_model.specs.declared.instr.Placed.{Placed}
 use Rattle.class_model.specs.declared.opcodes.TheConstants.{I2B, I2C, I2S, IAND}
-use Rattle.inline_expand.specs.Expanded.{Argument, Narrowing, arguments, arguments_from, narrows, own_narrowing, own_points, points_of_callee, tests_receiver, units_in}
-use Rattle.inline_expand.specs.Expansions.{Expansion, replaced, site, stays}
+use Rattle.expanded_code.specs.Expanded.{Argument, Narrowing, arguments, arguments_from, narrows, own_narrowing, own_points, points_of_callee, tests_receiver, units_in}
+use Rattle.expanded_code.specs.Expansions.{Expansion, replaced, site, stays}
 use Rattle.inline_expand.specs.Inner.Steps.{Callee}
 use Rattle.inline_expand.specs.declared.expanded.layouts.Layout.{Layout}
 use Rattle.inline_expand.specs.declared.expanded.shapes.Parameter.{Parameter}

@@ -1,7 +1,7 @@
 -- Words of a host with its callees in place of their calls.
 use Rattle.std.specs.Prelude.{◌≡◌, ◌+◌, ◌≤◌, List, map, None}
-use Rattle.inline_expand.specs.Expanded.{points_of, units_in}
-use Rattle.inline_expand.specs.Expansions.{Expansion}
+use Rattle.expanded_code.specs.Expanded.{points_of, units_in}
+use Rattle.expanded_code.specs.Expansions.{Expansion}
 use Rattle.inline_expand.specs.Inner.Layouts.{AreLayouts, capped, starts_from}
 use Rattle.inline_expand.specs.Inner.Steps.{callees_of, expansion_by}
 use Rattle.inline_expand.specs.declared.expanded.measures.Measure.{Measure}

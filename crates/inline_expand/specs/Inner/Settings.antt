@@ -1,11 +1,11 @@
 -- Words of a method in its place.
 use Rattle.std.specs.Prelude.{◌≡◌, ◌<◌, ◌≤◌, ℕ, List, [], ◌∷◌, ◌++◌, map, Option, Some, None, option_map}
 use Rattle.flow_code.specs.declared.handlers.FlatHandler.{FlatHandler}
-use Rattle.inline_expand.specs.Alone.{handlers_by, number_at}
+use Rattle.expanded_code.specs.Alone.{handlers_by, number_at}
 use Rattle.class_model.specs.declared.frame.Frame.{Frame}
 use Rattle.class_model.specs.declared.instr.Placed.{Placed}
 use Rattle.flow_code.specs.declared.point.Point.{Point}
-use Rattle.inline_expand.specs.Expanded.{Setting, class_of, point_in, set_instr}
+use Rattle.expanded_code.specs.Expanded.{Setting, class_of, point_in, set_instr}
 use Rattle.inline_expand.specs.Inner.Layouts.{narrowing_of}
 use Rattle.inline_expand.specs.declared.expanded.shapes.Narrowed.{Narrowed}
 use Rattle.inline_expand.specs.Inner.Numbers.{placed_by}

@@ -7,17 +7,17 @@ use Rattle.class_model.specs.declared.instr.Instr.{Instr}
 use Rattle.class_model.specs.declared.instr.Instr.TheVariants.{New}
 use Rattle.class_model.specs.declared.instr.Placed.{Placed}
 use Rattle.class_tree.specs.Headers.{Name, Classes}
-use Rattle.inline_expand.specs.Alone.{number_at}
-use Rattle.inline_expand.specs.Callees.{InitialisesAt}
-use Rattle.inline_expand.specs.Candidates.{IsCandidate}
-use Rattle.inline_expand.specs.Sites.{Constructs, IsSite}
+use Rattle.expanded_code.specs.Alone.{number_at}
+use Rattle.expanded_code.specs.Callees.{InitialisesAt}
+use Rattle.expanded_code.specs.Candidates.{IsCandidate}
+use Rattle.expanded_code.specs.Sites.{Constructs, IsSite}
 use Rattle.inline_expand.specs.declared.initialised.Object.{Object}
 use Rattle.inline_expand.specs.declared.initialised.Object.TheVariants as made
 use Rattle.inline_expand.specs.declared.coded.CodedMethod.{CodedMethod}
 use Rattle.member_link.specs.CodedMethods.{placed_at}
 use Rattle.member_link.specs.References.{Reference}
 use Rattle.member_link.specs.Scope.{Scope, class_of_new, instructions}
-use Rattle.type_rules.specs.TypedFrames.{FolderFrames}
+use Rattle.flow_code.specs.TypedFrames.{FolderFrames}
 
 -- ---- candidates
 

@@ -10,8 +10,8 @@ use Rattle.class_model.specs.declared.class_file.ClassFile.{ClassFile}
 use Rattle.class_model.specs.declared.frame.Frame.{Frame}
 use Rattle.class_model.specs.declared.instr.Placed.{Placed}
 use Rattle.class_tree.specs.Headers.{Name, Headers}
-use Rattle.inline_expand.specs.Callees.{IsPlain, LeavesResult, NamesInitialiser, NamesOpen, SayAtMost, own_name}
-use Rattle.inline_expand.specs.Quiet.{IsQuiet}
+use Rattle.expanded_code.specs.Callees.{IsPlain, LeavesResult, NamesInitialiser, NamesOpen, SayAtMost, own_name}
+use Rattle.expanded_code.specs.Quiet.{IsQuiet}
 use Rattle.member_link.specs.Machine.Performing.{SYNCHRONIZED}
 use Rattle.member_link.specs.References.{Reference}
 use Rattle.member_link.specs.Scope.{Scope, instructions, own_descriptor}

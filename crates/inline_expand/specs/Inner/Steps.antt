@@ -2,7 +2,7 @@
 use Rattle.std.specs.Prelude.{◌≡◌, ◌≤◌, List, [], ◌∷◌, ◌++◌, length, slice_get, Option, Some, None}
 use Rattle.class_model.specs.Methods.{units_at_call}
 use Rattle.code_bytes.specs.Codes.{IsReadMethod}
-use Rattle.inline_expand.specs.Expansions.{Coded, Expansion, no_more, replaced, site, stays}
+use Rattle.expanded_code.specs.Expansions.{Coded, Expansion, no_more, replaced, site, stays}
 use Rattle.inline_expand.specs.Inner.Hosts.{HasUnits}
 use Rattle.inline_expand.specs.declared.expansions.Body.{Body}
 use Rattle.inline_expand.specs.declared.expansions.Step.{Step}

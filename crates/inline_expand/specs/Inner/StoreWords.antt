@@ -23,7 +23,7 @@ use Rattle.member_link.specs.Fields.{FindsField}
 use Rattle.member_link.specs.References.{Reference}
 use Rattle.member_link.specs.Scope.{Scope, instructions, scope_at}
 use Rattle.member_link.specs.Signatures.{reference_of}
-use Rattle.inline_expand.specs.Candidates.{Initialises, StoresInto}
+use Rattle.expanded_code.specs.Candidates.{Initialises, StoresInto}
 
 -- a method of the folder stores into a final field of a class, and is none of its instance initialisers
 pub record IsStored (classes : Classes) (class : Name) : Type 0 where

@@ -1,7 +1,7 @@
 -- A walk over the methods that a method needs.
 use Rattle.std.specs.Prelude.{◌≡◌, ◌≢◌, ◌⊎◌, ℕ, true, false, List, [], ◌∷◌, Option, Some, None}
 use Rattle.class_tree.specs.Headers.{Classes}
-use Rattle.type_rules.specs.TypedFrames.{FolderFrames}
+use Rattle.flow_code.specs.TypedFrames.{FolderFrames}
 use Rattle.class_model.specs.declared.class_file.MethodAt.{MethodAt}
 use Rattle.inline_expand.specs.Inner.Ready.{Fits, IsReady, Needs}
 use Rattle.inline_expand.specs.Inner.Stacks.{IsAmong, IsLeft, method_of, nearest}

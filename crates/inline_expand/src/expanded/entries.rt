@@ -1,7 +1,7 @@
 //! What stands in place of a call before the callee's own instructions.
 ghost use Rattle.std.specs.Prelude.{◌≡◌, ◌+◌, ◌≤◌, ◌++◌, ◌∷◌, [], ℕ, map, reverse, IfOk, OnOk};
 ghost use Rattle.class_model.specs.declared.instr.Instr.TheVariants.{Store};
-ghost use Rattle.inline_expand.specs.Expanded.{Setting, frame_behind_stores, frame_stored, point_in, points_of_entry, store_points};
+ghost use Rattle.expanded_code.specs.Expanded.{Setting, frame_behind_stores, frame_stored, point_in, points_of_entry, store_points};
 ghost use Rattle.inline_expand.specs.Inner.Layouts.{AreWithin, IsShape, argument_from};
 ghost use Rattle.inline_expand.specs.Inner.Settings.{IsSpot};
 ghost use Rattle.member_link.specs.Scope.{Scope};

@@ -2,7 +2,7 @@
 ghost use Rattle.std.specs.Prelude.{◌≡◌, ◌≤◌, ◌+◌, ◌++◌, length, map, take, slice_set, IfOk, OnOk};
 ghost use Rattle.class_model.specs.Frames.{is_wide};
 ghost use Rattle.class_model.specs.declared.frame.VType.{VType};
-ghost use Rattle.inline_expand.specs.Expanded.{Argument, frame_stored, overlaid, set_frame, set_type};
+ghost use Rattle.expanded_code.specs.Expanded.{Argument, frame_stored, overlaid, set_frame, set_type};
 ghost use Rattle.inline_expand.specs.Inner.Frames.{put_at};
 ghost use Rattle.inline_expand.specs.Inner.Settings.{setting_of};
 ghost use Rattle.member_link.specs.Rows.LocalRows.{cut_before, stored};

@@ -2,7 +2,7 @@
 ghost use Rattle.std.specs.Prelude.{◌≡◌, ◌+◌, ◌≤◌, None, IfOk};
 ghost use Rattle.std.specs.List.{AllByRecursion};
 ghost use Rattle.class_tree.specs.Headers.{Headers};
-ghost use Rattle.inline_expand.specs.Expanded.{host_setting, points_from, points_of, sites_from};
+ghost use Rattle.expanded_code.specs.Expanded.{host_setting, points_from, points_of, sites_from};
 ghost use Rattle.inline_expand.specs.Inner.CalleePlaces.{HasPlace};
 ghost use Rattle.inline_expand.specs.Inner.Measures.{IsMeasure, IsSmall, StandsFirst, host_expansion};
 ghost use Rattle.inline_expand.specs.Inner.Settings.{setting_of};

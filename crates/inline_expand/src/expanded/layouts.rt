@@ -2,7 +2,7 @@
 ghost use Rattle.std.specs.Prelude.{◌≡◌, ◌+◌, List, length, map, Option, IfOk, option_map};
 ghost use Rattle.std.specs.List.{AllByRecursion};
 ghost use Rattle.std.specs.Option.{option_copied};
-ghost use Rattle.inline_expand.specs.Expanded.{own_points, points_before, units_in};
+ghost use Rattle.expanded_code.specs.Expanded.{own_points, points_before, units_in};
 ghost use Rattle.inline_expand.specs.Inner.Layouts.{AreLayouts, IsLayout, IsShape, capped, replacing, return_width, starts_from, step_points};
 ghost use Rattle.inline_expand.specs.Inner.Steps.{Callee, IsBody, callee_by, callees_of, expansion_by};
 ghost use Rattle.member_link.specs.Scope.{Scope, instructions};

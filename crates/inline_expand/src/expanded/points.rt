@@ -1,6 +1,6 @@
 //! The points of a method in its place.
 ghost use Rattle.std.specs.Prelude.{◌≡◌, ◌+◌, ◌≤◌, ◌++◌, ℕ, length, OnOk};
-ghost use Rattle.inline_expand.specs.Expanded.{Setting as Standing, instr_points, points_from};
+ghost use Rattle.expanded_code.specs.Expanded.{Setting as Standing, instr_points, points_from};
 ghost use Rattle.inline_expand.specs.Inner.CalleePlaces.{AreReady, CanEnter, CanStay, HasPlace, callee_in, callee_points};
 ghost use Rattle.inline_expand.specs.Inner.Settings.{IsSpot, own_point, setting_of};
 ghost use Rattle.inline_expand.specs.Inner.Steps.{callees_of, expansion_by};

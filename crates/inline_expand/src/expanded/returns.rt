@@ -1,7 +1,7 @@
 //! What stands in place of a callee's return.
 ghost use Rattle.std.specs.Prelude.{◌≡◌, ◌++◌, ◌∷◌, [], ℕ, OnOk};
 ghost use Rattle.class_model.specs.declared.instr.Instr.TheVariants.{Goto, Pure};
-ghost use Rattle.inline_expand.specs.Expanded.{Setting, point_in};
+ghost use Rattle.expanded_code.specs.Expanded.{Setting, point_in};
 ghost use Rattle.inline_expand.specs.Inner.Layouts.{narrowing_of};
 ghost use Rattle.inline_expand.specs.Inner.Settings.{IsSpot, narrowed_points};
 

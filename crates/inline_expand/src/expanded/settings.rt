@@ -2,7 +2,7 @@
 ghost use Rattle.std.specs.Prelude.{◌≡◌, ◌+◌, ◌≤◌, IfOk};
 ghost use Rattle.flow_code.specs.FlatCode.{HasLocal};
 ghost use Rattle.flow_code.specs.declared.point.FlatInstr.TheVariants.{NullTest, Of};
-ghost use Rattle.inline_expand.specs.Expanded.{set_instr, set_type};
+ghost use Rattle.expanded_code.specs.Expanded.{set_instr, set_type};
 ghost use Rattle.inline_expand.specs.Inner.Numbers.{number_by};
 ghost use Rattle.inline_expand.specs.Inner.Settings.{AreCaught, number_in, setting_of};
 

@@ -4,7 +4,7 @@ ghost use Rattle.std.specs.List.{AllByRecursion};
 ghost use Rattle.class_model.specs.Descriptors.{SpellsDescriptor, parameter_units, parameters_of};
 ghost use Rattle.class_model.specs.Members.{STATIC, has};
 ghost use Rattle.code_bytes.specs.Codes.{IsReadMethod};
-ghost use Rattle.inline_expand.specs.Expanded.{arguments_from, narrowing, tests_receiver};
+ghost use Rattle.expanded_code.specs.Expanded.{arguments_from, narrowing, tests_receiver};
 ghost use Rattle.inline_expand.specs.Inner.Layouts.{AreParameters, EndsBy, IsShape, argument_from, narrowing_of};
 ghost use Rattle.inline_expand.specs.Inner.Steps.{IsCallable};
 ghost use Rattle.member_link.specs.Scope.{own_descriptor};

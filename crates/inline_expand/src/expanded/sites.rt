@@ -1,7 +1,7 @@
 //! The candidate sites of a method in its place.
 ghost use Rattle.std.specs.Prelude.{◌≡◌, ◌+◌, ◌≤◌, ◌++◌, IfOk, OnOk};
 ghost use Rattle.class_tree.specs.Headers.{Headers};
-ghost use Rattle.inline_expand.specs.Expanded.{points_of_callee, sites_from};
+ghost use Rattle.expanded_code.specs.Expanded.{points_of_callee, sites_from};
 ghost use Rattle.inline_expand.specs.Inner.CalleePlaces.{AreReady, callee_in};
 ghost use Rattle.inline_expand.specs.Inner.Layouts.{IsLayout};
 ghost use Rattle.inline_expand.specs.Inner.SiteNumbers.{HasNumbers, NumbersBehind, method_at, site_of, sites_by};

@@ -2,7 +2,7 @@
 ghost use Rattle.std.specs.Prelude.{◌≡◌, ◌↔◌, length, max, IsTrue};
 ghost use Rattle.class_model.specs.Descriptors.{parameter_units};
 ghost use Rattle.class_model.specs.Frames.{depth, units};
-ghost use Rattle.inline_expand.specs.ExpandAnswers.{IsWide, field_units, greatest_depth};
+ghost use Rattle.expanded_code.specs.ExpandAnswers.{IsWide, field_units, greatest_depth};
 ghost use Rattle.inline_expand.specs.Inner.WideWords.{counted};
 
 use class_model::{FieldType, VType};

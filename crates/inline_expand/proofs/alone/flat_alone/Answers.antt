@@ -4,7 +4,7 @@ use Rattle.class_model.specs.declared.frame.Frame.{Frame}
 use Rattle.inline_expand.proofs.alone.flat_alone.Goals as goal
 use Rattle.member_link.specs.Scope.{Scope, scope_at}
 use Rattle.type_rules.specs.Typed.{Typed}
-use Rattle.type_rules.specs.TypedFrames.{typed_frames_at}
+use Rattle.flow_code.specs.TypedFrames.{typed_frames_at}
 use Rattle.type_rules.specs.Verified.{TypesMethod}
 
 pub unreachable-requires : goal.unreachable-requires

@@ -1,5 +1,5 @@
 use Rattle.std.proofs.Common.{◌≡◌, take}
-use Rattle.inline_expand.specs.Alone.{alone_points}
+use Rattle.expanded_code.specs.Alone.{alone_points}
 use Rattle.inline_expand.specs.Inner.Numbers.{AreAround}
 use Rattle.inline_expand.proofs.alone.points_of.Given as goal
 

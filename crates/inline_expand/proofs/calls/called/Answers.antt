@@ -2,7 +2,7 @@ use Rattle.std.proofs.Common.{◌≡◌, sym, ap, subst, ◌∙◌}
 use Rattle.class_model.specs.Header.{header_of}
 use Rattle.class_model.specs.declared.class_file.ClassFile.{ClassFile}
 use Rattle.class_tree.specs.Headers.{Name}
-use Rattle.inline_expand.specs.Callees.{own_name}
+use Rattle.expanded_code.specs.Callees.{own_name}
 use Rattle.inline_expand.specs.Inner.Calls.{DecidesRun, call_meant}
 use Rattle.inline_expand.proofs.CalledMethods.{decides_call}
 use Rattle.inline_expand.proofs.calls.called.Goals as goal

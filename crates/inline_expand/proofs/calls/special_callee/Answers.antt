@@ -5,7 +5,7 @@ use Rattle.class_model.specs.Names.{init}
 use Rattle.class_model.specs.declared.class_file.MethodAt.{MethodAt}
 use Rattle.class_model.specs.declared.opcodes.TheConstants.{INVOKESPECIAL}
 use Rattle.class_tree.specs.Headers.{headers_of}
-use Rattle.inline_expand.specs.Callees.{IsClass, Runs, runs_special}
+use Rattle.expanded_code.specs.Callees.{IsClass, Runs, runs_special}
 use Rattle.inline_expand.specs.Inner.Calls.{Decides}
 use Rattle.member_link.specs.MemberRefs.{reference_meant}
 use Rattle.inline_expand.proofs.DecidedRuns.{HasLaws, chosen_found, decided, finds_nothing, finds_once, looked_up, looked_up_none, nothing_chosen, of_special, same_choice, special_selects, undecided}

@@ -2,7 +2,7 @@ use Rattle.std.proofs.Common.{refl, sym, subst, Option}
 use Rattle.class_model.specs.declared.class_file.MethodAt.{MethodAt}
 use Rattle.class_model.specs.declared.opcodes.TheConstants.{INVOKESTATIC}
 use Rattle.class_tree.specs.Headers.{headers_of}
-use Rattle.inline_expand.specs.Callees.{Runs, runs_static}
+use Rattle.expanded_code.specs.Callees.{Runs, runs_static}
 use Rattle.inline_expand.specs.Inner.Calls.{Decides}
 use Rattle.member_link.specs.MemberRefs.{reference_meant}
 use Rattle.inline_expand.proofs.DecidedRuns.{decided, finds_nothing, finds_once, looked_up, looked_up_none, of_static, undecided}

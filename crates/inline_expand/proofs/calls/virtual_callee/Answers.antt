@@ -3,7 +3,7 @@ use Rattle.std.proofs.lemmas.Bool.{false≢true}
 use Rattle.class_model.specs.declared.class_file.MethodAt.{MethodAt}
 use Rattle.class_model.specs.declared.opcodes.TheConstants.{INVOKEVIRTUAL}
 use Rattle.class_tree.specs.Headers.{Classes, headers_of}
-use Rattle.inline_expand.specs.Callees.{IsClass, IsOverriddenByNone, Runs, runs_virtual}
+use Rattle.expanded_code.specs.Callees.{IsClass, IsOverriddenByNone, Runs, runs_virtual}
 use Rattle.inline_expand.specs.Inner.Calls.{DecidesRun}
 use Rattle.member_link.specs.MemberRefs.{reference_meant}
 use Rattle.inline_expand.proofs.DecidedRuns.{finds_nothing, finds_once, looked_up, looked_up_none, no_interface, of_virtual, outside, undecided}

@@ -6,7 +6,7 @@ use Rattle.class_model.specs.Pool.{Constants, constant_at}
 use Rattle.class_model.specs.declared.pool.Const.{Const}
 use Rattle.class_tree.specs.Headers.{headers_of}
 use Rattle.inline_expand.proofs.HandledLists.{flat_all, flat_more, flat_none, handled_same}
-use Rattle.inline_expand.specs.FieldConstructors.{handled}
+use Rattle.expanded_code.specs.FieldConstructors.{handled}
 use Rattle.inline_expand.specs.Inner.ConstructorWords.{handled_in}
 use Rattle.inline_expand.proofs.handles.add_pool.Goals as goal
 

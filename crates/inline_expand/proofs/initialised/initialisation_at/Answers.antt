@@ -3,7 +3,7 @@ use Rattle.class_model.specs.Names.{init}
 use Rattle.class_model.specs.declared.frame.VType.{VType}
 use Rattle.class_model.specs.declared.opcodes.TheConstants.{INVOKESPECIAL}
 use Rattle.inline_expand.proofs.Initialisations.{top_is_none, with_object}
-use Rattle.inline_expand.specs.Callees.{frame_before}
+use Rattle.expanded_code.specs.Callees.{frame_before}
 use Rattle.inline_expand.specs.Inner.Calls.{call_at, call_meant}
 use Rattle.inline_expand.specs.Inner.Initialised.{object_of}
 use Rattle.std.specs.Option.{option_copied, option_map}

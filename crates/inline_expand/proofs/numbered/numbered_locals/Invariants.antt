@@ -1,5 +1,5 @@
 use Rattle.std.proofs.Common.{◌≡◌}
-use Rattle.inline_expand.specs.Alone.{number_at, numbered_type}
+use Rattle.expanded_code.specs.Alone.{number_at, numbered_type}
 use Rattle.inline_expand.proofs.NumberedLocals.{some-changed}
 use Rattle.inline_expand.proofs.numbered.numbered_locals.Given as goal
 

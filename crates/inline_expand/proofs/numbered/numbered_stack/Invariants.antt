@@ -1,5 +1,5 @@
 use Rattle.std.proofs.Common.{◌≡◌, map, take}
-use Rattle.inline_expand.specs.Alone.{number_at, numbered_type}
+use Rattle.expanded_code.specs.Alone.{number_at, numbered_type}
 use Rattle.inline_expand.proofs.numbered.numbered_stack.Given as goal
 
 abbrev pub invariant-loop-type_ : goal.invariant-loop-type_

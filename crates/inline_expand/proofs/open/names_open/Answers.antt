@@ -1,6 +1,6 @@
 use Rattle.std.proofs.Common.{◌↔◌, IsTrue, sym, subst}
 use Rattle.class_model.specs.declared.instr.Instr.{Instr}
-use Rattle.inline_expand.specs.Callees.{NamesOpen}
+use Rattle.expanded_code.specs.Callees.{NamesOpen}
 use Rattle.inline_expand.proofs.OpenMembers.{names_field}
 use Rattle.inline_expand.proofs.open.names_open.Goals as goal
 

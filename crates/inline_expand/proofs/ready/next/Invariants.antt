@@ -1,6 +1,6 @@
 use Rattle.std.proofs.Common.{◌≡◌, None, length, ℕ}
 use Rattle.class_tree.specs.Headers.{Classes}
-use Rattle.type_rules.specs.TypedFrames.{FolderFrames}
+use Rattle.flow_code.specs.TypedFrames.{FolderFrames}
 use Rattle.class_model.specs.declared.class_file.MethodAt.{MethodAt}
 use Rattle.inline_expand.specs.Inner.Verdicts.{verdict}
 use Rattle.inline_expand.specs.Inner.Walks.{Walks}

@@ -1,5 +1,5 @@
 use Rattle.class_model.specs.declared.instr.Placed.{Placed}
-use Rattle.inline_expand.specs.Callees.{NamesOpen}
+use Rattle.expanded_code.specs.Callees.{NamesOpen}
 use Rattle.inline_expand.proofs.StandingParts.{IsLeft}
 use Rattle.inline_expand.proofs.standing.are_open.Given as goal
 

@@ -1,5 +1,5 @@
 use Rattle.class_model.specs.declared.instr.Placed.{Placed}
-use Rattle.inline_expand.specs.Callees.{IsPlain}
+use Rattle.expanded_code.specs.Callees.{IsPlain}
 use Rattle.inline_expand.proofs.StandingParts.{IsLeft}
 use Rattle.inline_expand.proofs.standing.are_plain.Given as goal
 

@@ -1,5 +1,5 @@
 use Rattle.class_model.specs.declared.instr.Placed.{Placed}
-use Rattle.inline_expand.specs.Callees.{NamesInitialiser}
+use Rattle.expanded_code.specs.Callees.{NamesInitialiser}
 use Rattle.inline_expand.proofs.StandingParts.{IsLeft}
 use Rattle.inline_expand.proofs.standing.name_initialisers.Given as goal
 

@@ -1,5 +1,5 @@
 use Rattle.std.proofs.Common.{◌≡◌, ◌++◌, ◌≤◌, ℕ, length, map, reverse, take}
-use Rattle.inline_expand.specs.Expanded.{Setting, frame_behind_stores, store_points}
+use Rattle.expanded_code.specs.Expanded.{Setting, frame_behind_stores, store_points}
 use Rattle.inline_expand.specs.Inner.Layouts.{argument_from}
 use Rattle.inline_expand.specs.Inner.Settings.{IsSpot}
 use Rattle.inline_expand.proofs.expanded.entries.push_stores.Given as goal

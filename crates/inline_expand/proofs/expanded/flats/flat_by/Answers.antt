@@ -4,9 +4,9 @@ use Rattle.std.specs.List.{AllByRecursion}
 use Rattle.class_tree.specs.Headers.{Headers, headers_of}
 use Rattle.inline_expand.proofs.WholeParts.{news-are-candidates, no-news, whole-sites}
 use Rattle.inline_expand.proofs.expanded.flats.flat_by.Goals as goal
-use Rattle.inline_expand.specs.Candidates.{IsCandidate}
-use Rattle.inline_expand.specs.ExpandAnswers.{IsWide}
-use Rattle.inline_expand.specs.Expanded.{host_setting, points_from, units_in}
+use Rattle.expanded_code.specs.Candidates.{IsCandidate}
+use Rattle.expanded_code.specs.ExpandAnswers.{IsWide}
+use Rattle.expanded_code.specs.Expanded.{host_setting, points_from, units_in}
 use Rattle.inline_expand.specs.Inner.Measures.{host_expansion}
 use Rattle.inline_expand.specs.Inner.SiteNumbers.{sites_by}
 use Rattle.inline_expand.specs.Inner.Steps.{coded_of}

@@ -1,5 +1,5 @@
 use Rattle.std.proofs.Common.{◌≡◌, map, take}
-use Rattle.inline_expand.specs.Expanded.{overlaid, set_type}
+use Rattle.expanded_code.specs.Expanded.{overlaid, set_type}
 use Rattle.inline_expand.specs.Inner.Settings.{setting_of}
 use Rattle.inline_expand.proofs.expanded.frames.set_locals.Given as goal
 

@@ -1,5 +1,5 @@
 use Rattle.std.proofs.Common.{◌≡◌, ◌+◌, ◌≤◌, List, drop}
-use Rattle.inline_expand.specs.Expanded.{units_in}
+use Rattle.expanded_code.specs.Expanded.{units_in}
 use Rattle.inline_expand.specs.Inner.Layouts.{AreLayouts, capped}
 use Rattle.inline_expand.specs.Inner.Steps.{Callee, expansion_by}
 use Rattle.inline_expand.proofs.expanded.layouts.units_of.Given as goal

@@ -1,6 +1,6 @@
 use Rattle.std.proofs.Common.{◌++◌, ◌+◌, ◌*◌, length}
 use Rattle.inline_expand.proofs.MethodParts.{HasDone}
-use Rattle.inline_expand.specs.Expanded.{points_from}
+use Rattle.expanded_code.specs.Expanded.{points_from}
 use Rattle.inline_expand.specs.Inner.Settings.{AreCaught, setting_of}
 use Rattle.inline_expand.specs.Inner.Steps.{callees_of, expansion_by}
 use Rattle.inline_expand.proofs.expanded.points.+method.Given as goal

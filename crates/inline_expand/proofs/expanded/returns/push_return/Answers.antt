@@ -4,7 +4,7 @@ use Rattle.flow_code.specs.declared.point.FlatInstr.TheVariants.{Of}
 use Rattle.flow_code.specs.declared.point.Point.{Point}
 use Rattle.inline_expand.proofs.SettingParts.{spot-point}
 use Rattle.inline_expand.proofs.expanded.returns.push_return.Goals as goal
-use Rattle.inline_expand.specs.Expanded.{point_in}
+use Rattle.expanded_code.specs.Expanded.{point_in}
 use Rattle.inline_expand.specs.Inner.Settings.{narrowed_points}
 
 pub returns : goal.returns

@@ -5,7 +5,7 @@ use Rattle.class_model.specs.Descriptors.{kind_of, parameter_units, units_of}
 use Rattle.class_model.specs.Laws.Lists.{drop_item}
 use Rattle.class_model.specs.declared.descriptor.FieldType.{FieldType}
 use Rattle.class_model.specs.declared.descriptor.Kind.{Kind}
-use Rattle.inline_expand.specs.Expanded.{arguments_from}
+use Rattle.expanded_code.specs.Expanded.{arguments_from}
 use Rattle.inline_expand.specs.Inner.Layouts.{EndsBy, argument_from}
 use Rattle.inline_expand.specs.declared.expanded.shapes.Parameter.{Parameter}
 use Rattle.inline_expand.proofs.ShapeParts.{next-units, one-inside, one-parameter, units-cons}

@@ -1,7 +1,7 @@
 use Rattle.std.proofs.Common.{◌≡◌, ◌+◌, ◌≤◌, ◌++◌, ℕ, drop, map}
 use Rattle.std.specs.List.{AllByRecursion}
 use Rattle.class_model.specs.Descriptors.{parameter_units}
-use Rattle.inline_expand.specs.Expanded.{arguments_from}
+use Rattle.expanded_code.specs.Expanded.{arguments_from}
 use Rattle.inline_expand.specs.Inner.Layouts.{EndsBy, argument_from}
 use Rattle.inline_expand.proofs.expanded.shapes.push_parameters.Given as goal
 

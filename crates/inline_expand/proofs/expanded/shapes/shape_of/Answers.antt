@@ -3,7 +3,7 @@ use Rattle.class_model.specs.Members.{STATIC, has}
 use Rattle.class_model.specs.declared.descriptor.FieldType.{FieldType}
 use Rattle.inline_expand.proofs.ShapeParts.{its-arguments, its-units}
 use Rattle.inline_expand.proofs.expanded.shapes.shape_of.Goals as goal
-use Rattle.inline_expand.specs.Expanded.{narrowing}
+use Rattle.expanded_code.specs.Expanded.{narrowing}
 use Rattle.inline_expand.specs.Inner.Layouts.{AreParameters}
 
 pub returns : goal.returns

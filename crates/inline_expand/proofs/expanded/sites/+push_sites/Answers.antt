@@ -6,7 +6,7 @@ use Rattle.inline_expand.proofs.MethodParts.{number-there}
 use Rattle.inline_expand.proofs.SiteParts.{callee-done, item-at, numbered-next, room-callee, sites-callee, sites-own}
 use Rattle.inline_expand.proofs.expanded.sites.+push_sites.Goals as goal
 use Rattle.inline_expand.proofs.expanded.sites.+push_sites.Goals.{in-None+in_ok-push_site-in-None, in-Some+in_ok-push_sites-in-Some}
-use Rattle.inline_expand.specs.Expanded.{sites_from}
+use Rattle.expanded_code.specs.Expanded.{sites_from}
 use Rattle.inline_expand.specs.Inner.CalleePlaces.{callee_in}
 use Rattle.inline_expand.specs.Inner.SiteNumbers.{method_at, sites_by}
 use Rattle.inline_expand.specs.Inner.Steps.{callees_of, expansion_by}

@@ -1,7 +1,7 @@
 use Rattle.std.proofs.Common.{◌++◌, length}
 use Rattle.class_tree.specs.Headers.{Headers}
 use Rattle.inline_expand.proofs.SiteParts.{HasNumbered, HasSites}
-use Rattle.inline_expand.specs.Expanded.{sites_from}
+use Rattle.expanded_code.specs.Expanded.{sites_from}
 use Rattle.inline_expand.specs.Inner.SiteNumbers.{method_at, sites_by}
 use Rattle.inline_expand.specs.Inner.Steps.{callees_of, expansion_by}
 use Rattle.inline_expand.proofs.expanded.sites.+push_sites.Given as goal

@@ -4,7 +4,7 @@ use Rattle.class_model.specs.declared.frame.VType.{VType}
 use Rattle.std.proofs.Common.{List, ap, ◌∙◌}
 use Rattle.inline_expand.proofs.WideParts.{deepest-more, next-depth}
 use Rattle.inline_expand.proofs.expanded.wide.greatest_depth.Goals as goal
-use Rattle.inline_expand.specs.ExpandAnswers.{greatest_depth}
+use Rattle.expanded_code.specs.ExpandAnswers.{greatest_depth}
 use Rattle.inline_expand.specs.Inner.WideWords.{counted}
 
 pub loop-at-preserved : goal.loop-at-preserved

@@ -1,0 +1,11 @@
+pub mod Alone
+pub mod AloneAnswers
+pub mod Quiet
+pub mod FieldConstructors
+pub mod Candidates
+pub mod Callees
+pub mod Sites
+pub mod Expansions
+pub mod Expanded
+pub mod ExpandAnswers
+pub mod Laws

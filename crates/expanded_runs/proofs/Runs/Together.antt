@@ -1,0 +1,328 @@
+-- Runs of both programs that go together, and how they do behind a turn of both, or of the first alone.
+use Rattle.std.proofs.Common.{◌≡◌, ◌≢◌, ◌⊎◌, ◌<◌, ◌≤◌, ◌+◌, ◌-◌, ◌*◌, ℕ, Bool, false, List, [], ◌∷◌, ◌++◌, length, map, slice_get, Some, refl, sym, ap, subst, ◌∙◌, arith, inl, inr}
+use Rattle.std.specs.List.{AllByRecursion}
+use Rattle.expanded_runs.proofs.Runs.SameStanding.{SameStanding, SameTop, comparison, beginnings_stand, flat_stands, libraries_stand, none_stand, own_stand}
+use Rattle.expanded_runs.proofs.Runs.Setup.{Setup, after, before}
+use Rattle.machine_values.specs.declared.frame.RunFrame.{RunFrame}
+use Rattle.machine_values.specs.declared.frame.RunFrame.TheVariants.{Beginning}
+use Rattle.member_link.specs.Machine.Beginnings.{begun_memory, begun_on}
+use Rattle.member_link.specs.Machine.Programs.{Program, RunClass}
+use Rattle.member_link.specs.Machine.Runs.{Run, turn, turn_by}
+use Rattle.member_link.specs.Machine.Stepping.{is_library_turn, step}
+use Rattle.member_link.specs.Machine.Worlds.{Halt, Memory, World, going, stuck}
+use Rattle.same_runs.specs.Laws.AloneTurn.{AloneTurn, beginning_alone, begins_deeper, begins_fewer, is_over, unbegun_in}
+use Rattle.same_runs.specs.Laws.BothBegin.{counted}
+use Rattle.same_runs.specs.Laws.CaughtUp.{BothTurn, turn_keeps}
+use Rattle.same_runs.specs.Laws.QuietBeginnings.{BeginAlike, CaughtUp, quietly_then, second_catches_up, standing}
+use Rattle.same_runs.specs.Renamings.{Names}
+use Rattle.same_runs.specs.SameMemories.{IsInert, SameMemories}
+use Rattle.same_runs.specs.SamePrograms.{SamePrograms}
+use Rattle.same_runs.specs.SameWorlds.{Compares, SameAfter, both_go, both_landed, both_over, second_begins, SameSeen}
+use Rattle.same_runs.specs.Simulations.{Keeps, Quietly, at_once}
+use Rattle.typed_runs.specs.TypedWorlds.{StaysTyped, TypedWorld}
+
+-- ---- what goes together
+
+-- how many callees an innermost frame stands in
+abbrev pub depth : {u : Setup} {waits : Bool} {names : Names} {ones others : List RunFrame} → SameStanding u waits names ones others → ℕ
+depth none_stand = 0
+depth (libraries_stand held rest) = 0
+depth (beginnings_stand rest) = 0
+depth (own_stand in_own rest) = 0
+depth (flat_stands in_flat waits rest) = length in_flat.chain
+
+-- the first alone has begun it, and its beginning runs nothing
+pub record BeginsAlone (P : Program) (class : ℕ) : Type 0 where
+  pub found : RunClass
+  pub is : slice_get P.classes class ≡ Some found
+  pub inert : IsInert P class
+
+-- where beginnings of the first alone stand on top, it is not the library's turn below them
+abbrev pub NoTurnBelow : List ℕ → List RunFrame → Type 0
+NoTurnBelow [] frames = Unit {0}
+NoTurnBelow (class ∷ now) frames = is_library_turn frames ≡ false
+
+-- What falls where the first takes a turn alone: it begins a class, goes on with a beginning, or enters a callee.
+abbrev pub weight : Program → Memory → List ℕ → ℕ → ℕ
+weight P memory now deep = 2 * unbegun_in P memory + length now + (7 - deep)
+
+pub record Together (u : Setup) (measure : ℕ) (one other : Run) : Type 0 where
+  pub names : Names
+  pub now : List ℕ
+  pub ones : List RunFrame
+  pub stands : one.world.frames ≡ map Beginning now ++ ones
+  pub others : List RunFrame
+  pub stands_also : other.world.frames ≡ others
+  pub frames : SameStanding u false names ones others
+  pub alone : AllByRecursion (BeginsAlone (before u)) now
+  pub no_turn : NoTurnBelow now ones
+  pub memories : SameMemories (before u) (λ n m. n ≡ m) (λ n m. n ≡ m) names now one.world.memory other.world.memory
+  pub seen : SameSeen (comparison u) names one.world other.world
+  pub goes : one.world.halt ≡ going
+  pub goes_also : other.world.halt ≡ going
+  pub actions : other.actions ≡ one.actions
+  pub used : other.used ≡ one.used
+  pub typed : TypedWorld (before u) u.typings one.world
+  pub low : weight (before u) one.world.memory now (depth frames) ≤ measure
+
+-- both are over
+pub record Over (u : Setup) (one other : Run) : Type 0 where
+  pub names : Names
+  pub seen : SameSeen (comparison u) names one.world other.world
+  pub over : one.world.halt ≢ going
+  pub same : other.world.halt ≡ one.world.halt
+  pub actions : other.actions ≡ one.actions
+  pub used : other.used ≡ one.used
+
+-- the second goes on quietly to a run that goes together with the first
+pub record Related (u : Setup) (measure : ℕ) (one other : Run) : Type 0 where
+  pub waits : Run
+  pub quietly : Quietly (after u) other waits
+  pub state : Together u measure one waits ⊎ Over u one waits
+
+-- ---- what other parts of the proof give
+
+pub record Basis (u : Setup) : Type 0 where
+  pub same : SamePrograms (before u) (after u)
+  pub alike : BeginAlike (before u) (after u)
+  pub compares : Compares (comparison u)
+  pub settles : (names : Names) (w : World) (others : List RunFrame)
+      → TypedWorld (before u) u.typings w
+      → SameTop u names w.frames others
+      → SameStanding u false names w.frames others
+  pub steps_typed : (w : World) → TypedWorld (before u) u.typings w → StaysTyped (before u) u.typings w (step (before u) w)
+
+module _ (u : Setup) (basis : Basis u) where
+  abbrev P : Program
+  P = before u
+
+  abbrev Q : Program
+  Q = after u
+
+  -- ---- turns
+
+  -- a run that goes on, where it is not the library's turn, takes a step
+  pub turn_steps : (r : Run) → r.world.halt ≡ going → is_library_turn r.world.frames ≡ false
+      → turn P r ≡ record r { world = step P r.world }
+  turn_steps r goes no_turn = ap (turn_by P r) goes ∙ rw (no_turn) refl
+
+  -- what a turn leads to is typed, and not stuck
+  pub turn_typed : {one : Run} {w : World}
+      → one.world.halt ≡ going
+      → is_library_turn one.world.frames ≡ false
+      → TypedWorld P u.typings one.world
+      → turn P one ≡ record one { world = w }
+      → TypedWorld P u.typings w × (w.halt ≢ stuck)
+  turn_typed {one = one} {w = w} goes no_turn typed turned =
+      (subst (TypedWorld P u.typings) led stays.typed, λ is. stays.not_stuck going_on (ap (λ (v : World). v.halt) led ∙ is)) where
+        led : step P one.world ≡ w
+        led = ap (λ (r : Run). r.world) (sym (turn_steps one goes no_turn) ∙ turned)
+
+        stays : StaysTyped P u.typings one.world (step P one.world)
+        stays = basis.steps_typed one.world typed
+
+        going_on : one.world.halt ≢ stuck
+        going_on is = absurd (cc (sym goes ∙ is))
+
+  -- a run that is over stays
+  over_stays : (R : Program) (r : Run) → r.world.halt ≢ going → turn R r ≡ r
+  over_stays R r over = by r.world.halt refl where
+    by : (h : Halt) → r.world.halt ≡ h → turn R r ≡ r
+    by going is = absurd (over is)
+    by h is = ap (turn_by R r) is
+
+  -- ---- behind a turn of both
+
+  together : (names : Names) (one other : Run) (frames : SameStanding u false names one.world.frames other.world.frames)
+      → SameMemories P (λ n m. n ≡ m) (λ n m. n ≡ m) names [] one.world.memory other.world.memory
+      → SameSeen (comparison u) names one.world other.world
+      → one.world.halt ≡ going
+      → other.world.halt ≡ going
+      → other.actions ≡ one.actions
+      → other.used ≡ one.used
+      → TypedWorld P u.typings one.world
+      → (later : ℕ) × Together u later one other
+  together names one other frames memories seen goes goes_also actions used typed = (
+    weight P one.world.memory [] (depth frames),
+    record {
+      names = names;
+      now = [];
+      ones = one.world.frames;
+      stands = refl;
+      others = other.world.frames;
+      stands_also = refl;
+      frames = frames;
+      alone = tt;
+      no_turn = tt;
+      memories = memories;
+      seen = seen;
+      goes = goes;
+      goes_also = goes_also;
+      actions = actions;
+      used = used;
+      typed = typed;
+      low = omega arith;
+    },
+  )
+
+  -- runs whose worlds are the same behind a turn of both are related
+  pub after_both : {names : Names} (one other : Run)
+      → SameAfter P (comparison u) names one.world other.world
+      → TypedWorld P u.typings one.world
+      → other.actions ≡ one.actions
+      → other.used ≡ one.used
+      → (later : ℕ) × Related u later one other
+  after_both one other (both_go more grows frames memories seen goes goes_also) typed actions used =
+      let now = together more one other (basis.settles more one.world other.world.frames typed frames) memories seen goes goes_also actions used typed in
+      (now.0, record { waits = other; quietly = at_once; state = inl now.1 })
+  after_both one other (both_landed more grows frames memories seen goes goes_also) typed actions used =
+      let now = together more one other (basis.settles more one.world other.world.frames typed frames) memories seen goes goes_also actions used typed in
+      (now.0, record { waits = other; quietly = at_once; state = inl now.1 })
+  after_both one other (second_begins more class rest grows is no_turn quiet frames memories seen goes goes_also) typed actions used =
+      let now = together caught.by.more one (standing other rest caught.by.after caught.by.steps)
+      (basis.settles caught.by.more one.world rest typed caught.frames) caught.by.memories caught.seen goes goes_also actions used typed in
+      (now.0, record { waits = standing other rest caught.by.after caught.by.steps; quietly = caught.by.quietly; state = inl now.1 }) where
+        caught : CaughtUp P Q (comparison u) more one.world other rest
+        caught = second_catches_up class rest basis.same basis.alike basis.compares goes_also is no_turn quiet frames memories seen
+  after_both one other (both_over more seen over same) typed actions used = (
+    0,
+    record {
+      waits = other;
+      quietly = at_once;
+      state = inr (record { names = more; seen = seen; over = over; same = same; actions = actions; used = used });
+    },
+  )
+
+  -- a turn of both keeps runs related
+  pub both_keep : {names : Names} {measure : ℕ} {one other : Run}
+      → one.world.halt ≡ going
+      → is_library_turn one.world.frames ≡ false
+      → TypedWorld P u.typings one.world
+      → other.actions ≡ one.actions
+      → other.used ≡ one.used
+      → BothTurn P Q (comparison u) names one other
+      → Keeps P Q (Related u) measure one other
+  both_keep {measure = measure} {one = one} {other = other} goes no_turn typed actions used both =
+      let then = after_both (record one { world = both.first }) (record other { world = both.second }) both.after
+      (turn_typed goes no_turn typed both.turned).0 actions used in
+      turn_keeps measure then.0 both then.1
+
+  -- runs that are over
+  pub over_keeps : (measure : ℕ) (one other : Run) → Over u one other → Keeps P Q (Related u) measure one other
+  over_keeps measure one other over = record {
+    waits = other;
+    quietly = at_once;
+    measure_then = measure;
+    goes_on = inr (subst (λ (r : Run). Related u measure r (turn Q other)) (sym (over_stays P one over.over))
+        (subst (Related u measure one) (sym (over_stays Q other (λ is. over.over (sym over.same ∙ is))))
+        (record { waits = other; quietly = at_once; state = inr over })));
+  }
+
+  -- quiet turns first
+  pub keeps_behind : {measure : ℕ} {one other waits : Run} → Quietly Q other waits → Keeps P Q (Related u) measure one waits
+      → Keeps P Q (Related u) measure one other
+  keeps_behind quietly keeps = record {
+    waits = keeps.waits;
+    quietly = quietly_then quietly keeps.quietly;
+    measure_then = keeps.measure_then;
+    goes_on = keeps.goes_on;
+  }
+
+  -- ---- turns of the first alone
+
+  -- the first takes a turn, and is related to where the second goes on quietly to
+  pub alone_keeps : {measure later : ℕ} {one other waits : Run} {w : World}
+      → Quietly Q other waits
+      → turn P one ≡ record one { world = w }
+      → later < measure
+      → Together u later (record one { world = w }) waits
+      → Keeps P Q (Related u) measure one other
+  alone_keeps {later = later} {waits = waits} quietly turned less then = record {
+    waits = waits;
+    quietly = quietly;
+    measure_then = later;
+    goes_on = inl (
+      less,
+      subst (λ (r : Run). Related u later r waits) (sym turned)
+          (record { waits = waits; quietly = at_once; state = inl then }),
+    );
+  }
+
+  -- a turn of a beginning that stands on top of the first alone
+  pub beginning_keeps : {measure : ℕ} {one other : Run} (t : Together u measure one other) (class : ℕ) (now : List ℕ)
+      → t.now ≡ class ∷ now
+      → Keeps P Q (Related u) measure one other
+  beginning_keeps {measure = measure} {one = one} {other = other} t class now is = by
+      (beginning_alone class rest here.found basis.alike t.goes stands here.is here.inert memories) where
+        rest : List RunFrame
+        rest = map Beginning now ++ t.ones
+
+        stands : one.world.frames ≡ Beginning class ∷ rest
+        stands = t.stands ∙ ap (λ (classes : List ℕ). map Beginning classes ++ t.ones) is
+
+        alone : AllByRecursion (BeginsAlone P) (class ∷ now)
+        alone = subst (AllByRecursion (BeginsAlone P)) is t.alone
+
+        here : BeginsAlone P class
+        here = alone.0
+
+        memories : SameMemories P (λ n m. n ≡ m) (λ n m. n ≡ m) t.names (class ∷ now) one.world.memory other.world.memory
+        memories = subst (λ (classes : List ℕ). SameMemories P (λ n m. n ≡ m) (λ n m. n ≡ m) t.names classes one.world.memory other.world.memory) is t.memories
+
+        no_turn : is_library_turn t.ones ≡ false
+        no_turn = subst (λ (classes : List ℕ). NoTurnBelow classes t.ones) is t.no_turn
+
+        low : weight P one.world.memory (class ∷ now) (depth t.frames) ≤ measure
+        low = subst (λ (classes : List ℕ). weight P one.world.memory classes (depth t.frames) ≤ measure) is t.low
+
+        below : (classes : List ℕ) → NoTurnBelow classes t.ones
+        below [] = tt
+        below (first ∷ classes) = no_turn
+
+        typed : (w : World) → turn P one ≡ record one { world = w } → TypedWorld P u.typings w
+        typed w turned = (turn_typed t.goes (ap is_library_turn stands) t.typed turned).0
+
+        by : AloneTurn P (λ n m. n ≡ m) (λ n m. n ≡ m) t.names now class rest one other.world.memory → Keeps P Q (Related u) measure one other
+        by (begins_deeper first found found_is inert none turned memories_then) =
+            alone_keeps {later = weight P (begun_memory P first one.world.memory) (first ∷ class ∷ now) (depth t.frames)} at_once turned
+            (let fewer = begins_fewer P P first found one.world.memory found_is none in omega (arith, fewer, low))
+            (record {
+              names = t.names;
+              now = first ∷ class ∷ now;
+              ones = t.ones;
+              stands = refl;
+              others = t.others;
+              stands_also = t.stands_also;
+              frames = t.frames;
+              alone = (record { found = found; is = found_is; inert = inert }, alone);
+              no_turn = no_turn;
+              memories = memories_then;
+              seen = record { known = t.seen.known; events = t.seen.events };
+              goes = t.goes;
+              goes_also = t.goes_also;
+              actions = t.actions;
+              used = t.used;
+              typed = typed (begun_on P first (counted one) (Beginning class ∷ rest)) turned;
+              low = omega arith;
+            })
+        by (is_over turned memories_then) =
+            alone_keeps {later = weight P one.world.memory now (depth t.frames)} at_once turned (omega (arith, low))
+            (record {
+              names = t.names;
+              now = now;
+              ones = t.ones;
+              stands = refl;
+              others = t.others;
+              stands_also = t.stands_also;
+              frames = t.frames;
+              alone = alone.1;
+              no_turn = below now;
+              memories = memories_then;
+              seen = record { known = t.seen.known; events = t.seen.events };
+              goes = t.goes;
+              goes_also = t.goes_also;
+              actions = t.actions;
+              used = t.used;
+              typed = typed (record (counted one) { frames = rest }) turned;
+              low = omega arith;
+            })

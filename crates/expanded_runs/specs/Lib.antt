@@ -1,0 +1,3 @@
+pub mod AlonePrograms
+pub mod ExpandedPrograms
+pub mod ReadTypes

@@ -1,0 +1,10 @@
+//! Laws of flat code, by itself and with callees in place of their calls: programs that run it run equally, and its typed points type it.
+//! Functions that do nothing, whose contracts say what always holds.
+#![tactic(auto)]
+
+mod laws;
+
+pub use laws::{
+    a_flat_code_alone_is_typed, an_expanded_flat_code_is_typed, expanded_flat_codes_run_equally,
+    flat_codes_alone_run_equally,
+};
