@@ -3,11 +3,11 @@ use Rattle.std.proofs.Common.{◌≡◌, refl, subst}
 use Rattle.class_model.specs.declared.class_file.MethodAt.{MethodAt}
 use Rattle.class_rewrite.specs.Reasons.{HasReason}
 use Rattle.class_tree.specs.Headers.{Classes}
+use Rattle.expanded_code.specs.ExpandAnswers.{HasNoSite, IsExpanded, IsWide}
 use Rattle.flow_code.specs.FlatCode.{FlatCode}
+use Rattle.flow_code.specs.TypedFrames.{FolderFrames}
 use Rattle.flow_code.specs.declared.reason.Reason.{Reason}
 use Rattle.flow_code.specs.declared.reason.Reason.TheVariants as reasons
-use Rattle.expanded_code.specs.ExpandAnswers.{HasNoSite, IsExpanded, IsWide}
-use Rattle.flow_code.specs.TypedFrames.{FolderFrames}
 
 module _ (classes : Classes) (typed : FolderFrames) (at : MethodAt) (same : (one other : FlatCode) → IsExpanded classes typed at one → IsExpanded classes typed at other → one ≡ other) where
   pub one_reason : (one other : Reason) → HasReason classes typed at one → HasReason classes typed at other → one ≡ other

@@ -9,11 +9,11 @@ use Rattle.class_rewrite.specs.Reasons.{HasReason}
 use Rattle.class_rewrite.specs.Reports.{AreLines, IsLine, class_methods_from, methods_from}
 use Rattle.class_rewrite.specs.declared.report.Line.{Line}
 use Rattle.class_tree.specs.Headers.{Classes}
+use Rattle.expanded_code.specs.ExpandAnswers.{AnswersExpanded}
+use Rattle.flow_code.specs.TypedFrames.{FolderFrames}
 use Rattle.flow_code.specs.declared.reason.KeptFault.TheVariants.{Kept}
 use Rattle.flow_code.specs.declared.reason.Reason.{Reason}
 use Rattle.flow_code.specs.declared.reason.Reason.TheVariants as reasons
-use Rattle.expanded_code.specs.ExpandAnswers.{AnswersExpanded}
-use Rattle.flow_code.specs.TypedFrames.{FolderFrames}
 
 -- a reason that is answered is the method's
 pub kept_reason : (classes : Classes) (typed : FolderFrames) (at : MethodAt) (reason : Reason) → AnswersExpanded classes typed at (Err (Kept reason)) → HasReason classes typed at reason

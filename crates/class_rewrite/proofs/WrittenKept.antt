@@ -8,9 +8,9 @@ use Rattle.class_rewrite.specs.Reports.{AreLines, IsReport, class_methods_from, 
 use Rattle.class_rewrite.specs.Written.{AreWrittenClasses, AreWrittenMethods, IsWrittenFolder, IsWrittenFor}
 use Rattle.class_rewrite.specs.declared.report.Line.{Line}
 use Rattle.class_tree.specs.Headers.{Classes}
+use Rattle.flow_code.specs.TypedFrames.{FolderFrames}
 use Rattle.flow_code.specs.declared.reason.Reason.{Reason}
 use Rattle.flow_code.specs.declared.reason.Reason.TheVariants as reasons
-use Rattle.flow_code.specs.TypedFrames.{FolderFrames}
 
 module _ (classes : Classes) (typed : FolderFrames) where
   kept_as_it_was : (at : MethodAt) (reason : Reason) (method : Method) → HasReason classes typed at reason → IsWrittenFor reason method method

@@ -5,10 +5,10 @@ use Rattle.class_rewrite.specs.Reports.{IsReport}
 use Rattle.class_rewrite.specs.Written.{IsWrittenFolder}
 use Rattle.class_rewrite.specs.declared.folder.Optimised.{Optimised}
 use Rattle.class_tree.specs.Headers.{Classes}
+use Rattle.flow_code.specs.TypedFrames.{FolderFrames}
 use Rattle.machine_step.specs.Programs.{IsProgram}
 use Rattle.member_link.specs.Machine.Programs.{Program}
 use Rattle.member_link.specs.Machine.SameRuns.{SameRuns}
-use Rattle.flow_code.specs.TypedFrames.{FolderFrames}
 use Rattle.type_rules.specs.Verified.{IsVerified}
 
 -- other class files with the same library

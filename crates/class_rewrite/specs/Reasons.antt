@@ -1,13 +1,13 @@
 -- What becomes of a method of a folder, and why. It is this project's profile.
+use Rattle.std.specs.Prelude.{Ok, Err}
 use Rattle.class_model.specs.declared.class_file.MethodAt.{MethodAt}
 use Rattle.class_tree.specs.Headers.{Classes}
+use Rattle.expanded_code.specs.ExpandAnswers.{AnswersExpanded}
 use Rattle.flow_code.specs.FlatCode.{FlatCode}
+use Rattle.flow_code.specs.TypedFrames.{FolderFrames}
 use Rattle.flow_code.specs.declared.reason.KeptFault.TheVariants.{Kept}
 use Rattle.flow_code.specs.declared.reason.Reason.{Reason}
 use Rattle.flow_code.specs.declared.reason.Reason.TheVariants as reasons
-use Rattle.expanded_code.specs.ExpandAnswers.{AnswersExpanded}
-use Rattle.std.specs.Prelude.{Ok, Err}
-use Rattle.flow_code.specs.TypedFrames.{FolderFrames}
 
 -- The method is kept for a reason for which it has no flat code with its callees in place of their calls: the first of Host, Float, Expanded,
 -- NoSite and Wide that holds of it.

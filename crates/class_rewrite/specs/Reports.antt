@@ -6,9 +6,9 @@ use Rattle.class_model.specs.declared.class_file.MethodAt.{MethodAt}
 use Rattle.class_rewrite.specs.Reasons.{HasReason}
 use Rattle.class_rewrite.specs.declared.report.Line.{Line}
 use Rattle.class_tree.specs.Headers.{Classes}
+use Rattle.flow_code.specs.TypedFrames.{FolderFrames}
 use Rattle.flow_code.specs.declared.reason.Reason.{Reason}
 use Rattle.flow_code.specs.declared.reason.Reason.TheVariants.{Rewritten}
-use Rattle.flow_code.specs.TypedFrames.{FolderFrames}
 
 -- ---- the methods of a folder
 

@@ -5,9 +5,9 @@ use Rattle.class_model.specs.declared.class_file.Method.{Method}
 use Rattle.class_model.specs.declared.class_file.MethodAt.{MethodAt}
 use Rattle.class_rewrite.specs.Reasons.{HasReason}
 use Rattle.class_tree.specs.Headers.{Classes}
+use Rattle.flow_code.specs.TypedFrames.{FolderFrames}
 use Rattle.flow_code.specs.declared.reason.Reason.{Reason}
 use Rattle.flow_code.specs.declared.reason.Reason.TheVariants as reasons
-use Rattle.flow_code.specs.TypedFrames.{FolderFrames}
 
 -- What is written of a method, by the reason that it has. No method is rewritten so far.
 abbrev pub IsWrittenFor : Reason → Method → Method → Type 0

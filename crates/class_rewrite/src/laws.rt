@@ -8,11 +8,11 @@ ghost use Rattle.class_rewrite.specs.Written.{IsWrittenFolder};
 ghost use Rattle.class_tree.specs.Headers.{Classes, headers_of};
 ghost use Rattle.class_tree.specs.Hierarchy.{IsHierarchy};
 ghost use Rattle.class_tree.specs.Trees.{IsTree};
+ghost use Rattle.flow_code.specs.TypedFrames.{FolderFrames};
 ghost use Rattle.flow_code.specs.declared.reason.Reason.{Reason};
 ghost use Rattle.machine_step.specs.Programs.{IsProgram};
 ghost use Rattle.member_link.specs.Linked.{IsLinked};
 ghost use Rattle.member_link.specs.Machine.Programs.{Program};
-ghost use Rattle.flow_code.specs.TypedFrames.{FolderFrames};
 ghost use Rattle.type_rules.specs.Verified.{TypesFolder};
 
 use inline_expand::a_method_has_one_expanded_flat_code;

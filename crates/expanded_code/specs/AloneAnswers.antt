@@ -3,13 +3,13 @@ use Rattle.std.specs.Prelude.{◌≡◌, List, Some, None, Result, Ok, Err}
 use Rattle.class_model.specs.declared.class_file.MethodAt.{MethodAt}
 use Rattle.class_model.specs.declared.frame.Frame.{Frame}
 use Rattle.class_tree.specs.Headers.{Classes}
+use Rattle.expanded_code.specs.Alone.{flat_alone}
 use Rattle.flow_code.specs.FlatCode.{FlatCode}
+use Rattle.flow_code.specs.TypedFrames.{FolderFrames, typed_frames_at}
 use Rattle.flow_code.specs.declared.reason.KeptFault.{KeptFault}
 use Rattle.flow_code.specs.declared.reason.KeptFault.TheVariants as faults
 use Rattle.flow_code.specs.declared.reason.Reason.TheVariants as reasons
 use Rattle.member_link.specs.Scope.{Scope, scope_at}
-use Rattle.flow_code.specs.TypedFrames.{FolderFrames, typed_frames_at}
-use Rattle.expanded_code.specs.Alone.{flat_alone}
 
 -- it is the flat code of a method by itself, by the frames of its folder
 pub record IsFlatAlone (classes : Classes) (typed : FolderFrames) (at : MethodAt) (flat : FlatCode)

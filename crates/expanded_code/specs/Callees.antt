@@ -9,6 +9,7 @@ use Rattle.class_model.specs.Members.{has, PRIVATE, PROTECTED, PUBLIC, STATIC}
 use Rattle.class_model.specs.Methods.{this_units}
 use Rattle.class_model.specs.Names.{init}
 use Rattle.class_model.specs.Pool.{constant_at}
+use Rattle.class_model.specs.PoolChecks.{class_at}
 use Rattle.class_model.specs.declared.class_file.ClassFile.{ClassFile}
 use Rattle.class_model.specs.declared.class_file.MethodAt.{MethodAt}
 use Rattle.class_model.specs.declared.descriptor.FieldType.{FieldType}
@@ -26,9 +27,9 @@ use Rattle.class_tree.specs.Headers.{Name, Classes, Headers, class_named, header
 use Rattle.class_tree.specs.Names.{is_interface, object}
 use Rattle.class_tree.specs.Subtype.{IsArray}
 use Rattle.class_tree.specs.declared.place.Place.TheVariants.{Folder}
-use Rattle.class_model.specs.PoolChecks.{class_at}
 use Rattle.expanded_code.specs.Alone.{number_at}
 use Rattle.expanded_code.specs.Quiet.{IsOfFolder, IsQuiet}
+use Rattle.flow_code.specs.TypedFrames.{FolderFrames, typed_frames_at}
 use Rattle.member_link.specs.Access.{IsClassAccessible}
 use Rattle.member_link.specs.CodedMethods.{placed_at}
 use Rattle.member_link.specs.Declarations.{IsFolderMethod}
@@ -46,7 +47,6 @@ use Rattle.member_link.specs.Selection.{Selects, chosen_method}
 use Rattle.member_link.specs.Signatures.{reference_of, result_of}
 use Rattle.member_link.specs.SpecialStart.{StartsSpecial}
 use Rattle.member_link.specs.declared.selection.CallForm.TheVariants.{Special}
-use Rattle.flow_code.specs.TypedFrames.{FolderFrames, typed_frames_at}
 
 -- ---- instructions and their frames
 

@@ -6,17 +6,17 @@ use Rattle.class_model.specs.declared.class_file.MethodAt.{MethodAt}
 use Rattle.class_model.specs.declared.instr.Instr.TheVariants.{FloatAsk}
 use Rattle.class_model.specs.declared.instr.Placed.{Placed}
 use Rattle.class_tree.specs.Headers.{Classes}
+use Rattle.expanded_code.specs.Expanded.{expanded}
+use Rattle.expanded_code.specs.Expansions.{Coded, Expands, Expansion}
+use Rattle.expanded_code.specs.Sites.{HasFrames}
 use Rattle.flow_code.specs.FlatCode.{FlatCode}
+use Rattle.flow_code.specs.TypedFrames.{FolderFrames}
 use Rattle.flow_code.specs.declared.point.Point.{Point}
 use Rattle.flow_code.specs.declared.point.Site.{Site}
 use Rattle.flow_code.specs.declared.reason.KeptFault.{KeptFault}
 use Rattle.flow_code.specs.declared.reason.KeptFault.TheVariants as faults
 use Rattle.flow_code.specs.declared.reason.Reason.TheVariants as reasons
-use Rattle.expanded_code.specs.Expanded.{expanded}
-use Rattle.expanded_code.specs.Expansions.{Coded, Expands, Expansion}
-use Rattle.expanded_code.specs.Sites.{HasFrames}
 use Rattle.member_link.specs.Scope.{Scope, instructions, is_clinit, is_init, scope_at}
-use Rattle.flow_code.specs.TypedFrames.{FolderFrames}
 
 -- it is the flat code of a method with its callees in place of their calls
 pub record IsExpanded (classes : Classes) (typed : FolderFrames) (at : MethodAt) (flat : FlatCode)

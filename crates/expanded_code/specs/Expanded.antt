@@ -18,14 +18,14 @@ use Rattle.class_model.specs.declared.instr.Instr.TheVariants.{Const, Goto, Iinc
 use Rattle.class_model.specs.declared.instr.Placed.{Placed}
 use Rattle.class_model.specs.declared.opcodes.TheConstants.{I2B, I2C, I2S, IAND}
 use Rattle.class_tree.specs.Headers.{Headers}
+use Rattle.expanded_code.specs.Alone.{handlers_by}
+use Rattle.expanded_code.specs.Expansions.{Coded, Expansion, no_more, replaced, site, stays}
+use Rattle.expanded_code.specs.FieldConstructors.{field_types}
 use Rattle.flow_code.specs.FlatCode.{FlatCode}
 use Rattle.flow_code.specs.declared.handlers.FlatHandler.{FlatHandler}
 use Rattle.flow_code.specs.declared.point.FlatInstr.TheVariants.{Of, NullTest}
 use Rattle.flow_code.specs.declared.point.Point.{Point}
 use Rattle.flow_code.specs.declared.point.Site.{Site}
-use Rattle.expanded_code.specs.Alone.{handlers_by}
-use Rattle.expanded_code.specs.Expansions.{Coded, Expansion, no_more, replaced, site, stays}
-use Rattle.expanded_code.specs.FieldConstructors.{field_types}
 use Rattle.member_link.specs.Rows.LocalRows.{stored}
 use Rattle.member_link.specs.Rows.Operands.{lowest_of, under}
 use Rattle.member_link.specs.Scope.{Scope, instructions, is_init, own_descriptor}

@@ -5,8 +5,8 @@ use Rattle.class_model.specs.declared.frame.Frame.{Frame}
 use Rattle.class_model.specs.declared.instr.Placed.{Placed}
 use Rattle.class_tree.specs.Headers.{Name, Classes}
 use Rattle.expanded_code.specs.Sites.{HasFrames, IsReplaced, IsSite}
-use Rattle.member_link.specs.Scope.{Scope, instructions}
 use Rattle.flow_code.specs.TypedFrames.{FolderFrames}
+use Rattle.member_link.specs.Scope.{Scope, instructions}
 
 -- a method in flat code: its numbers, its code and the frames that type it
 pub record Coded : Type 0 where

@@ -9,9 +9,9 @@ use Rattle.class_tree.specs.Headers.{Name, Classes}
 use Rattle.class_tree.specs.Names.{object}
 use Rattle.expanded_code.specs.Callees.{InitialisesAt, IsCallee}
 use Rattle.expanded_code.specs.Candidates.{IsCandidate}
+use Rattle.flow_code.specs.TypedFrames.{FolderFrames, typed_frames_at}
 use Rattle.member_link.specs.References.{Reference}
 use Rattle.member_link.specs.Scope.{Scope, class_of_new, is_init, scope_at}
-use Rattle.flow_code.specs.TypedFrames.{FolderFrames, typed_frames_at}
 
 -- A chain has the callees from the host inwards, the innermost first. A chain has at most six callees, none twice and none the host.
 pub record MayFollow (host : MethodAt) (chain : List MethodAt) (callee : MethodAt) : Type 0 where

@@ -12,13 +12,13 @@ use Rattle.class_model.specs.declared.instr.Instr.{Instr}
 use Rattle.class_model.specs.declared.instr.Instr.TheVariants.{Nop}
 use Rattle.class_model.specs.declared.instr.Placed.{Placed}
 use Rattle.class_tree.specs.Headers.{Classes}
+use Rattle.expanded_code.specs.Alone.{alone_points, flat_alone, handler_of, handlers_at, number_in}
+use Rattle.expanded_code.specs.Alone as alone
+use Rattle.expanded_code.specs.Laws.NumberedInstrs.{found-instr, length-alone, number-within, or_behind}
 use Rattle.flow_code.specs.FlatCode.{FlatCode}
 use Rattle.flow_code.specs.FlatRoom.{stack_room}
 use Rattle.flow_code.specs.declared.handlers.FlatHandler.{FlatHandler}
 use Rattle.flow_code.specs.declared.point.Point.{Point as FlatPoint}
-use Rattle.expanded_code.specs.Alone.{alone_points, flat_alone, handler_of, handlers_at, number_in}
-use Rattle.expanded_code.specs.Alone as alone
-use Rattle.expanded_code.specs.Laws.NumberedInstrs.{found-instr, length-alone, number-within, or_behind}
 use Rattle.member_link.specs.Laws.Renumbered.{IsSamePoint, op_renumbered}
 use Rattle.member_link.specs.Machine.Codes.{CodePoint, catch_in, catches_at, code_points, covers, instr_op, method_code, number_at, code_point, renumbered, run_point}
 use Rattle.member_link.specs.Machine.Programs.{Catch, Code, Links, Point, number_of_first}

@@ -12,11 +12,12 @@ use Rattle.class_model.specs.declared.class_file.Method.{Method}
 use Rattle.class_model.specs.declared.class_file.MethodAt.{MethodAt}
 use Rattle.class_model.specs.declared.frame.Frame.{Frame}
 use Rattle.class_tree.specs.Headers.{Classes, Headers, headers_of}
-use Rattle.flow_code.specs.FlatCode.{FlatCode}
-use Rattle.expanded_runs.proofs.AloneCode.{alone-code}
 use Rattle.expanded_code.specs.Alone.{flat_alone}
 use Rattle.expanded_code.specs.AloneAnswers.{IsFlatAlone}
+use Rattle.expanded_runs.proofs.AloneCode.{alone-code}
 use Rattle.expanded_runs.specs.AlonePrograms.{AreAlone}
+use Rattle.flow_code.specs.FlatCode.{FlatCode}
+use Rattle.flow_code.specs.TypedFrames.{FolderFrames, typed_frames_at}
 use Rattle.member_link.specs.Bodies.{Body}
 use Rattle.member_link.specs.Machine.Classes.{program_of, run_class_of, run_method_of}
 use Rattle.member_link.specs.Machine.Codes.{method_code}
@@ -26,7 +27,6 @@ use Rattle.member_link.specs.Scope.{Scope, instructions, scope_at, scope_of}
 use Rattle.same_runs.specs.Flats.{Flats, flat_body, flat_code, flat_program, flats_for_codes, pool_of}
 use Rattle.type_rules.specs.MethodBodies.{body_of, point_of}
 use Rattle.type_rules.specs.Typed.{TypesBody}
-use Rattle.flow_code.specs.TypedFrames.{FolderFrames, typed_frames_at}
 use Rattle.type_rules.specs.Verified.{TypesFolder, TypesMethod}
 
 -- what a change leaves as it is at each number

@@ -13,8 +13,8 @@ use Rattle.class_model.specs.declared.frame.Frame.{Frame}
 use Rattle.class_model.specs.declared.frame.VType.{VType}
 use Rattle.class_model.specs.declared.frame.VType.TheVariants as types
 use Rattle.class_tree.specs.Headers.{Name, Headers}
-use Rattle.expanded_runs.proofs.RenumberedTypes.{units_same, verification_same}
 use Rattle.expanded_code.specs.Alone.{numbered_type, numbered_frame}
+use Rattle.expanded_runs.proofs.RenumberedTypes.{units_same, verification_same}
 use Rattle.member_link.specs.Assignability.{to_same}
 use Rattle.member_link.specs.Rows.FrameAssignability.{AreAssignable, IsFrameAssignable}
 use Rattle.member_link.specs.Scope.{Scope}

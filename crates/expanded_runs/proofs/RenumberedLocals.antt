@@ -13,9 +13,9 @@ use Rattle.class_model.specs.declared.instr.Imm.{Imm}
 use Rattle.class_model.specs.declared.instr.Imm.TheVariants as imms
 use Rattle.class_model.specs.declared.pool.Const.{Const}
 use Rattle.class_model.specs.declared.pool.Const.TheVariants as consts
+use Rattle.expanded_code.specs.Alone.{numbered_type, numbered_frame}
 use Rattle.expanded_runs.proofs.RenumberedRows.{Moves, no_row_moves, plain_moves}
 use Rattle.expanded_runs.proofs.RenumberedTypes.{kind_kept, lowest_same, units_same, wide_same}
-use Rattle.expanded_code.specs.Alone.{numbered_type, numbered_frame}
 use Rattle.member_link.specs.Rows.LocalRows.{HasRoom, HoldsKind, const_row, cut_before, iinc_row, imm_row, load_row, local_entry, null_test_row, store_row, stored, type_of_imm, with_units}
 use Rattle.member_link.specs.Rows.Operands.{lowest_of}
 

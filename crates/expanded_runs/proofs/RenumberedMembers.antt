@@ -14,9 +14,9 @@ use Rattle.class_model.specs.declared.opcodes.TheConstants.{INVOKESTATIC, INVOKE
 use Rattle.class_model.specs.declared.pool.Const.{Const}
 use Rattle.class_model.specs.declared.pool.Const.TheVariants as consts
 use Rattle.class_tree.specs.Headers.{Name}
+use Rattle.expanded_code.specs.Alone.{numbered_type, numbered_frame}
 use Rattle.expanded_runs.proofs.RenumberedRows.{Moves, conditional_moves, ending_moves, no_row_moves, plain_moves}
 use Rattle.expanded_runs.proofs.RenumberedTypes.{assignable_kept, lowest_same, numbered_need, renumbered, verification_same}
-use Rattle.expanded_code.specs.Alone.{numbered_type, numbered_frame}
 use Rattle.member_link.specs.References.{Reference}
 use Rattle.member_link.specs.RowScope.{RowScope}
 use Rattle.member_link.specs.Rows.Assigning.{IsAssignableIn}

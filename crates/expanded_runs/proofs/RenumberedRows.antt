@@ -6,8 +6,8 @@ use Rattle.std.proofs.lemmas.List.{length-map, map-append}
 use Rattle.class_model.specs.declared.frame.Frame.{Frame}
 use Rattle.class_model.specs.declared.frame.VType.{VType}
 use Rattle.class_tree.specs.Headers.{Name}
-use Rattle.expanded_runs.proofs.RenumberedTypes.{all_fit_kept, numbered_need, renumbered, topmost_same, under_same}
 use Rattle.expanded_code.specs.Alone.{numbered_type, numbered_frame}
+use Rattle.expanded_runs.proofs.RenumberedTypes.{all_fit_kept, numbered_need, renumbered, topmost_same, under_same}
 use Rattle.member_link.specs.RowScope.{RowScope}
 use Rattle.member_link.specs.Rows.Operands.{AllFit, Need, topmost, under}
 use Rattle.member_link.specs.Rows.Row.{Row, conditional, either, ending, no_row, plain, row_frame, stack_behind, stack_left}

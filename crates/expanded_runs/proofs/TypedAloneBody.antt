@@ -5,14 +5,14 @@ use Rattle.class_model.specs.declared.class_file.MethodAt.{MethodAt}
 use Rattle.class_model.specs.declared.frame.Frame.{Frame}
 use Rattle.class_model.specs.declared.instr.Placed.{Placed}
 use Rattle.class_tree.specs.Headers.{Classes}
-use Rattle.flow_code.specs.FlatCode.{FlatCode}
-use Rattle.expanded_runs.proofs.TypedAloneNumbers.{number_here}
+use Rattle.expanded_code.specs.Alone.{alone_points, flat_alone, number_at, number_in}
 use Rattle.expanded_runs.proofs.FlatPlaces.{each_point, frame_is_stated, one_each}
 use Rattle.expanded_runs.proofs.RenumberedEntry.{entry_same}
 use Rattle.expanded_runs.proofs.TypedAloneEdges.{IsTypedMethod, counted, flows_carried}
-use Rattle.expanded_runs.proofs.TypedAlonePoints.{each_fits}
 use Rattle.expanded_runs.proofs.TypedAloneHandlers.{table_throws}
-use Rattle.expanded_code.specs.Alone.{alone_points, flat_alone, number_at, number_in}
+use Rattle.expanded_runs.proofs.TypedAloneNumbers.{number_here}
+use Rattle.expanded_runs.proofs.TypedAlonePoints.{each_fits}
+use Rattle.flow_code.specs.FlatCode.{FlatCode}
 use Rattle.member_link.specs.Bodies.{Body}
 use Rattle.member_link.specs.BodyTyping.{FlowsInto, HasFrames, PointFits, begins_at}
 use Rattle.member_link.specs.Machine.Replaced.{map_numbered}

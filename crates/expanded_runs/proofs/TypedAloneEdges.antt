@@ -11,16 +11,16 @@ use Rattle.class_model.specs.declared.frame.VType.{VType}
 use Rattle.class_model.specs.declared.instr.Instr.{Instr}
 use Rattle.class_model.specs.declared.instr.Instr.TheVariants.{Goto, Table, Lookup, Return, Throw}
 use Rattle.class_tree.specs.Headers.{Name, Classes}
-use Rattle.flow_code.specs.FlatCode.{FlatCode}
-use Rattle.flow_code.specs.FlatRoom.{deepest, stack_room}
-use Rattle.flow_code.specs.declared.point.Point.{Point}
-use Rattle.expanded_runs.proofs.TypedAloneNumbers.{frame_found, is_number, point_there, IsNumber}
+use Rattle.expanded_code.specs.Alone.{flat_alone, number_at, numbered_frame, numbered_type}
 use Rattle.expanded_runs.proofs.FlatPlaces.{frame_is_stated}
 use Rattle.expanded_runs.proofs.RenumberedEntry.{as_many, to_itself}
 use Rattle.expanded_runs.proofs.RenumberedRows.{Leaves}
 use Rattle.expanded_runs.proofs.RenumberedTypes.{frame_assignable_kept, renumbered}
 use Rattle.expanded_runs.proofs.StackRoom.{no_deeper}
-use Rattle.expanded_code.specs.Alone.{flat_alone, number_at, numbered_frame, numbered_type}
+use Rattle.expanded_runs.proofs.TypedAloneNumbers.{frame_found, is_number, point_there, IsNumber}
+use Rattle.flow_code.specs.FlatCode.{FlatCode}
+use Rattle.flow_code.specs.FlatRoom.{deepest, stack_room}
+use Rattle.flow_code.specs.declared.point.Point.{Point}
 use Rattle.member_link.specs.Bodies.{Body, falls_through}
 use Rattle.member_link.specs.BodyTyping.{AreInOrder, FlowsInto, GoesInto, GoesToStated, HasFrames, MayGoTo, Reaches, frame_at}
 use Rattle.member_link.specs.RowScope.{RowScope}

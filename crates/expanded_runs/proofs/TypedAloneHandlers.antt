@@ -7,8 +7,8 @@ use Rattle.class_model.specs.declared.frame.Frame.{Frame}
 use Rattle.class_model.specs.declared.instr.Placed.{Placed}
 use Rattle.class_tree.specs.Headers.{Name}
 use Rattle.class_tree.specs.Names.{throwable}
-use Rattle.flow_code.specs.declared.handlers.FlatHandler.{FlatHandler}
 use Rattle.expanded_code.specs.Alone.{alone_points, handler_of, handlers_at, number_at}
+use Rattle.flow_code.specs.declared.handlers.FlatHandler.{FlatHandler}
 use Rattle.member_link.specs.Bodies.{BodyCatch, BodyCaught}
 use Rattle.member_link.specs.BodyTyping.{IsThrowable}
 use Rattle.member_link.specs.Machine.Codes.{covers}

@@ -10,11 +10,12 @@ use Rattle.class_model.specs.declared.class_file.Method.{Method}
 use Rattle.class_model.specs.declared.class_file.MethodAt.{MethodAt}
 use Rattle.class_model.specs.declared.frame.Frame.{Frame}
 use Rattle.class_tree.specs.Headers.{Classes, headers_of}
-use Rattle.flow_code.specs.FlatCode.{FlatCode}
-use Rattle.expanded_runs.proofs.FlatPlaces.{points_in_order}
-use Rattle.expanded_runs.proofs.TypedAloneBody.{has_frames}
 use Rattle.expanded_code.specs.Alone.{flat_alone}
 use Rattle.expanded_code.specs.AloneAnswers.{IsFlatAlone}
+use Rattle.expanded_runs.proofs.FlatPlaces.{points_in_order}
+use Rattle.expanded_runs.proofs.TypedAloneBody.{has_frames}
+use Rattle.flow_code.specs.FlatCode.{FlatCode}
+use Rattle.flow_code.specs.TypedFrames.{FolderFrames, typed_frames_at}
 use Rattle.member_link.specs.Bodies.{Body}
 use Rattle.member_link.specs.BodyTyping.{AreInOrder, GoesToStated, HasFrames}
 use Rattle.member_link.specs.Scope.{Scope, scope_at, scope_of}
@@ -22,7 +23,6 @@ use Rattle.same_runs.specs.FlatBodies.{body_of_flat, typed_points}
 use Rattle.same_runs.specs.Flats.{pool_of}
 use Rattle.type_rules.specs.MethodBodies.{body_of}
 use Rattle.type_rules.specs.Typed.{TypesBody}
-use Rattle.flow_code.specs.TypedFrames.{FolderFrames, typed_frames_at}
 use Rattle.type_rules.specs.Verified.{TypesFolder, TypesMethod}
 
 -- ---- the constants of a method's class

@@ -8,11 +8,11 @@ use Rattle.class_model.specs.declared.instr.Instr.{Instr}
 use Rattle.class_model.specs.declared.instr.Instr.TheVariants.{Goto, Table, Lookup, New, If, If2, IfSame, IfNull}
 use Rattle.class_model.specs.declared.instr.Placed.{Placed}
 use Rattle.class_tree.specs.Headers.{Name, Classes}
+use Rattle.expanded_code.specs.Alone.{alone_points, flat_alone, number_at, number_in}
+use Rattle.expanded_runs.proofs.TypedAloneNumbers.{number_if}
 use Rattle.flow_code.specs.declared.point.FlatInstr.{FlatInstr}
 use Rattle.flow_code.specs.declared.point.FlatInstr.TheVariants.{Of}
 use Rattle.flow_code.specs.declared.point.Point.{Point}
-use Rattle.expanded_runs.proofs.TypedAloneNumbers.{number_if}
-use Rattle.expanded_code.specs.Alone.{alone_points, flat_alone, number_at, number_in}
 use Rattle.member_link.specs.Scope.{Scope, class_of_new, instructions}
 use Rattle.member_link.specs.Targets.{with_targets}
 use Rattle.same_runs.specs.Flats.{class_of_flat_new, pool_of}

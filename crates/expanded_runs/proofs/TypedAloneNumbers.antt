@@ -6,8 +6,8 @@ use Rattle.std.proofs.lemmas.Option.{same_Some}
 use Rattle.class_model.specs.Laws.Lists.{at_index}
 use Rattle.class_model.specs.declared.frame.Frame.{Frame}
 use Rattle.class_model.specs.declared.instr.Placed.{Placed}
-use Rattle.flow_code.specs.declared.point.Point.{Point}
 use Rattle.expanded_code.specs.Alone.{alone_point, alone_points, number_in}
+use Rattle.flow_code.specs.declared.point.Point.{Point}
 use Rattle.member_link.specs.BodyTyping.{AreInOrder, frame_among}
 use Rattle.member_link.specs.Machine.Programs.{number_of_first}
 use Rattle.member_link.specs.Scope.{Scope}

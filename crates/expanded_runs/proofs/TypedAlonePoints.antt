@@ -12,10 +12,7 @@ use Rattle.class_model.specs.declared.frame.Frame.{Frame}
 use Rattle.class_model.specs.declared.frame.VType.{VType}
 use Rattle.class_model.specs.declared.instr.Placed.{Placed}
 use Rattle.class_tree.specs.Headers.{Name, Classes}
-use Rattle.flow_code.specs.FlatCode.{FlatCode, point_at}
-use Rattle.flow_code.specs.FlatRoom.{deepest, stack_room}
-use Rattle.flow_code.specs.declared.point.Point.{Point}
-use Rattle.expanded_runs.proofs.TypedAloneNumbers.{apart, number_of_next, number_of_placed, point_parts, points_counted}
+use Rattle.expanded_code.specs.Alone.{alone_point, flat_alone, handlers_at, number_at, numbered_frame, numbered_type}
 use Rattle.expanded_runs.proofs.RenumberedMembers.{KeepsNews}
 use Rattle.expanded_runs.proofs.RenumberedRows.{Moves, frame_moves, operands_fit, stack_moves}
 use Rattle.expanded_runs.proofs.RenumberedTable.{row_moves}
@@ -25,7 +22,10 @@ use Rattle.expanded_runs.proofs.StackRoom.{two_each}
 use Rattle.expanded_runs.proofs.TypedAloneEdges.{IsTypedMethod, all_go, counted, few_behind, flows_carried, goes_carried, is_there}
 use Rattle.expanded_runs.proofs.TypedAloneHandlers.{all_catch}
 use Rattle.expanded_runs.proofs.TypedAloneNews.{new_is_same, some_point}
-use Rattle.expanded_code.specs.Alone.{alone_point, flat_alone, handlers_at, number_at, numbered_frame, numbered_type}
+use Rattle.expanded_runs.proofs.TypedAloneNumbers.{apart, number_of_next, number_of_placed, point_parts, points_counted}
+use Rattle.flow_code.specs.FlatCode.{FlatCode, point_at}
+use Rattle.flow_code.specs.FlatRoom.{deepest, stack_room}
+use Rattle.flow_code.specs.declared.point.Point.{Point}
 use Rattle.member_link.specs.Bodies.{Body, BodyCatch, BodyPoint, catch_frame, falls_through, flows_on, frame_behind, item_instr}
 use Rattle.member_link.specs.BodyTyping.{FlowsInto, GoesInto, GoesToStated, MayGoTo, PointFits, RowHolds}
 use Rattle.member_link.specs.RowScope.{RowScope}

@@ -9,12 +9,13 @@ use Rattle.class_model.specs.declared.frame.Frame.{Frame}
 use Rattle.class_model.specs.declared.header.Header.{Header}
 use Rattle.class_model.specs.declared.instr.Instr.TheVariants.{GetField, PutField}
 use Rattle.class_tree.specs.Headers.{Classes, Headers, headers_of}
+use Rattle.expanded_code.specs.ExpandAnswers.{IsExpanded, IsNoHost}
+use Rattle.expanded_code.specs.Quiet.{chain}
 use Rattle.flow_code.specs.FlatCode.{FlatCode, point_at}
+use Rattle.flow_code.specs.TypedFrames.{FolderFrames, typed_frames_at}
 use Rattle.flow_code.specs.declared.point.FlatInstr.TheVariants.{Of}
 use Rattle.flow_code.specs.declared.point.Point.{Point}
 use Rattle.flow_code.specs.declared.point.Site.{Site}
-use Rattle.expanded_code.specs.ExpandAnswers.{IsExpanded, IsNoHost}
-use Rattle.expanded_code.specs.Quiet.{chain}
 use Rattle.member_link.specs.DeclaredMembers.{Declared}
 use Rattle.member_link.specs.Fields.{FindsField}
 use Rattle.member_link.specs.Machine.Programs.{Links}
@@ -22,7 +23,6 @@ use Rattle.member_link.specs.Machine.Replaced.{Replacement}
 use Rattle.member_link.specs.References.{Reference}
 use Rattle.member_link.specs.Signatures.{reference_of}
 use Rattle.same_runs.specs.Flats.{Flats, flat_body, pool_of}
-use Rattle.flow_code.specs.TypedFrames.{FolderFrames, typed_frames_at}
 use Rattle.typed_runs.specs.TypedPrograms.{Typings}
 
 -- each of some flat codes is that of a host, with its callees in place of their calls

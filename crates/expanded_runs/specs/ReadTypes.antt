@@ -17,13 +17,14 @@ use Rattle.class_model.specs.declared.frame.VType.TheVariants.{Object, Uninit}
 use Rattle.class_model.specs.declared.instr.Instr.TheVariants.{Invoke, New}
 use Rattle.class_model.specs.declared.opcodes.TheConstants.{INVOKESPECIAL}
 use Rattle.class_tree.specs.Headers.{Name, Classes}
+use Rattle.expanded_code.specs.ExpandAnswers.{IsExpanded}
+use Rattle.expanded_code.specs.Expansions.{Coded, Expansion, no_more, replaced, site, stays}
 use Rattle.flow_code.specs.FlatCode.{FlatCode, point_at}
+use Rattle.flow_code.specs.TypedFrames.{FolderFrames}
 use Rattle.flow_code.specs.declared.point.FlatInstr.{FlatInstr}
 use Rattle.flow_code.specs.declared.point.FlatInstr.TheVariants.{Of}
 use Rattle.flow_code.specs.declared.point.Point.{Point}
 use Rattle.flow_code.specs.declared.point.Site.{Site}
-use Rattle.expanded_code.specs.ExpandAnswers.{IsExpanded}
-use Rattle.expanded_code.specs.Expansions.{Coded, Expansion, no_more, replaced, site, stays}
 use Rattle.member_link.specs.Bodies.{catch_frame, item_falls_through, item_row, item_targets}
 use Rattle.member_link.specs.BodyTyping.{IsThrowable, MayGoTo, RowHolds}
 use Rattle.member_link.specs.Machine.CallSteps.{is_object_init}
@@ -35,7 +36,6 @@ use Rattle.member_link.specs.Scope.{Scope, is_init}
 use Rattle.member_link.specs.Signatures.{reference_of}
 use Rattle.same_runs.specs.FlatBodies.{body_of_flat, caught_class, flat_entry}
 use Rattle.same_runs.specs.Flats.{flat_item, host_scope, instr_scope, pool_of}
-use Rattle.flow_code.specs.TypedFrames.{FolderFrames}
 
 -- ---- types that are read
 

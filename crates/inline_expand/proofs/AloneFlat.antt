@@ -13,10 +13,10 @@ use Rattle.class_model.specs.declared.instr.Instr.TheVariants.{If, If2, IfSame, 
 use Rattle.class_model.specs.declared.instr.Pair.{Pair}
 use Rattle.class_model.specs.declared.instr.Placed.{Placed}
 use Rattle.class_tree.specs.Headers.{Name}
+use Rattle.expanded_code.specs.Alone.{alone_point, alone_points, flat_alone, handler_of, number_at}
+use Rattle.expanded_code.specs.Laws.NumberedInstrs.{found-instr, length-alone, or_behind}
 use Rattle.flow_code.specs.FlatCode.{HasLocal, IsFlat, IsPoint, NamesPoint}
 use Rattle.flow_code.specs.declared.handlers.FlatHandler.{FlatHandler}
-use Rattle.expanded_code.specs.Laws.NumberedInstrs.{found-instr, length-alone, or_behind}
-use Rattle.expanded_code.specs.Alone.{alone_point, alone_points, flat_alone, handler_of, number_at}
 use Rattle.inline_expand.specs.Inner.Hosts.{HasUnits}
 use Rattle.member_link.specs.Bodies.{BodyCatch, catch_frame, frame_behind}
 use Rattle.member_link.specs.BodyTyping.{GoesInto, GoesToStated, IsPlaceOf, StatesAtPoints}

@@ -6,9 +6,9 @@ use Rattle.class_model.specs.Laws.Lists.{AllByRecursion-weaker}
 use Rattle.class_model.specs.declared.class_file.Handler.{Handler}
 use Rattle.class_model.specs.declared.frame.Frame.{Frame}
 use Rattle.class_model.specs.declared.instr.Placed.{Placed}
+use Rattle.expanded_code.specs.Alone.{alone_point, alone_points, handler_by}
 use Rattle.flow_code.specs.declared.handlers.FlatHandler.{FlatHandler}
 use Rattle.flow_code.specs.declared.point.Point.{Point}
-use Rattle.expanded_code.specs.Alone.{alone_point, alone_points, handler_by}
 use Rattle.inline_expand.specs.Inner.Hosts.{CoversAlike}
 use Rattle.inline_expand.specs.Inner.Numbers.{handlers_for, number_by}
 use Rattle.inline_expand.specs.declared.numbers.Numbers.{Numbers}

@@ -10,10 +10,10 @@ use Rattle.class_tree.specs.Headers.{Classes, headers_of}
 use Rattle.class_tree.specs.Hierarchy.{IsHierarchy}
 use Rattle.expanded_code.specs.Alone.{number_at}
 use Rattle.expanded_code.specs.Callees.{Calls, IsCall, Runs, StandsAt, instr_at, own_name}
-use Rattle.inline_expand.specs.Inner.Calls.{Called, DecidesCall, DecidesRun, call_at, called_as, called_by}
 use Rattle.expanded_code.specs.Laws.NumberedInstrs.{found-instr, or_behind}
 use Rattle.inline_expand.proofs.DecidedRuns.{HasLaws, runs_once}
 use Rattle.inline_expand.proofs.FoundMethods.{stands_once}
+use Rattle.inline_expand.specs.Inner.Calls.{Called, DecidesCall, DecidesRun, call_at, called_as, called_by}
 use Rattle.member_link.specs.CodedMethods.{placed_at}
 use Rattle.member_link.specs.DeclaredMembers.{Declared}
 use Rattle.member_link.specs.Machine.Programs.{number_of_first}

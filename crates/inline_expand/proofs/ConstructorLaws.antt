@@ -14,10 +14,10 @@ use Rattle.class_model.specs.declared.pool.Const.{Const}
 use Rattle.class_tree.specs.Headers.{Name, Classes, Headers, headers_of, class_named}
 use Rattle.class_tree.specs.Layouts.{instance_fields}
 use Rattle.class_tree.specs.Names.{is_member}
-use Rattle.member_link.specs.DeclaredMembers.{declared, declared_by, own_method}
-use Rattle.member_link.specs.References.{Reference}
 use Rattle.expanded_code.specs.FieldConstructors.{HandlesNone, HasFieldConstructor, IsFree, constructor_descriptor, handled}
 use Rattle.inline_expand.specs.Inner.ConstructorWords.{HasFree, descriptor_of, field_descs, handled_in, handled_of, handled_of_pool, is_taken}
+use Rattle.member_link.specs.DeclaredMembers.{declared, declared_by, own_method}
+use Rattle.member_link.specs.References.{Reference}
 
 -- ---- tests
 

@@ -11,9 +11,9 @@ use Rattle.class_tree.specs.Hierarchy.{IsHierarchy}
 use Rattle.class_tree.specs.Laws.Headers.{same_class}
 use Rattle.class_tree.specs.Names.{is_interface}
 use Rattle.expanded_code.specs.Callees.{Finds, IsClass, IsOverriddenByNone, Runs, StandsAt, runs_special, runs_static, runs_virtual}
+use Rattle.inline_expand.proofs.FoundMethods.{numbers_stand, standing_numbers}
 use Rattle.inline_expand.specs.Inner.Calls.{Decides}
 use Rattle.inline_expand.specs.Inner.Found.{folder_method}
-use Rattle.inline_expand.proofs.FoundMethods.{numbers_stand, standing_numbers}
 use Rattle.member_link.specs.DeclaredMembers.{Declared}
 use Rattle.member_link.specs.Found.{AreSame, IsChoice, IsMethodFound, IsMethodOf}
 use Rattle.member_link.specs.Methods.{FindsMethod, IsPolymorphic}

@@ -24,34 +24,34 @@ use Rattle.class_model.specs.declared.instr.Instr.TheVariants.{Goto, Iinc, Invok
 use Rattle.class_model.specs.declared.instr.Placed.{Placed}
 use Rattle.class_model.specs.declared.opcodes.TheConstants.{INVOKESPECIAL, INVOKESTATIC}
 use Rattle.class_tree.specs.Headers.{Classes, Name}
+use Rattle.expanded_code.specs.Alone.{handler_by, handlers_by}
+use Rattle.expanded_code.specs.Callees.{IsCallee, instr_at, is_callee}
+use Rattle.expanded_code.specs.Expanded.{Argument, Narrowing, Setting, arguments, arguments_from, callee_of, callee_setting, expanded, frame_behind_stores, frame_stored, host_setting, instr_points, narrowing, own_points, point_in, points_before, points_from, points_of, points_of_callee, points_of_entry, set_frame, set_instr, store_points, test_points, tests_receiver, units_in, with_unit}
+use Rattle.expanded_code.specs.Expansions.{Coded, Expands, Expansion, expands_none, expands_replaced, expands_site, expands_stays}
+use Rattle.expanded_code.specs.Sites.{HasFrames}
 use Rattle.flow_code.specs.FlatCode.{HasLocal, IsFlat, IsPoint, NamesPoint}
+use Rattle.flow_code.specs.TypedFrames.{FolderFrames}
 use Rattle.flow_code.specs.declared.handlers.FlatHandler.{FlatHandler}
 use Rattle.flow_code.specs.declared.point.FlatInstr.TheVariants.{NullTest}
 use Rattle.inline_expand.proofs.AloneFlat.{all-append, all-mapped, local-kept, targets-to}
 use Rattle.inline_expand.proofs.ExpandedPoints.{number-inside, points-length, sites-inside, some-points}
 use Rattle.inline_expand.proofs.ShapeParts.{units-cons}
-use Rattle.type_rules.specs.Laws.InstructionOrder.{Ascend, ascend}
-use Rattle.expanded_code.specs.Alone.{handler_by, handlers_by}
-use Rattle.expanded_code.specs.Callees.{IsCallee, instr_at, is_callee}
-use Rattle.expanded_code.specs.Expanded.{Argument, Narrowing, Setting, arguments, arguments_from, callee_of, callee_setting, expanded, frame_behind_stores, frame_stored, host_setting, instr_points, narrowing, own_points, point_in, points_before, points_from, points_of, points_of_callee, points_of_entry, set_frame, set_instr, store_points, test_points, tests_receiver, units_in, with_unit}
-use Rattle.expanded_code.specs.Expansions.{Coded, Expands, Expansion, expands_none, expands_replaced, expands_site, expands_stays}
 use Rattle.inline_expand.specs.Inner.Steps.{IsCallable}
 use Rattle.inline_expand.specs.Inner.TypedMethods.{GoesWithin, IsTypedMethod}
-use Rattle.expanded_code.specs.Sites.{HasFrames}
 use Rattle.member_link.specs.Bodies.{BodyCatch, flows_on}
 use Rattle.member_link.specs.BodyTyping.{AreInOrder, IsPlaceOf}
 use Rattle.member_link.specs.CodedMethods.{placed_at}
 use Rattle.member_link.specs.Machine.Codes.{covers}
+use Rattle.member_link.specs.References.{Reference}
 use Rattle.member_link.specs.RowScope.{RowScope}
 use Rattle.member_link.specs.Rows.MemberRows.{PassesMethod, call_row, init_row, instance_row, receiver, special_row, static_row}
 use Rattle.member_link.specs.Rows.Row.{Row, either, row_frame}
-use Rattle.member_link.specs.References.{Reference}
 use Rattle.member_link.specs.Scope.{Scope, instructions, is_init, own_descriptor, row_scope}
 use Rattle.member_link.specs.Signatures.{reference_of, result_of}
 use Rattle.type_rules.specs.Handlers.{catch_of, catches_at}
+use Rattle.type_rules.specs.Laws.InstructionOrder.{Ascend, ascend}
 use Rattle.type_rules.specs.MethodBodies.{body_of, point_of}
 use Rattle.type_rules.specs.Typed.{AreTyped}
-use Rattle.flow_code.specs.TypedFrames.{FolderFrames}
 
 -- ---- instructions by their offsets
 

@@ -13,23 +13,23 @@ use Rattle.class_model.specs.declared.instr.Instr.{Instr}
 use Rattle.class_model.specs.declared.instr.Instr.TheVariants.{Return}
 use Rattle.class_model.specs.declared.instr.Placed.{Placed}
 use Rattle.class_tree.specs.Headers.{Classes, Headers}
+use Rattle.expanded_code.specs.Candidates.{IsCandidate}
+use Rattle.expanded_code.specs.Expanded.{Argument, Narrowing, Setting, arguments, arguments_from, callee_of, callee_setting, frame_behind_stores, frame_stored, instr_points, number_from, own_narrowing, own_points, point_in, points_before, points_from, points_of, points_of_callee, points_of_entry, return_points, set_frame, sites_from, store_points, test_points, tests_receiver, units_in}
+use Rattle.expanded_code.specs.Expansions.{Coded, Expands, Expansion, expands_none, expands_replaced, expands_site, expands_stays, no_more, replaced, site, stays}
+use Rattle.expanded_code.specs.Sites.{HasFrames}
 use Rattle.flow_code.specs.FlatCode.{NamesPoint}
+use Rattle.flow_code.specs.TypedFrames.{FolderFrames}
 use Rattle.flow_code.specs.declared.point.FlatInstr.TheVariants.{NullTest}
 use Rattle.flow_code.specs.declared.point.Point.{Point}
 use Rattle.flow_code.specs.declared.point.Site.{Site}
 use Rattle.inline_expand.proofs.AloneFlat.{all-append}
 use Rattle.inline_expand.proofs.GrownSteps.{own_some}
-use Rattle.expanded_code.specs.Candidates.{IsCandidate}
-use Rattle.expanded_code.specs.Expanded.{Argument, Narrowing, Setting, arguments, arguments_from, callee_of, callee_setting, frame_behind_stores, frame_stored, instr_points, number_from, own_narrowing, own_points, point_in, points_before, points_from, points_of, points_of_callee, points_of_entry, return_points, set_frame, sites_from, store_points, test_points, tests_receiver, units_in}
-use Rattle.expanded_code.specs.Expansions.{Coded, Expands, Expansion, expands_none, expands_replaced, expands_site, expands_stays, no_more, replaced, site, stays}
 use Rattle.inline_expand.specs.Inner.TypedMethods.{IsTypedMethod}
-use Rattle.expanded_code.specs.Sites.{HasFrames}
 use Rattle.member_link.specs.Bodies.{Body}
 use Rattle.member_link.specs.BodyTyping.{IsPlaceOf}
 use Rattle.member_link.specs.Scope.{Scope, instructions, own_descriptor}
 use Rattle.type_rules.specs.MethodBodies.{body_of, point_of}
 use Rattle.type_rules.specs.Typed.{AreTyped, Typed}
-use Rattle.flow_code.specs.TypedFrames.{FolderFrames}
 
 -- ---- how many points stand in place of an instruction
 

@@ -7,9 +7,9 @@ use Rattle.class_model.specs.Checks.{AllHold}
 use Rattle.class_model.specs.ClassOf.{fields_checks}
 use Rattle.class_model.specs.Descriptors.{SpellsDescriptor, SpellsFieldType, field_type_text, kind_of, type_of, units_of}
 use Rattle.class_model.specs.Header.{field_member, header_of}
-use Rattle.class_model.specs.Laws.Descriptors.{named as is_named}
 use Rattle.class_model.specs.Laws.Checks.{first_holds, others_hold}
 use Rattle.class_model.specs.Laws.ClassFiles.{fields_place, parts_hold}
+use Rattle.class_model.specs.Laws.Descriptors.{named as is_named}
 use Rattle.class_model.specs.Laws.Texts.{plain_text}
 use Rattle.class_model.specs.Members.{STATIC, Signature, field_checks, field_signature, has}
 use Rattle.class_model.specs.ModifiedUtf8.{IsCodeUnit, IsModifiedUtf8, IsText, unit_bytes}
@@ -28,15 +28,15 @@ use Rattle.class_tree.specs.Headers.{Classes, Headers, IsClassFile, Name, header
 use Rattle.class_tree.specs.Hierarchy.{IsHierarchy}
 use Rattle.class_tree.specs.Layouts.{instance_fields, own_fields, superclasses}
 use Rattle.class_tree.specs.Names.{object}
-use Rattle.inline_expand.proofs.AloneFlat.{all-append}
-use Rattle.inline_expand.proofs.FolderNames.{of_folder}
-use Rattle.member_link.specs.Laws.ResultTexts.{type_of_spelled}
-use Rattle.expanded_code.specs.Laws.SuperChains.{chain_is, has_superclass}
 use Rattle.expanded_code.specs.Candidates.{HasRoom, IsCandidate}
 use Rattle.expanded_code.specs.FieldConstructors.{constructor_descriptor, field_types}
+use Rattle.expanded_code.specs.Laws.SuperChains.{chain_is, has_superclass}
+use Rattle.expanded_code.specs.Quiet.{chain}
+use Rattle.inline_expand.proofs.AloneFlat.{all-append}
+use Rattle.inline_expand.proofs.FolderNames.{of_folder}
 use Rattle.inline_expand.specs.Inner.ConstructorWords.{field_descs}
 use Rattle.inline_expand.specs.Inner.FieldTypes.{IsShortDescriptor}
-use Rattle.expanded_code.specs.Quiet.{chain}
+use Rattle.member_link.specs.Laws.ResultTexts.{type_of_spelled}
 
 -- ---- texts that stand one behind the other
 

@@ -4,18 +4,18 @@ use Rattle.std.proofs.lemmas.Option.{none-some, same_Some}
 use Rattle.class_model.specs.declared.class_file.MethodAt.{MethodAt}
 use Rattle.class_model.specs.declared.frame.Frame.{Frame}
 use Rattle.class_tree.specs.Headers.{Classes, headers_of}
-use Rattle.inline_expand.proofs.ReadyCalls.{from_callee, one_list, one_scope, to_callee}
 use Rattle.expanded_code.specs.Callees.{Calls, IsCallee, ResultSaysAtMost, frame_behind, is_callee}
+use Rattle.expanded_code.specs.Sites.{HasFrames}
+use Rattle.flow_code.specs.TypedFrames.{FolderFrames}
+use Rattle.inline_expand.proofs.ReadyCalls.{from_callee, one_list, one_scope, to_callee}
 use Rattle.inline_expand.specs.Inner.Calls.{DecidesCall}
 use Rattle.inline_expand.specs.Inner.Coded.{IsShortCoded, Stands}
 use Rattle.inline_expand.specs.Inner.Founded.{founded}
 use Rattle.inline_expand.specs.Inner.Ready.{CallsAtMost, Fits, IsReady}
 use Rattle.inline_expand.specs.Inner.ReadyCallees.{FindsCallee, IsCalleeFound, IsReadyCallee, IsTheCallee}
-use Rattle.expanded_code.specs.Sites.{HasFrames}
 use Rattle.inline_expand.specs.declared.coded.CodedMethod.{CodedMethod}
 use Rattle.member_link.specs.Scope.{Scope, own_descriptor}
 use Rattle.member_link.specs.Signatures.{result_of}
-use Rattle.flow_code.specs.TypedFrames.{FolderFrames}
 
 -- ---- the frame behind a call
 

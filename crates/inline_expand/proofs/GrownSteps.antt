@@ -8,28 +8,28 @@ use Rattle.class_model.specs.declared.instr.Instr.{Instr}
 use Rattle.class_model.specs.declared.instr.Instr.TheVariants.{Invoke, Return}
 use Rattle.class_model.specs.declared.instr.Placed.{Placed}
 use Rattle.class_tree.specs.Headers.{Name, Classes}
-use Rattle.inline_expand.proofs.ReadyCalls.{from_callee, one_scope}
-use Rattle.inline_expand.proofs.SiteLaws.{new_of_placed}
 use Rattle.expanded_code.specs.Callees.{Calls, instr_at}
 use Rattle.expanded_code.specs.Expanded.{own_points, points_of}
 use Rattle.expanded_code.specs.Expansions.{Coded, Expands, Expansion, expands_none, expands_replaced, expands_site, expands_stays, no_more, replaced, site, stays}
+use Rattle.expanded_code.specs.Sites.{HasFrames, IsReplaced, IsSite}
+use Rattle.flow_code.specs.TypedFrames.{FolderFrames}
+use Rattle.inline_expand.proofs.ReadyCalls.{from_callee, one_scope}
+use Rattle.inline_expand.proofs.SiteLaws.{new_of_placed}
 use Rattle.inline_expand.specs.Inner.Coded.{Stands}
 use Rattle.inline_expand.specs.Inner.Growths.{AreStepsFound, HasGrown, IsBodyFound, IsStep, IsStepFound, IsWhole, MayGrow, kept_in}
 use Rattle.inline_expand.specs.Inner.Places.{chain_of, host_of}
 use Rattle.inline_expand.specs.Inner.Replacements.{IsReplacement}
 use Rattle.inline_expand.specs.Inner.SiteTables.{class_made}
 use Rattle.inline_expand.specs.Inner.Steps.{Callee, callee_by, callees_behind, callees_of, expansion_by, replaced_by}
-use Rattle.expanded_code.specs.Sites.{HasFrames, IsReplaced, IsSite}
-use Rattle.inline_expand.specs.declared.expansions.Body.{Body}
+use Rattle.inline_expand.specs.Inner.Walks.{AreRight}
 use Rattle.inline_expand.specs.declared.coded.CodedMethod.{CodedMethod}
+use Rattle.inline_expand.specs.declared.expansions.Body.{Body}
 use Rattle.inline_expand.specs.declared.expansions.Growth.{Growth}
 use Rattle.inline_expand.specs.declared.expansions.Step.{Step}
 use Rattle.inline_expand.specs.declared.expansions.Step.TheVariants as steps
-use Rattle.inline_expand.specs.Inner.Walks.{AreRight}
 use Rattle.inline_expand.specs.declared.ready.HostClass.{HostClass}
 use Rattle.member_link.specs.CodedMethods.{placed_at}
 use Rattle.member_link.specs.Scope.{Scope, class_of_new, instructions}
-use Rattle.flow_code.specs.TypedFrames.{FolderFrames}
 
 abbrev instr_of : Option Placed → Option Instr
 instr_of found = option_map (λ placed. placed.instr) found

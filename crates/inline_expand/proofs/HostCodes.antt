@@ -20,10 +20,10 @@ use Rattle.class_model.specs.declared.memory.NoMemory.{NoMemory}
 use Rattle.code_bytes.specs.Codes.{HasInstrs, HasOperands, HaveOperands, IsReadMethod}
 use Rattle.code_bytes.specs.Consecutive.{AreConsecutive}
 use Rattle.code_bytes.specs.Decoding.{decoding_checks}
-use Rattle.flow_code.specs.FlatCode.{HasLocal}
 use Rattle.expanded_code.specs.Alone.{number_at, number_in}
-use Rattle.inline_expand.specs.Inner.Hosts.{HasUnits, IsHost}
 use Rattle.expanded_code.specs.Laws.NumberedInstrs.{found-instr, or_behind}
+use Rattle.flow_code.specs.FlatCode.{HasLocal}
+use Rattle.inline_expand.specs.Inner.Hosts.{HasUnits, IsHost}
 use Rattle.member_link.specs.Machine.Programs.{number_of_first}
 use Rattle.member_link.specs.Scope.{Scope, instructions}
 

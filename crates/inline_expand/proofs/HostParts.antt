@@ -10,7 +10,13 @@ use Rattle.class_model.specs.declared.instr.Instr.{Instr}
 use Rattle.class_model.specs.declared.instr.Instr.TheVariants.{FloatAsk}
 use Rattle.class_model.specs.declared.instr.Placed.{Placed}
 use Rattle.class_tree.specs.Headers.{Classes}
+use Rattle.expanded_code.specs.Callees.{Calls}
+use Rattle.expanded_code.specs.ExpandAnswers.{AnswersExpanded, HasFloat, IsExpanded, IsNoHost, IsOpenHost, IsTooLong, has_no_code, is_initialiser}
+use Rattle.expanded_code.specs.Expanded.{expanded, host_setting, points_of}
+use Rattle.expanded_code.specs.Expansions.{Coded, Expands, Expansion}
+use Rattle.expanded_code.specs.Sites.{HasFrames}
 use Rattle.flow_code.specs.FlatCode.{FlatCode}
+use Rattle.flow_code.specs.TypedFrames.{FolderFrames, typed_frames_at}
 use Rattle.flow_code.specs.declared.reason.KeptFault.{KeptFault}
 use Rattle.flow_code.specs.declared.reason.KeptFault.TheVariants as faults
 use Rattle.flow_code.specs.declared.reason.Reason.TheVariants as reasons
@@ -18,21 +24,15 @@ use Rattle.inline_expand.proofs.ExpandedFlat.{expanded-is-flat}
 use Rattle.inline_expand.proofs.ExpandedPoints.{points-length, sites-are-candidates}
 use Rattle.inline_expand.proofs.OneExpansion.{coded_once, one_expansion}
 use Rattle.inline_expand.proofs.ScopeParts.{scope-parts}
-use Rattle.expanded_code.specs.Callees.{Calls}
-use Rattle.expanded_code.specs.ExpandAnswers.{AnswersExpanded, HasFloat, IsExpanded, IsNoHost, IsOpenHost, IsTooLong, has_no_code, is_initialiser}
-use Rattle.expanded_code.specs.Expanded.{expanded, host_setting, points_of}
-use Rattle.expanded_code.specs.Expansions.{Coded, Expands, Expansion}
 use Rattle.inline_expand.specs.Inner.Growths.{IsHostExpansion, IsWhole}
 use Rattle.inline_expand.specs.Inner.Measures.{host_expansion}
 use Rattle.inline_expand.specs.Inner.Steps.{IsBody, coded_of}
 use Rattle.inline_expand.specs.Inner.TypedMethods.{IsTypedMethod}
 use Rattle.inline_expand.specs.Inner.WholeCodes.{AnswersWhole, IsHostFound, IsWholeCode, asks_float}
-use Rattle.expanded_code.specs.Sites.{HasFrames}
 use Rattle.inline_expand.specs.declared.coded.CodedMethod.{CodedMethod}
 use Rattle.inline_expand.specs.declared.expansions.Body.{Body}
 use Rattle.inline_expand.specs.declared.expansions.HostBodies.{HostBodies}
 use Rattle.member_link.specs.Scope.{Scope, instructions, is_clinit, is_init, scope_at}
-use Rattle.flow_code.specs.TypedFrames.{FolderFrames, typed_frames_at}
 use Rattle.type_rules.specs.Verified.{TypesMethod}
 
 -- ---- arithmetic of float and double

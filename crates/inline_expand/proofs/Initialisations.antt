@@ -8,8 +8,8 @@ use Rattle.class_model.specs.declared.frame.VType.{VType}
 use Rattle.class_model.specs.declared.frame.VType.TheVariants.{Uninit, UninitThis}
 use Rattle.class_model.specs.declared.opcodes.TheConstants.{INVOKESPECIAL}
 use Rattle.class_tree.specs.Laws.Decided.{same_bytes}
-use Rattle.inline_expand.proofs.CalledMethods.{call_stands, read_call}
 use Rattle.expanded_code.specs.Callees.{InitialisesAt, IsCall, frame_before}
+use Rattle.inline_expand.proofs.CalledMethods.{call_stands, read_call}
 use Rattle.inline_expand.specs.Inner.Calls.{Called, call_at, called_as}
 use Rattle.inline_expand.specs.Inner.Initialised.{Initialises, IsInitialisation, IsOtherOnThis, object_of, type_of_object, type_or_top}
 use Rattle.inline_expand.specs.Inner.Ready.{CallsOnThis}

@@ -1,6 +1,9 @@
 -- What is judged of the classes of a chain, from its end.
 use Rattle.std.proofs.Common.{◌≡◌, ◌++◌, List, [], ◌∷◌, ℕ, Option, Some, None, append_assoc, refl, sym, ap, subst, ◌∙◌}
 use Rattle.std.proofs.lemmas.Option.{none-some, same_Some}
+use Rattle.std.proofs.lemmas.List.{append-nil}
+use Rattle.std.proofs.Common.{is_some, IsSome, IsTrue, ◌↔◌}
+use Rattle.std.proofs.lemmas.Bool.{false≢true}
 use Rattle.class_model.specs.declared.header.Header.{Header}
 use Rattle.class_tree.specs.Headers.{Name, Classes, Headers, IsThere, headers_of, class_named}
 use Rattle.class_tree.specs.Hierarchy.{IsHierarchy, superclass_of}
@@ -8,13 +11,10 @@ use Rattle.class_tree.specs.Laws.Above.{hierarchy_is_rooted, hierarchy_is_sound,
 use Rattle.class_tree.specs.Laws.Headers.{class_there, no_superclass, same_class, super_is_there, superclass_is}
 use Rattle.class_tree.specs.Names.{object}
 use Rattle.class_tree.specs.Order.{header_at, place_of}
-use Rattle.class_tree.specs.declared.place.Place.{Place}
 use Rattle.class_tree.specs.Subtype.{IsChain}
-use Rattle.std.proofs.lemmas.List.{append-nil}
-use Rattle.expanded_code.specs.Laws.SuperChains.{of_each_class}
 use Rattle.class_tree.specs.Subtype.IsChain.{root, below}
-use Rattle.std.proofs.Common.{is_some, IsSome, IsTrue, ◌↔◌}
-use Rattle.std.proofs.lemmas.Bool.{false≢true}
+use Rattle.class_tree.specs.declared.place.Place.{Place}
+use Rattle.expanded_code.specs.Laws.SuperChains.{of_each_class}
 use Rattle.inline_expand.specs.Inner.CandidateWords.{IsFirstJudged, IsJudged, IsLeft, IsSound}
 
 -- what stands in a chain begins one

@@ -4,8 +4,8 @@ use Rattle.std.proofs.lemmas.List.{length-map}
 use Rattle.std.proofs.lemmas.Option.{get_or_from_slice_get, same_Some, slice_get-get_or, slice_get-map, slice_get_cases, slice_get_past, slice_get_within}
 use Rattle.std.proofs.Math.ListN.{length-set}
 use Rattle.std.proofs.lemmas.Bool.{cases_eq}
-use Rattle.class_model.specs.Laws.Lists.{none_behind}
 use Rattle.class_model.specs.Header.{header_of}
+use Rattle.class_model.specs.Laws.Lists.{none_behind}
 use Rattle.class_model.specs.declared.class_file.ClassFile.{ClassFile}
 use Rattle.class_model.specs.declared.header.Header.{Header}
 use Rattle.class_tree.specs.Headers.{Classes, Headers, Name, class_named, headers_of, named}
@@ -14,12 +14,12 @@ use Rattle.class_tree.specs.Names.{object}
 use Rattle.class_tree.specs.Order.{place_of}
 use Rattle.class_tree.specs.declared.place.Place.{Place}
 use Rattle.class_tree.specs.declared.place.Place.TheVariants.{Folder}
-use Rattle.inline_expand.specs.declared.candidates.Judged.{Judged}
+use Rattle.expanded_code.specs.Laws.SuperChains.{has_superclass}
 use Rattle.inline_expand.proofs.FolderNames.{in_folder_at, of_folder}
 use Rattle.inline_expand.proofs.SoundClasses.{sound_above, sound_fit, sound_free, sound_narrow, there_judged}
-use Rattle.expanded_code.specs.Laws.SuperChains.{has_superclass}
 use Rattle.inline_expand.specs.Inner.CandidateWords.{AreKept, IsFileOf, IsFitAt, IsJudged, IsKept, IsSound, own_descs, units_of_all}
 use Rattle.inline_expand.specs.Inner.ConstructorWords.{HasFree, field_descs, handled_of}
+use Rattle.inline_expand.specs.declared.candidates.Judged.{Judged}
 
 -- the class of a name stands in the folder
 pub number_within : (classes : Classes) → IsHierarchy (headers_of classes) → (name : Name) (number : ℕ) → place_of (headers_of classes) name ≡ Some (Folder number) → number < length classes.folder

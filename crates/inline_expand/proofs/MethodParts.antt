@@ -6,13 +6,13 @@ use Rattle.class_model.specs.declared.frame.Frame.{Frame}
 use Rattle.class_model.specs.declared.instr.Instr.{Instr}
 use Rattle.class_model.specs.declared.instr.Instr.TheVariants.{Return}
 use Rattle.class_model.specs.declared.instr.Placed.{Placed}
-use Rattle.flow_code.specs.declared.point.Point.{Point}
 use Rattle.expanded_code.specs.Expanded.{Setting, callee_of, callee_setting, instr_points, own_points, points_before, points_from, points_of, points_of_callee, points_of_entry, return_points, set_frame, units_in}
+use Rattle.expanded_code.specs.Expansions.{Expansion, no_more, replaced, site, stays}
+use Rattle.flow_code.specs.declared.point.Point.{Point}
 use Rattle.inline_expand.proofs.LayoutParts.{next-start, next-units, units_by}
 use Rattle.inline_expand.proofs.Overlays.{le-cases}
-use Rattle.expanded_code.specs.Expansions.{Expansion, no_more, replaced, site, stays}
-use Rattle.inline_expand.specs.Inner.Layouts.{points_by, replacing, starts_from, step_points, units_of_callee}
 use Rattle.inline_expand.specs.Inner.CalleePlaces.{StandsFrom, callee_in, callee_points, method_of}
+use Rattle.inline_expand.specs.Inner.Layouts.{points_by, replacing, starts_from, step_points, units_of_callee}
 use Rattle.inline_expand.specs.Inner.Settings.{own_point, setting_of}
 use Rattle.inline_expand.specs.Inner.Steps.{Callee, callees_of, expansion_by, replaced_by}
 use Rattle.inline_expand.specs.declared.expanded.places.Found.{Found}

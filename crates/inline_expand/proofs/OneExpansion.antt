@@ -5,16 +5,16 @@ use Rattle.class_model.specs.declared.class_file.MethodAt.{MethodAt}
 use Rattle.class_model.specs.declared.frame.Frame.{Frame}
 use Rattle.class_model.specs.declared.instr.Placed.{Placed}
 use Rattle.class_tree.specs.Headers.{Classes, Name}
-use Rattle.flow_code.specs.FlatCode.{FlatCode}
-use Rattle.expanded_code.specs.Laws.Instructions.{new_there}
-use Rattle.expanded_code.specs.Laws.Instructions.{calls_of}
 use Rattle.expanded_code.specs.Callees.{Calls}
 use Rattle.expanded_code.specs.ExpandAnswers.{IsExpanded}
 use Rattle.expanded_code.specs.Expanded.{expanded}
 use Rattle.expanded_code.specs.Expansions.{Coded, Expands, Expansion, expands_none, expands_replaced, expands_site, expands_stays, replaced, site, stays}
+use Rattle.expanded_code.specs.Laws.Instructions.{new_there}
+use Rattle.expanded_code.specs.Laws.Instructions.{calls_of}
 use Rattle.expanded_code.specs.Sites.{HasFrames, IsReplaced, IsSite}
-use Rattle.member_link.specs.Scope.{Scope, class_of_new, instructions}
+use Rattle.flow_code.specs.FlatCode.{FlatCode}
 use Rattle.flow_code.specs.TypedFrames.{FolderFrames}
+use Rattle.member_link.specs.Scope.{Scope, class_of_new, instructions}
 
 -- a method has one code, and one list of frames
 pub coded_once : {classes : Classes} {typed : FolderFrames} (one other : Coded) → one.at ≡ other.at

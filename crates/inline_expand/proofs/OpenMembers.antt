@@ -13,12 +13,12 @@ use Rattle.class_tree.specs.Subtype.{IsArray}
 use Rattle.class_tree.specs.declared.place.Place.{Place}
 use Rattle.class_tree.specs.declared.place.Place.TheVariants.{Folder, Library}
 use Rattle.expanded_code.specs.Callees.{IsOpenField, IsOpenFieldAt, IsOpenMethod, NamesOpen, clone_of_array, opened_field, package_field, package_method, public_field, public_method}
+use Rattle.expanded_code.specs.Quiet.{IsOfFolder}
 use Rattle.inline_expand.specs.Inner.Found.{IsFolderPlace}
 use Rattle.inline_expand.specs.Inner.Open.{WillBeOpened}
-use Rattle.expanded_code.specs.Quiet.{IsOfFolder}
-use Rattle.member_link.specs.Laws.FolderClasses.{folder_index, found_in_folder}
 use Rattle.member_link.specs.DeclaredMembers.{Declared, is_package_access}
 use Rattle.member_link.specs.Found.{IsFieldFound}
+use Rattle.member_link.specs.Laws.FolderClasses.{folder_index, found_in_folder}
 use Rattle.member_link.specs.Overriding.{package_of}
 use Rattle.member_link.specs.References.{Reference}
 use Rattle.member_link.specs.Scope.{Scope}

@@ -8,10 +8,11 @@ use Rattle.class_model.specs.declared.frame.Frame.{Frame}
 use Rattle.class_model.specs.declared.instr.Instr.{Instr}
 use Rattle.class_model.specs.declared.instr.Placed.{Placed}
 use Rattle.class_tree.specs.Headers.{Classes}
+use Rattle.expanded_code.specs.Callees.{MayStandIn, instr_at}
+use Rattle.flow_code.specs.TypedFrames.{FolderFrames}
 use Rattle.inline_expand.proofs.Founding.{needed_is_founded}
 use Rattle.inline_expand.proofs.MethodLists.{among_front, among_last, among_more}
 use Rattle.inline_expand.proofs.ReadyCalls.{one_list, one_scope}
-use Rattle.expanded_code.specs.Callees.{MayStandIn, instr_at}
 use Rattle.inline_expand.specs.Inner.Coded.{Stands}
 use Rattle.inline_expand.specs.Inner.Founded.{founded}
 use Rattle.inline_expand.specs.Inner.Ready.{CallsAtMost, CallsOnThis, Fits, IsReady, Needs}
@@ -21,7 +22,6 @@ use Rattle.inline_expand.specs.Inner.Walks.{HasNeeds, NeedsThese}
 use Rattle.inline_expand.specs.declared.coded.CodedMethod.{CodedMethod}
 use Rattle.member_link.specs.CodedMethods.{placed_at}
 use Rattle.member_link.specs.Scope.{Scope, instructions}
-use Rattle.flow_code.specs.TypedFrames.{FolderFrames}
 
 -- ---- an instruction at an offset has a number
 

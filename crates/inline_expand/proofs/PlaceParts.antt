@@ -5,14 +5,14 @@ use Rattle.std.proofs.lemmas.Option.{same_Some}
 use Rattle.class_model.specs.declared.frame.VType.{VType}
 use Rattle.class_model.specs.declared.frame.VType.TheVariants.{Top}
 use Rattle.class_model.specs.declared.instr.Placed.{Placed}
-use Rattle.expanded_code.specs.Laws.NumberedInstrs.{found-instr, number-within, or_behind}
-use Rattle.inline_expand.proofs.LayoutParts.{IsAsLong, as-long, capped-few}
 use Rattle.expanded_code.specs.Alone.{number_in}
 use Rattle.expanded_code.specs.Expanded.{Argument, arguments, number_from, own_points, points_before, points_of, points_of_callee}
 use Rattle.expanded_code.specs.Expansions.{Expansion, no_more, replaced, site, stays}
+use Rattle.expanded_code.specs.Laws.NumberedInstrs.{found-instr, number-within, or_behind}
+use Rattle.inline_expand.proofs.LayoutParts.{IsAsLong, as-long, capped-few}
+use Rattle.inline_expand.specs.Inner.CalleePlaces.{callee_in}
 use Rattle.inline_expand.specs.Inner.Layouts.{IsLayout, argument_from, capped, starts_from}
 use Rattle.inline_expand.specs.Inner.Numbers.{placed_by}
-use Rattle.inline_expand.specs.Inner.CalleePlaces.{callee_in}
 use Rattle.inline_expand.specs.Inner.Steps.{IsBody, callees_of}
 use Rattle.inline_expand.specs.declared.expanded.places.Found.{Found}
 use Rattle.member_link.specs.Machine.Programs.{number_of_first}

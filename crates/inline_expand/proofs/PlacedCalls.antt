@@ -2,18 +2,18 @@
 use Rattle.std.proofs.Common.{◌≡◌, ◌+◌, ◌<◌, ◌≤◌, ℕ, List, [], ◌∷◌, length, None, refl, sym, subst, inl, arith}
 use Rattle.class_model.specs.declared.class_file.MethodAt.{MethodAt}
 use Rattle.class_tree.specs.Headers.{Classes}
+use Rattle.expanded_code.specs.Callees.{Calls, IsCallee}
+use Rattle.expanded_code.specs.Sites.{Constructs, MayFollow, constructs}
+use Rattle.flow_code.specs.TypedFrames.{FolderFrames}
 use Rattle.inline_expand.proofs.ReadyCalls.{from_callee}
 use Rattle.inline_expand.proofs.ShallowCalls.{constructs_shallow, shallow_constructs}
-use Rattle.expanded_code.specs.Callees.{Calls, IsCallee}
 use Rattle.inline_expand.specs.Inner.Chains.{IsNoneOf, IsShallow}
 use Rattle.inline_expand.specs.Inner.Places.{chain_of, host_of}
 use Rattle.inline_expand.specs.Inner.Ready.{CallsAtMost, IsReady}
 use Rattle.inline_expand.specs.Inner.ReadyCallees.{IsCalleeFound, IsReadyCallee}
 use Rattle.inline_expand.specs.Inner.Stacks.{IsAmong}
-use Rattle.expanded_code.specs.Sites.{Constructs, MayFollow, constructs}
 use Rattle.inline_expand.specs.declared.coded.CodedMethod.{CodedMethod}
 use Rattle.member_link.specs.Scope.{Scope}
-use Rattle.flow_code.specs.TypedFrames.{FolderFrames}
 
 -- ---- a host and its chain
 

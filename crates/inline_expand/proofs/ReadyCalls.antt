@@ -8,18 +8,18 @@ use Rattle.class_model.specs.declared.frame.VType.TheVariants.{Uninit, UninitThi
 use Rattle.class_tree.specs.Headers.{Classes, headers_of}
 use Rattle.class_tree.specs.Laws.Decided.{same_bytes}
 use Rattle.class_tree.specs.Names.{object}
-use Rattle.inline_expand.proofs.Initialisations.{Found, found_or_not, new_is_not_this, one_object, one_reference}
 use Rattle.expanded_code.specs.Callees.{Calls, InitialisesAt, IsCallee, ResultSaysAtMost, frame_behind, is_callee}
+use Rattle.expanded_code.specs.Sites.{HasFrames}
+use Rattle.flow_code.specs.TypedFrames.{FolderFrames}
+use Rattle.inline_expand.proofs.Initialisations.{Found, found_or_not, new_is_not_this, one_object, one_reference}
 use Rattle.inline_expand.specs.Inner.Founded.{founded}
 use Rattle.inline_expand.specs.Inner.Initialised.{IsInitialisation, type_of_object}
 use Rattle.inline_expand.specs.Inner.Ready.{CallsAtMost, CallsOnThis, IsReady, Needs}
 use Rattle.inline_expand.specs.declared.initialised.Object.{Object}
 use Rattle.inline_expand.specs.declared.initialised.Object.TheVariants.{New, This}
-use Rattle.expanded_code.specs.Sites.{HasFrames}
 use Rattle.member_link.specs.References.{Reference}
 use Rattle.member_link.specs.Scope.{Scope, is_init, own_descriptor}
 use Rattle.member_link.specs.Signatures.{result_of}
-use Rattle.flow_code.specs.TypedFrames.{FolderFrames}
 
 -- ---- the call on its own object is there, or not
 

@@ -6,21 +6,21 @@ use Rattle.class_model.specs.declared.frame.Frame.{Frame}
 use Rattle.class_model.specs.declared.frame.VType.{VType}
 use Rattle.class_model.specs.declared.frame.VType.TheVariants.{Uninit, UninitThis}
 use Rattle.class_tree.specs.Headers.{Name, Classes}
+use Rattle.expanded_code.specs.Callees.{InitialisesAt, IsCallee}
+use Rattle.expanded_code.specs.Sites.{Constructs, HasFrames, IsReplaced, IsSite, MayFollow}
+use Rattle.flow_code.specs.TypedFrames.{FolderFrames}
 use Rattle.inline_expand.proofs.Initialisations.{new_is_not_this, one_object}
 use Rattle.inline_expand.proofs.ReadyCalls.{one_list, one_scope}
 use Rattle.inline_expand.proofs.SiteLaws.{uninit_same}
-use Rattle.expanded_code.specs.Callees.{InitialisesAt, IsCallee}
 use Rattle.inline_expand.specs.Inner.Coded.{Stands}
 use Rattle.inline_expand.specs.Inner.Initialised.{IsInitialisation}
 use Rattle.inline_expand.specs.Inner.ReadyCallees.{IsCalleeFound, IsReadyCallee}
 use Rattle.inline_expand.specs.Inner.Replacements.{InitialisesKept, IsReplacement, IsReplacementFound}
 use Rattle.inline_expand.specs.Inner.SiteTables.{IsSiteFound}
-use Rattle.expanded_code.specs.Sites.{Constructs, HasFrames, IsReplaced, IsSite, MayFollow}
 use Rattle.inline_expand.specs.declared.coded.CodedMethod.{CodedMethod}
 use Rattle.inline_expand.specs.declared.initialised.Object.TheVariants as made
 use Rattle.member_link.specs.References.{Reference}
 use Rattle.member_link.specs.Scope.{Scope, is_init}
-use Rattle.flow_code.specs.TypedFrames.{FolderFrames}
 
 module _ (classes : Classes) (typed : FolderFrames) (host : MethodAt) (chain : List MethodAt) (method : CodedMethod) (at : ℕ) where
   -- ---- the object

@@ -1,12 +1,12 @@
 -- A method in its place.
 use Rattle.std.proofs.Common.{◌≡◌, ◌++◌, ◌∷◌, [], ℕ, ℤ, map, Option, None, refl, sym, ap, ◌∙◌, append-nil}
-use Rattle.class_model.specs.declared.frame.Frame.{Frame}
 use Rattle.class_model.specs.declared.descriptor.Kind.{Kind}
+use Rattle.class_model.specs.declared.frame.Frame.{Frame}
 use Rattle.class_model.specs.declared.instr.Instr.{Instr}
 use Rattle.class_model.specs.declared.instr.Instr.TheVariants.{Iinc, Load, Store}
-use Rattle.flow_code.specs.declared.point.FlatInstr.TheVariants.{Of}
 use Rattle.expanded_code.specs.Alone.{handlers_by}
 use Rattle.expanded_code.specs.Expanded.{Narrowing, Setting, narrows, point_in, with_unit}
+use Rattle.flow_code.specs.declared.point.FlatInstr.TheVariants.{Of}
 use Rattle.inline_expand.specs.Inner.Numbers.{handlers_for, number_by}
 use Rattle.inline_expand.specs.Inner.Settings.{IsSpot, caught_by, number_in, setting_of}
 use Rattle.inline_expand.specs.declared.expanded.settings.Call.{Call}

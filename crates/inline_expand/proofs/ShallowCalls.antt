@@ -2,16 +2,16 @@
 use Rattle.std.proofs.Common.{◌≡◌, ◌≢◌, ◌⊎◌, ℕ, zero, suc, ◌+◌, ◌<◌, List, [], ◌∷◌, length, refl, sym, subst, ◌∙◌, inl, inr, arith}
 use Rattle.class_model.specs.declared.class_file.MethodAt.{MethodAt}
 use Rattle.class_tree.specs.Headers.{Classes}
+use Rattle.expanded_code.specs.Callees.{Calls}
+use Rattle.expanded_code.specs.Sites.{Constructs, MayFollow, constructs}
+use Rattle.flow_code.specs.TypedFrames.{FolderFrames}
 use Rattle.inline_expand.proofs.Founding.{no_circle, then_needs}
 use Rattle.inline_expand.proofs.ReadyCalls.{from_callee, need_here, one_callee, to_callee}
-use Rattle.expanded_code.specs.Callees.{Calls}
 use Rattle.inline_expand.specs.Inner.Chains.{IsNoneOf, IsShallow}
 use Rattle.inline_expand.specs.Inner.Founded.{Leads, founded, leads_at_once}
 use Rattle.inline_expand.specs.Inner.Ready.{CallsAtMost, CallsOnThis, IsReady, Needs}
 use Rattle.inline_expand.specs.Inner.Stacks.{IsAmong}
-use Rattle.expanded_code.specs.Sites.{Constructs, MayFollow, constructs}
 use Rattle.member_link.specs.Scope.{Scope}
-use Rattle.flow_code.specs.TypedFrames.{FolderFrames}
 
 -- ---- lists of methods
 

@@ -3,6 +3,7 @@ use Rattle.std.proofs.Common.{◌≡◌, ◌⊎◌, ◌==◌, true, ℕ, suc, Li
 use Rattle.std.proofs.lemmas.Bool.{eqb-true}
 use Rattle.class_model.specs.declared.class_file.MethodAt.{MethodAt}
 use Rattle.class_tree.specs.Headers.{Classes}
+use Rattle.flow_code.specs.TypedFrames.{FolderFrames}
 use Rattle.inline_expand.proofs.Founding.{needed_is_founded}
 use Rattle.inline_expand.proofs.MethodLists.{among_front, among_last, among_more}
 use Rattle.inline_expand.specs.Inner.Chains.{AreReady, AreShallow, IsNeeded, IsNoneOf, IsShallow, NoneIsOneOf}
@@ -10,7 +11,6 @@ use Rattle.inline_expand.specs.Inner.MethodSets.{Adds, AddsAll}
 use Rattle.inline_expand.specs.Inner.Ready.{IsReady, Needs}
 use Rattle.inline_expand.specs.Inner.Stacks.{IsAmong}
 use Rattle.inline_expand.specs.Inner.Walks.{NeedsThese}
-use Rattle.flow_code.specs.TypedFrames.{FolderFrames}
 
 -- ---- lists
 

@@ -8,23 +8,23 @@ use Rattle.class_model.specs.declared.frame.Frame.{Frame}
 use Rattle.class_model.specs.declared.frame.VType.TheVariants.{Uninit, UninitThis}
 use Rattle.class_model.specs.declared.instr.Placed.{Placed}
 use Rattle.class_tree.specs.Headers.{Name, Classes}
+use Rattle.expanded_code.specs.Alone.{number_at}
+use Rattle.expanded_code.specs.Callees.{InitialisesAt}
+use Rattle.expanded_code.specs.Sites.{Constructs, HasFrames, IsSite}
+use Rattle.flow_code.specs.TypedFrames.{FolderFrames}
 use Rattle.inline_expand.proofs.CalledMethods.{placed_by_number}
 use Rattle.inline_expand.proofs.Initialisations.{new_is_not_this, one_object}
 use Rattle.inline_expand.proofs.OwnCallees.{PlacedThere, instr_there}
 use Rattle.inline_expand.proofs.ReadyCalls.{one_list, one_scope}
-use Rattle.expanded_code.specs.Alone.{number_at}
-use Rattle.expanded_code.specs.Callees.{InitialisesAt}
 use Rattle.inline_expand.specs.Inner.Coded.{Stands}
-use Rattle.inline_expand.specs.Inner.SiteTables.{AreCandidates, AreSites, IsCandidateOf, IsKeptSoFar, IsNewInitialised, IsSiteFound, IsSoFar, SpoilsAt, StaysOrFalls, class_made, joined, new_of}
 use Rattle.inline_expand.specs.Inner.Initialised.{IsInitialisation, type_of_object}
+use Rattle.inline_expand.specs.Inner.SiteTables.{AreCandidates, AreSites, IsCandidateOf, IsKeptSoFar, IsNewInitialised, IsSiteFound, IsSoFar, SpoilsAt, StaysOrFalls, class_made, joined, new_of}
+use Rattle.inline_expand.specs.declared.coded.CodedMethod.{CodedMethod}
 use Rattle.inline_expand.specs.declared.initialised.Object.{Object}
 use Rattle.inline_expand.specs.declared.initialised.Object.TheVariants as made
-use Rattle.expanded_code.specs.Sites.{Constructs, HasFrames, IsSite}
-use Rattle.inline_expand.specs.declared.coded.CodedMethod.{CodedMethod}
 use Rattle.member_link.specs.CodedMethods.{placed_at}
 use Rattle.member_link.specs.References.{Reference}
 use Rattle.member_link.specs.Scope.{Scope, class_of_new, instructions}
-use Rattle.flow_code.specs.TypedFrames.{FolderFrames}
 
 -- ---- the class of a new is that of the first instruction at its offset
 

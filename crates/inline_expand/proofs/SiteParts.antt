@@ -3,10 +3,10 @@ use Rattle.std.proofs.Common.{◌≡◌, ◌+◌, ◌<◌, ◌≤◌, ℕ, zero,
 use Rattle.std.proofs.lemmas.List.{drop_all}
 use Rattle.class_model.specs.declared.instr.Placed.{Placed}
 use Rattle.class_tree.specs.Headers.{Headers}
-use Rattle.flow_code.specs.declared.point.Site.{Site}
-use Rattle.inline_expand.proofs.MethodParts.{NumbersFrom, next-points, numbers-first, numbers-next}
 use Rattle.expanded_code.specs.Expanded.{own_points, points_before, points_of, points_of_callee, sites_from}
 use Rattle.expanded_code.specs.Expansions.{Expansion, no_more, replaced, site, stays}
+use Rattle.flow_code.specs.declared.point.Site.{Site}
+use Rattle.inline_expand.proofs.MethodParts.{NumbersFrom, next-points, numbers-first, numbers-next}
 use Rattle.inline_expand.specs.Inner.CalleePlaces.{callee_in}
 use Rattle.inline_expand.specs.Inner.Layouts.{points_by, replacing, starts_from, step_points}
 use Rattle.inline_expand.specs.Inner.SiteNumbers.{NumbersBehind, method_at, method_if, site_of}

@@ -8,12 +8,12 @@ use Rattle.std.proofs.lemmas.List.Sums.{sum_by-append}
 use Rattle.std.proofs.lemmas.Option.{same_Some, slice_get-map}
 use Rattle.std.proofs.lemmas.Slice.Eq.{bytes_eq-Decides}
 use Rattle.class_model.specs.Descriptors.{kind_of, parameter_units, type_of, units_of}
-use Rattle.class_model.specs.declared.class_file.ClassFile.{ClassFile}
-use Rattle.class_model.specs.declared.descriptor.FieldType.{FieldType}
 use Rattle.class_model.specs.Header.{header_of}
 use Rattle.class_model.specs.Laws.Decisions.{Decision, is_true}
 use Rattle.class_model.specs.Laws.Lists.{AllByRecursion-weaker}
 use Rattle.class_model.specs.Members.{ABSTRACT, STATIC, has}
+use Rattle.class_model.specs.declared.class_file.ClassFile.{ClassFile}
+use Rattle.class_model.specs.declared.descriptor.FieldType.{FieldType}
 use Rattle.class_model.specs.declared.header.Header.{Header}
 use Rattle.class_model.specs.declared.header.Member.{Member}
 use Rattle.class_tree.specs.Headers.{Name, Classes, headers_of, named, class_named}
@@ -25,19 +25,19 @@ use Rattle.class_tree.specs.Layouts.{instance_fields, own_fields, superclasses}
 use Rattle.class_tree.specs.Names.{is_interface, object}
 use Rattle.class_tree.specs.Order.{place_of}
 use Rattle.class_tree.specs.declared.place.Place.TheVariants.{Folder}
-use Rattle.member_link.specs.Scope.{Scope, is_init}
+use Rattle.expanded_code.specs.Candidates.{HasNoFinalizer, HasRoom, Initialises, IsCandidate, KeepsFinals, declares_finalizer}
+use Rattle.expanded_code.specs.FieldConstructors.{field_types}
+use Rattle.expanded_code.specs.Laws.SuperChains.{chain_is, chain_of_object, has_superclass, superclasses_is, superclasses_of_root}
+use Rattle.expanded_code.specs.Quiet.{chain}
 use Rattle.inline_expand.proofs.ConstructorLaws.{constructor_is}
 use Rattle.inline_expand.proofs.FolderNames.{folder_name, in_folder_at, of_folder}
 use Rattle.inline_expand.proofs.QuietLaws.{quiet_is}
-use Rattle.expanded_code.specs.Laws.SuperChains.{chain_is, chain_of_object, has_superclass, superclasses_is, superclasses_of_root}
 use Rattle.inline_expand.proofs.StoredClasses.{before_stored, stored_before}
-use Rattle.expanded_code.specs.Candidates.{HasNoFinalizer, HasRoom, Initialises, IsCandidate, KeepsFinals, declares_finalizer}
-use Rattle.expanded_code.specs.FieldConstructors.{field_types}
 use Rattle.inline_expand.specs.Inner.CandidateWords.{IsFileOf, IsFit, IsFitAt, IsJudged, IsSound, own_descs, units_of_all}
 use Rattle.inline_expand.specs.Inner.ConstructorWords.{HasFree, field_descs, handled_of}
 use Rattle.inline_expand.specs.Inner.QuietWords.{IsQuietItself}
 use Rattle.inline_expand.specs.Inner.StoreWords.{IsStored}
-use Rattle.expanded_code.specs.Quiet.{chain}
+use Rattle.member_link.specs.Scope.{Scope, is_init}
 
 -- ---- lists
 

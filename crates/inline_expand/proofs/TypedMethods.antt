@@ -13,18 +13,18 @@ use Rattle.class_model.specs.declared.frame.Frame.{Frame}
 use Rattle.class_model.specs.declared.instr.Placed.{Placed}
 use Rattle.class_tree.specs.Headers.{Classes, IsClassFile}
 use Rattle.code_bytes.specs.Codes.{HasOperands, HasReadMethods, HasReadOperands}
+use Rattle.expanded_code.specs.Sites.{HasFrames}
+use Rattle.flow_code.specs.TypedFrames.{FolderFrames, typed_frames_at}
 use Rattle.inline_expand.proofs.CallUnits.{is_callable}
 use Rattle.inline_expand.proofs.HostCodes.{read-units}
 use Rattle.inline_expand.proofs.ScopeParts.{scope-parts}
 use Rattle.inline_expand.specs.Inner.TypedMethods.{GoesWithin, IsTypedMethod}
-use Rattle.expanded_code.specs.Sites.{HasFrames}
 use Rattle.member_link.specs.Bodies.{Body, BodyCatch, catch_frame, frame_behind}
 use Rattle.member_link.specs.BodyTyping.{AreInOrder, GoesInto, GoesToStated, IsPlaceOf, StatesAtPoints}
 use Rattle.member_link.specs.Scope.{Scope, instructions, scope_at}
 use Rattle.type_rules.specs.Handlers.{catches_at}
 use Rattle.type_rules.specs.MethodBodies.{body_of, point_of}
 use Rattle.type_rules.specs.Typed.{Typed, TypesBody}
-use Rattle.flow_code.specs.TypedFrames.{FolderFrames, typed_frames_at}
 use Rattle.type_rules.specs.Verified.{TypesMethod}
 
 module _ (s : Scope) (frames : List Frame) (states : StatesAtPoints (body_of s)) where

@@ -4,21 +4,21 @@ use Rattle.std.proofs.lemmas.Bool.{cases_eq}
 use Rattle.std.proofs.lemmas.Option.{none-some}
 use Rattle.class_model.specs.declared.class_file.ClassFile.{ClassFile}
 use Rattle.class_model.specs.declared.class_file.Method.{Method}
-use Rattle.class_tree.specs.Headers.{Classes, headers_of}
-use Rattle.member_link.specs.Scope.{Scope, scope_at, scope_of}
-use Rattle.flow_code.specs.TypedFrames.{FolderFrames}
 use Rattle.class_model.specs.declared.class_file.MethodAt.{MethodAt}
+use Rattle.class_tree.specs.Headers.{Classes, headers_of}
+use Rattle.flow_code.specs.TypedFrames.{FolderFrames}
 use Rattle.inline_expand.proofs.Founding.{led_is_founded, needed_is_founded, no_circle, then_needs}
-use Rattle.inline_expand.specs.Inner.Founded.{Leads, founded, leads_at_once}
-use Rattle.inline_expand.specs.Inner.Stacks.{IsAmong, IsLeft, method_of, nearest, stacked}
-use Rattle.inline_expand.specs.Inner.Verdicts.{Judges, verdict}
 use Rattle.inline_expand.proofs.Seeing.{fewer_unseen}
-use Rattle.inline_expand.specs.Inner.Unseen.{unseen}
-use Rattle.inline_expand.specs.Inner.Walks.{Advances, GoesOn, AreLed, AreRight, AreSettled, IsDone, IsLed, NeedsThese, Settles, Walks}
+use Rattle.inline_expand.specs.Inner.Founded.{Leads, founded, leads_at_once}
 use Rattle.inline_expand.specs.Inner.Ready.{Fits, IsReady, Needs}
+use Rattle.inline_expand.specs.Inner.Stacks.{IsAmong, IsLeft, method_of, nearest, stacked}
+use Rattle.inline_expand.specs.Inner.Unseen.{unseen}
+use Rattle.inline_expand.specs.Inner.Verdicts.{Judges, verdict}
+use Rattle.inline_expand.specs.Inner.Walks.{Advances, GoesOn, AreLed, AreRight, AreSettled, IsDone, IsLed, NeedsThese, Settles, Walks}
+use Rattle.inline_expand.specs.declared.verdicts.Verdicts.{Verdicts}
 use Rattle.inline_expand.specs.declared.visits.Visit.{Visit}
 use Rattle.inline_expand.specs.declared.visits.Visit.TheVariants.{Enter, Leave}
-use Rattle.inline_expand.specs.declared.verdicts.Verdicts.{Verdicts}
+use Rattle.member_link.specs.Scope.{Scope, scope_at, scope_of}
 
 -- ---- keys
 

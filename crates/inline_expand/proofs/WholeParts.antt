@@ -2,9 +2,9 @@
 use Rattle.std.proofs.Common.{◌≡◌, List, [], ◌∷◌, length, map, None, refl, sym, ap, subst, ◌∙◌}
 use Rattle.std.specs.List.{AllByRecursion}
 use Rattle.class_tree.specs.Headers.{Classes, Headers}
-use Rattle.flow_code.specs.declared.point.Site.{Site}
 use Rattle.expanded_code.specs.Candidates.{IsCandidate}
 use Rattle.expanded_code.specs.Expanded.{sites_from}
+use Rattle.flow_code.specs.declared.point.Site.{Site}
 use Rattle.inline_expand.specs.Inner.Measures.{host_expansion}
 use Rattle.inline_expand.specs.Inner.SiteNumbers.{site_by, sites_by}
 use Rattle.inline_expand.specs.Inner.WholeCodes.{whole_of}

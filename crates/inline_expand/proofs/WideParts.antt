@@ -4,8 +4,8 @@ use Rattle.std.proofs.lemmas.Option.{same_Some}
 use Rattle.class_model.specs.Frames.{depth}
 use Rattle.class_model.specs.Laws.Lists.{drop_item}
 use Rattle.class_model.specs.declared.frame.Frame.{Frame}
-use Rattle.flow_code.specs.declared.point.Point.{Point}
 use Rattle.expanded_code.specs.ExpandAnswers.{greatest_depth}
+use Rattle.flow_code.specs.declared.point.Point.{Point}
 use Rattle.inline_expand.specs.Inner.WideWords.{counted}
 
 pub next-depth : (points : List Point) (at : ℕ) (typed : Frame) → Some typed ≡ option_map (λ (point : Point). point.typed) (slice_get points at)

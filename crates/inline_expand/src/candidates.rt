@@ -2,12 +2,12 @@
 ghost use Rattle.std.specs.Prelude.{◌≡◌, ◌≢◌, ◌↔◌, ◌≤◌, ◌++◌, Some, IfOk, IsTrue, length, replicate, slice_get};
 ghost use Rattle.std.specs.Option.{option_copied};
 ghost use Rattle.class_model.specs.Descriptors as descriptors;
+ghost use Rattle.class_model.specs.Header.{header_of};
 ghost use Rattle.class_model.specs.declared.header.Header.{Header};
 ghost use Rattle.class_tree.specs.Headers.{Name, IsThere, class_named, headers_of};
 ghost use Rattle.class_tree.specs.Names.{object};
 ghost use Rattle.class_tree.specs.Order.{place_of};
 ghost use Rattle.class_tree.specs.declared.place.Place.TheVariants.{Folder};
-ghost use Rattle.class_model.specs.Header.{header_of};
 ghost use Rattle.expanded_code.specs.Candidates.{IsCandidate, declares_finalizer};
 ghost use Rattle.inline_expand.specs.Inner.CandidateWords.{IsFileOf, IsFitAt, IsJudged, IsKept, IsKnown, IsLeft, own_descs, units_of_all};
 

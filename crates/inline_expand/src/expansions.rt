@@ -1,11 +1,11 @@
 //! What becomes of each instruction where callees stand in place of their calls.
 ghost use Rattle.std.specs.Prelude.{◌≡◌, ◌∷◌, ◌≤◌, IfOk, OnOk, length, slice_get, Some};
+ghost use Rattle.expanded_code.specs.Sites.{IsReplaced};
 ghost use Rattle.inline_expand.specs.Inner.Coded.{Stands};
 ghost use Rattle.inline_expand.specs.Inner.Growths.{HasGrown, IsExpansionFound, IsStepFound, AreStepsFound, MayGrow, IsBodyFound};
 ghost use Rattle.inline_expand.specs.Inner.Places.{IsPlace, chain_of, host_of};
 ghost use Rattle.inline_expand.specs.Inner.SiteTables.{AreSites};
 ghost use Rattle.inline_expand.specs.Inner.Walks.{AreRight};
-ghost use Rattle.expanded_code.specs.Sites.{IsReplaced};
 ghost use Rattle.member_link.specs.Scope.{instructions};
 
 use crate::calls::a_call_runs_one_method;

@@ -3,8 +3,8 @@ ghost use Rattle.std.specs.Prelude.{◌≡◌, ◌++◌, ◌<◌, ℕ, List, Som
 ghost use Rattle.std.specs.Option.{option_copied, option_map};
 ghost use Rattle.class_tree.specs.Headers.{Name, headers_of};
 ghost use Rattle.expanded_code.specs.FieldConstructors.{handled};
-ghost use Rattle.member_link.specs.MemberRefs.{reference_meant};
 ghost use Rattle.inline_expand.specs.Inner.ConstructorWords.{AreHandled, handled_in, handled_of, handled_of_pool};
+ghost use Rattle.member_link.specs.MemberRefs.{reference_meant};
 
 use crate::quiet::folder_number;
 use class_model::{ClassFile, Const, INIT, ListOf, NoMemory, Pool, Text, TextList};

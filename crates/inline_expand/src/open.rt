@@ -8,10 +8,10 @@ ghost use Rattle.class_tree.specs.Headers.{headers_of};
 ghost use Rattle.class_tree.specs.Order.{header_at};
 ghost use Rattle.expanded_code.specs.Callees.{IsOpenClassAt, IsOpenConstant, IsOpenField, IsOpenFieldAt, IsOpenFieldReference, IsOpenMethod, IsOpenMethodAt, IsOpenMethodReference, NamesOpen};
 ghost use Rattle.inline_expand.specs.Inner.Open.{WillBeOpened};
-ghost use Rattle.member_link.specs.MemberRefs.{reference_meant};
 ghost use Rattle.member_link.specs.DeclaredMembers as declared;
 ghost use Rattle.member_link.specs.DeclaredMembers.{Declared};
 ghost use Rattle.member_link.specs.Found.{IsFieldFound, IsMethodFound};
+ghost use Rattle.member_link.specs.MemberRefs.{reference_meant};
 ghost use Rattle.member_link.specs.Overriding.{package_of};
 
 use crate::found::method_of;

@@ -1,9 +1,9 @@
 //! Where a method stands in the code of a host, and which calls of initialisers are replaced there.
 ghost use Rattle.std.specs.Prelude.{◌≡◌, ◌↔◌, IfOk, OnOk, IsTrue};
+ghost use Rattle.expanded_code.specs.Sites.{Constructs, MayFollow};
 ghost use Rattle.inline_expand.specs.Inner.Coded.{Stands};
 ghost use Rattle.inline_expand.specs.Inner.Places.{IsPlace, chain_of, host_of};
 ghost use Rattle.inline_expand.specs.Inner.Walks.{AreRight};
-ghost use Rattle.expanded_code.specs.Sites.{Constructs, MayFollow};
 
 use crate::callees::find_ready;
 use crate::calls::a_call_runs_one_method;

@@ -7,8 +7,8 @@ ghost use Rattle.class_tree.specs.Headers.{headers_of, named};
 ghost use Rattle.class_tree.specs.Names.{object};
 ghost use Rattle.class_tree.specs.Order.{place_of};
 ghost use Rattle.class_tree.specs.declared.place.Place.TheVariants.{Folder};
-ghost use Rattle.inline_expand.specs.Inner.QuietWords.{IsQuietItself, IsSilent, IsSilentAt, IsInterfaceThere};
 ghost use Rattle.expanded_code.specs.Quiet.{IsQuiet, declares_initialiser};
+ghost use Rattle.inline_expand.specs.Inner.QuietWords.{IsQuietItself, IsSilent, IsSilentAt, IsInterfaceThere};
 
 use class_model::{CLINIT, Header, NoMemory, Text};
 use class_tree::{OBJECT, Place, Tree, a_tree_is_a_hierarchy, chain};

@@ -2,8 +2,8 @@
 ghost use Rattle.std.specs.Prelude.{List};
 ghost use Rattle.class_model.specs.declared.class_file.MethodAt.{MethodAt};
 ghost use Rattle.class_model.specs.declared.frame.Frame.{Frame};
-ghost use Rattle.inline_expand.specs.Inner.TypedMethods.{IsTypedMethod};
 ghost use Rattle.expanded_code.specs.Sites.{HasFrames};
+ghost use Rattle.inline_expand.specs.Inner.TypedMethods.{IsTypedMethod};
 ghost use Rattle.member_link.specs.Scope.{Scope};
 ghost use Rattle.type_rules.specs.Verified.{TypesFolder};
 

@@ -16,6 +16,8 @@ use Rattle.class_model.specs.declared.class_file.MethodAt.{MethodAt}
 use Rattle.class_model.specs.declared.frame.Frame.{Frame}
 use Rattle.class_tree.specs.Headers.{Name, Classes, headers_of, IsClassFile}
 use Rattle.class_tree.specs.Hierarchy.{IsHierarchy}
+use Rattle.flow_code.specs.TypedFrames.{FolderFrames, typed_frames_at}
+use Rattle.machine_step.specs.Laws.ProgramHeaders.{headers_are, links_are}
 use Rattle.machine_step.specs.Programs.{IsProgram}
 use Rattle.member_link.specs.Bodies.{Body, BodyPoint}
 use Rattle.member_link.specs.BodyTyping.{AreInOrder, GoesToStated, HasFrames, StatesAtPoints}
@@ -27,15 +29,13 @@ use Rattle.member_link.specs.Scope.{Scope, scope_at, instructions, row_scope}
 use Rattle.never_stuck.proofs.Bases.{has_base}
 use Rattle.never_stuck.proofs.FileClasses.{class_typed}
 use Rattle.never_stuck.proofs.Folders.{some_of}
-use Rattle.machine_step.specs.Laws.ProgramHeaders.{headers_are, links_are}
 use Rattle.never_stuck.proofs.LinkedCode.{LinkLaws, linked_instr}
-use Rattle.type_rules.specs.Laws.InstructionOrder.{ascend}
 use Rattle.never_stuck.proofs.TypedCode.{IsTypedCode}
 use Rattle.never_stuck.proofs.TypedMethods.{scope_with, method_typed}
 use Rattle.type_rules.specs.Checks.{IsTypedAt}
+use Rattle.type_rules.specs.Laws.InstructionOrder.{ascend}
 use Rattle.type_rules.specs.MethodBodies.{body_of}
 use Rattle.type_rules.specs.Typed.{Typed, TypesBody, flows_into}
-use Rattle.flow_code.specs.TypedFrames.{FolderFrames, typed_frames_at}
 use Rattle.type_rules.specs.Verified.{IsVerified, TypesFolder, TypesMethod}
 use Rattle.typed_runs.specs.TypedPoints.{Typing}
 use Rattle.typed_runs.specs.TypedPrograms.{Typings, IsTypedMethod, IsTypedProgram}

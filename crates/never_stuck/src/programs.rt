@@ -2,9 +2,9 @@
 ghost use Rattle.std.specs.Prelude.{◌≡◌, ◌<◌, List, length, Some};
 ghost use Rattle.class_model.specs.declared.class_file.MethodAt.{MethodAt};
 ghost use Rattle.class_model.specs.declared.frame.Frame.{Frame};
+ghost use Rattle.flow_code.specs.TypedFrames.{typed_frames_at};
 ghost use Rattle.machine_step.specs.Programs.{IsProgram};
 ghost use Rattle.member_link.specs.Machine.Programs.{Program};
-ghost use Rattle.flow_code.specs.TypedFrames.{typed_frames_at};
 ghost use Rattle.type_rules.specs.Verified.{IsVerified};
 ghost use Rattle.typed_runs.specs.TypedPrograms.{IsTypedProgram, Typings};
 

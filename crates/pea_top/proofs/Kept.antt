@@ -2,10 +2,10 @@ use Rattle.std.proofs.Common.{◌≡◌, refl, subst}
 use Rattle.std.specs.Prelude.{Option, None, Some, IsSome}
 use Rattle.class_tree.specs.Headers.{Classes}
 use Rattle.flow_code.specs.TypedFrames.{FolderFrames}
-use Rattle.type_rules.specs.Verified.{TypesFolder}
 use Rattle.pea_top.specs.Inner.Verifying.{IsKept}
 use Rattle.pea_top.specs.declared.work.Work.{Work}
 use Rattle.pea_top.specs.declared.work.Work.TheVariants as works
+use Rattle.type_rules.specs.Verified.{TypesFolder}
 
 -- frames type a folder for whatever is left to do
 pub kept_types : (classes : Classes) (work : Work) (kept : Option FolderFrames) → IsKept classes work kept

@@ -5,10 +5,10 @@ use Rattle.class_model.specs.declared.header.Header.{Header}
 use Rattle.class_tree.specs.Headers.{Classes, Headers, headers_of}
 use Rattle.class_tree.specs.Trees.{IsArranged, IsTree}
 use Rattle.flow_code.specs.TypedFrames.{FolderFrames}
+use Rattle.pea_top.proofs.OneLinkProblem.{TreeLaws}
+use Rattle.pea_top.specs.Verifying.{AreVerified, IsTypeFailure}
 use Rattle.type_rules.specs.Verified.{AreTypedClasses}
 use Rattle.verify_folder.specs.Verifying.{Failure, ClassesFail}
-use Rattle.pea_top.specs.Verifying.{AreVerified, IsTypeFailure}
-use Rattle.pea_top.proofs.OneLinkProblem.{TreeLaws}
 
 -- what verify_folder says of a folder
 pub record TypeLaws : Type 0 where

@@ -2,45 +2,45 @@
 use Rattle.std.proofs.Common.{◌≡◌, ◌⊎◌, ℕ, ◌-◌, true, false, List, map, length, arith, refl, sym, ◌∙◌, subst, inl, inr}
 use Rattle.std.proofs.lemmas.Bool.{false≢true}
 use Rattle.std.proofs.lemmas.List.{length-map}
+use Rattle.std.proofs.lemmas.List.Sorted.{length_permutation}
 use Rattle.class_model.specs.Header.{HeaderOf}
 use Rattle.class_model.specs.declared.class_file.ClassFile.{ClassFile}
 use Rattle.class_model.specs.declared.header.Header.{Header}
-use Rattle.host_tree.specs.Counts.{NeverFalls, Rose}
-use Rattle.host_tree.specs.Host.{Bytes, Folder, Files, SameFiles, IsPrefixPrinted}
-use Rattle.host_tree.specs.declared.call.HostCall.{HostCall}
-use Rattle.host_tree.specs.declared.call.HostCall.TheVariants as calls
 use Rattle.class_rewrite.specs.Optimised.{IsOptimised}
 use Rattle.class_rewrite.specs.Reports.{rewritten_count}
 use Rattle.class_rewrite.specs.declared.folder.Optimised.{Optimised}
 use Rattle.class_tree.specs.Headers.{Classes}
-use Rattle.std.proofs.lemmas.List.Sorted.{length_permutation}
 use Rattle.flow_code.specs.TypedFrames.{FolderFrames}
-use Rattle.type_rules.specs.Verified.{TypesFolder}
+use Rattle.host_tree.specs.Counts.{NeverFalls, Rose}
+use Rattle.host_tree.specs.Host.{Bytes, Folder, Files, SameFiles, IsPrefixPrinted}
+use Rattle.host_tree.specs.declared.call.HostCall.{HostCall}
+use Rattle.host_tree.specs.declared.call.HostCall.TheVariants as calls
 use Rattle.machine_values.specs.declared.action.Action.{Action}
 use Rattle.member_link.specs.Machine.Runs.{shown_after}
-use Rattle.script_text.specs.Events.{events_text}
+use Rattle.pea_top.proofs.Copying.{files_are_put, files_are_partly_put}
+use Rattle.pea_top.proofs.WrittenFiles.{written_final, written_same}
 use Rattle.pea_top.specs.Answer.{AreRead, IsFirstOf, IsScriptThere, HasScript, CanDo, IsAnswer, CauseOf}
-use Rattle.pea_top.specs.Inner.CommandEffects.{some_files, all_files, LeavesWritten, LeavesPrinted}
-use Rattle.pea_top.specs.Inner.Deciding.{AreInput, IsWork, IsPrepared, AreReady, IsShown, IsOutcome, Stands, IsStop}
 use Rattle.pea_top.specs.Effects.{DoneFiles, IsNeverStuck, LeavesDone, LeavesPart, IsRunText, IsDoneText, IsSummary, PrintsPart, PrintsLine, before_work, in_refusal, in_writes, in_print, Leaves}
 use Rattle.pea_top.specs.Folders.{HasClassFiles}
+use Rattle.pea_top.specs.Inner.CommandEffects.{some_files, all_files, LeavesWritten, LeavesPrinted}
+use Rattle.pea_top.specs.Inner.Deciding.{AreInput, IsWork, IsPrepared, AreReady, IsShown, IsOutcome, Stands, IsStop}
 use Rattle.pea_top.specs.Inner.Optimising.{IsOutput, IsReported}
 use Rattle.pea_top.specs.Inner.Reading.{AreFiles, AreGoodFiles, StopsAt, status_of}
+use Rattle.pea_top.specs.Inner.Writing.{Puts, PutsSome}
 use Rattle.pea_top.specs.Lines.{summary_line}
 use Rattle.pea_top.specs.Optimising.{AreFinal, AreOptimised, IsPlanText}
-use Rattle.pea_top.specs.declared.optimising.Output.{Output}
 use Rattle.pea_top.specs.Status.{Ending, completed, refused, failed, out_of_memory, ending, is_refused, line_of}
 use Rattle.pea_top.specs.Words.{Word, Command, Optimise, Verify, Plan, Run, input_of, library_of, Spells}
-use Rattle.pea_top.specs.Inner.Writing.{Puts, PutsSome}
 use Rattle.pea_top.specs.declared.folder.NamedFile.{NamedFile}
+use Rattle.pea_top.specs.declared.optimising.Output.{Output}
 use Rattle.pea_top.specs.declared.reading.ReadStop.{ReadStop}
 use Rattle.pea_top.specs.declared.reading.ReadStop.TheVariants as stops
 use Rattle.pea_top.specs.declared.status.Status.{Status}
+use Rattle.pea_top.specs.declared.status.Status.TheVariants.{Usage, Malformed, Version, HostFault, NoMemory}
 use Rattle.pea_top.specs.declared.work.Work.{Work}
 use Rattle.pea_top.specs.declared.work.Work.TheVariants as works
-use Rattle.pea_top.specs.declared.status.Status.TheVariants.{Usage, Malformed, Version, HostFault, NoMemory}
-use Rattle.pea_top.proofs.Copying.{files_are_put, files_are_partly_put}
-use Rattle.pea_top.proofs.WrittenFiles.{written_final, written_same}
+use Rattle.script_text.specs.Events.{events_text}
+use Rattle.type_rules.specs.Verified.{TypesFolder}
 
 -- files that are the same are one value
 one_value : {old mid : Files} → SameFiles old mid → mid ≡ old

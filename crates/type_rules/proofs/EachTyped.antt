@@ -7,11 +7,11 @@ use Rattle.class_model.specs.declared.class_file.Method.{Method}
 use Rattle.class_model.specs.declared.class_file.MethodAt.{MethodAt}
 use Rattle.class_model.specs.declared.frame.Frame.{Frame}
 use Rattle.class_tree.specs.Headers.{Classes, Headers, headers_of}
-use Rattle.member_link.specs.Bodies.{Body, BodyPoint, flows_on}
-use Rattle.type_rules.specs.Checks.{IsTypedAt}
-use Rattle.member_link.specs.Scope.{scope_at, scope_of}
-use Rattle.type_rules.specs.Typed.{AreTyped, TypesBody, flows_into}
 use Rattle.flow_code.specs.TypedFrames.{FolderFrames, typed_frames_at}
+use Rattle.member_link.specs.Bodies.{Body, BodyPoint, flows_on}
+use Rattle.member_link.specs.Scope.{scope_at, scope_of}
+use Rattle.type_rules.specs.Checks.{IsTypedAt}
+use Rattle.type_rules.specs.Typed.{AreTyped, TypesBody, flows_into}
 use Rattle.type_rules.specs.Verified.{AreTypedClasses, AreTypedMethods, TypesFolder, TypesMethod}
 
 -- ---- methods

@@ -5,10 +5,10 @@ use Rattle.class_model.specs.declared.class_file.Method.{Method}
 use Rattle.class_model.specs.declared.frame.Frame.{Frame}
 use Rattle.class_tree.specs.Headers.{Classes, Headers, headers_of}
 use Rattle.class_tree.specs.Trees.{IsTree}
+use Rattle.flow_code.specs.TypedFrames.{FolderFrames}
 use Rattle.member_link.specs.Linked.{IsLinked}
 use Rattle.member_link.specs.Scope.{Scope, scope_of}
 use Rattle.type_rules.specs.Typed.{Typed}
-use Rattle.flow_code.specs.TypedFrames.{FolderFrames}
 
 -- the frames of a method with code type it, and one without has none
 abbrev pub TypesMethod : Option Scope → Option (List Frame) → Type 0

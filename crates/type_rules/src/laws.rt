@@ -6,13 +6,13 @@ ghost use Rattle.class_model.specs.declared.class_file.MethodAt.{MethodAt};
 ghost use Rattle.class_model.specs.declared.frame.Frame.{Frame};
 ghost use Rattle.class_model.specs.declared.instr.Placed.{Placed};
 ghost use Rattle.class_tree.specs.Headers.{Classes};
+ghost use Rattle.flow_code.specs.TypedFrames.{FolderFrames, typed_frames_at};
 ghost use Rattle.member_link.specs.Bodies.{Body, BodyPoint};
 ghost use Rattle.member_link.specs.BodyTyping.{AreConsecutivePoints, AreInOrder, GoesToStated, HasFrames, StatesAtPoints, frame_at};
 ghost use Rattle.member_link.specs.Scope.{Scope, scope_at};
 ghost use Rattle.type_rules.specs.Checks.{IsTypedAt};
 ghost use Rattle.type_rules.specs.MethodBodies.{body_of};
 ghost use Rattle.type_rules.specs.Typed.{BodyFails, Typed, TypesBody, flows_into};
-ghost use Rattle.flow_code.specs.TypedFrames.{FolderFrames, typed_frames_at};
 ghost use Rattle.type_rules.specs.Verified.{TypesFolder, TypesMethod};
 ghost use Rattle.type_rules.specs.declared.fault.TypeRule.{TypeRule};
 

@@ -10,9 +10,9 @@ use Rattle.flow_code.specs.TypedFrames.{FolderFrames}
 use Rattle.type_rules.specs.Verified.{AreTypedClasses, AreTypedMethods}
 use Rattle.type_rules.specs.declared.fault.VerifyFault.{VerifyFault}
 use Rattle.type_rules.specs.declared.fault.VerifyFault.TheVariants as faults
-use Rattle.verify_folder.specs.Verifying.{Failure, failure_of, ClassesFail, FolderVerifies, MethodsFail, TypesFirst, AreFirstTyped, FirstAreTyped}
-use Rattle.verify_folder.specs.Inner.Verifying.{ClassIsTyped, ClassVerifies}
 use Rattle.verify_folder.proofs.MethodWalk.{item_at}
+use Rattle.verify_folder.specs.Inner.Verifying.{ClassIsTyped, ClassVerifies}
+use Rattle.verify_folder.specs.Verifying.{Failure, failure_of, ClassesFail, FolderVerifies, MethodsFail, TypesFirst, AreFirstTyped, FirstAreTyped}
 
 -- ---- classes before others
 

@@ -7,12 +7,12 @@ use Rattle.class_model.specs.declared.frame.Frame.{Frame}
 use Rattle.class_model.specs.declared.header.Header.{Header}
 use Rattle.class_model.specs.declared.header.Member.{Member}
 use Rattle.class_tree.specs.Headers.{Name, Headers}
-use Rattle.member_link.specs.Scope.{Scope, scope_of}
 use Rattle.flow_code.specs.TypedFrames.{FolderFrames}
-use Rattle.type_rules.specs.declared.fault.TypeRule.{TypeRule}
-use Rattle.type_rules.specs.Verified.{TypesMethod, AreTypedMethods, AreTypedClasses}
-use Rattle.verify_folder.specs.Verifying.{Failure, MethodFails, MethodsFail, ClassesFail}
+use Rattle.member_link.specs.Scope.{Scope, scope_of}
 use Rattle.type_rules.specs.Typed.{IsFirstFailure, Typed}
+use Rattle.type_rules.specs.Verified.{TypesMethod, AreTypedMethods, AreTypedClasses}
+use Rattle.type_rules.specs.declared.fault.TypeRule.{TypeRule}
+use Rattle.verify_folder.specs.Verifying.{Failure, MethodFails, MethodsFail, ClassesFail}
 
 -- what is known of methods that fail
 pub record MethodLaws : Type 0 where

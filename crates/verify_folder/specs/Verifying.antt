@@ -8,9 +8,9 @@ use Rattle.class_model.specs.declared.frame.Frame.{Frame}
 use Rattle.class_model.specs.declared.header.Header.{Header}
 use Rattle.class_model.specs.declared.header.Member.{Member}
 use Rattle.class_tree.specs.Headers.{Name, Classes, Headers, headers_of}
+use Rattle.flow_code.specs.TypedFrames.{FolderFrames}
 use Rattle.member_link.specs.Scope.{Scope, scope_at, scope_of}
 use Rattle.type_rules.specs.Typed.{IsFirstFailure}
-use Rattle.flow_code.specs.TypedFrames.{FolderFrames}
 use Rattle.type_rules.specs.Verified.{AreTypedClasses, AreTypedMethods, TypesFolder, TypesMethod}
 use Rattle.type_rules.specs.declared.fault.TypeRule.{TypeRule}
 use Rattle.type_rules.specs.declared.fault.VerifyFault.{VerifyFault}

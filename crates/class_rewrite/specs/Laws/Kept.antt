@@ -4,9 +4,9 @@ use Rattle.class_model.specs.declared.class_file.ClassFile.{ClassFile}
 use Rattle.class_model.specs.declared.class_file.Method.{Method}
 use Rattle.class_rewrite.specs.Written.{AreWrittenClasses, AreWrittenMethods, IsWrittenClass, IsWrittenFolder, IsWrittenFor}
 use Rattle.class_tree.specs.Headers.{Classes}
+use Rattle.flow_code.specs.TypedFrames.{FolderFrames}
 use Rattle.flow_code.specs.declared.reason.Reason.{Reason}
 use Rattle.flow_code.specs.declared.reason.Reason.TheVariants as reasons
-use Rattle.flow_code.specs.TypedFrames.{FolderFrames}
 
 kept_for : (reason : Reason) (method written : Method) → IsWrittenFor reason method written → written ≡ method
 kept_for reasons.Host method written same = same

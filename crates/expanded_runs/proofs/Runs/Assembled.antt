@@ -15,6 +15,11 @@ use Rattle.class_model.specs.declared.header.Member.{Member}
 use Rattle.class_model.specs.declared.instr.Instr.{Instr}
 use Rattle.class_model.specs.declared.instr.Instr.TheVariants.{Return}
 use Rattle.class_model.specs.declared.instr.Placed.{Placed}
+use Rattle.expanded_code.specs.Callees.{LeavesResult}
+use Rattle.expanded_code.specs.ExpandAnswers.{is_initialiser as initialiser_is_no_host}
+use Rattle.expanded_code.specs.Expanded.{expanded}
+use Rattle.expanded_code.specs.Expansions.{Coded, Expands, Expansion}
+use Rattle.expanded_code.specs.Sites.{HasFrames}
 use Rattle.expanded_runs.proofs.AloneProgram.{EachTyped, OneEach}
 use Rattle.expanded_runs.proofs.Runs.Bars.{BarLaws, bars_alike, own_bar, own_static_bar}
 use Rattle.expanded_runs.proofs.Runs.CallLaws.{CallLaws}
@@ -43,11 +48,7 @@ use Rattle.expanded_runs.proofs.Runs.StandingLaws.{as_replaced, becomes_as, stan
 use Rattle.expanded_runs.proofs.Runs.StandingMore.{compares}
 use Rattle.expanded_runs.proofs.Runs.StandingParts.{arguments_room}
 use Rattle.expanded_runs.proofs.Runs.Standings.{IsStanding, Stands, callee_stands, host_stands}
-use Rattle.expanded_code.specs.Callees.{LeavesResult}
-use Rattle.expanded_code.specs.ExpandAnswers.{is_initialiser as initialiser_is_no_host}
-use Rattle.expanded_code.specs.Expanded.{expanded}
-use Rattle.expanded_code.specs.Expansions.{Coded, Expands, Expansion}
-use Rattle.expanded_code.specs.Sites.{HasFrames}
+use Rattle.flow_code.specs.TypedFrames.{typed_frames_at}
 use Rattle.machine_values.specs.Frames.{MethodState}
 use Rattle.machine_values.specs.Heaps.{Heap}
 use Rattle.machine_values.specs.declared.action.Action.{Action}
@@ -66,7 +67,6 @@ use Rattle.member_link.specs.Scope.{instructions, is_clinit}
 use Rattle.same_runs.specs.EqualRuns.{EqualRuns}
 use Rattle.same_runs.specs.Renamings.{Names}
 use Rattle.same_runs.specs.SamePrograms.{same_op}
-use Rattle.flow_code.specs.TypedFrames.{typed_frames_at}
 use Rattle.typed_runs.specs.Conforming.{AllConform, and_value, no_values}
 use Rattle.typed_runs.specs.TypedFrames.{Does}
 use Rattle.typed_runs.specs.TypedPoints.{IsLinkedOp}

@@ -19,9 +19,12 @@ use Rattle.class_tree.specs.Headers.{Headers, Name, class_named, headers_of}
 use Rattle.class_tree.specs.Hierarchy.{IsHierarchy}
 use Rattle.class_tree.specs.Laws.Headers.{own_name}
 use Rattle.class_tree.specs.Names.{is_member}
-use Rattle.flow_code.specs.FlatCode.{FlatCode}
-use Rattle.flow_code.specs.declared.point.FlatInstr.TheVariants.{Of}
-use Rattle.flow_code.specs.declared.point.Point.{Point}
+use Rattle.expanded_code.specs.Candidates.{Initialises, IsCandidate, StoresInto}
+use Rattle.expanded_code.specs.ExpandAnswers.{is_initialiser}
+use Rattle.expanded_code.specs.Expanded.{Setting, expanded, instr_points, point_in, set_frame}
+use Rattle.expanded_code.specs.Expansions.{Coded, Expands, Expansion}
+use Rattle.expanded_code.specs.Quiet.{chain as chain_of}
+use Rattle.expanded_code.specs.Sites.{HasFrames}
 use Rattle.expanded_runs.proofs.AloneProgram.{EachTyped, OneEach, pool-of-scope}
 use Rattle.expanded_runs.proofs.Runs.FlatOpLaws.{Bars}
 use Rattle.expanded_runs.proofs.Runs.FlatSites.{HasSite, has_site, site_at, site_is_candidate}
@@ -33,13 +36,10 @@ use Rattle.expanded_runs.proofs.Runs.Setup.{IsSetup, Setup, after, before}
 use Rattle.expanded_runs.proofs.Runs.SiteInitialisers.{OfSite, ThisInInit, initialiser_of_site, no_clinit_stands, own_class_numbered}
 use Rattle.expanded_runs.proofs.Runs.StandingLaws.{stands_so}
 use Rattle.expanded_runs.proofs.Runs.Standings.{IsStanding, Stands}
-use Rattle.expanded_code.specs.Candidates.{Initialises, IsCandidate, StoresInto}
-use Rattle.expanded_code.specs.ExpandAnswers.{is_initialiser}
-use Rattle.expanded_code.specs.Expanded.{Setting, expanded, instr_points, point_in, set_frame}
 use Rattle.expanded_runs.specs.ExpandedPrograms.{ClearsFinal}
-use Rattle.expanded_code.specs.Expansions.{Coded, Expands, Expansion}
-use Rattle.expanded_code.specs.Quiet.{chain as chain_of}
-use Rattle.expanded_code.specs.Sites.{HasFrames}
+use Rattle.flow_code.specs.FlatCode.{FlatCode}
+use Rattle.flow_code.specs.declared.point.FlatInstr.TheVariants.{Of}
+use Rattle.flow_code.specs.declared.point.Point.{Point}
 use Rattle.member_link.specs.DeclaredMembers.{Declared, declared}
 use Rattle.member_link.specs.Fields.{FindsField}
 use Rattle.member_link.specs.Forms.{IsStaticForm}

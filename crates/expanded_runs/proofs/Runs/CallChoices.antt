@@ -13,8 +13,8 @@ use Rattle.class_tree.specs.Laws.Above.{IsSound, hierarchy_is_sound, hierarchy_i
 use Rattle.class_tree.specs.Laws.Headers.{same_class}
 use Rattle.class_tree.specs.Names.{is_interface, is_member}
 use Rattle.class_tree.specs.Subtype.{IsArray, IsBelow}
-use Rattle.expanded_runs.proofs.Runs.FolderReceivers.{IsFolderClass, folder_below, folder_named, no_array_under}
 use Rattle.expanded_code.specs.Callees.{IsOverriddenByNone}
+use Rattle.expanded_runs.proofs.Runs.FolderReceivers.{IsFolderClass, folder_below, folder_named, no_array_under}
 use Rattle.member_link.specs.Access.{IsAtOrBelow}
 use Rattle.member_link.specs.DeclaredMembers.{Declared, IsMethod, declared, declared_by, own_method}
 use Rattle.member_link.specs.Machine.Codes.{special_start}
@@ -25,8 +25,8 @@ use Rattle.member_link.specs.RowScope.{RowScope}
 use Rattle.member_link.specs.Selection.{Choice, Chooses, IsOrOverrides, Selects, by_default, choice_of, chosen_method, first_upwards, of_private, of_virtual, start_of}
 use Rattle.member_link.specs.SpecialStart.{IsSuperclassNamed, StartsSpecial, at_named, at_superclass}
 use Rattle.member_link.specs.Upwards.{FirstUpwards, in_absent_class, in_itself, in_no_superclass, in_superclass}
-use Rattle.member_link.specs.declared.selection.CallForm.TheVariants.{Special, Virtual}
 use Rattle.member_link.specs.declared.selection.CallForm.{CallForm}
+use Rattle.member_link.specs.declared.selection.CallForm.TheVariants.{Special, Virtual}
 use Rattle.typed_runs.specs.TypedPrograms.{Typings, IsTypedProgram}
 
 -- ---- a declared member

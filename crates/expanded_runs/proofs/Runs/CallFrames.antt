@@ -10,6 +10,7 @@ use Rattle.class_model.specs.declared.frame.Frame.{Frame}
 use Rattle.class_model.specs.declared.instr.Placed.{Placed}
 use Rattle.class_tree.specs.Headers.{Classes}
 use Rattle.expanded_code.specs.Sites.{HasFrames}
+use Rattle.flow_code.specs.TypedFrames.{FolderFrames, typed_frames_at}
 use Rattle.machine_values.specs.Frames.{MethodState}
 use Rattle.machine_values.specs.declared.frame.RunFrame.{RunFrame}
 use Rattle.machine_values.specs.declared.frame.RunFrame.TheVariants.{Method}
@@ -28,7 +29,6 @@ use Rattle.type_rules.specs.Checks.{IsTypedAt, handler_checks, target_checks}
 use Rattle.type_rules.specs.MethodBodies.{body_of, point_of}
 use Rattle.type_rules.specs.Rule.{row_checks}
 use Rattle.type_rules.specs.Typed.{Typed, TypesBody, flows_into}
-use Rattle.flow_code.specs.TypedFrames.{FolderFrames, typed_frames_at}
 use Rattle.type_rules.specs.Verified.{TypesFolder, TypesMethod}
 use Rattle.typed_runs.specs.TypedFrames.{Does, FramesConform, nothing_awaited, upon}
 use Rattle.typed_runs.specs.TypedPrograms.{Typings}

@@ -22,13 +22,14 @@ use Rattle.class_tree.specs.Order.{first_place, place_of}
 use Rattle.class_tree.specs.Subtype.{IsArray, IsBelow, IsSubtype}
 use Rattle.class_tree.specs.declared.place.Place.{Place}
 use Rattle.class_tree.specs.declared.place.Place.TheVariants.{Folder, Library}
+use Rattle.expanded_code.specs.Callees.{Calls, IsCallee, MayStandIn, is_callee}
+use Rattle.expanded_code.specs.Expanded.{arguments_from}
 use Rattle.expanded_runs.proofs.Runs.CallFrames.{EachInstrTyped, EachMethodTyped, StepsTyped}
 use Rattle.expanded_runs.proofs.Runs.CallTargets.{Consecutive, first_numbered, headers_are, numbered}
 use Rattle.expanded_runs.proofs.Runs.FolderReceivers.{below_outside}
 use Rattle.expanded_runs.proofs.Runs.ReplacedCalls.{FitArguments}
 use Rattle.expanded_runs.proofs.Runs.Setup.{IsSetup, Setup, before}
-use Rattle.expanded_code.specs.Callees.{Calls, IsCallee, MayStandIn, is_callee}
-use Rattle.expanded_code.specs.Expanded.{arguments_from}
+use Rattle.flow_code.specs.TypedFrames.{FolderFrames}
 use Rattle.machine_values.specs.Values.{has_kind, have_kinds}
 use Rattle.machine_values.specs.declared.value.Value.{Value}
 use Rattle.member_link.specs.Access.{IsAtOrBelow}
@@ -45,7 +46,6 @@ use Rattle.member_link.specs.Selection.{Choice, Selects, abstract_choice, chosen
 use Rattle.member_link.specs.SpecialStart.{StartsSpecial, at_named, at_superclass}
 use Rattle.member_link.specs.declared.selection.CallForm.{CallForm}
 use Rattle.member_link.specs.declared.selection.CallForm.TheVariants.{Special}
-use Rattle.flow_code.specs.TypedFrames.{FolderFrames}
 
 -- ---- laws of look-up, of selection and of typing
 

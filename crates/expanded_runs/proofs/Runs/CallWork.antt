@@ -9,10 +9,10 @@ use Rattle.class_model.specs.declared.class_file.MethodAt.{MethodAt}
 use Rattle.class_model.specs.declared.header.Member.{Member}
 use Rattle.class_tree.specs.Headers.{Name}
 use Rattle.class_tree.specs.Names.{object}
-use Rattle.expanded_runs.proofs.Runs.CallTargets.{IsTarget}
-use Rattle.expanded_runs.proofs.Runs.ReplacedCalls.{ComesTo, comes_to_begin, comes_to_call, comes_to_null}
 use Rattle.expanded_code.specs.Expanded.{tests_receiver}
 use Rattle.expanded_code.specs.Expansions.{Coded}
+use Rattle.expanded_runs.proofs.Runs.CallTargets.{IsTarget}
+use Rattle.expanded_runs.proofs.Runs.ReplacedCalls.{ComesTo, comes_to_begin, comes_to_call, comes_to_null}
 use Rattle.machine_values.specs.Heaps.{object_at}
 use Rattle.machine_values.specs.Values.{have_kinds}
 use Rattle.machine_values.specs.declared.object.Object.{Object}

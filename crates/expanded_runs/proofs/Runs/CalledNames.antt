@@ -12,8 +12,8 @@ use Rattle.class_model.specs.declared.class_file.MethodAt.{MethodAt}
 use Rattle.class_model.specs.declared.header.Header.{Header}
 use Rattle.class_model.specs.declared.header.Member.{Member}
 use Rattle.class_tree.specs.Headers.{Classes, Headers, Name, class_named}
-use Rattle.expanded_runs.proofs.Runs.NativeMethods.{scope_is_at}
 use Rattle.expanded_code.specs.Callees.{Finds, Runs, StandsAt, own_name, runs_special, runs_static, runs_virtual}
+use Rattle.expanded_runs.proofs.Runs.NativeMethods.{scope_is_at}
 use Rattle.member_link.specs.DeclaredMembers.{Declared, declared, declared_by}
 use Rattle.member_link.specs.Machine.Links.{reference_to}
 use Rattle.member_link.specs.Methods.{FindsMethod, first_named, initialiser, of_array, of_class, polymorphic}

@@ -4,15 +4,16 @@ use Rattle.std.specs.Prelude.{option_and_then}
 use Rattle.std.proofs.lemmas.Option.{none-some, same_Some}
 use Rattle.std.proofs.lemmas.Slice.Eq.{bytes_eq-Decides}
 use Rattle.std.specs.List.{AllByRecursion}
-use Rattle.class_model.specs.Code.{OperandFits}
+use Rattle.std.specs.Prelude.{Result, Ok, Err, codes, ◌⊎◌}
+use Rattle.class_model.specs.Checks.{Fault}
 use Rattle.class_model.specs.ClassOf.{ClassOf}
+use Rattle.class_model.specs.Code.{OperandFits}
 use Rattle.class_model.specs.Instructions.{decoded}
 use Rattle.class_model.specs.Laws.Codes.{code_has}
 use Rattle.class_model.specs.Laws.Lists.{at_index}
 use Rattle.class_model.specs.Names.{init}
 use Rattle.class_model.specs.Pool.{Constants, constant_at}
 use Rattle.class_model.specs.PoolChecks.{class_at}
-use Rattle.class_model.specs.Checks.{Fault}
 use Rattle.class_model.specs.Spelling.{class_bytes}
 use Rattle.class_model.specs.declared.class_file.ClassFile.{ClassFile}
 use Rattle.class_model.specs.declared.class_file.CodePart.{CodePart}
@@ -27,13 +28,13 @@ use Rattle.class_model.specs.declared.instr.Placed.{Placed}
 use Rattle.class_model.specs.declared.opcodes.TheConstants.{INVOKESPECIAL}
 use Rattle.class_tree.specs.Headers.{Headers, IsClassFile, Name, class_named, headers_of}
 use Rattle.code_bytes.specs.Codes.{HasOperands, HasReadOperands, HaveOperands}
-use Rattle.expanded_runs.proofs.Runs.FlatCodes.{code_before, own_point, own_run, point_before}
-use Rattle.expanded_runs.proofs.Runs.NativeMethods.{scope_is_at}
-use Rattle.expanded_runs.proofs.Runs.Setup.{IsSetup, Setup, before}
 use Rattle.expanded_code.specs.Alone.{number_in}
 use Rattle.expanded_code.specs.Callees.{IsCallee, MayStandIn, is_callee}
 use Rattle.expanded_code.specs.Expansions.{Coded}
 use Rattle.expanded_code.specs.Sites.{HasFrames, IsReplaced, IsSite}
+use Rattle.expanded_runs.proofs.Runs.FlatCodes.{code_before, own_point, own_run, point_before}
+use Rattle.expanded_runs.proofs.Runs.NativeMethods.{scope_is_at}
+use Rattle.expanded_runs.proofs.Runs.Setup.{IsSetup, Setup, before}
 use Rattle.member_link.specs.BodyTyping.{AreInOrder}
 use Rattle.member_link.specs.DeclaredMembers.{Declared, declared, own_method}
 use Rattle.member_link.specs.Forms.{IsInstanceForm}
@@ -48,7 +49,6 @@ use Rattle.member_link.specs.Signatures.{reference_of}
 use Rattle.type_rules.specs.Laws.InstructionOrder.{Ascend, ascend}
 use Rattle.type_rules.specs.MethodBodies.{body_of}
 use Rattle.typed_runs.specs.TypedPoints.{HasMethod, IsLinkedOp, TypedPoint}
-use Rattle.std.specs.Prelude.{Result, Ok, Err, codes, ◌⊎◌}
 
 -- ---- laws of other crates
 

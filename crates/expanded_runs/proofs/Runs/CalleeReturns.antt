@@ -8,6 +8,8 @@ use Rattle.class_model.specs.declared.descriptor.FieldType.{FieldType}
 use Rattle.class_model.specs.declared.descriptor.Kind.{Kind}
 use Rattle.class_model.specs.declared.frame.Frame.{Frame}
 use Rattle.class_model.specs.declared.instr.Placed.{Placed}
+use Rattle.expanded_code.specs.Expanded.{callee_of, points_of_callee}
+use Rattle.expanded_code.specs.Expansions.{Coded, Expansion}
 use Rattle.expanded_runs.proofs.Runs.Entries.{GoesTo}
 use Rattle.expanded_runs.proofs.Runs.EntryLaws.{NarrowingStands, narrows_nothing, narrows_quietly}
 use Rattle.expanded_runs.proofs.Runs.FlatOps.{OpAt, ReturnStands, catches_in, narrowing_ops, own_result}
@@ -18,8 +20,6 @@ use Rattle.expanded_runs.proofs.Runs.ReplacedCalls.{IsPlainMethod}
 use Rattle.expanded_runs.proofs.Runs.SameStanding.{InFlat, InPlace, Inside, SameStanding, flat_stands, in_callee, in_host, is_awaited, settled}
 use Rattle.expanded_runs.proofs.Runs.Setup.{Setup, after, before}
 use Rattle.expanded_runs.proofs.Runs.Together.{Basis, Related}
-use Rattle.expanded_code.specs.Expanded.{callee_of, points_of_callee}
-use Rattle.expanded_code.specs.Expansions.{Coded, Expansion}
 use Rattle.machine_values.specs.Frames.{MethodState}
 use Rattle.machine_values.specs.Values.{has_kind, narrowed}
 use Rattle.machine_values.specs.declared.frame.RunFrame.{RunFrame}

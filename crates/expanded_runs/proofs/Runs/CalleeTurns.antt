@@ -8,26 +8,26 @@ use Rattle.class_model.specs.declared.class_file.MethodAt.{MethodAt}
 use Rattle.class_model.specs.declared.descriptor.Kind.TheVariants as kinds
 use Rattle.class_model.specs.declared.frame.Frame.{Frame}
 use Rattle.class_model.specs.declared.instr.Placed.{Placed}
-use Rattle.flow_code.specs.FlatCode.{FlatCode}
+use Rattle.expanded_code.specs.Expanded.{Argument, arguments, tests_receiver}
+use Rattle.expanded_code.specs.Expansions.{Coded, Expansion}
 use Rattle.expanded_runs.proofs.Runs.Entries.{GoesTo, Stores}
 use Rattle.expanded_runs.proofs.Runs.EntryLaws.{fit_units, stores_quietly, turns_quietly, units_of_arguments}
+use Rattle.expanded_runs.proofs.Runs.FlatFacts.{FlatFacts}
 use Rattle.expanded_runs.proofs.Runs.FlatOps.{EntryStands, OpAt, catches_in}
 use Rattle.expanded_runs.proofs.Runs.OpTurns.{AtMethod, keeps_both, turned_by_op}
+use Rattle.expanded_runs.proofs.Runs.PositionLaws.{length_arguments}
 use Rattle.expanded_runs.proofs.Runs.Positions.{IsReplacedAt, Standing, block_of, inner_standing, scope_of, start_of}
 use Rattle.expanded_runs.proofs.Runs.ReplacedCalls.{ComesTo, FitArguments, ReplacedCall, comes_to_begin, comes_to_call, comes_to_null}
 use Rattle.expanded_runs.proofs.Runs.SameStanding.{InFlat, InPlace, Inside, SameStanding, WaitsInFlat, flat_stands, in_callee, is_awaited}
 use Rattle.expanded_runs.proofs.Runs.Setup.{Setup, after, before}
-use Rattle.expanded_runs.proofs.Runs.Standings.{Stands}
-use Rattle.expanded_runs.proofs.Runs.FlatFacts.{FlatFacts}
-use Rattle.expanded_runs.proofs.Runs.PositionLaws.{length_arguments}
 use Rattle.expanded_runs.proofs.Runs.StandingBegins.{typed_at_points}
 use Rattle.expanded_runs.proofs.Runs.StandingCodes.{AtPoints}
 use Rattle.expanded_runs.proofs.Runs.StandingMore.{in_place_more, inside_more, standing_more}
 use Rattle.expanded_runs.proofs.Runs.StandingMoves.{block_up, inside_with, kept_before, own_before}
 use Rattle.expanded_runs.proofs.Runs.StandingUnwinds.{ThrowsInFlat, at_below, flat_unwinds, stands_unwind}
+use Rattle.expanded_runs.proofs.Runs.Standings.{Stands}
 use Rattle.expanded_runs.proofs.Runs.Together.{Basis, Related, alone_keeps, turn_typed, weight}
-use Rattle.expanded_code.specs.Expanded.{Argument, arguments, tests_receiver}
-use Rattle.expanded_code.specs.Expansions.{Coded, Expansion}
+use Rattle.flow_code.specs.FlatCode.{FlatCode}
 use Rattle.machine_values.specs.Frames.{MethodState}
 use Rattle.machine_values.specs.Values.{has_kind, units_of_values}
 use Rattle.machine_values.specs.declared.frame.RunFrame.{RunFrame}
@@ -35,8 +35,8 @@ use Rattle.machine_values.specs.declared.frame.RunFrame.TheVariants.{Method}
 use Rattle.machine_values.specs.declared.value.Value.{Value}
 use Rattle.machine_values.specs.declared.value.Value.TheVariants.{Int, Long, Float, Double, Null, Ref}
 use Rattle.member_link.specs.Machine.Beginnings.{begun_memory, begun_on, frame_with}
-use Rattle.member_link.specs.Machine.Completions.{Completion, calls, raises}
 use Rattle.member_link.specs.Machine.Codes.{method_code}
+use Rattle.member_link.specs.Machine.Completions.{Completion, calls, raises}
 use Rattle.member_link.specs.Machine.Locals.{local_value, width_of}
 use Rattle.member_link.specs.Machine.Ops.{Op, store_local, test_local}
 use Rattle.member_link.specs.Machine.Performing.{called, perform, raised}

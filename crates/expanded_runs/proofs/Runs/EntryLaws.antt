@@ -13,10 +13,10 @@ use Rattle.class_model.specs.declared.descriptor.FieldType.TheVariants as types
 use Rattle.class_model.specs.declared.descriptor.Kind.{Kind}
 use Rattle.class_model.specs.declared.descriptor.Kind.TheVariants as kinds
 use Rattle.class_model.specs.declared.opcodes.TheConstants.{I2B, I2C, I2S, IAND}
+use Rattle.expanded_code.specs.Expanded.{Argument, arguments, arguments_from}
 use Rattle.expanded_runs.proofs.Runs.Entries.{GoesTo, Stores}
 use Rattle.expanded_runs.proofs.Runs.FlatOps.{narrowing_ops}
 use Rattle.expanded_runs.proofs.Runs.ReplacedCalls.{FitArguments}
-use Rattle.expanded_code.specs.Expanded.{Argument, arguments, arguments_from}
 use Rattle.machine_values.specs.Frames.{MethodState}
 use Rattle.machine_values.specs.Values.{has_kind, narrowed, units_of_values}
 use Rattle.machine_values.specs.declared.event.End.TheVariants as ends
@@ -27,9 +27,9 @@ use Rattle.machine_values.specs.declared.value.Value.TheVariants.{Int, Long, Flo
 use Rattle.member_link.specs.Machine.Completions.{gives}
 use Rattle.member_link.specs.Machine.Locals.{stored, width_of}
 use Rattle.member_link.specs.Machine.Ops.{Op, pure_arithmetic, push_value, store_local}
+use Rattle.member_link.specs.Machine.Performing.{resumed}
 use Rattle.member_link.specs.Machine.Programs.{Catch, Point, Program, point_at}
 use Rattle.member_link.specs.Machine.Runs.{Run, shown, turn, turn_by}
-use Rattle.member_link.specs.Machine.Performing.{resumed}
 use Rattle.member_link.specs.Machine.Stepping.{is_library_turn, op_step, point_step, with_top, work_step}
 use Rattle.member_link.specs.Machine.Work.{arity, work}
 use Rattle.member_link.specs.Machine.Worlds.{Memory, World, going}

@@ -8,14 +8,14 @@ use Rattle.class_model.specs.Members.{NATIVE, has}
 use Rattle.class_model.specs.declared.class_file.MethodAt.{MethodAt}
 use Rattle.class_model.specs.declared.instr.Placed.{Placed}
 use Rattle.class_tree.specs.Headers.{Classes, headers_of}
+use Rattle.expanded_code.specs.Alone.{number_in}
+use Rattle.expanded_code.specs.Laws.NumberedInstrs.{found-instr, or_behind}
+use Rattle.expanded_runs.proofs.AloneCode.{first-numbered, first-placed, found-point, length-numbered}
+use Rattle.expanded_runs.proofs.Runs.NativeMethods.{IsScopeAt, not_native, scope_is_at}
+use Rattle.expanded_runs.proofs.Runs.Setup.{IsSetup, Setup, after, before}
 use Rattle.flow_code.specs.FlatCode.{FlatCode}
 use Rattle.flow_code.specs.declared.handlers.FlatHandler.{FlatHandler}
 use Rattle.flow_code.specs.declared.point.Point.{Point as FlatPoint}
-use Rattle.expanded_runs.proofs.AloneCode.{first-numbered, first-placed, found-point, length-numbered}
-use Rattle.expanded_code.specs.Laws.NumberedInstrs.{found-instr, or_behind}
-use Rattle.expanded_runs.proofs.Runs.NativeMethods.{IsScopeAt, not_native, scope_is_at}
-use Rattle.expanded_runs.proofs.Runs.Setup.{IsSetup, Setup, after, before}
-use Rattle.expanded_code.specs.Alone.{number_in}
 use Rattle.member_link.specs.Bodies.{item_instr}
 use Rattle.member_link.specs.Machine.Classes.{program_of, run_class_of, run_method_of}
 use Rattle.member_link.specs.Machine.Codes.{CodePoint, catches_at, code_points, instr_op, item_op, method_code, number_at}

@@ -8,14 +8,14 @@ use Rattle.class_model.specs.declared.class_file.MethodAt.{MethodAt}
 use Rattle.class_model.specs.declared.frame.Frame.{Frame}
 use Rattle.class_model.specs.declared.instr.Placed.{Placed}
 use Rattle.class_tree.specs.Headers.{Name}
-use Rattle.flow_code.specs.declared.handlers.FlatHandler.{FlatHandler}
+use Rattle.expanded_code.specs.Alone.{handler_by, number_in}
+use Rattle.expanded_code.specs.Expanded.{expanded, host_setting, number_from}
+use Rattle.expanded_code.specs.Expansions.{Coded, Expansion}
 use Rattle.expanded_runs.proofs.Runs.FlatOps.{catches_in}
 use Rattle.expanded_runs.proofs.Runs.PositionLaws.{Fits, length_points, number_start, start_most}
 use Rattle.expanded_runs.proofs.Runs.Positions.{Standing, host_standing, inner_standing, start_of}
 use Rattle.expanded_runs.proofs.Runs.Standings.{IsStanding, callee_stands, host_stands}
-use Rattle.expanded_code.specs.Alone.{handler_by, number_in}
-use Rattle.expanded_code.specs.Expanded.{expanded, host_setting, number_from}
-use Rattle.expanded_code.specs.Expansions.{Coded, Expansion}
+use Rattle.flow_code.specs.declared.handlers.FlatHandler.{FlatHandler}
 use Rattle.member_link.specs.Machine.Codes.{catch_in, catches_at, covers}
 use Rattle.member_link.specs.Machine.Programs.{Catch}
 use Rattle.member_link.specs.Scope.{Scope, instructions}

@@ -17,9 +17,12 @@ use Rattle.class_model.specs.declared.instr.Instr.TheVariants.{Dynamic, Goto, In
 use Rattle.class_model.specs.declared.instr.Placed.{Placed}
 use Rattle.class_model.specs.declared.opcodes.TheConstants.{INVOKESPECIAL}
 use Rattle.class_tree.specs.Headers.{headers_of}
-use Rattle.flow_code.specs.FlatCode.{FlatCode}
-use Rattle.flow_code.specs.declared.point.FlatInstr.TheVariants.{NullTest}
-use Rattle.flow_code.specs.declared.point.Point.{Point as FlatPoint}
+use Rattle.expanded_code.specs.Alone.{number_in}
+use Rattle.expanded_code.specs.Callees.{IsPlain, NamesInitialiser}
+use Rattle.expanded_code.specs.ExpandAnswers.{is_initialiser}
+use Rattle.expanded_code.specs.Expanded.{Narrowing, arguments, callee_of, callee_setting, expanded, frame_behind_stores, instr_points, own_narrowing, own_points, point_in, points_before, points_from, points_of_callee, set_frame, set_instr, store_points, test_points, with_unit}
+use Rattle.expanded_code.specs.Expansions.{Coded, Expands, Expansion}
+use Rattle.expanded_code.specs.Sites.{HasFrames, IsReplaced}
 use Rattle.expanded_runs.proofs.AloneProgram.{EachTyped, OneEach, pool-of-scope}
 use Rattle.expanded_runs.proofs.Runs.CalleeLaws.{Callee, CodeLaws, StandsHere, initialiser_called, operand_fits, replaced_callee, site_is_new, site_makes, stands_here}
 use Rattle.expanded_runs.proofs.Runs.FlatCodes.{number_stays, own_point, own_run, point_after}
@@ -33,12 +36,9 @@ use Rattle.expanded_runs.proofs.Runs.ReplacedCalls.{IsPlainMethod}
 use Rattle.expanded_runs.proofs.Runs.Setup.{IsSetup, Setup, after, before}
 use Rattle.expanded_runs.proofs.Runs.StandingLaws.{BecomesAs, as_replaced, becomes_as, it_is_replaced, it_makes_site, it_remains, stands_so}
 use Rattle.expanded_runs.proofs.Runs.Standings.{IsStanding, Stands, callee_stands, host_stands}
-use Rattle.expanded_code.specs.Alone.{number_in}
-use Rattle.expanded_code.specs.Callees.{IsPlain, NamesInitialiser}
-use Rattle.expanded_code.specs.ExpandAnswers.{is_initialiser}
-use Rattle.expanded_code.specs.Expanded.{Narrowing, arguments, callee_of, callee_setting, expanded, frame_behind_stores, instr_points, own_narrowing, own_points, point_in, points_before, points_from, points_of_callee, set_frame, set_instr, store_points, test_points, with_unit}
-use Rattle.expanded_code.specs.Expansions.{Coded, Expands, Expansion}
-use Rattle.expanded_code.specs.Sites.{HasFrames, IsReplaced}
+use Rattle.flow_code.specs.FlatCode.{FlatCode}
+use Rattle.flow_code.specs.declared.point.FlatInstr.TheVariants.{NullTest}
+use Rattle.flow_code.specs.declared.point.Point.{Point as FlatPoint}
 use Rattle.member_link.specs.Laws.Renumbered.{IsSamePoint, op_renumbered}
 use Rattle.member_link.specs.Machine.Classes.{run_method_of}
 use Rattle.member_link.specs.Machine.Codes.{dynamic_op, initialises, instr_op, number_at, return_op, special_start}

@@ -18,11 +18,11 @@ use Rattle.class_model.specs.declared.instr.Instr.TheVariants.{New, PutField, Pu
 use Rattle.class_model.specs.declared.instr.Placed.{Placed}
 use Rattle.class_model.specs.declared.pool.Const.{Const as PoolConst}
 use Rattle.class_model.specs.declared.pool.Const.TheVariants.{InvokeDynamic}
+use Rattle.expanded_code.specs.Expanded.{Argument, Narrowing, callee_of, frame_stored, instr_points, narrowing, own_points, point_in, return_points, set_frame, set_instr, store_points}
 use Rattle.expanded_runs.proofs.Runs.CalleeLaws.{IsNew}
 use Rattle.expanded_runs.proofs.Runs.FlatOps.{EndsHost, narrowing_ops}
 use Rattle.expanded_runs.proofs.Runs.MovedOps.{IsPlainOp, Keeps, Same}
 use Rattle.expanded_runs.proofs.Runs.Positions.{Standing}
-use Rattle.expanded_code.specs.Expanded.{Argument, Narrowing, callee_of, frame_stored, instr_points, narrowing, own_points, point_in, return_points, set_frame, set_instr, store_points}
 use Rattle.member_link.specs.Machine.Codes.{dynamic_op, initialises, instr_op, return_op}
 use Rattle.member_link.specs.Machine.Ops.{Op, meaningless, put_static, return_nothing, return_value}
 use Rattle.member_link.specs.Machine.Programs.{Links, Program}

@@ -8,11 +8,11 @@ use Rattle.class_model.specs.declared.frame.Frame.{Frame}
 use Rattle.class_model.specs.declared.instr.Instr.TheVariants.{Return}
 use Rattle.class_model.specs.declared.instr.Placed.{Placed}
 use Rattle.class_model.specs.declared.opcodes.TheConstants.{I2B, I2C, I2S, IAND}
-use Rattle.expanded_runs.proofs.Runs.Positions.{IsReplacedAt, Standing, block_of, scope_of, start_of}
-use Rattle.expanded_runs.proofs.Runs.Setup.{Setup, after, before}
 use Rattle.expanded_code.specs.Expanded.{Argument, arguments, tests_receiver}
 use Rattle.expanded_code.specs.Expansions.{Coded, Expansion}
 use Rattle.expanded_code.specs.Sites.{HasFrames, IsReplaced}
+use Rattle.expanded_runs.proofs.Runs.Positions.{IsReplacedAt, Standing, block_of, scope_of, start_of}
+use Rattle.expanded_runs.proofs.Runs.Setup.{Setup, after, before}
 use Rattle.machine_values.specs.declared.value.Value.{Value}
 use Rattle.machine_values.specs.declared.value.Value.TheVariants.{Int}
 use Rattle.member_link.specs.Machine.Codes.{return_op}

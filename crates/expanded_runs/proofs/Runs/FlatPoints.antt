@@ -1,14 +1,17 @@
 -- Where what stands for an instruction begins, flat code has a point with the handlers of the instruction.
 use Rattle.std.proofs.Common.{◌≡◌, ◌+◌, ◌≤◌, ℕ, Bool, true, false, List, [], ◌∷◌, ◌++◌, length, map, reverse, slice_get, Option, Some, None, refl, sym, ap, subst, ◌∙◌, arith}
 use Rattle.std.specs.List.{AllByRecursion}
+use Rattle.std.proofs.lemmas.Option.{slice_get_within}
+use Rattle.class_model.specs.Laws.Lists.{none_behind}
 use Rattle.class_model.specs.declared.class_file.MethodAt.{MethodAt}
 use Rattle.class_model.specs.declared.frame.Frame.{Frame}
 use Rattle.class_model.specs.declared.instr.Instr.{Instr}
 use Rattle.class_model.specs.declared.instr.Instr.TheVariants.{Goto, Return}
 use Rattle.class_model.specs.declared.instr.Placed.{Placed}
-use Rattle.flow_code.specs.FlatCode.{FlatCode}
-use Rattle.flow_code.specs.declared.handlers.FlatHandler.{FlatHandler}
-use Rattle.flow_code.specs.declared.point.Point.{Point as FlatPoint}
+use Rattle.expanded_code.specs.ExpandAnswers.{IsExpanded}
+use Rattle.expanded_code.specs.Expanded.{Argument, Narrowing, Setting, arguments, callee_setting, expanded, frame_behind_stores, instr_points, own_narrowing, point_in, points_before, points_from, points_of_entry, return_points, set_frame, set_instr, store_points, test_points, tests_receiver}
+use Rattle.expanded_code.specs.Expansions.{Coded, Expands, Expansion}
+use Rattle.expanded_code.specs.Sites.{HasFrames}
 use Rattle.expanded_runs.proofs.AloneProgram.{EachTyped, OneEach}
 use Rattle.expanded_runs.proofs.Runs.FlatCodes.{code_after, code_before, flat_run_point, point_after}
 use Rattle.expanded_runs.proofs.Runs.FlatHandlers.{begin_within}
@@ -18,16 +21,13 @@ use Rattle.expanded_runs.proofs.Runs.Positions.{Becomes, Standing, becomes, bloc
 use Rattle.expanded_runs.proofs.Runs.Setup.{IsSetup, Setup, after, before}
 use Rattle.expanded_runs.proofs.Runs.StandingLaws.{BecomesAs, as_many, becomes_as, expands_fit, has_first, it_is_replaced, it_makes_site, it_remains, stands_so}
 use Rattle.expanded_runs.proofs.Runs.Standings.{IsStanding, Stands, host_stands}
-use Rattle.expanded_code.specs.ExpandAnswers.{IsExpanded}
-use Rattle.expanded_code.specs.Expanded.{Argument, Narrowing, Setting, arguments, callee_setting, expanded, frame_behind_stores, instr_points, own_narrowing, point_in, points_before, points_from, points_of_entry, return_points, set_frame, set_instr, store_points, test_points, tests_receiver}
-use Rattle.expanded_code.specs.Expansions.{Coded, Expands, Expansion}
-use Rattle.expanded_code.specs.Sites.{HasFrames}
-use Rattle.class_model.specs.Laws.Lists.{none_behind}
+use Rattle.flow_code.specs.FlatCode.{FlatCode}
+use Rattle.flow_code.specs.declared.handlers.FlatHandler.{FlatHandler}
+use Rattle.flow_code.specs.declared.point.Point.{Point as FlatPoint}
 use Rattle.member_link.specs.Machine.Codes.{method_code}
 use Rattle.member_link.specs.Machine.Programs.{Code, Point, code_at, point_at}
 use Rattle.member_link.specs.Scope.{Scope, instructions}
 use Rattle.same_runs.specs.Flats.{flat_catch, flat_code}
-use Rattle.std.proofs.lemmas.Option.{slice_get_within}
 
 -- ---- the first of some points
 

@@ -8,19 +8,19 @@ use Rattle.class_model.specs.declared.instr.Instr.{Instr}
 use Rattle.class_model.specs.declared.instr.Instr.TheVariants.{Invoke, New}
 use Rattle.class_model.specs.declared.instr.Placed.{Placed}
 use Rattle.class_tree.specs.Headers.{Classes, Headers, Name}
-use Rattle.flow_code.specs.declared.point.Site.{Site}
-use Rattle.expanded_code.specs.Laws.Instructions.{first_there}
-use Rattle.expanded_runs.proofs.Runs.Positions.{Becomes, Standing, becomes, instrs_of, is_replaced, makes_site, start_from}
-use Rattle.expanded_runs.proofs.Runs.StandingLaws.{BecomesAs, it_is_replaced, it_makes_site, it_remains}
-use Rattle.expanded_runs.proofs.Runs.Standings.{IsStanding, callee_stands, host_stands}
 use Rattle.expanded_code.specs.Callees.{instr_at}
 use Rattle.expanded_code.specs.Candidates.{IsCandidate}
 use Rattle.expanded_code.specs.Expanded.{callee_of, expanded, own_points, points_before, points_of_callee, sites_from}
 use Rattle.expanded_code.specs.Expansions.{Coded, Expands, Expansion, expands_none, expands_replaced, expands_site, expands_stays, no_more, replaced, site, stays}
+use Rattle.expanded_code.specs.Laws.Instructions.{first_there}
 use Rattle.expanded_code.specs.Sites.{IsReplaced, IsSite}
+use Rattle.expanded_runs.proofs.Runs.Positions.{Becomes, Standing, becomes, instrs_of, is_replaced, makes_site, start_from}
+use Rattle.expanded_runs.proofs.Runs.StandingLaws.{BecomesAs, it_is_replaced, it_makes_site, it_remains}
+use Rattle.expanded_runs.proofs.Runs.Standings.{IsStanding, callee_stands, host_stands}
+use Rattle.flow_code.specs.TypedFrames.{FolderFrames}
+use Rattle.flow_code.specs.declared.point.Site.{Site}
 use Rattle.member_link.specs.CodedMethods.{placed_at}
 use Rattle.member_link.specs.Scope.{Scope, class_of_new, instructions}
-use Rattle.flow_code.specs.TypedFrames.{FolderFrames}
 
 -- ---- sites of a class
 

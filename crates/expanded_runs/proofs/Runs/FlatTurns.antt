@@ -5,18 +5,18 @@ use Rattle.std.proofs.lemmas.List.{append-nil}
 use Rattle.class_model.specs.declared.class_file.MethodAt.{MethodAt}
 use Rattle.class_model.specs.declared.descriptor.FieldType.{FieldType}
 use Rattle.class_model.specs.declared.instr.Placed.{Placed}
+use Rattle.expanded_code.specs.Expansions.{Coded, Expansion}
+use Rattle.expanded_runs.proofs.Runs.FlatFacts.{FlatFacts}
 use Rattle.expanded_runs.proofs.Runs.FlatOps.{EndsHost, OpStands, catches_in}
 use Rattle.expanded_runs.proofs.Runs.OpTurns.{AtMethod, Family, both_step, both_work_on, family_of, has_meaning, has_operands, keeps_both, means_nothing, moves, returns_nothing, returns_value, step_goes_on, works}
 use Rattle.expanded_runs.proofs.Runs.Positions.{Standing, start_of}
 use Rattle.expanded_runs.proofs.Runs.SameStanding.{InFlat, Inside, SameStanding, WaitsInFlat, comparison, in_callee, in_host, is_awaited}
 use Rattle.expanded_runs.proofs.Runs.Setup.{Setup, after, before}
-use Rattle.expanded_runs.proofs.Runs.FlatFacts.{FlatFacts}
 use Rattle.expanded_runs.proofs.Runs.StandingBegins.{typed_at_points}
 use Rattle.expanded_runs.proofs.Runs.StandingCodes.{AtPoints}
 use Rattle.expanded_runs.proofs.Runs.StandingFrames.{flat_goes, host_returns}
 use Rattle.expanded_runs.proofs.Runs.StandingMoves.{flat_moves}
 use Rattle.expanded_runs.proofs.Runs.Together.{Basis, Related}
-use Rattle.expanded_code.specs.Expansions.{Coded, Expansion}
 use Rattle.machine_values.specs.Frames.{MethodState}
 use Rattle.machine_values.specs.declared.frame.RunFrame.{RunFrame}
 use Rattle.machine_values.specs.declared.frame.RunFrame.TheVariants.{Method}

@@ -1,8 +1,8 @@
 -- A turn of both where the library's frame, or the beginning of a class, is on top of both.
 use Rattle.std.proofs.Common.{◌≡◌, ◌+◌, ℕ, Bool, true, false, List, [], ◌∷◌, Option, refl, sym, ap, subst, ◌∙◌, inl, inr}
+use Rattle.expanded_runs.proofs.Runs.FlatFacts.{FlatFacts}
 use Rattle.expanded_runs.proofs.Runs.SameStanding.{SameStanding, comparison}
 use Rattle.expanded_runs.proofs.Runs.Setup.{Setup, after, before}
-use Rattle.expanded_runs.proofs.Runs.FlatFacts.{FlatFacts}
 use Rattle.expanded_runs.proofs.Runs.StandingBegins.{typed_at_points}
 use Rattle.expanded_runs.proofs.Runs.StandingCodes.{AtPoints}
 use Rattle.expanded_runs.proofs.Runs.StandingFrames.{at_library, begins_on}

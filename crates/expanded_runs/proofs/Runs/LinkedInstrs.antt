@@ -14,13 +14,14 @@ use Rattle.class_model.specs.declared.instr.Instr.TheVariants.{Invoke, PutField,
 use Rattle.class_model.specs.declared.instr.Placed.{Placed}
 use Rattle.class_model.specs.declared.opcodes.TheConstants.{INVOKESPECIAL}
 use Rattle.class_tree.specs.Headers.{Classes}
+use Rattle.expanded_code.specs.Alone.{number_at, number_in}
+use Rattle.expanded_code.specs.Callees.{IsCall, instr_at}
+use Rattle.expanded_code.specs.Sites.{HasFrames}
 use Rattle.expanded_runs.proofs.AloneProgram.{EachTyped}
 use Rattle.expanded_runs.proofs.Runs.CalleeLaws.{typed_here}
 use Rattle.expanded_runs.proofs.Runs.FlatCodes.{own_point, point_before}
 use Rattle.expanded_runs.proofs.Runs.Setup.{IsSetup, Setup, before}
-use Rattle.expanded_code.specs.Alone.{number_at, number_in}
-use Rattle.expanded_code.specs.Callees.{IsCall, instr_at}
-use Rattle.expanded_code.specs.Sites.{HasFrames}
+use Rattle.flow_code.specs.TypedFrames.{FolderFrames, typed_frames_at}
 use Rattle.member_link.specs.Bodies.{Body, BodyPoint, frame_behind, item_targets, point_row}
 use Rattle.member_link.specs.CodedMethods.{placed_at}
 use Rattle.member_link.specs.Forms.{IsInstanceForm, IsStaticForm}
@@ -35,10 +36,9 @@ use Rattle.member_link.specs.Rows.Table.{row_of}
 use Rattle.member_link.specs.Scope.{Scope, instructions, is_clinit, is_init, row_scope, scope_at}
 use Rattle.member_link.specs.Signatures.{reference_of}
 use Rattle.type_rules.specs.Checks.{IsTypedAt, handler_checks, instr_checks, target_checks}
-use Rattle.type_rules.specs.Rule.{row_checks}
 use Rattle.type_rules.specs.MethodBodies.{body_of, point_of}
+use Rattle.type_rules.specs.Rule.{row_checks}
 use Rattle.type_rules.specs.Typed.{TypesBody, flows_into}
-use Rattle.flow_code.specs.TypedFrames.{FolderFrames, typed_frames_at}
 use Rattle.type_rules.specs.Verified.{TypesFolder, TypesMethod}
 use Rattle.typed_runs.specs.TypedPoints.{HasField, IsLinkedOp}
 

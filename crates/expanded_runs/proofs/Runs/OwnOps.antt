@@ -2,6 +2,7 @@
 use Rattle.std.proofs.Common.{◌≡◌, ◌==◌, ◌&&◌, nat_le, ℕ, Bool, true, false, List, slice_get, Option, Some, None, option_map, IsSome, refl, sym, ap, subst, ◌∙◌, if◌then◌else◌}
 use Rattle.std.proofs.lemmas.Bool.{eqb-true}
 use Rattle.std.proofs.lemmas.Option.{none-some, slice_get-map}
+use Rattle.std.specs.Prelude.{option_and_then}
 use Rattle.class_model.specs.Header.{header_of}
 use Rattle.class_model.specs.Members.{NATIVE, has}
 use Rattle.class_model.specs.Names.{init}
@@ -21,10 +22,10 @@ use Rattle.class_model.specs.declared.opcodes.TheConstants.{IALOAD, IASTORE, IFE
 use Rattle.class_model.specs.declared.pool.Const.{Const as PoolConst}
 use Rattle.class_model.specs.declared.pool.Const.TheVariants as consts
 use Rattle.class_tree.specs.Headers.{Name, headers_of}
+use Rattle.expanded_code.specs.Alone.{number_in}
 use Rattle.expanded_runs.proofs.Runs.CalleeLaws.{initialiser_called, stands_here}
 use Rattle.expanded_runs.proofs.Runs.FlatCodes.{own_code}
 use Rattle.expanded_runs.proofs.Runs.Setup.{IsSetup, Setup, after, before}
-use Rattle.expanded_code.specs.Alone.{number_in}
 use Rattle.machine_values.specs.declared.object.Constant.{Constant}
 use Rattle.member_link.specs.Machine.Classes.{run_class_of, run_method_of}
 use Rattle.member_link.specs.Machine.Codes.{call_op, constant_op, dynamic_op, handle_of, if_between, initialises, instr_op, naming, or_meaningless, return_op, special_start}
@@ -36,7 +37,6 @@ use Rattle.member_link.specs.Rows.ArrayRows.{array_of, primitive_array}
 use Rattle.member_link.specs.Scope.{Scope, instructions, is_clinit, is_init, row_scope, scope_at, scope_of}
 use Rattle.member_link.specs.Signatures.{reference_of}
 use Rattle.same_runs.specs.SamePrograms.{IsInBoth, SameBar}
-use Rattle.std.specs.Prelude.{option_and_then}
 
 -- what another part of the proof gives: stores of a method are barred in both programs or in none
 pub record OwnBars (u : Setup) : Type 0 where

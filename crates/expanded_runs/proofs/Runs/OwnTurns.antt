@@ -1,10 +1,10 @@
 -- A turn of both where a method without flat code is on top: it runs its own code in both.
 use Rattle.std.proofs.Common.{◌≡◌, ℕ, List, [], ◌∷◌, Some, sym, subst}
 use Rattle.std.proofs.lemmas.List.{append-nil}
+use Rattle.expanded_runs.proofs.Runs.FlatFacts.{FlatFacts}
 use Rattle.expanded_runs.proofs.Runs.OpTurns.{AtMethod, Family, both_step, both_work_on, family_of, has_meaning, keeps_both, means_nothing, moves, returns_nothing, returns_value, works}
 use Rattle.expanded_runs.proofs.Runs.SameStanding.{InOwn, SameStanding, comparison, is_awaited}
 use Rattle.expanded_runs.proofs.Runs.Setup.{Setup, after, before}
-use Rattle.expanded_runs.proofs.Runs.FlatFacts.{FlatFacts}
 use Rattle.expanded_runs.proofs.Runs.StandingBegins.{typed_at_points}
 use Rattle.expanded_runs.proofs.Runs.StandingCodes.{AtPoints}
 use Rattle.expanded_runs.proofs.Runs.StandingFrames.{own_goes, own_returns}

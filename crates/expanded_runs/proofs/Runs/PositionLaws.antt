@@ -10,12 +10,12 @@ use Rattle.class_model.specs.declared.instr.Instr.{Instr}
 use Rattle.class_model.specs.declared.instr.Instr.TheVariants.{Return}
 use Rattle.class_model.specs.declared.instr.Placed.{Placed}
 use Rattle.class_tree.specs.Headers.{Name}
-use Rattle.flow_code.specs.declared.point.Point.{Point}
-use Rattle.expanded_code.specs.Laws.NumberedInstrs.{found-instr, or_behind}
-use Rattle.expanded_runs.proofs.Runs.Positions.{Becomes, StandsFrom, becomes, block_from, is_none, is_replaced, makes_site, remains, start_from}
 use Rattle.expanded_code.specs.Alone.{number_in}
 use Rattle.expanded_code.specs.Expanded.{Argument, Setting, arguments, arguments_from, callee_of, callee_setting, frame_behind_stores, frame_stored, instr_points, number_from, own_points, points_before, points_from, points_of, points_of_callee, points_of_entry, set_frame, store_points, test_points, tests_receiver, units_in}
 use Rattle.expanded_code.specs.Expansions.{Coded, Expansion, no_more, replaced, site, stays}
+use Rattle.expanded_code.specs.Laws.NumberedInstrs.{found-instr, or_behind}
+use Rattle.expanded_runs.proofs.Runs.Positions.{Becomes, StandsFrom, becomes, block_from, is_none, is_replaced, makes_site, remains, start_from}
+use Rattle.flow_code.specs.declared.point.Point.{Point}
 use Rattle.member_link.specs.Machine.Programs.{number_of_first}
 use Rattle.member_link.specs.Scope.{Scope, instructions, own_descriptor}
 

@@ -3,9 +3,9 @@ use Rattle.std.specs.Prelude.{◌≡◌, ◌+◌, ℕ, zero, suc, List, ◌∷�
 use Rattle.class_model.specs.declared.frame.Frame.{Frame}
 use Rattle.class_model.specs.declared.instr.Placed.{Placed}
 use Rattle.class_tree.specs.Headers.{Name}
-use Rattle.flow_code.specs.declared.point.Point.{Point}
 use Rattle.expanded_code.specs.Expanded.{Setting, callee_of, callee_setting, host_setting, own_points, points_before, points_from, points_of_callee, set_frame, units_in}
 use Rattle.expanded_code.specs.Expansions.{Coded, Expansion, no_more, replaced, site, stays}
+use Rattle.flow_code.specs.declared.point.Point.{Point}
 use Rattle.member_link.specs.Scope.{Scope, instructions}
 
 -- ---- by the number of an instruction

@@ -11,9 +11,9 @@ use Rattle.class_model.specs.declared.header.Member.{Member}
 use Rattle.class_tree.specs.Headers.{Name, Classes, headers_of, named}
 use Rattle.class_tree.specs.Hierarchy.{IsHierarchy}
 use Rattle.class_tree.specs.Laws.Above.{class_decides, hierarchy_is_sound, there_is_no_array}
-use Rattle.expanded_runs.proofs.Runs.CallTargets.{class_of_scope, number_mapped}
 use Rattle.expanded_code.specs.Callees.{own_name}
 use Rattle.expanded_code.specs.Quiet.{IsQuiet}
+use Rattle.expanded_runs.proofs.Runs.CallTargets.{class_of_scope, number_mapped}
 use Rattle.member_link.specs.Access.{IsAtOrBelow}
 use Rattle.member_link.specs.Machine.Classes.{program_of, run_class_of, run_method_of}
 use Rattle.member_link.specs.Machine.Links.{AreLinksOf}

@@ -23,6 +23,10 @@ use Rattle.class_model.specs.declared.instr.Placed.{Placed}
 use Rattle.class_model.specs.declared.opcodes.TheConstants.{INVOKESPECIAL}
 use Rattle.class_tree.specs.Headers.{Name, class_named, headers_of}
 use Rattle.class_tree.specs.Names.{object}
+use Rattle.expanded_code.specs.Callees.{Calls, IsClass, IsOverriddenByNone, MayStandIn, Runs, own_name, runs_special, runs_static, runs_virtual}
+use Rattle.expanded_code.specs.Expanded.{Argument, arguments, arguments_from, tests_receiver}
+use Rattle.expanded_code.specs.Expansions.{Coded}
+use Rattle.expanded_code.specs.Sites.{HasFrames, IsReplaced}
 use Rattle.expanded_runs.proofs.Runs.CallChoices.{special_chosen, special_start_is, virtual_chosen}
 use Rattle.expanded_runs.proofs.Runs.CallFrames.{GoesOn, does, goes_on, row_of_instr}
 use Rattle.expanded_runs.proofs.Runs.CallLaws.{CallLaws, callee_parts, headers, init_chosen, init_class, kinds_fit, links_to, moved, no_handle, plain_call, same_desc, start_below, text_is, text_named}
@@ -33,10 +37,6 @@ use Rattle.expanded_runs.proofs.Runs.QuietInert.{quiet_is_inert}
 use Rattle.expanded_runs.proofs.Runs.ReplacedCalls.{ComesTo, FitArguments, IsPlainMethod, ReplacedCall, comes_to_call}
 use Rattle.expanded_runs.proofs.Runs.Setup.{IsSetup, Setup, before}
 use Rattle.expanded_runs.proofs.Runs.TypedCalls.{HoldsCall, holds_call, init_object, typed_receiver}
-use Rattle.expanded_code.specs.Callees.{Calls, IsClass, IsOverriddenByNone, MayStandIn, Runs, own_name, runs_special, runs_static, runs_virtual}
-use Rattle.expanded_code.specs.Expanded.{Argument, arguments, arguments_from, tests_receiver}
-use Rattle.expanded_code.specs.Expansions.{Coded}
-use Rattle.expanded_code.specs.Sites.{HasFrames, IsReplaced}
 use Rattle.machine_values.specs.Frames.{MethodState}
 use Rattle.machine_values.specs.Heaps.{object_at}
 use Rattle.machine_values.specs.Values.{has_kind, have_kinds}
@@ -47,9 +47,9 @@ use Rattle.machine_values.specs.declared.object.Shape.{Shape}
 use Rattle.machine_values.specs.declared.value.Value.{Value}
 use Rattle.machine_values.specs.declared.value.Value.TheVariants as values
 use Rattle.member_link.specs.Assignability.{IsAssignable}
-use Rattle.member_link.specs.Choices.{IsRunnable}
 use Rattle.member_link.specs.Bodies.{item_instr, item_row}
 use Rattle.member_link.specs.BodyTyping.{RowHolds}
+use Rattle.member_link.specs.Choices.{IsRunnable}
 use Rattle.member_link.specs.CodedMethods.{placed_at}
 use Rattle.member_link.specs.DeclaredMembers.{Declared, IsMethod}
 use Rattle.member_link.specs.FoundAbove.{IsMethodAbove}

@@ -1,8 +1,8 @@
 -- What a call comes to that flat code replaces by the callee's own code.
 use Rattle.std.specs.Prelude.{◌≡◌, nat_le, ℕ, true, false, List, [], ◌∷◌, length, slice_get, Some, IsTrue, IsFalse}
-use Rattle.expanded_runs.proofs.Runs.Setup.{Setup, before}
 use Rattle.expanded_code.specs.Expanded.{Argument, arguments, tests_receiver}
 use Rattle.expanded_code.specs.Expansions.{Coded}
+use Rattle.expanded_runs.proofs.Runs.Setup.{Setup, before}
 use Rattle.machine_values.specs.Frames.{MethodState}
 use Rattle.machine_values.specs.Values.{has_kind}
 use Rattle.machine_values.specs.declared.value.Value.{Value}

@@ -3,10 +3,10 @@ use Rattle.std.proofs.Common.{List, sym, subst}
 use Rattle.std.specs.List.{AllByRecursion}
 use Rattle.expanded_runs.proofs.Runs.Setup.{IsSetup, Setup, after, before}
 use Rattle.member_link.specs.Machine.Programs.{RunMethod}
-use Rattle.same_runs.specs.SamePrograms.{IsAdded, SamePrograms}
 use Rattle.same_runs.specs.Laws.FlatPrograms.{flats_alike}
 use Rattle.same_runs.specs.Laws.QuietBeginnings.{BeginAlike, hierarchies_begin_alike}
 use Rattle.same_runs.specs.Laws.ReplacedPrograms.{ReplacesAlike, replaced_same}
+use Rattle.same_runs.specs.SamePrograms.{IsAdded, SamePrograms}
 
 module _ {u : Setup} (is : IsSetup u) where
   flats_replace : ReplacesAlike (before u) u.r

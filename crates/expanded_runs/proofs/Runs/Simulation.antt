@@ -7,6 +7,9 @@ use Rattle.class_model.specs.declared.descriptor.Kind.{Kind}
 use Rattle.class_model.specs.declared.frame.Frame.{Frame}
 use Rattle.class_model.specs.declared.instr.Instr.TheVariants.{Return}
 use Rattle.class_model.specs.declared.instr.Placed.{Placed}
+use Rattle.expanded_code.specs.Expanded.{arguments}
+use Rattle.expanded_code.specs.Expansions.{Coded, Expansion}
+use Rattle.expanded_code.specs.Sites.{HasFrames, IsReplaced}
 use Rattle.expanded_runs.proofs.Runs.CalleeReturns.{Caller, ReturnsAlone, caller_of, return_turn}
 use Rattle.expanded_runs.proofs.Runs.CalleeTurns.{call_turn}
 use Rattle.expanded_runs.proofs.Runs.EntryLaws.{units_of_arguments}
@@ -23,9 +26,6 @@ use Rattle.expanded_runs.proofs.Runs.Setup.{Setup, after, before}
 use Rattle.expanded_runs.proofs.Runs.StandingCodes.{standing_of}
 use Rattle.expanded_runs.proofs.Runs.Standings.{Stands}
 use Rattle.expanded_runs.proofs.Runs.Together.{Basis, Over, Related, Together, NoTurnBelow, beginning_keeps, depth, keeps_behind, over_keeps, weight}
-use Rattle.expanded_code.specs.Expanded.{arguments}
-use Rattle.expanded_code.specs.Expansions.{Coded, Expansion}
-use Rattle.expanded_code.specs.Sites.{HasFrames, IsReplaced}
 use Rattle.machine_values.specs.Frames.{MethodState}
 use Rattle.machine_values.specs.declared.action.Action.{Action}
 use Rattle.machine_values.specs.declared.frame.RunFrame.{RunFrame}

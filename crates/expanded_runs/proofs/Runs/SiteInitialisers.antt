@@ -18,30 +18,30 @@ use Rattle.class_tree.specs.Hierarchy.{IsHierarchy}
 use Rattle.class_tree.specs.Laws.Names.{one_name_first, one_of_first}
 use Rattle.class_tree.specs.Names.{object}
 use Rattle.class_tree.specs.declared.place.Place.TheVariants.{Folder}
+use Rattle.expanded_code.specs.Callees.{Calls, InitialisesAt, IsCall, IsCallee, Runs, is_callee, own_name, runs_special, runs_static, runs_virtual}
+use Rattle.expanded_code.specs.Expanded.{expanded}
+use Rattle.expanded_code.specs.Expansions.{Coded, Expands, Expansion}
+use Rattle.expanded_code.specs.Laws.Instructions.{new_there}
+use Rattle.expanded_code.specs.Laws.SuperChains.{chain_is, chain_of_object, has_superclass, of_each_class, super_there}
+use Rattle.expanded_code.specs.Quiet.{chain}
+use Rattle.expanded_code.specs.Sites.{HasFrames, IsReplaced, IsSite}
 use Rattle.expanded_runs.proofs.AloneProgram.{EachTyped, OneEach}
 use Rattle.expanded_runs.proofs.Runs.CalledNames.{clinit_named, init_named, init_of_named, method_at, run_has_name}
 use Rattle.expanded_runs.proofs.Runs.CalleeLaws.{site_makes}
 use Rattle.expanded_runs.proofs.Runs.FlatSites.{HasSite, becomes_site, site_is_candidate, site_stands}
-use Rattle.expanded_code.specs.Laws.Instructions.{new_there}
 use Rattle.expanded_runs.proofs.Runs.LinkedInstrs.{EachInstrTyped, IsOn, call_linked, initialiser_on}
 use Rattle.expanded_runs.proofs.Runs.NativeMethods.{scope_is_at}
 use Rattle.expanded_runs.proofs.Runs.Positions.{IsReplacedAt, Standing, becomes, frames_of, instrs_of, scope_of}
 use Rattle.expanded_runs.proofs.Runs.Setup.{IsSetup, Setup, before}
 use Rattle.expanded_runs.proofs.Runs.StandingLaws.{BecomesAs, as_replaced, becomes_as, stands_so}
 use Rattle.expanded_runs.proofs.Runs.Standings.{IsStanding, callee_stands, host_stands}
-use Rattle.expanded_code.specs.Laws.SuperChains.{chain_is, chain_of_object, has_superclass, of_each_class, super_there}
-use Rattle.expanded_code.specs.Callees.{Calls, InitialisesAt, IsCall, IsCallee, Runs, is_callee, own_name, runs_special, runs_static, runs_virtual}
-use Rattle.expanded_code.specs.Expanded.{expanded}
-use Rattle.expanded_code.specs.Expansions.{Coded, Expands, Expansion}
-use Rattle.expanded_code.specs.Quiet.{chain}
-use Rattle.expanded_code.specs.Sites.{HasFrames, IsReplaced, IsSite}
+use Rattle.flow_code.specs.TypedFrames.{FolderFrames}
 use Rattle.member_link.specs.DeclaredMembers.{Declared}
 use Rattle.member_link.specs.Machine.Classes.{run_class_of}
 use Rattle.member_link.specs.Machine.Programs.{RunClass, number_of_first}
 use Rattle.member_link.specs.References.{Reference}
 use Rattle.member_link.specs.Rows.MemberRows.{MayInitialise, receiver}
 use Rattle.member_link.specs.Scope.{Scope, class_of_new, instructions, is_clinit, is_init, row_scope, scope_at}
-use Rattle.flow_code.specs.TypedFrames.{FolderFrames}
 
 -- ---- chains
 

@@ -6,14 +6,14 @@ use Rattle.class_model.specs.declared.class_file.MethodAt.{MethodAt}
 use Rattle.class_model.specs.declared.frame.Frame.{Frame}
 use Rattle.class_model.specs.declared.frame.VType.{VType}
 use Rattle.class_tree.specs.Headers.{Headers}
-use Rattle.flow_code.specs.FlatCode.{FlatCode}
+use Rattle.expanded_code.specs.ExpandAnswers.{IsExpanded}
 use Rattle.expanded_runs.proofs.Runs.EntryFits.{entry_fits}
 use Rattle.expanded_runs.proofs.Runs.FlatFacts.{FlatFacts}
 use Rattle.expanded_runs.proofs.Runs.Positions.{host_standing}
 use Rattle.expanded_runs.proofs.Runs.SameStanding.{InFlat, IsFresh, SameStanding, SameTop, begins_class, begins_fresh, beginnings_stand, flat_stands, in_host, is_awaited, own_stand, settled}
 use Rattle.expanded_runs.proofs.Runs.Setup.{IsSetup, Setup, after, before}
 use Rattle.expanded_runs.proofs.Runs.StandingCodes.{AtPoint, AtPoints, method_of_code}
-use Rattle.expanded_code.specs.ExpandAnswers.{IsExpanded}
+use Rattle.flow_code.specs.FlatCode.{FlatCode}
 use Rattle.machine_values.specs.Frames.{MethodState}
 use Rattle.machine_values.specs.Heaps.{Heap}
 use Rattle.machine_values.specs.declared.frame.RunFrame.{RunFrame}
@@ -25,10 +25,10 @@ use Rattle.member_link.specs.Machine.Programs.{Code, Program, RunMethod, code_at
 use Rattle.member_link.specs.Machine.Worlds.{World}
 use Rattle.member_link.specs.RowScope.{RowScope}
 use Rattle.member_link.specs.Rows.FrameAssignability.{AreAssignable}
-use Rattle.same_runs.specs.Renamings.{Names, SameHeld, SameUnits, and_unit, no_units, no_value, no_values}
-use Rattle.same_runs.specs.SameMoves.{ShiftedUnits}
 use Rattle.same_runs.specs.Laws.ShiftedUnits.{shifted_begins}
 use Rattle.same_runs.specs.Laws.Units.{same_size}
+use Rattle.same_runs.specs.Renamings.{Names, SameHeld, SameUnits, and_unit, no_units, no_value, no_values}
+use Rattle.same_runs.specs.SameMoves.{ShiftedUnits}
 use Rattle.typed_runs.specs.Conforming.{UnitsConform, and_unit as and_conforming, no_units as none_conform}
 use Rattle.typed_runs.specs.TypedFrames.{Above, Does, FramesConform, MethodConforms, StandsAt, asked_library, called_method, lowest, nothing_awaited, upon}
 use Rattle.typed_runs.specs.TypedPrograms.{IsTypedMethod, entry}

@@ -8,14 +8,14 @@ use Rattle.class_model.specs.declared.class_file.Handler.{Handler}
 use Rattle.class_model.specs.declared.class_file.MethodAt.{MethodAt}
 use Rattle.class_model.specs.declared.header.Member.{Member}
 use Rattle.class_model.specs.declared.instr.Placed.{Placed}
-use Rattle.flow_code.specs.FlatCode.{FlatCode}
+use Rattle.expanded_code.specs.ExpandAnswers.{IsExpanded}
+use Rattle.expanded_code.specs.Expansions.{Coded, Expansion}
 use Rattle.expanded_runs.proofs.Runs.FlatFacts.{FlatFacts}
 use Rattle.expanded_runs.proofs.Runs.Positions.{Standing, instrs_of, scope_of}
 use Rattle.expanded_runs.proofs.Runs.SameStanding.{InOwn, Inside, in_callee, in_host}
 use Rattle.expanded_runs.proofs.Runs.Setup.{Setup, after, before}
 use Rattle.expanded_runs.proofs.Runs.Standings.{IsStanding, callee_stands, host_stands}
-use Rattle.expanded_code.specs.ExpandAnswers.{IsExpanded}
-use Rattle.expanded_code.specs.Expansions.{Coded, Expansion}
+use Rattle.flow_code.specs.FlatCode.{FlatCode}
 use Rattle.machine_values.specs.Frames.{MethodState}
 use Rattle.machine_values.specs.declared.frame.RunFrame.{RunFrame}
 use Rattle.machine_values.specs.declared.frame.RunFrame.TheVariants.{Beginning, Library, Method}
@@ -24,10 +24,10 @@ use Rattle.member_link.specs.Machine.Codes as codes
 use Rattle.member_link.specs.Machine.Codes.{CodePoint, code_points, method_code}
 use Rattle.member_link.specs.Machine.Programs.{Code, Links, Point, Program, RunMethod, code_at, code_run, point_at, run_method}
 use Rattle.member_link.specs.Scope.{Scope, instructions}
+use Rattle.same_runs.specs.Laws.Methods.{same_run_method}
 use Rattle.same_runs.specs.Renamings.{Names}
 use Rattle.same_runs.specs.SameFrames.{EndSame, catches_at}
 use Rattle.same_runs.specs.SamePrograms.{SamePrograms}
-use Rattle.same_runs.specs.Laws.Methods.{same_run_method}
 
 -- ---- lists
 

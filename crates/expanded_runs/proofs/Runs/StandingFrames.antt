@@ -2,6 +2,7 @@
 use Rattle.std.proofs.Common.{◌≡◌, ◌≤◌, ◌+◌, ◌++◌, not, ℕ, Bool, true, false, List, [], ◌∷◌, drop, length, map, reverse, Option, Some, None, option_map, refl, sym, ap, subst, ◌∙◌, arith}
 use Rattle.std.proofs.lemmas.List.{append_assoc, drop-append-le}
 use Rattle.class_model.specs.declared.class_file.MethodAt.{MethodAt}
+use Rattle.expanded_code.specs.Expansions.{Coded, Expansion}
 use Rattle.expanded_runs.proofs.Runs.ClassInitialisers.{initialiser_named}
 use Rattle.expanded_runs.proofs.Runs.FlatFacts.{FlatFacts}
 use Rattle.expanded_runs.proofs.Runs.Positions.{Standing, start_of}
@@ -12,7 +13,6 @@ use Rattle.expanded_runs.proofs.Runs.StandingCodes.{AtPoint, AtPoints, code_of_p
 use Rattle.expanded_runs.proofs.Runs.StandingMore.{standing_any, standing_free, standing_more}
 use Rattle.expanded_runs.proofs.Runs.StandingMoves.{flat_changed}
 use Rattle.expanded_runs.proofs.Runs.StandingUnwinds.{stands_unwind}
-use Rattle.expanded_code.specs.Expansions.{Coded, Expansion}
 use Rattle.machine_values.specs.Frames.{MethodState}
 use Rattle.machine_values.specs.declared.frame.RunFrame.{RunFrame}
 use Rattle.machine_values.specs.declared.frame.RunFrame.TheVariants.{Library, Method}

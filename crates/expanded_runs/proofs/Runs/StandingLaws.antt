@@ -5,17 +5,17 @@ use Rattle.class_model.specs.declared.class_file.MethodAt.{MethodAt}
 use Rattle.class_model.specs.declared.frame.Frame.{Frame}
 use Rattle.class_model.specs.declared.instr.Placed.{Placed}
 use Rattle.class_tree.specs.Headers.{Classes, Name}
+use Rattle.expanded_code.specs.Expanded.{callee_of, expanded, host_setting, points_before, points_from, points_of_callee, points_of_entry, set_frame, units_in}
+use Rattle.expanded_code.specs.Expansions.{Coded, Expands, Expansion, expands_none, expands_replaced, expands_site, expands_stays}
+use Rattle.expanded_code.specs.Sites.{HasFrames, IsReplaced, IsSite}
 use Rattle.expanded_runs.proofs.AloneProgram.{EachTyped, OneEach, frames-one-each}
 use Rattle.expanded_runs.proofs.Runs.PositionLaws.{Fits, block_within, fits_none, fits_replaced, fits_site, fits_stays, last_start, length_entry, length_points, next_start, number_start, part_stands, points_at, stands_right, start_most, units_by, width}
 use Rattle.expanded_runs.proofs.Runs.Positions.{Becomes, IsReplacedAt, StandsFrom, Standing, becomes, block_of, host_standing, inner_setting, inner_standing, instrs_of, is_replaced, makes_site, remains, start_of}
 use Rattle.expanded_runs.proofs.Runs.Standings.{IsStanding, Stands, callee_stands, host_stands}
-use Rattle.expanded_code.specs.Expanded.{callee_of, expanded, host_setting, points_before, points_from, points_of_callee, points_of_entry, set_frame, units_in}
-use Rattle.expanded_code.specs.Expansions.{Coded, Expands, Expansion, expands_none, expands_replaced, expands_site, expands_stays}
-use Rattle.expanded_code.specs.Sites.{HasFrames, IsReplaced, IsSite}
+use Rattle.flow_code.specs.TypedFrames.{FolderFrames, typed_frames_at}
 use Rattle.member_link.specs.Scope.{Scope, instructions}
 use Rattle.type_rules.specs.MethodBodies.{body_of, point_of}
 use Rattle.type_rules.specs.Typed.{AreTyped, Typed}
-use Rattle.flow_code.specs.TypedFrames.{FolderFrames, typed_frames_at}
 use Rattle.type_rules.specs.Verified.{TypesFolder, TypesMethod}
 
 -- ---- what becomes of an instruction

@@ -2,17 +2,17 @@
 use Rattle.std.proofs.Common.{◌+◌, ℕ, Bool, true, false, List, [], ◌∷◌, Option, ap}
 use Rattle.std.proofs.lemmas.Bool.{false≢true}
 use Rattle.class_model.specs.declared.class_file.MethodAt.{MethodAt}
+use Rattle.expanded_code.specs.Expansions.{Coded, Expansion}
 use Rattle.expanded_runs.proofs.Runs.Positions.{Standing}
 use Rattle.expanded_runs.proofs.Runs.SameStanding.{Holds, InFlat, InOwn, InPlace, Inside, IsFresh, SameStanding, SameTop, begins_class, begins_fresh, beginnings_stand, comparison, flat_stands, in_callee, in_host, libraries_stand, none_stand, own_stand, settled}
 use Rattle.expanded_runs.proofs.Runs.Setup.{Setup}
-use Rattle.expanded_code.specs.Expansions.{Coded, Expansion}
 use Rattle.machine_values.specs.Frames.{MethodState}
 use Rattle.machine_values.specs.declared.frame.RunFrame.{RunFrame}
 use Rattle.machine_values.specs.declared.value.Value.{Value}
-use Rattle.same_runs.specs.Renamings.{Names, NamesMore}
-use Rattle.same_runs.specs.SameWorlds.{Compares}
 use Rattle.same_runs.specs.Laws.Names.{held_more, units_more, values_more}
 use Rattle.same_runs.specs.Laws.ShiftedUnits.{shifted_more}
+use Rattle.same_runs.specs.Renamings.{Names, NamesMore}
+use Rattle.same_runs.specs.SameWorlds.{Compares}
 
 -- ---- one frame
 

@@ -1,6 +1,8 @@
 -- Frames that go together do so with other places, stacks and units, where what lies outside of the method's units stays.
 use Rattle.std.proofs.Common.{◌≡◌, ◌≤◌, ◌+◌, ◌++◌, ℕ, zero, suc, false, List, ◌∷◌, map, Option, refl, arith, inl}
 use Rattle.class_model.specs.declared.class_file.MethodAt.{MethodAt}
+use Rattle.expanded_code.specs.Expanded.{units_in}
+use Rattle.expanded_code.specs.Expansions.{Coded, Expansion, no_more, replaced, site, stays}
 use Rattle.expanded_runs.proofs.Runs.FlatFacts.{FlatFacts}
 use Rattle.expanded_runs.proofs.Runs.Positions.{Standing, block_from, scope_of, start_of}
 use Rattle.expanded_runs.proofs.Runs.SameStanding.{InFlat, InOwn, Inside, SameStanding, comparison, flat_stands, in_callee, in_host, is_awaited, own_stand, settled}
@@ -8,16 +10,14 @@ use Rattle.expanded_runs.proofs.Runs.Setup.{Setup, after, before}
 use Rattle.expanded_runs.proofs.Runs.StandingCodes.{AtPoints}
 use Rattle.expanded_runs.proofs.Runs.StandingMore.{standing_more}
 use Rattle.expanded_runs.proofs.Runs.StandingUnwinds.{stands_unwind}
-use Rattle.expanded_code.specs.Expanded.{units_in}
-use Rattle.expanded_code.specs.Expansions.{Coded, Expansion, no_more, replaced, site, stays}
 use Rattle.machine_values.specs.Frames.{MethodState}
 use Rattle.machine_values.specs.declared.frame.RunFrame.{RunFrame}
 use Rattle.machine_values.specs.declared.frame.RunFrame.TheVariants.{Method}
 use Rattle.machine_values.specs.declared.value.Value.{Value}
+use Rattle.same_runs.specs.Laws.Moves.{same_width}
 use Rattle.same_runs.specs.Renamings.{Names, SameValues}
 use Rattle.same_runs.specs.SameMoves.{KeepsOutside, Moves, MovesAlike, ShiftedUnits}
 use Rattle.same_runs.specs.SamePrograms.{SamePrograms}
-use Rattle.same_runs.specs.Laws.Moves.{same_width}
 
 -- ---- units of callers
 

@@ -12,6 +12,10 @@ use Rattle.class_model.specs.declared.class_file.Method.{Method as FileMethod}
 use Rattle.class_model.specs.declared.class_file.MethodAt.{MethodAt}
 use Rattle.class_model.specs.declared.instr.Placed.{Placed}
 use Rattle.class_tree.specs.Headers.{Classes, IsClassFile, headers_of}
+use Rattle.expanded_code.specs.ExpandAnswers.{IsExpanded}
+use Rattle.expanded_code.specs.Expanded.{arguments}
+use Rattle.expanded_code.specs.Expansions.{Expands}
+use Rattle.expanded_code.specs.Sites.{HasFrames}
 use Rattle.expanded_runs.proofs.Runs.ArgumentRoom.{arguments_fit}
 use Rattle.expanded_runs.proofs.Runs.EntryLaws.{arguments_units, units_of_arguments}
 use Rattle.expanded_runs.proofs.Runs.FlatFacts.{FlatFacts}
@@ -23,10 +27,6 @@ use Rattle.expanded_runs.proofs.Runs.StandingCodes.{AtPoints}
 use Rattle.expanded_runs.proofs.Runs.StandingFrames.{at_library, begins_on}
 use Rattle.expanded_runs.proofs.Runs.StandingMore.{in_place_more, inside_more, standing_more}
 use Rattle.expanded_runs.proofs.Runs.StandingUnwinds.{flat_unwinds, stands_unwind}
-use Rattle.expanded_code.specs.ExpandAnswers.{IsExpanded}
-use Rattle.expanded_code.specs.Expanded.{arguments}
-use Rattle.expanded_code.specs.Expansions.{Expands}
-use Rattle.expanded_code.specs.Sites.{HasFrames}
 use Rattle.machine_values.specs.Frames.{MethodState}
 use Rattle.machine_values.specs.declared.frame.RunFrame.{RunFrame}
 use Rattle.machine_values.specs.declared.frame.RunFrame.TheVariants.{Beginning, Library, Method}

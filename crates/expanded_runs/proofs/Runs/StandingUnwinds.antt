@@ -2,7 +2,8 @@
 use Rattle.std.proofs.Common.{◌≡◌, ◌≤◌, ◌++◌, ℕ, Bool, List, [], ◌∷◌, length, map, slice_get, Option, Some, None, refl, sym, ap, subst, ◌∙◌}
 use Rattle.class_model.specs.declared.class_file.MethodAt.{MethodAt}
 use Rattle.class_model.specs.declared.instr.Placed.{Placed}
-use Rattle.flow_code.specs.FlatCode.{FlatCode}
+use Rattle.expanded_code.specs.ExpandAnswers.{IsExpanded}
+use Rattle.expanded_code.specs.Expansions.{Coded}
 use Rattle.expanded_runs.proofs.Runs.FlatFacts.{FlatFacts}
 use Rattle.expanded_runs.proofs.Runs.FlatOps.{catches_in}
 use Rattle.expanded_runs.proofs.Runs.Positions.{Standing, host_standing, instrs_of, start_of}
@@ -12,19 +13,18 @@ use Rattle.expanded_runs.proofs.Runs.Setup.{Setup, after, before}
 use Rattle.expanded_runs.proofs.Runs.StandingCodes.{AtPoint, AtPoints, catches_are, code_of_point, ends_same, instr_of_point, method_of_code, own_point, point_in_code, point_of_instr, standing_instr, standing_of}
 use Rattle.expanded_runs.proofs.Runs.StandingMore.{in_place_more, standing_free, standing_more}
 use Rattle.expanded_runs.proofs.Runs.Standings.{IsStanding}
-use Rattle.expanded_code.specs.ExpandAnswers.{IsExpanded}
-use Rattle.expanded_code.specs.Expansions.{Coded}
+use Rattle.flow_code.specs.FlatCode.{FlatCode}
 use Rattle.machine_values.specs.Frames.{MethodState}
 use Rattle.machine_values.specs.declared.frame.RunFrame.{RunFrame}
 use Rattle.machine_values.specs.declared.frame.RunFrame.TheVariants.{Method}
 use Rattle.machine_values.specs.declared.value.Value.{Value}
 use Rattle.machine_values.specs.declared.value.Value.TheVariants.{Ref}
-use Rattle.member_link.specs.Machine.Programs.{Catch, Point, Program, RunMethod, code_at, code_run, point_at, run_method}
 use Rattle.member_link.specs.Machine.Codes.{method_code}
+use Rattle.member_link.specs.Machine.Programs.{Catch, Point, Program, RunMethod, code_at, code_run, point_at, run_method}
+use Rattle.same_runs.specs.Laws.Names.{held_more, units_more}
 use Rattle.same_runs.specs.Renamings.{Names, NamesMore, and_value, no_values, none_held, same_reference}
 use Rattle.same_runs.specs.SameFrames.{PassesOn, SameCatches, Unwinds, and_catch, catches_at, caught, in_beginnings, in_both, in_first, in_library, in_none, no_catches}
 use Rattle.same_runs.specs.SamePrograms.{SamePrograms}
-use Rattle.same_runs.specs.Laws.Names.{held_more, units_more}
 
 -- A frame of flat code at any point whose handlers are those of the instruction at which the first stands.
 pub record ThrowsInFlat (u : Setup) (names : Names) (f : MethodState) (waiting : List MethodState) (g : MethodState) : Type 0 where

@@ -4,12 +4,12 @@ use Rattle.class_model.specs.declared.class_file.MethodAt.{MethodAt}
 use Rattle.class_model.specs.declared.frame.Frame.{Frame}
 use Rattle.class_model.specs.declared.instr.Placed.{Placed}
 use Rattle.class_tree.specs.Headers.{Classes}
-use Rattle.expanded_runs.proofs.Runs.PositionLaws.{Fits}
-use Rattle.expanded_runs.proofs.Runs.Positions.{IsReplacedAt, StandsFrom, Standing, frames_of, host_standing, inner_standing, instrs_of, points_of_standing, scope_of, start_of}
 use Rattle.expanded_code.specs.Alone.{number_in}
 use Rattle.expanded_code.specs.Expanded.{expanded, units_in}
 use Rattle.expanded_code.specs.Expansions.{Coded, Expands, Expansion}
 use Rattle.expanded_code.specs.Sites.{HasFrames}
+use Rattle.expanded_runs.proofs.Runs.PositionLaws.{Fits}
+use Rattle.expanded_runs.proofs.Runs.Positions.{IsReplacedAt, StandsFrom, Standing, frames_of, host_standing, inner_standing, instrs_of, points_of_standing, scope_of, start_of}
 use Rattle.flow_code.specs.TypedFrames.{FolderFrames}
 
 -- a method that stands in the flat code of a host, behind a chain of callees

@@ -16,14 +16,15 @@ use Rattle.class_model.specs.declared.instr.Instr.TheVariants.{Return}
 use Rattle.class_model.specs.declared.instr.Placed.{Placed}
 use Rattle.class_tree.specs.Headers.{Classes, Headers, headers_of}
 use Rattle.class_tree.specs.Hierarchy.{IsHierarchy}
-use Rattle.flow_code.specs.FlatCode.{FlatCode}
-use Rattle.expanded_runs.proofs.Runs.Positions.{Standing, scope_of}
-use Rattle.expanded_runs.proofs.Types.Edges.{placed_keeps, placed_type}
-use Rattle.expanded_runs.proofs.Types.ThroughClass.{ArrayInterfaces, IsKnown, through_class}
 use Rattle.expanded_code.specs.Callees.{Calls, IsCallee, LeavesResult, MayStandIn, ResultSaysAtMost, SaysAtMost, frame_behind, is_callee}
 use Rattle.expanded_code.specs.Expanded.{Setting, arguments, set_type}
 use Rattle.expanded_code.specs.Expansions.{Coded}
 use Rattle.expanded_code.specs.Sites.{HasFrames}
+use Rattle.expanded_runs.proofs.Runs.Positions.{Standing, scope_of}
+use Rattle.expanded_runs.proofs.Types.Edges.{placed_keeps, placed_type}
+use Rattle.expanded_runs.proofs.Types.ThroughClass.{ArrayInterfaces, IsKnown, through_class}
+use Rattle.flow_code.specs.FlatCode.{FlatCode}
+use Rattle.flow_code.specs.TypedFrames.{FolderFrames, typed_frames_at}
 use Rattle.member_link.specs.Assignability.{IsAssignable, to_same, to_top}
 use Rattle.member_link.specs.Bodies.{falls_through}
 use Rattle.member_link.specs.BodyTyping.{RowHolds}
@@ -33,7 +34,6 @@ use Rattle.member_link.specs.Rows.Row.{row_frame}
 use Rattle.member_link.specs.Rows.Table.{row_of}
 use Rattle.member_link.specs.Scope.{Scope, own_descriptor, row_scope, scope_at}
 use Rattle.member_link.specs.Signatures.{result_of}
-use Rattle.flow_code.specs.TypedFrames.{FolderFrames, typed_frames_at}
 
 -- ---- the callee
 

@@ -18,7 +18,9 @@ use Rattle.class_tree.specs.Headers.{Headers, Name, class_named, headers_of}
 use Rattle.class_tree.specs.Laws.Above.{above_is_there, below_more, hierarchy_is_sound}
 use Rattle.class_tree.specs.Laws.Arrays.{is_array_of}
 use Rattle.class_tree.specs.Subtype.{IsArray, IsChain, IsDirectlyBelow, below, directly, interface, onwards, root, superclass}
-use Rattle.flow_code.specs.FlatCode.{FlatCode}
+use Rattle.expanded_code.specs.Callees.{Finds, IsCall, IsClass, StandsAt, own_name}
+use Rattle.expanded_code.specs.Expanded.{Setting}
+use Rattle.expanded_code.specs.Expansions.{Coded}
 use Rattle.expanded_runs.proofs.Runs.CallLaws.{CallLaws, at_or_below, flat_there, headers, moved, no_handle, same_desc, start_below}
 use Rattle.expanded_runs.proofs.Runs.CallTargets.{class_of_scope}
 use Rattle.expanded_runs.proofs.Runs.CalledNames.{method_at}
@@ -30,9 +32,7 @@ use Rattle.expanded_runs.proofs.Types.EntryFrames.{this_of}
 use Rattle.expanded_runs.proofs.Types.FrameFacts.{top_only}
 use Rattle.expanded_runs.proofs.Types.OwnPoints.{scope_headers}
 use Rattle.expanded_runs.proofs.Types.SiteObjects.{up_to}
-use Rattle.expanded_code.specs.Callees.{Finds, IsCall, IsClass, StandsAt, own_name}
-use Rattle.expanded_code.specs.Expanded.{Setting}
-use Rattle.expanded_code.specs.Expansions.{Coded}
+use Rattle.flow_code.specs.FlatCode.{FlatCode}
 use Rattle.member_link.specs.Access.{IsAtOrBelow}
 use Rattle.member_link.specs.Assignability.{IsAssignable, IsNameAssignable, from_array, from_null, of_components, of_names, to_class_above, to_interface, to_itself, to_same, to_top}
 use Rattle.member_link.specs.DeclaredMembers.{Declared}

@@ -6,8 +6,8 @@ use Rattle.std.proofs.lemmas.Bool.{false≢true}
 use Rattle.std.proofs.lemmas.List.{drop-map, length-append, length-map, length-replicate, length-reverse, take-append-drop}
 use Rattle.std.proofs.lemmas.Option.{none-some, same_Some, slice_get_within}
 use Rattle.std.proofs.Math.Seq.{drop-append-add}
-use Rattle.class_model.specs.Frames.{depth, units_of_entries}
 use Rattle.class_model.specs.Descriptors.{parameters_of}
+use Rattle.class_model.specs.Frames.{depth, units_of_entries}
 use Rattle.class_model.specs.Methods.{this_units}
 use Rattle.class_model.specs.declared.class_file.MethodAt.{MethodAt}
 use Rattle.class_model.specs.declared.descriptor.Kind.TheVariants as kinds
@@ -17,10 +17,9 @@ use Rattle.class_model.specs.declared.frame.VType.TheVariants as types
 use Rattle.class_model.specs.declared.instr.Placed.{Placed}
 use Rattle.class_tree.specs.Headers.{Classes, Headers, headers_of}
 use Rattle.class_tree.specs.Hierarchy.{IsHierarchy}
-use Rattle.flow_code.specs.FlatCode.{FlatCode, point_at}
-use Rattle.flow_code.specs.FlatRoom.{stack_room}
-use Rattle.flow_code.specs.declared.point.FlatInstr.TheVariants.{NullTest}
-use Rattle.flow_code.specs.declared.point.Point.{Point}
+use Rattle.expanded_code.specs.Callees.{SayAtMost}
+use Rattle.expanded_code.specs.Expanded.{Setting, arguments, expanded, frame_behind_stores, overlaid, points_before, points_of_entry, set_frame, set_type, store_points, test_points, tests_receiver}
+use Rattle.expanded_code.specs.Expansions.{Coded, Expansion}
 use Rattle.expanded_runs.proofs.Runs.PositionLaws.{block_least, length_arguments, length_fits, length_stores, part_stands, points_at, slice_left}
 use Rattle.expanded_runs.proofs.Runs.Positions.{Becomes, IsReplacedAt, Standing, block_of, inner_setting, inner_standing, start_of}
 use Rattle.expanded_runs.proofs.Runs.Standings.{IsStanding, Stands, callee_stands}
@@ -38,20 +37,21 @@ use Rattle.expanded_runs.proofs.Types.StorePoints.{same_over, stores_typed, unit
 use Rattle.expanded_runs.proofs.Types.StoredUnits.{IsClear, read_kind, stores_over}
 use Rattle.expanded_runs.proofs.Types.ThroughClass.{ArrayInterfaces}
 use Rattle.expanded_runs.proofs.Types.Units.{TopsFrom, as_long, get_replicate, get_back, get_inside, item_there, to_themselves}
-use Rattle.expanded_code.specs.Callees.{SayAtMost}
-use Rattle.expanded_code.specs.Expanded.{Setting, arguments, expanded, frame_behind_stores, overlaid, points_before, points_of_entry, set_frame, set_type, store_points, test_points, tests_receiver}
-use Rattle.expanded_code.specs.Expansions.{Coded, Expansion}
 use Rattle.expanded_runs.specs.ReadTypes.{MayGoToPoint, TypesPoint, read_frame, read_type}
+use Rattle.flow_code.specs.FlatCode.{FlatCode, point_at}
+use Rattle.flow_code.specs.FlatRoom.{stack_room}
+use Rattle.flow_code.specs.TypedFrames.{FolderFrames}
+use Rattle.flow_code.specs.declared.point.FlatInstr.TheVariants.{NullTest}
+use Rattle.flow_code.specs.declared.point.Point.{Point}
 use Rattle.member_link.specs.Bodies.{caught_type}
 use Rattle.member_link.specs.BodyTyping.{MayGoTo}
-use Rattle.member_link.specs.Rows.LocalRows.{HoldsKind}
 use Rattle.member_link.specs.Rows.FrameAssignability.{AreAssignable, IsFrameAssignable, is_uninit_this}
+use Rattle.member_link.specs.Rows.LocalRows.{HoldsKind}
 use Rattle.member_link.specs.Rows.Operands.{AllFit, topmost, under}
 use Rattle.member_link.specs.Scope.{Scope, instructions, own_descriptor}
 use Rattle.same_runs.specs.FlatBodies.{caught_class}
 use Rattle.same_runs.specs.Flats.{host_scope, instr_scope}
 use Rattle.type_rules.specs.Stated.{entry}
-use Rattle.flow_code.specs.TypedFrames.{FolderFrames}
 use Rattle.type_rules.specs.Verified.{TypesFolder}
 
 -- What is known of what a call that is replaced passes, and that no value of two units stands across where the callee's units begin.

@@ -14,15 +14,15 @@ use Rattle.class_model.specs.declared.frame.VType.{VType}
 use Rattle.class_model.specs.declared.frame.VType.TheVariants as types
 use Rattle.class_tree.specs.Headers.{Headers, Name}
 use Rattle.class_tree.specs.Hierarchy.{IsHierarchy}
-use Rattle.flow_code.specs.FlatCode.{FlatCode}
+use Rattle.expanded_code.specs.Callees.{SayAtMost}
+use Rattle.expanded_code.specs.Expanded.{Argument, Setting, arguments, arguments_from, overlaid, set_type}
 use Rattle.expanded_runs.proofs.Types.Edges.{placed_type, read_this, read_unit, unit_read}
 use Rattle.expanded_runs.proofs.Types.EntryTypes.{AreArguments, params_free, params_laid, params_pass}
 use Rattle.expanded_runs.proofs.Types.StoredUnits.{ArgumentsLaid, one_more_laid}
 use Rattle.expanded_runs.proofs.Types.ThroughClass.{ArrayInterfaces}
 use Rattle.expanded_runs.proofs.Types.Units.{TopsFrom, Where, append_assignable, get_back, get_front, get_inside, get_outside, get_replicate, has_this, inside, le_cases, outside, same_lists, this_at, to_themselves, where_is}
-use Rattle.expanded_code.specs.Callees.{SayAtMost}
-use Rattle.expanded_code.specs.Expanded.{Argument, Setting, arguments, arguments_from, overlaid, set_type}
 use Rattle.expanded_runs.specs.ReadTypes.{read_type}
+use Rattle.flow_code.specs.FlatCode.{FlatCode}
 use Rattle.member_link.specs.Assignability.{IsAssignable}
 use Rattle.member_link.specs.Rows.FrameAssignability.{AreAssignable, is_uninit_this}
 use Rattle.member_link.specs.Rows.Operands.{IsOfKind}

@@ -11,14 +11,14 @@ use Rattle.class_model.specs.declared.frame.VType.{VType}
 use Rattle.class_model.specs.declared.frame.VType.TheVariants as types
 use Rattle.class_tree.specs.Headers.{Headers, Name}
 use Rattle.class_tree.specs.Hierarchy.{IsHierarchy}
-use Rattle.flow_code.specs.FlatCode.{FlatCode}
+use Rattle.expanded_code.specs.Callees.{SayAtMost, SaysAtMost}
+use Rattle.expanded_code.specs.Expanded.{Setting, arguments_from, set_type}
 use Rattle.expanded_runs.proofs.Types.CallFacts.{passes}
 use Rattle.expanded_runs.proofs.Types.FrameFacts.{top_only}
 use Rattle.expanded_runs.proofs.Types.StoredUnits.{ArgumentsLaid, none_laid, one_more_laid}
 use Rattle.expanded_runs.proofs.Types.ThroughClass.{ArrayInterfaces, IsKnown}
-use Rattle.expanded_code.specs.Callees.{SayAtMost, SaysAtMost}
-use Rattle.expanded_code.specs.Expanded.{Setting, arguments_from, set_type}
 use Rattle.expanded_runs.specs.ReadTypes.{read_type}
+use Rattle.flow_code.specs.FlatCode.{FlatCode}
 use Rattle.member_link.specs.Assignability.{IsAssignable, from_null, of_names, to_same, to_top}
 use Rattle.member_link.specs.Rows.FrameAssignability.{AreAssignable}
 use Rattle.member_link.specs.Rows.Operands.{IsOfKind}

@@ -13,7 +13,10 @@ use Rattle.class_model.specs.declared.instr.Instr.TheVariants.{Return}
 use Rattle.class_model.specs.declared.instr.Placed.{Placed}
 use Rattle.class_tree.specs.Headers.{Classes, Headers, IsClassFile, headers_of}
 use Rattle.class_tree.specs.Hierarchy.{IsHierarchy}
-use Rattle.flow_code.specs.FlatCode.{FlatCode}
+use Rattle.expanded_code.specs.ExpandAnswers.{IsExpanded}
+use Rattle.expanded_code.specs.Expanded.{Setting, arguments, expanded, set_frame, set_type}
+use Rattle.expanded_code.specs.Expansions.{Coded, Expands, Expansion}
+use Rattle.expanded_code.specs.Sites.{HasFrames}
 use Rattle.expanded_runs.proofs.AloneProgram.{OneEach}
 use Rattle.expanded_runs.proofs.Runs.PositionLaws.{length_arguments}
 use Rattle.expanded_runs.proofs.Runs.Positions.{IsReplacedAt, Standing, becomes, block_of, frames_of, inner_setting, instrs_of, start_of}
@@ -23,26 +26,23 @@ use Rattle.expanded_runs.proofs.Types.CallFacts.{CallFacts}
 use Rattle.expanded_runs.proofs.Types.Entries.{EntryFacts, entry_point_typed, topmost_set}
 use Rattle.expanded_runs.proofs.Types.EntryFrames.{PassedValues, passed_object, passed_static}
 use Rattle.expanded_runs.proofs.Types.EntryTypes.{params_free}
+use Rattle.expanded_runs.proofs.Types.FirstFrames.{frames_entered, frames_long}
 use Rattle.expanded_runs.proofs.Types.FlatParts.{IsOwn}
+use Rattle.expanded_runs.proofs.Types.FlatRows.{FlatRow}
 use Rattle.expanded_runs.proofs.Types.FlatTyped.{types_flat}
 use Rattle.expanded_runs.proofs.Types.FrameFacts.{FrameFacts}
-use Rattle.expanded_runs.proofs.Types.FirstFrames.{frames_entered, frames_long}
-use Rattle.expanded_runs.proofs.Types.FlatRows.{FlatRow}
 use Rattle.expanded_runs.proofs.Types.HostBegins.{host_begins}
-use Rattle.expanded_runs.proofs.Types.StandingUnits.{HasNarrowThis, folder_paired, narrow_block}
 use Rattle.expanded_runs.proofs.Types.OwnPoints.{PlacedRow, TypingLaws, number_is, own_headers, scope_headers}
 use Rattle.expanded_runs.proofs.Types.Returns.{returns_typed}
+use Rattle.expanded_runs.proofs.Types.StandingUnits.{HasNarrowThis, folder_paired, narrow_block}
 use Rattle.expanded_runs.proofs.Types.ThroughClass.{ArrayInterfaces, IsKnown}
 use Rattle.expanded_runs.proofs.Types.Units.{item_there}
-use Rattle.expanded_code.specs.ExpandAnswers.{IsExpanded}
-use Rattle.expanded_code.specs.Expanded.{Setting, arguments, expanded, set_frame, set_type}
-use Rattle.expanded_code.specs.Expansions.{Coded, Expands, Expansion}
 use Rattle.expanded_runs.specs.ReadTypes.{TypesFlat, TypesPoint}
-use Rattle.expanded_code.specs.Sites.{HasFrames}
+use Rattle.flow_code.specs.FlatCode.{FlatCode}
+use Rattle.flow_code.specs.TypedFrames.{FolderFrames}
 use Rattle.member_link.specs.Rows.FrameAssignability.{IsFrameAssignable}
 use Rattle.member_link.specs.Rows.Operands.{lowest_of, topmost}
 use Rattle.member_link.specs.Scope.{Scope, instructions, own_descriptor, scope_at}
-use Rattle.flow_code.specs.TypedFrames.{FolderFrames}
 use Rattle.type_rules.specs.Verified.{TypesFolder}
 
 -- ---- the object of a callee

@@ -21,19 +21,19 @@ use Rattle.class_model.specs.declared.frame.VType.{VType}
 use Rattle.class_model.specs.declared.frame.VType.TheVariants as types
 use Rattle.class_model.specs.declared.instr.Placed.{Placed}
 use Rattle.class_tree.specs.Headers.{Classes, IsClassFile}
+use Rattle.expanded_code.specs.Sites.{HasFrames}
 use Rattle.expanded_runs.proofs.Runs.ArgumentRoom.{arguments_fit}
 use Rattle.expanded_runs.proofs.Runs.NativeMethods.{scope_is_at}
 use Rattle.expanded_runs.proofs.TypedAloneNumbers.{frame_found, number_of_placed}
 use Rattle.expanded_runs.proofs.Types.OwnPoints.{IsTyped, TypingLaws, itself, typed_method}
 use Rattle.expanded_runs.proofs.Types.RowUnits.{filled_long}
 use Rattle.expanded_runs.proofs.Types.StandingUnits.{folder_long}
-use Rattle.expanded_code.specs.Sites.{HasFrames}
+use Rattle.flow_code.specs.TypedFrames.{FolderFrames}
 use Rattle.member_link.specs.BodyTyping.{FlowsInto, Reaches, begins_at}
 use Rattle.member_link.specs.Rows.FrameAssignability.{IsFrameAssignable}
 use Rattle.member_link.specs.Scope.{Scope, instructions, scope_at}
 use Rattle.type_rules.specs.MethodBodies.{body_of, point_of}
 use Rattle.type_rules.specs.Stated.{entry}
-use Rattle.flow_code.specs.TypedFrames.{FolderFrames}
 use Rattle.type_rules.specs.Verified.{TypesFolder}
 
 -- ---- the units of arguments

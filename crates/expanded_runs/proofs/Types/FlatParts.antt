@@ -5,12 +5,12 @@ use Rattle.class_model.specs.declared.class_file.MethodAt.{MethodAt}
 use Rattle.class_model.specs.declared.frame.Frame.{Frame}
 use Rattle.class_model.specs.declared.instr.Placed.{Placed}
 use Rattle.class_tree.specs.Headers.{Name}
-use Rattle.flow_code.specs.declared.point.Point.{Point}
+use Rattle.expanded_code.specs.Expanded.{callee_of, expanded, instr_points, own_points, points_before, points_from, points_of_callee, points_of_entry, set_frame, units_in}
+use Rattle.expanded_code.specs.Expansions.{Coded, Expansion, no_more, replaced, site, stays}
 use Rattle.expanded_runs.proofs.Runs.PositionLaws.{Fits, fits_none, fits_replaced, fits_site, fits_stays, length_entry, length_instr, length_points, next_start, units_by, width}
 use Rattle.expanded_runs.proofs.Runs.Positions.{Becomes, IsReplacedAt, Standing, becomes, block_from, block_of, frames_of, host_standing, inner_setting, inner_standing, instrs_of, makes_site, remains, start_of}
 use Rattle.expanded_runs.proofs.Runs.Standings.{IsStanding, callee_stands, host_stands}
-use Rattle.expanded_code.specs.Expanded.{callee_of, expanded, instr_points, own_points, points_before, points_from, points_of_callee, points_of_entry, set_frame, units_in}
-use Rattle.expanded_code.specs.Expansions.{Coded, Expansion, no_more, replaced, site, stays}
+use Rattle.flow_code.specs.declared.point.Point.{Point}
 use Rattle.member_link.specs.Scope.{instructions}
 
 -- ---- parts

@@ -11,17 +11,17 @@ use Rattle.class_model.specs.declared.frame.VType.TheVariants as types
 use Rattle.class_model.specs.declared.instr.Instr.{Instr}
 use Rattle.class_tree.specs.Headers.{Name, Classes}
 use Rattle.class_tree.specs.Subtype.{IsArray}
-use Rattle.flow_code.specs.FlatCode.{FlatCode}
-use Rattle.flow_code.specs.FlatRoom.{deepest, stack_room}
-use Rattle.flow_code.specs.declared.point.FlatInstr.TheVariants.{Of}
+use Rattle.expanded_code.specs.Expanded.{Setting, class_of, overlaid, set_frame, set_type}
 use Rattle.expanded_runs.proofs.Types.Blocks.{map_block}
 use Rattle.expanded_runs.proofs.Types.PlacedLocals.{HasBlock}
 use Rattle.expanded_runs.proofs.Types.PlacedMembers.{HasThis, IsWithout, KeepsNews, SameMethod, of_method, of_none, of_site}
 use Rattle.expanded_runs.proofs.Types.PlacedReads.{HasRoom}
 use Rattle.expanded_runs.proofs.Types.PlacedThis.{IsWithoutThis}
 use Rattle.expanded_runs.proofs.Types.PlacedTypes.{Place, flat_scope, new_type, placed_frame, placed_type, this_type}
-use Rattle.expanded_code.specs.Expanded.{Setting, class_of, overlaid, set_frame, set_type}
 use Rattle.expanded_runs.specs.ReadTypes.{class_of_site, read_frame, read_type}
+use Rattle.flow_code.specs.FlatCode.{FlatCode}
+use Rattle.flow_code.specs.FlatRoom.{deepest, stack_room}
+use Rattle.flow_code.specs.declared.point.FlatInstr.TheVariants.{Of}
 use Rattle.member_link.specs.Access.{IsAtOrBelow}
 use Rattle.member_link.specs.Assignability.{IsAssignable, of_names, to_class_above, to_itself}
 use Rattle.member_link.specs.Rows.MemberRows.{NoUninitThis}

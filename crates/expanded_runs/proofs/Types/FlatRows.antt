@@ -17,8 +17,7 @@ use Rattle.class_model.specs.declared.instr.Instr.TheVariants.{Invoke, New, Retu
 use Rattle.class_model.specs.declared.opcodes.TheConstants.{INVOKESPECIAL}
 use Rattle.class_tree.specs.Headers.{Name, Classes, Headers}
 use Rattle.class_tree.specs.Names.{object}
-use Rattle.flow_code.specs.FlatCode.{FlatCode}
-use Rattle.flow_code.specs.declared.point.FlatInstr.TheVariants.{Of}
+use Rattle.expanded_code.specs.Expanded.{Setting, class_of, point_in, set_frame, set_instr, set_type}
 use Rattle.expanded_runs.proofs.Types.FlatPlaces.{HasDepth, HasUnits, IsHostSetting, IsSiteSetting, StandsInFlat, ThisIs, all_read, frame_read, host_this, no_new_read, no_this_there, place_block, place_keeps, place_of, place_room, place_this, same_method, scope_same, site_this, this_read}
 use Rattle.expanded_runs.proofs.Types.PlacedMembers.{IsNoSite, IsWithout, no_this, with_receiver}
 use Rattle.expanded_runs.proofs.Types.PlacedReads.{GoesBehind, Reads, itself_reads, object_reads, pop_reads}
@@ -26,8 +25,9 @@ use Rattle.expanded_runs.proofs.Types.PlacedRows.{has_enough}
 use Rattle.expanded_runs.proofs.Types.PlacedTable.{CallStays, Stays, placed_instr, row_moves}
 use Rattle.expanded_runs.proofs.Types.PlacedThis.{IsWithoutThis, frame_without, none_behind}
 use Rattle.expanded_runs.proofs.Types.PlacedTypes.{Place, flat_scope, placed_frame, this_type}
-use Rattle.expanded_code.specs.Expanded.{Setting, class_of, point_in, set_frame, set_instr, set_type}
 use Rattle.expanded_runs.specs.ReadTypes.{Reading, class_of_site, is_site_object, read_frame, read_row, read_type, reading_of, reading_of_call, reading_of_new, reads_itself, reads_pop, row_by}
+use Rattle.flow_code.specs.FlatCode.{FlatCode}
+use Rattle.flow_code.specs.declared.point.FlatInstr.TheVariants.{Of}
 use Rattle.member_link.specs.BodyTyping.{MayGoTo, RowHolds}
 use Rattle.member_link.specs.Machine.CallSteps.{is_object_init}
 use Rattle.member_link.specs.References.{Reference}

@@ -15,8 +15,9 @@ use Rattle.class_model.specs.declared.instr.Instr.TheVariants.{Goto, Return}
 use Rattle.class_model.specs.declared.instr.Placed.{Placed}
 use Rattle.class_tree.specs.Headers.{Classes, Headers, Name, headers_of}
 use Rattle.class_tree.specs.Names.{throwable}
-use Rattle.flow_code.specs.declared.handlers.FlatHandler.{FlatHandler}
-use Rattle.flow_code.specs.declared.point.Point.{Point}
+use Rattle.expanded_code.specs.Alone.{handler_by}
+use Rattle.expanded_code.specs.Expanded.{Argument, Narrowing, Setting, arguments, callee_of, expanded, frame_behind_stores, frame_stored, instr_points, own_narrowing, own_points, point_in, points_of_entry, return_points, set_frame, store_points, test_points, tests_receiver}
+use Rattle.expanded_code.specs.Expansions.{Coded, Expansion}
 use Rattle.expanded_runs.proofs.Runs.PositionLaws.{next_start, width}
 use Rattle.expanded_runs.proofs.Runs.Positions.{Becomes, Standing, becomes, block_of, frames_of, host_standing, instrs_of, start_of}
 use Rattle.expanded_runs.proofs.Runs.Standings.{IsStanding, Stands, callee_stands, host_stands}
@@ -24,17 +25,16 @@ use Rattle.expanded_runs.proofs.Types.FlatParts.{EntryPart, IsOwn, OwnPart, Part
 use Rattle.expanded_runs.proofs.Types.FrameFacts.{FrameFacts}
 use Rattle.expanded_runs.proofs.Types.Handlers.{handlers_typed, same_itself}
 use Rattle.expanded_runs.proofs.Types.OwnPoints.{PlacedRow, TypingLaws, own_headers, own_point, own_point_typed, own_typed}
-use Rattle.expanded_code.specs.Alone.{handler_by}
-use Rattle.expanded_code.specs.Expanded.{Argument, Narrowing, Setting, arguments, callee_of, expanded, frame_behind_stores, frame_stored, instr_points, own_narrowing, own_points, point_in, points_of_entry, return_points, set_frame, store_points, test_points, tests_receiver}
-use Rattle.expanded_code.specs.Expansions.{Coded, Expansion}
 use Rattle.expanded_runs.specs.ReadTypes.{MayGoToPoint, TypesFlat, TypesPoint}
+use Rattle.flow_code.specs.TypedFrames.{FolderFrames}
+use Rattle.flow_code.specs.declared.handlers.FlatHandler.{FlatHandler}
+use Rattle.flow_code.specs.declared.point.Point.{Point}
 use Rattle.member_link.specs.Bodies.{BodyCaught}
 use Rattle.member_link.specs.BodyTyping.{IsThrowable}
 use Rattle.member_link.specs.Machine.Codes.{covers}
 use Rattle.member_link.specs.Scope.{Scope}
 use Rattle.same_runs.specs.FlatBodies.{caught_class, flat_entry, handlers_from}
 use Rattle.type_rules.specs.Handlers.{caught, caught_in}
-use Rattle.flow_code.specs.TypedFrames.{FolderFrames}
 use Rattle.type_rules.specs.Verified.{TypesFolder}
 
 -- ---- what each point has around it

@@ -8,19 +8,19 @@ use Rattle.class_model.specs.declared.frame.Frame.{Frame}
 use Rattle.class_model.specs.declared.frame.VType.{VType}
 use Rattle.class_model.specs.declared.frame.VType.TheVariants as types
 use Rattle.class_tree.specs.Headers.{Classes, Headers}
+use Rattle.expanded_code.specs.Expanded.{Setting, expanded, set_frame, set_type}
+use Rattle.expanded_code.specs.Expansions.{Coded, Expansion}
+use Rattle.expanded_code.specs.Sites.{HasFrames}
 use Rattle.expanded_runs.proofs.Runs.PositionLaws.{block_least}
 use Rattle.expanded_runs.proofs.Runs.Positions.{Standing, block_of, frames_of, scope_of}
 use Rattle.expanded_runs.proofs.Runs.Standings.{IsStanding, Stands, callee_stands, host_stands}
 use Rattle.expanded_runs.proofs.Types.ThroughClass.{IsKnown}
 use Rattle.expanded_runs.proofs.Types.Units.{TopsFrom, as_long, block_long, each_assignable, get_outside, get_replicate, item_there}
-use Rattle.expanded_code.specs.Expanded.{Setting, expanded, set_frame, set_type}
-use Rattle.expanded_code.specs.Expansions.{Coded, Expansion}
-use Rattle.expanded_code.specs.Sites.{HasFrames}
+use Rattle.flow_code.specs.TypedFrames.{FolderFrames}
 use Rattle.member_link.specs.Assignability.{IsAssignable, from_null, of_names, to_same, to_top}
 use Rattle.member_link.specs.Rows.FrameAssignability.{AreAssignable, IsFrameAssignable}
 use Rattle.member_link.specs.Scope.{Scope, own_descriptor}
 use Rattle.type_rules.specs.Stated.{entry}
-use Rattle.flow_code.specs.TypedFrames.{FolderFrames}
 
 -- ---- frames of a method by itself
 

@@ -14,20 +14,21 @@ use Rattle.class_model.specs.declared.frame.VType.TheVariants as types
 use Rattle.class_model.specs.declared.instr.Placed.{Placed}
 use Rattle.class_tree.specs.Headers.{Classes, Headers, Name, headers_of}
 use Rattle.class_tree.specs.Names.{throwable}
-use Rattle.flow_code.specs.FlatCode.{FlatCode}
-use Rattle.flow_code.specs.declared.handlers.FlatHandler.{FlatHandler}
-use Rattle.expanded_runs.proofs.Runs.PositionLaws.{block_least}
-use Rattle.expanded_runs.proofs.Runs.Positions.{IsReplacedAt, Standing, frames_of, host_standing, inner_setting, inner_standing, instrs_of}
-use Rattle.expanded_runs.proofs.Runs.Standings.{IsStanding, Stands, callee_stands, host_stands}
-use Rattle.expanded_runs.proofs.Types.Edges.{frame_kept, placed_frame, read_this, read_unit, set_this, set_unit, unit_read}
-use Rattle.expanded_runs.proofs.Types.FrameFacts.{FrameFacts, frame_fits, tops_behind, whole}
-use Rattle.expanded_runs.proofs.TypedAloneNumbers.{frame_found}
-use Rattle.expanded_runs.proofs.Types.OwnPoints.{TypingLaws, edges_at, goes_to_place, one_frame, own_headers}
-use Rattle.expanded_runs.proofs.Types.Units.{TopsFrom, all_assignable, as_long, each_assignable, get_inside, get_outside, has_this, inside, le_cases, outside, this_at, where_is}
 use Rattle.expanded_code.specs.Alone.{handler_by, number_in}
 use Rattle.expanded_code.specs.Expanded.{Setting, expanded, set_frame, set_type}
 use Rattle.expanded_code.specs.Expansions.{Coded, Expansion}
+use Rattle.expanded_runs.proofs.Runs.PositionLaws.{block_least}
+use Rattle.expanded_runs.proofs.Runs.Positions.{IsReplacedAt, Standing, frames_of, host_standing, inner_setting, inner_standing, instrs_of}
+use Rattle.expanded_runs.proofs.Runs.Standings.{IsStanding, Stands, callee_stands, host_stands}
+use Rattle.expanded_runs.proofs.TypedAloneNumbers.{frame_found}
+use Rattle.expanded_runs.proofs.Types.Edges.{frame_kept, placed_frame, read_this, read_unit, set_this, set_unit, unit_read}
+use Rattle.expanded_runs.proofs.Types.FrameFacts.{FrameFacts, frame_fits, tops_behind, whole}
+use Rattle.expanded_runs.proofs.Types.OwnPoints.{TypingLaws, edges_at, goes_to_place, one_frame, own_headers}
+use Rattle.expanded_runs.proofs.Types.Units.{TopsFrom, all_assignable, as_long, each_assignable, get_inside, get_outside, has_this, inside, le_cases, outside, this_at, where_is}
 use Rattle.expanded_runs.specs.ReadTypes.{MayGoToPoint, read_frame, read_type}
+use Rattle.flow_code.specs.FlatCode.{FlatCode}
+use Rattle.flow_code.specs.TypedFrames.{FolderFrames}
+use Rattle.flow_code.specs.declared.handlers.FlatHandler.{FlatHandler}
 use Rattle.member_link.specs.Assignability.{IsAssignable, to_top}
 use Rattle.member_link.specs.Bodies.{BodyCatch, catch_frame, caught_type}
 use Rattle.member_link.specs.BodyTyping.{GoesInto, GoesToStated, frame_at}
@@ -37,7 +38,6 @@ use Rattle.member_link.specs.Scope.{Scope, instructions}
 use Rattle.same_runs.specs.FlatBodies.{caught_class}
 use Rattle.type_rules.specs.Handlers.{catch_of, catches_at, caught}
 use Rattle.type_rules.specs.MethodBodies.{body_of, point_of}
-use Rattle.flow_code.specs.TypedFrames.{FolderFrames}
 use Rattle.type_rules.specs.Verified.{TypesFolder}
 
 -- ---- from the exception table

@@ -16,7 +16,8 @@ use Rattle.class_model.specs.declared.frame.Frame.{Frame}
 use Rattle.class_model.specs.declared.frame.VType.{VType}
 use Rattle.class_model.specs.declared.frame.VType.TheVariants as types
 use Rattle.class_tree.specs.Headers.{Classes, Name, headers_of}
-use Rattle.flow_code.specs.FlatCode.{FlatCode}
+use Rattle.expanded_code.specs.Expanded.{Setting, expanded, host_setting, set_frame, set_type}
+use Rattle.expanded_code.specs.Expansions.{Coded, Expansion}
 use Rattle.expanded_runs.proofs.Runs.Positions.{Standing, host_standing}
 use Rattle.expanded_runs.proofs.Runs.Standings.{IsStanding, Stands, host_stands}
 use Rattle.expanded_runs.proofs.Types.Edges.{frame_kept, placed_frame}
@@ -24,14 +25,13 @@ use Rattle.expanded_runs.proofs.Types.EntryFrames.{this_of}
 use Rattle.expanded_runs.proofs.Types.FrameFacts.{FrameFacts, frame_fits}
 use Rattle.expanded_runs.proofs.Types.OwnPoints.{TypingLaws, goes_to}
 use Rattle.expanded_runs.proofs.Types.Units.{as_long}
-use Rattle.expanded_code.specs.Expanded.{Setting, expanded, host_setting, set_frame, set_type}
-use Rattle.expanded_code.specs.Expansions.{Coded, Expansion}
 use Rattle.expanded_runs.specs.ReadTypes.{MayGoToPoint, read_type}
+use Rattle.flow_code.specs.FlatCode.{FlatCode}
+use Rattle.flow_code.specs.TypedFrames.{FolderFrames}
 use Rattle.member_link.specs.Rows.FrameAssignability.{IsFrameAssignable}
 use Rattle.member_link.specs.Scope.{Scope, own_descriptor}
 use Rattle.same_runs.specs.FlatBodies.{flat_entry}
 use Rattle.type_rules.specs.Stated.{entry}
-use Rattle.flow_code.specs.TypedFrames.{FolderFrames}
 use Rattle.type_rules.specs.Verified.{TypesFolder}
 
 -- ---- the units that are listed where a method begins

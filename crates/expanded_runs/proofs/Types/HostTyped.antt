@@ -4,6 +4,10 @@ use Rattle.class_model.specs.declared.class_file.MethodAt.{MethodAt}
 use Rattle.class_model.specs.declared.frame.Frame.{Frame}
 use Rattle.class_model.specs.declared.instr.Placed.{Placed}
 use Rattle.class_tree.specs.Headers.{headers_of}
+use Rattle.expanded_code.specs.ExpandAnswers.{IsNoHost}
+use Rattle.expanded_code.specs.Expanded.{arguments, expanded}
+use Rattle.expanded_code.specs.Expansions.{Coded, Expands, Expansion}
+use Rattle.expanded_code.specs.Sites.{HasFrames}
 use Rattle.expanded_runs.proofs.AloneProgram.{OneEach}
 use Rattle.expanded_runs.proofs.Runs.CallLaws.{CallLaws}
 use Rattle.expanded_runs.proofs.Runs.Positions.{IsReplacedAt, Standing, inner_setting}
@@ -19,11 +23,7 @@ use Rattle.expanded_runs.proofs.Types.OwnPoints.{TypingLaws}
 use Rattle.expanded_runs.proofs.Types.StandingRows.{flat_rows, host_no_init, narrow_this}
 use Rattle.expanded_runs.proofs.Types.ThisWithin.{NoThisStanding}
 use Rattle.expanded_runs.proofs.Types.ThroughClass.{ArrayInterfaces}
-use Rattle.expanded_code.specs.ExpandAnswers.{IsNoHost}
-use Rattle.expanded_code.specs.Expanded.{arguments, expanded}
-use Rattle.expanded_code.specs.Expansions.{Coded, Expands, Expansion}
 use Rattle.expanded_runs.specs.ReadTypes.{TypesFlat}
-use Rattle.expanded_code.specs.Sites.{HasFrames}
 use Rattle.member_link.specs.Rows.Operands.{topmost}
 use Rattle.member_link.specs.Scope.{Scope, instructions}
 

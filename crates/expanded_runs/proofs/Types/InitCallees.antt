@@ -2,29 +2,29 @@
 use Rattle.std.proofs.Common.{◌≡◌, ◌+◌, ℕ, suc, true, false, List, [], ◌∷◌, length, Some, refl, sym, ap, subst, ◌∙◌, arith}
 use Rattle.std.proofs.lemmas.Option.{same_Some}
 use Rattle.class_model.specs.Descriptors.{kind_of, parameters_of, units_of}
-use Rattle.class_model.specs.declared.descriptor.FieldType.{FieldType}
 use Rattle.class_model.specs.Members.{STATIC, has}
 use Rattle.class_model.specs.Names.{init}
 use Rattle.class_model.specs.Pool.{constant_at}
 use Rattle.class_model.specs.declared.class_file.MethodAt.{MethodAt}
+use Rattle.class_model.specs.declared.descriptor.FieldType.{FieldType}
 use Rattle.class_model.specs.declared.frame.Frame.{Frame}
+use Rattle.class_model.specs.declared.frame.VType.{VType}
 use Rattle.class_model.specs.declared.header.Member.{Member}
 use Rattle.class_model.specs.declared.instr.Instr.TheVariants.{Invoke}
 use Rattle.class_model.specs.declared.opcodes.TheConstants.{INVOKESPECIAL}
 use Rattle.class_tree.specs.Headers.{Headers, headers_of}
+use Rattle.expanded_code.specs.Callees.{Calls, Finds, InitialisesAt, IsCall, Runs, own_name, runs_special, runs_static, runs_virtual}
+use Rattle.expanded_code.specs.Expanded.{arguments, arguments_from}
+use Rattle.expanded_code.specs.Expansions.{Coded}
 use Rattle.expanded_runs.proofs.Runs.CallLaws.{CallLaws, init_chosen, moved, same_desc}
 use Rattle.expanded_runs.proofs.Runs.CallTargets.{is_target}
 use Rattle.expanded_runs.proofs.Runs.CalledNames.{init_named, init_of_named, method_at, run_has_name}
 use Rattle.expanded_runs.proofs.Runs.LinkedInstrs.{call_linked}
 use Rattle.expanded_runs.proofs.Runs.PositionLaws.{length_arguments}
 use Rattle.expanded_runs.proofs.Runs.Setup.{IsSetup, Setup, before}
-use Rattle.expanded_code.specs.Callees.{Calls, Finds, InitialisesAt, IsCall, Runs, own_name, runs_special, runs_static, runs_virtual}
-use Rattle.expanded_code.specs.Expanded.{arguments, arguments_from}
-use Rattle.expanded_code.specs.Expansions.{Coded}
 use Rattle.member_link.specs.DeclaredMembers.{Declared}
 use Rattle.member_link.specs.Machine.Links.{reference_to}
 use Rattle.member_link.specs.Machine.Programs.{headers_in, place_of_method}
-use Rattle.class_model.specs.declared.frame.VType.{VType}
 use Rattle.member_link.specs.Methods.{FindsMethod, IsPolymorphic}
 use Rattle.member_link.specs.References.{Reference}
 use Rattle.member_link.specs.Rows.MemberRows.{receiver}

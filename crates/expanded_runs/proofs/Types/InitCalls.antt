@@ -17,7 +17,8 @@ use Rattle.class_model.specs.declared.instr.Instr.TheVariants.{Invoke}
 use Rattle.class_model.specs.declared.instr.Placed.{Placed}
 use Rattle.class_model.specs.declared.opcodes.TheConstants.{INVOKESPECIAL}
 use Rattle.class_tree.specs.Headers.{Headers}
-use Rattle.flow_code.specs.FlatCode.{FlatCode}
+use Rattle.expanded_code.specs.Expanded.{Setting, arguments, set_frame, set_type}
+use Rattle.expanded_code.specs.Expansions.{Coded, Expansion}
 use Rattle.expanded_runs.proofs.Runs.PositionLaws.{length_arguments}
 use Rattle.expanded_runs.proofs.Runs.Positions.{Standing, block_of, inner_setting, scope_of}
 use Rattle.expanded_runs.proofs.Types.CallFacts.{CallFacts}
@@ -26,9 +27,8 @@ use Rattle.expanded_runs.proofs.Types.Entries.{topmost_set}
 use Rattle.expanded_runs.proofs.Types.EntryFrames.{PassedValues, passed_object, this_of}
 use Rattle.expanded_runs.proofs.Types.PlainCalls.{args_fit, enough_there, known_top, object_count}
 use Rattle.expanded_runs.proofs.Types.ThroughClass.{IsKnown}
-use Rattle.expanded_code.specs.Expanded.{Setting, arguments, set_frame, set_type}
-use Rattle.expanded_code.specs.Expansions.{Coded, Expansion}
 use Rattle.expanded_runs.specs.ReadTypes.{read_type}
+use Rattle.flow_code.specs.FlatCode.{FlatCode}
 use Rattle.member_link.specs.Assignability.{IsAssignable, from_null, of_names, to_same, to_top}
 use Rattle.member_link.specs.BodyTyping.{RowHolds}
 use Rattle.member_link.specs.References.{Reference}

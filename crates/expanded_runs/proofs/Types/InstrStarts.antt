@@ -5,10 +5,10 @@ use Rattle.class_model.specs.declared.frame.Frame.{Frame}
 use Rattle.class_model.specs.declared.instr.Instr.{Instr}
 use Rattle.class_model.specs.declared.instr.Instr.TheVariants.{Return}
 use Rattle.class_model.specs.declared.instr.Placed.{Placed}
-use Rattle.expanded_runs.proofs.Runs.PositionLaws.{Fits, fits_none, fits_replaced, fits_site, fits_stays, start_least}
-use Rattle.expanded_runs.proofs.Runs.Positions.{start_from}
 use Rattle.expanded_code.specs.Expanded.{own_points, points_of, points_of_callee}
 use Rattle.expanded_code.specs.Expansions.{Expansion}
+use Rattle.expanded_runs.proofs.Runs.PositionLaws.{Fits, fits_none, fits_replaced, fits_site, fits_stays, start_least}
+use Rattle.expanded_runs.proofs.Runs.Positions.{start_from}
 use Rattle.member_link.specs.Scope.{Scope}
 
 -- ---- points

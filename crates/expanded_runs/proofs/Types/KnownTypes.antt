@@ -33,6 +33,7 @@ use Rattle.class_tree.specs.Subtype.{IsArray}
 use Rattle.class_tree.specs.Trees.{IsTree}
 use Rattle.class_tree.specs.declared.place.Place.TheVariants as places
 use Rattle.code_bytes.specs.Codes.{HasOperands, HasReadMethods, HasReadOperands, HaveOperands, IsReadMethod}
+use Rattle.expanded_code.specs.Sites.{HasFrames}
 use Rattle.expanded_runs.proofs.Runs.NativeMethods.{IsScopeAt, scope_is_at}
 use Rattle.expanded_runs.proofs.Types.EachFrame.{each_frame, framed_is}
 use Rattle.expanded_runs.proofs.Types.FirstFrames.{frames_entered, frames_long}
@@ -46,7 +47,7 @@ use Rattle.expanded_runs.proofs.Types.RowNames.{PoolNamed, row_keeps_named}
 use Rattle.expanded_runs.proofs.Types.ShortTexts.{class_texts_short}
 use Rattle.expanded_runs.proofs.Types.StatedNames.{entry_named, frame_named, one_of}
 use Rattle.expanded_runs.proofs.Types.ThroughClass.{ArrayInterfaces, IsKnown}
-use Rattle.expanded_code.specs.Sites.{HasFrames}
+use Rattle.flow_code.specs.TypedFrames.{FolderFrames}
 use Rattle.member_link.specs.Bodies.{falls_through, flows_on}
 use Rattle.member_link.specs.BodyTyping.{RowHolds}
 use Rattle.member_link.specs.Declarations.{Site, declared_field_checks, declared_method_checks, site_of}
@@ -58,7 +59,6 @@ use Rattle.member_link.specs.Scope.{Scope, instructions, own_descriptor, row_sco
 use Rattle.member_link.specs.Uses.{frame_checks, instr_use_checks}
 use Rattle.type_rules.specs.MethodBodies.{point_of}
 use Rattle.type_rules.specs.Stated.{entry, stated, stated_at}
-use Rattle.flow_code.specs.TypedFrames.{FolderFrames}
 use Rattle.type_rules.specs.Verified.{TypesFolder}
 
 -- ---- of a method by itself

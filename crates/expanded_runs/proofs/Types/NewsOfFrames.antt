@@ -21,6 +21,7 @@ use Rattle.expanded_runs.proofs.Types.PlacedMembers.{IsWithout}
 use Rattle.expanded_runs.proofs.Types.RowNews.{row_without}
 use Rattle.expanded_runs.proofs.Types.StandingPlaces.{new_at}
 use Rattle.expanded_runs.proofs.Types.StatedNews.{AreNewIn, entry_news, stated_news}
+use Rattle.flow_code.specs.TypedFrames.{FolderFrames}
 use Rattle.member_link.specs.Bodies.{falls_through, flows_on}
 use Rattle.member_link.specs.BodyTyping.{RowHolds}
 use Rattle.member_link.specs.Rows.Row.{access_aside, row_frame}
@@ -28,7 +29,6 @@ use Rattle.member_link.specs.Rows.Table.{row_of}
 use Rattle.member_link.specs.Scope.{Scope, class_of_new, instructions, row_scope}
 use Rattle.type_rules.specs.MethodBodies.{point_of}
 use Rattle.type_rules.specs.Stated.{entry, stated_at}
-use Rattle.flow_code.specs.TypedFrames.{FolderFrames}
 use Rattle.type_rules.specs.Verified.{TypesFolder}
 
 -- ---- news by offsets

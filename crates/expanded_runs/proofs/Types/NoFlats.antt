@@ -4,13 +4,13 @@ use Rattle.class_model.specs.Members.{has}
 use Rattle.class_tree.specs.Headers.{Classes, headers_of}
 use Rattle.class_tree.specs.Hierarchy.{IsHierarchy}
 use Rattle.class_tree.specs.Trees.{IsTree}
-use Rattle.flow_code.specs.FlatCode.{FlatCode}
 use Rattle.expanded_runs.proofs.Runs.Setup.{IsSetup, Setup, before}
 use Rattle.expanded_runs.specs.ExpandedPrograms.{HasTypings, ReplacesByFlats}
+use Rattle.flow_code.specs.FlatCode.{FlatCode}
+use Rattle.flow_code.specs.TypedFrames.{FolderFrames}
 use Rattle.member_link.specs.Machine.Links.{AreLinksOf}
 use Rattle.member_link.specs.Machine.Programs.{Links}
 use Rattle.same_runs.specs.Flats.{Flats, flats_for_codes}
-use Rattle.flow_code.specs.TypedFrames.{FolderFrames}
 use Rattle.type_rules.specs.Verified.{TypesFolder}
 use Rattle.typed_runs.specs.TypedPrograms.{IsTypedProgram, Typings}
 

@@ -9,6 +9,9 @@ use Rattle.class_model.specs.declared.frame.VType.TheVariants as types
 use Rattle.class_model.specs.declared.instr.Instr.TheVariants.{Invoke, New}
 use Rattle.class_model.specs.declared.instr.Placed.{Placed}
 use Rattle.class_tree.specs.Headers.{Classes}
+use Rattle.expanded_code.specs.Expanded.{arguments, callee_of, host_setting, overlaid, points_before, points_of_callee, set_frame, set_type}
+use Rattle.expanded_code.specs.Expansions.{Coded, Expansion}
+use Rattle.expanded_code.specs.Sites.{HasFrames}
 use Rattle.expanded_runs.proofs.Runs.PositionLaws.{last_start, next_start, start_least, start_most, width}
 use Rattle.expanded_runs.proofs.Runs.Positions.{Becomes, IsReplacedAt, Standing, block_of, frames_of, inner_standing, instrs_of, scope_of, start_of}
 use Rattle.expanded_runs.proofs.Runs.Standings.{IsStanding, Stands, callee_stands, host_stands}
@@ -17,12 +20,9 @@ use Rattle.expanded_runs.proofs.Types.InstrStarts.{Order, before, behind, order_
 use Rattle.expanded_runs.proofs.Types.OwnPoints.{TypingLaws}
 use Rattle.expanded_runs.proofs.Types.PlacedMembers.{IsWithout}
 use Rattle.expanded_runs.proofs.Types.StandingPlaces.{callee_here, host_scope_is, replaced_is_call, start_number}
-use Rattle.expanded_code.specs.Expanded.{arguments, callee_of, host_setting, overlaid, points_before, points_of_callee, set_frame, set_type}
-use Rattle.expanded_code.specs.Expansions.{Coded, Expansion}
-use Rattle.expanded_code.specs.Sites.{HasFrames}
+use Rattle.flow_code.specs.TypedFrames.{FolderFrames}
 use Rattle.member_link.specs.Rows.Operands.{lowest_of, topmost, under}
 use Rattle.member_link.specs.Scope.{Scope, instructions, is_init, scope_at}
-use Rattle.flow_code.specs.TypedFrames.{FolderFrames}
 
 -- ---- news
 

@@ -15,8 +15,10 @@ use Rattle.class_model.specs.declared.instr.Instr.{Instr}
 use Rattle.class_model.specs.declared.instr.Instr.TheVariants.{Iinc, Load, Store}
 use Rattle.class_model.specs.declared.instr.Placed.{Placed}
 use Rattle.class_tree.specs.Headers.{Classes, Headers, headers_of}
-use Rattle.flow_code.specs.FlatCode.{FlatCode}
-use Rattle.flow_code.specs.declared.point.Point.{Point}
+use Rattle.expanded_code.specs.Alone.{number_in}
+use Rattle.expanded_code.specs.Expanded.{Setting, expanded, point_in, set_frame, set_instr, with_unit}
+use Rattle.expanded_code.specs.Expansions.{Coded, Expansion}
+use Rattle.expanded_code.specs.Sites.{HasFrames as HasTyping}
 use Rattle.expanded_runs.proofs.AloneProgram.{EachTyped}
 use Rattle.expanded_runs.proofs.RenumberedTargets.{falls_same, targets_numbered}
 use Rattle.expanded_runs.proofs.Runs.PositionLaws.{length_fits}
@@ -27,11 +29,10 @@ use Rattle.expanded_runs.proofs.Types.Edges.{placed_frame}
 use Rattle.expanded_runs.proofs.Types.FrameFacts.{FrameFacts}
 use Rattle.expanded_runs.proofs.Types.Starts.{start_typed}
 use Rattle.expanded_runs.proofs.Types.Units.{item_there, to_themselves}
-use Rattle.expanded_code.specs.Alone.{number_in}
-use Rattle.expanded_code.specs.Expanded.{Setting, expanded, point_in, set_frame, set_instr, with_unit}
-use Rattle.expanded_code.specs.Expansions.{Coded, Expansion}
 use Rattle.expanded_runs.specs.ReadTypes.{MayGoToPoint, TypesPoint, read_at, read_frame, read_row}
-use Rattle.expanded_code.specs.Sites.{HasFrames as HasTyping}
+use Rattle.flow_code.specs.FlatCode.{FlatCode}
+use Rattle.flow_code.specs.TypedFrames.{FolderFrames, typed_frames_at}
+use Rattle.flow_code.specs.declared.point.Point.{Point}
 use Rattle.member_link.specs.Bodies.{Body, catch_frame, falls_through}
 use Rattle.member_link.specs.BodyTyping.{AreInOrder, FlowsInto, GoesInto, GoesToStated, HasFrames, MayGoTo, PointFits, Reaches, RowHolds, frame_at}
 use Rattle.member_link.specs.Rows.FrameAssignability.{IsFrameAssignable}
@@ -42,7 +43,6 @@ use Rattle.same_runs.specs.FlatBodies.{caught_class}
 use Rattle.same_runs.specs.Flats.{host_scope, instr_scope}
 use Rattle.type_rules.specs.MethodBodies.{body_of, point_of}
 use Rattle.type_rules.specs.Typed.{TypesBody}
-use Rattle.flow_code.specs.TypedFrames.{FolderFrames, typed_frames_at}
 use Rattle.type_rules.specs.Verified.{TypesFolder, TypesMethod}
 
 -- ---- a typed method

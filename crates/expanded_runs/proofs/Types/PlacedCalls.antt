@@ -11,11 +11,11 @@ use Rattle.class_model.specs.declared.frame.VType.TheVariants as types
 use Rattle.class_model.specs.declared.header.Header.{Header}
 use Rattle.class_model.specs.declared.opcodes.TheConstants.{INVOKESTATIC, INVOKESPECIAL}
 use Rattle.class_tree.specs.Headers.{Name}
+use Rattle.expanded_code.specs.Expanded.{overlaid}
 use Rattle.expanded_runs.proofs.Types.Blocks.{map_block}
 use Rattle.expanded_runs.proofs.Types.PlacedMembers.{HasThis, IsNoSite, IsWithout, KeepsNews, SameMethod, arguments_kept, instance_moves, no_this, of_method, of_none, of_site, receiver_same, results_same, special_moves, static_moves, with_receiver}
 use Rattle.expanded_runs.proofs.Types.PlacedRows.{HasOperands, Moves, no_row_moves}
 use Rattle.expanded_runs.proofs.Types.PlacedTypes.{Place, all_fit_kept, flat_scope, new_type, placed_frame, placed_locals, placed_stack, placed_type, this_type}
-use Rattle.expanded_code.specs.Expanded.{overlaid}
 use Rattle.member_link.specs.References.{Reference}
 use Rattle.member_link.specs.RowScope.{RowScope}
 use Rattle.member_link.specs.Rows.MemberRows.{MayInitialise, PassesMethod, argument_needs, call_row, init_row, initialised_type, instance_row, receiver, special_row, static_row}

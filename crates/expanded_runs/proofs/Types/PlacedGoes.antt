@@ -9,8 +9,8 @@ use Rattle.class_tree.specs.Headers.{Name, Headers}
 use Rattle.class_tree.specs.Laws.Above.{below_more}
 use Rattle.class_tree.specs.Subtype.{IsArray, IsBelow, IsReferenceComponent}
 use Rattle.class_tree.specs.Subtype as components
-use Rattle.expanded_runs.proofs.Types.PlacedTypes.{Place, assignable_kept, new_type, placed_frame, placed_type, this_type}
 use Rattle.expanded_code.specs.Expanded.{overlaid}
+use Rattle.expanded_runs.proofs.Types.PlacedTypes.{Place, assignable_kept, new_type, placed_frame, placed_type, this_type}
 use Rattle.member_link.specs.Access.{IsAtOrBelow}
 use Rattle.member_link.specs.Assignability.{IsAssignable, IsNameAssignable, from_array, from_null, of_components, of_names, to_class_above, to_interface, to_itself, to_same, to_top}
 use Rattle.member_link.specs.References.{Reference}

@@ -13,10 +13,10 @@ use Rattle.class_model.specs.declared.instr.Imm.{Imm}
 use Rattle.class_model.specs.declared.instr.Imm.TheVariants as imms
 use Rattle.class_model.specs.declared.pool.Const.{Const}
 use Rattle.class_model.specs.declared.pool.Const.TheVariants as consts
+use Rattle.expanded_code.specs.Expanded.{overlaid}
 use Rattle.expanded_runs.proofs.Types.Blocks.{get_before_block, get_in_block, length_block, set_in_block}
 use Rattle.expanded_runs.proofs.Types.PlacedRows.{HasOperands, Moves, has_enough, no_row_moves, plain_moves}
 use Rattle.expanded_runs.proofs.Types.PlacedTypes.{Place, all_fit_kept, kind_kept, lowest_same, placed_frame, placed_locals, placed_type, units_same, wide_same}
-use Rattle.expanded_code.specs.Expanded.{overlaid}
 use Rattle.member_link.specs.Rows.LocalRows.{HasRoom, HoldsKind, const_row, cut_before, iinc_row, imm_row, load_row, local_entry, store_row, stored, type_of_imm, with_units}
 use Rattle.member_link.specs.Rows.Operands.{AllFit, IsOfKind, lowest_of, of_kind, topmost}
 

@@ -13,6 +13,7 @@ use Rattle.class_model.specs.declared.instr.Instr.{Instr}
 use Rattle.class_model.specs.declared.instr.Instr.TheVariants.{Nop, Const, Ldc, Ldc2, Load, Store, Iinc, ArrayLoad, ArrayStore, Shuffle, Pure, Divide, FloatAsk, If, If2, IfSame, IfNull, Goto, Table, Lookup, Return, GetStatic, PutStatic, GetField, PutField, Invoke, Dynamic, New, NewArray, NewRefArray, NewMulti, Length, Throw, Cast, InstanceOf, Enter, Leave}
 use Rattle.class_model.specs.declared.opcodes.TheConstants.{IFEQ, IFLE, IF_ICMPEQ, IF_ICMPLE, IF_ACMPEQ, IF_ACMPNE, IFNULL, IFNONNULL, INVOKESPECIAL}
 use Rattle.class_tree.specs.Headers.{Name}
+use Rattle.expanded_code.specs.Expanded.{with_unit}
 use Rattle.expanded_runs.proofs.Types.PlacedArithmetic.{operation_moves}
 use Rattle.expanded_runs.proofs.Types.PlacedArrays.{array_load_moves, array_store_moves, length_moves, made_moves}
 use Rattle.expanded_runs.proofs.Types.PlacedCalls.{call_moves, map_locals, same_without}
@@ -21,7 +22,6 @@ use Rattle.expanded_runs.proofs.Types.PlacedMembers.{HasThis, IsNoSite, IsWithou
 use Rattle.expanded_runs.proofs.Types.PlacedRows.{HasOperands, Moves, either_moves, ending_moves, no_row_moves, plain_moves}
 use Rattle.expanded_runs.proofs.Types.PlacedShuffles.{shuffle_moves}
 use Rattle.expanded_runs.proofs.Types.PlacedTypes.{IsKept, Place, all_fit_kept, flat_scope, new_type, placed_frame, placed_type, this_type}
-use Rattle.expanded_code.specs.Expanded.{with_unit}
 use Rattle.member_link.specs.References.{Reference}
 use Rattle.member_link.specs.Rows.ArithmeticRows.{pure_operations, divide_operations, float_operations, operation_in}
 use Rattle.member_link.specs.Rows.ArrayRows.{array_of, primitive_array}

@@ -2,18 +2,20 @@
 use Rattle.std.proofs.Common.{◌≡◌, ◌≢◌, ◌+◌, ℕ, List, [], ◌∷◌, ◌++◌, length, map, take, drop, Option, Some, None, option_map, refl, sym, ap, ◌∙◌}
 use Rattle.std.proofs.lemmas.List.{append_cancel_left, append_cancel_right, length-map}
 use Rattle.std.proofs.lemmas.Option.{same_Some}
+use Rattle.class_model.specs.Descriptors.{parameters_of}
 use Rattle.class_model.specs.declared.frame.Frame.{Frame}
 use Rattle.class_model.specs.declared.frame.VType.{VType}
 use Rattle.class_model.specs.declared.frame.VType.TheVariants as types
 use Rattle.class_model.specs.declared.instr.Instr.{Instr}
 use Rattle.class_model.specs.declared.instr.Instr.TheVariants.{Invoke, New, Return}
 use Rattle.class_tree.specs.Headers.{Name}
+use Rattle.class_tree.specs.Headers.{Headers}
+use Rattle.expanded_code.specs.Expanded.{overlaid}
 use Rattle.expanded_runs.proofs.Types.PlacedLocals.{HasBlock}
 use Rattle.expanded_runs.proofs.Types.PlacedMembers.{IsNoSite, KeepsNews, SameMethod, no_this, of_none, of_site}
 use Rattle.expanded_runs.proofs.Types.PlacedRows.{Moves, frame_moves}
 use Rattle.expanded_runs.proofs.Types.PlacedTable.{Stays, placed_instr, row_moves}
 use Rattle.expanded_runs.proofs.Types.PlacedTypes.{Place, flat_scope, placed_frame, placed_locals, placed_stack, placed_type, this_type}
-use Rattle.expanded_code.specs.Expanded.{overlaid}
 use Rattle.member_link.specs.Assignability.{IsAssignable, from_null, of_names, to_same, to_top}
 use Rattle.member_link.specs.BodyTyping.{RowHolds}
 use Rattle.member_link.specs.References.{Reference}
@@ -21,8 +23,6 @@ use Rattle.member_link.specs.Rows.FrameAssignability.{AreAssignable, IsFrameAssi
 use Rattle.member_link.specs.Rows.MemberRows.{NoUninitThis, receiver}
 use Rattle.member_link.specs.Rows.Row.{Row, access_aside, row_frame}
 use Rattle.member_link.specs.Rows.Table.{row_of}
-use Rattle.class_model.specs.Descriptors.{parameters_of}
-use Rattle.class_tree.specs.Headers.{Headers}
 
 -- a frame without an uninitialised this
 abbrev pub IsWithoutThis : Frame → Type 0

@@ -15,7 +15,8 @@ use Rattle.class_model.specs.declared.instr.Instr.{Instr}
 use Rattle.class_model.specs.declared.instr.Instr.TheVariants.{Invoke}
 use Rattle.class_model.specs.declared.instr.Placed.{Placed}
 use Rattle.class_model.specs.declared.opcodes.TheConstants.{INVOKESPECIAL, INVOKESTATIC, INVOKEVIRTUAL}
-use Rattle.flow_code.specs.FlatCode.{FlatCode}
+use Rattle.expanded_code.specs.Expanded.{arguments, arguments_from}
+use Rattle.expanded_code.specs.Expansions.{Coded, Expansion}
 use Rattle.expanded_runs.proofs.Runs.Positions.{Standing, inner_setting, scope_of}
 use Rattle.expanded_runs.proofs.Types.CallFacts.{CallFacts}
 use Rattle.expanded_runs.proofs.Types.Edges.{placed_keeps, placed_type, set_this}
@@ -23,8 +24,7 @@ use Rattle.expanded_runs.proofs.Types.EntryFrames.{PassedValues, passed_object, 
 use Rattle.expanded_runs.proofs.Types.EntryTypes.{AreArguments, named_below}
 use Rattle.expanded_runs.proofs.Types.ThroughClass.{IsKnown}
 use Rattle.expanded_runs.proofs.Types.Units.{get_drop}
-use Rattle.expanded_code.specs.Expanded.{arguments, arguments_from}
-use Rattle.expanded_code.specs.Expansions.{Coded, Expansion}
+use Rattle.flow_code.specs.FlatCode.{FlatCode}
 use Rattle.member_link.specs.Assignability.{IsAssignable}
 use Rattle.member_link.specs.Bodies.{falls_through}
 use Rattle.member_link.specs.BodyTyping.{RowHolds}

@@ -7,11 +7,11 @@ use Rattle.class_model.specs.Frames.{depth}
 use Rattle.class_model.specs.declared.frame.Frame.{Frame}
 use Rattle.class_model.specs.declared.frame.VType.{VType}
 use Rattle.class_tree.specs.Headers.{Classes}
+use Rattle.expanded_runs.proofs.StackRoom.{no_deeper, two_each}
+use Rattle.expanded_runs.specs.ReadTypes.{MayGoToPoint, TypesPoint, read_at, read_frame, read_row}
 use Rattle.flow_code.specs.FlatCode.{FlatCode, point_at}
 use Rattle.flow_code.specs.FlatRoom.{stack_room}
 use Rattle.flow_code.specs.declared.point.Point.{Point}
-use Rattle.expanded_runs.proofs.StackRoom.{no_deeper, two_each}
-use Rattle.expanded_runs.specs.ReadTypes.{MayGoToPoint, TypesPoint, read_at, read_frame, read_row}
 use Rattle.member_link.specs.Bodies.{catch_frame, item_falls_through, item_targets}
 use Rattle.member_link.specs.BodyTyping.{RowHolds}
 use Rattle.member_link.specs.Rows.Operands.{topmost, under}

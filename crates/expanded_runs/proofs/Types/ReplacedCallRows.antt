@@ -14,7 +14,9 @@ use Rattle.class_model.specs.declared.instr.Placed.{Placed}
 use Rattle.class_model.specs.declared.opcodes.TheConstants.{INVOKESPECIAL}
 use Rattle.class_tree.specs.Headers.{Headers, Name, headers_of}
 use Rattle.class_tree.specs.Subtype.{IsArray}
-use Rattle.flow_code.specs.FlatCode.{FlatCode}
+use Rattle.expanded_code.specs.Callees.{Finds, IsCall, IsClass, StandsAt, own_name}
+use Rattle.expanded_code.specs.Expanded.{Setting, expanded, set_type}
+use Rattle.expanded_code.specs.Expansions.{Coded, Expansion}
 use Rattle.expanded_runs.proofs.Runs.CallLaws.{CallLaws}
 use Rattle.expanded_runs.proofs.Runs.Positions.{IsReplacedAt, Standing, frames_of, inner_setting, scope_of}
 use Rattle.expanded_runs.proofs.Runs.Setup.{IsSetup, Setup}
@@ -30,10 +32,8 @@ use Rattle.expanded_runs.proofs.Types.OwnPoints.{TypingLaws, scope_headers}
 use Rattle.expanded_runs.proofs.Types.ReplacedRows.{RowSays, instr_is, known, on_passes, own_classes, row, row_says, there}
 use Rattle.expanded_runs.proofs.Types.SiteObjects.{call as site_call, initialises, row_of_callee, site_setting, there as site_there, this_is}
 use Rattle.expanded_runs.proofs.Types.SpecialCalls.{special_leaves, special_own, special_passed, special_target}
-use Rattle.expanded_code.specs.Callees.{Finds, IsCall, IsClass, StandsAt, own_name}
-use Rattle.expanded_code.specs.Expanded.{Setting, expanded, set_type}
-use Rattle.expanded_code.specs.Expansions.{Coded, Expansion}
 use Rattle.expanded_runs.specs.ReadTypes.{class_of_site, read_type}
+use Rattle.flow_code.specs.FlatCode.{FlatCode}
 use Rattle.member_link.specs.Access.{IsAtOrBelow}
 use Rattle.member_link.specs.Assignability.{IsAssignable}
 use Rattle.member_link.specs.DeclaredMembers.{Declared}

@@ -14,7 +14,9 @@ use Rattle.class_model.specs.declared.instr.Instr.TheVariants.{Invoke}
 use Rattle.class_model.specs.declared.instr.Placed.{Placed}
 use Rattle.class_model.specs.declared.opcodes.TheConstants.{INVOKESPECIAL, INVOKESTATIC, INVOKEVIRTUAL}
 use Rattle.class_tree.specs.Headers.{Headers, Name, headers_of}
-use Rattle.flow_code.specs.FlatCode.{FlatCode}
+use Rattle.expanded_code.specs.Callees.{Finds, IsCall, IsClass, Runs, StandsAt, own_name, runs_special, runs_static, runs_virtual}
+use Rattle.expanded_code.specs.Expanded.{arguments, expanded}
+use Rattle.expanded_code.specs.Expansions.{Coded, Expansion}
 use Rattle.expanded_runs.proofs.Runs.CallLaws.{CallLaws, headers, text_named}
 use Rattle.expanded_runs.proofs.Runs.CalledNames.{method_at, run_has_name}
 use Rattle.expanded_runs.proofs.Runs.LinkedInstrs.{instr_there}
@@ -23,6 +25,7 @@ use Rattle.expanded_runs.proofs.Runs.Setup.{IsSetup, Setup, before}
 use Rattle.expanded_runs.proofs.Runs.Standings.{IsStanding, Stands}
 use Rattle.expanded_runs.proofs.Types.CallFacts.{CallFacts}
 use Rattle.expanded_runs.proofs.Types.CalledObjects.{IsOn, of_reference, static_flag, this_passed, virtual_flag, virtual_on}
+use Rattle.expanded_runs.proofs.Types.Edges.{placed_type}
 use Rattle.expanded_runs.proofs.Types.EntryFrames.{PassedValues, this_of}
 use Rattle.expanded_runs.proofs.Types.FrameFacts.{FrameFacts}
 use Rattle.expanded_runs.proofs.Types.OwnPoints.{TypingLaws, row_at, scope_headers}
@@ -30,10 +33,7 @@ use Rattle.expanded_runs.proofs.Types.PlainCalls.{static_facts, static_passes, v
 use Rattle.expanded_runs.proofs.Types.SiteObjects.{folder_no_array}
 use Rattle.expanded_runs.proofs.Types.StandingPlaces.{CalleeHere, callee_here, number_of_instr}
 use Rattle.expanded_runs.proofs.Types.ThroughClass.{IsKnown}
-use Rattle.expanded_runs.proofs.Types.Edges.{placed_type}
-use Rattle.expanded_code.specs.Callees.{Finds, IsCall, IsClass, Runs, StandsAt, own_name, runs_special, runs_static, runs_virtual}
-use Rattle.expanded_code.specs.Expanded.{arguments, expanded}
-use Rattle.expanded_code.specs.Expansions.{Coded, Expansion}
+use Rattle.flow_code.specs.FlatCode.{FlatCode}
 use Rattle.member_link.specs.Assignability.{IsAssignable}
 use Rattle.member_link.specs.BodyTyping.{RowHolds}
 use Rattle.member_link.specs.DeclaredMembers.{Declared}

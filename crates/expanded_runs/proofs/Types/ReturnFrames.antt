@@ -13,7 +13,9 @@ use Rattle.class_model.specs.declared.frame.VType.TheVariants as types
 use Rattle.class_model.specs.declared.instr.Placed.{Placed}
 use Rattle.class_tree.specs.Headers.{Classes, Headers, headers_of}
 use Rattle.class_tree.specs.Hierarchy.{IsHierarchy}
-use Rattle.flow_code.specs.FlatCode.{FlatCode}
+use Rattle.expanded_code.specs.Callees.{ResultSaysAtMost, SaysAtMost}
+use Rattle.expanded_code.specs.Expanded.{Setting, arguments, expanded, set_frame, set_type}
+use Rattle.expanded_code.specs.Expansions.{Coded, Expansion}
 use Rattle.expanded_runs.proofs.Runs.PositionLaws.{block_least, length_arguments}
 use Rattle.expanded_runs.proofs.Runs.Positions.{IsReplacedAt, Standing, block_of, frames_of, inner_setting, inner_standing, instrs_of, scope_of}
 use Rattle.expanded_runs.proofs.Runs.Standings.{IsStanding, Stands, callee_stands}
@@ -25,10 +27,9 @@ use Rattle.expanded_runs.proofs.Types.Handlers.{SameBefore, same_before_assignab
 use Rattle.expanded_runs.proofs.Types.OwnPoints.{TypingLaws, flows_to, next_at, next_is}
 use Rattle.expanded_runs.proofs.Types.ThroughClass.{ArrayInterfaces, IsKnown}
 use Rattle.expanded_runs.proofs.Types.Units.{ThisAt, TopsFrom, append_assignable, as_long, each_assignable, get_inside, get_outside, has_this, inside, outside, this_at, where_is}
-use Rattle.expanded_code.specs.Callees.{ResultSaysAtMost, SaysAtMost}
-use Rattle.expanded_code.specs.Expanded.{Setting, arguments, expanded, set_frame, set_type}
-use Rattle.expanded_code.specs.Expansions.{Coded, Expansion}
 use Rattle.expanded_runs.specs.ReadTypes.{read_type}
+use Rattle.flow_code.specs.FlatCode.{FlatCode}
+use Rattle.flow_code.specs.TypedFrames.{FolderFrames}
 use Rattle.member_link.specs.Assignability.{IsAssignable}
 use Rattle.member_link.specs.BodyTyping.{FlowsInto}
 use Rattle.member_link.specs.Rows.FrameAssignability.{AreAssignable, IsFrameAssignable}
@@ -39,7 +40,6 @@ use Rattle.member_link.specs.Rows.Table.{row_of}
 use Rattle.member_link.specs.Scope.{Scope, own_descriptor, row_scope}
 use Rattle.member_link.specs.Signatures.{result_of}
 use Rattle.type_rules.specs.MethodBodies.{body_of}
-use Rattle.flow_code.specs.TypedFrames.{FolderFrames}
 use Rattle.type_rules.specs.Verified.{TypesFolder}
 
 -- ---- stacks

@@ -17,21 +17,21 @@ use Rattle.class_model.specs.declared.instr.Imm.TheVariants as imms
 use Rattle.class_model.specs.declared.instr.Instr.TheVariants.{Const, Goto, Pure}
 use Rattle.class_model.specs.declared.opcodes.TheConstants.{I2B, I2C, I2S, IAND}
 use Rattle.class_tree.specs.Headers.{Classes, Headers}
+use Rattle.expanded_code.specs.Expanded.{Narrowing, Setting, narrowing, own_narrowing, point_in, return_points, set_frame, set_type}
+use Rattle.expanded_runs.proofs.Types.CallFacts.{Returned, returned_none, returned_one}
+use Rattle.expanded_runs.proofs.Types.OwnPoints.{itself}
+use Rattle.expanded_runs.proofs.Types.PlainPoints.{goes_typed, has_room, read_there, topmost_none, under_none}
+use Rattle.expanded_runs.proofs.Types.ReturnFrames.{topmost_back, under_back}
+use Rattle.expanded_runs.specs.ReadTypes.{MayGoToPoint, TypesPoint, read_frame, read_type}
 use Rattle.flow_code.specs.FlatCode.{FlatCode, point_at}
 use Rattle.flow_code.specs.FlatRoom.{stack_room}
 use Rattle.flow_code.specs.declared.point.Point.{Point}
-use Rattle.expanded_runs.proofs.Types.CallFacts.{Returned, returned_none, returned_one}
-use Rattle.expanded_runs.proofs.Types.PlainPoints.{goes_typed, has_room, read_there, topmost_none, under_none}
-use Rattle.expanded_runs.proofs.Types.ReturnFrames.{topmost_back, under_back}
-use Rattle.expanded_code.specs.Expanded.{Narrowing, Setting, narrowing, own_narrowing, point_in, return_points, set_frame, set_type}
-use Rattle.expanded_runs.specs.ReadTypes.{MayGoToPoint, TypesPoint, read_frame, read_type}
 use Rattle.member_link.specs.Bodies.{caught_type}
 use Rattle.member_link.specs.BodyTyping.{MayGoTo}
 use Rattle.member_link.specs.Rows.ArithmeticRows.{operation_in, pure_operations}
 use Rattle.member_link.specs.Rows.Operands.{AllFit, IsOfKind, of_kind, topmost, under}
 use Rattle.member_link.specs.Scope.{Scope, own_descriptor}
 use Rattle.member_link.specs.Signatures.{result_of}
-use Rattle.expanded_runs.proofs.Types.OwnPoints.{itself}
 use Rattle.same_runs.specs.FlatBodies.{caught_class}
 use Rattle.same_runs.specs.Flats.{host_scope, instr_scope}
 

@@ -11,7 +11,9 @@ use Rattle.class_model.specs.declared.instr.Instr.TheVariants.{Return}
 use Rattle.class_model.specs.declared.instr.Placed.{Placed}
 use Rattle.class_tree.specs.Headers.{Classes, Headers, headers_of}
 use Rattle.class_tree.specs.Hierarchy.{IsHierarchy}
-use Rattle.flow_code.specs.declared.point.Point.{Point}
+use Rattle.expanded_code.specs.Callees.{LeavesResult, ResultSaysAtMost}
+use Rattle.expanded_code.specs.Expanded.{callee_of, expanded, points_of_callee, return_points, set_frame}
+use Rattle.expanded_code.specs.Expansions.{Coded, Expansion}
 use Rattle.expanded_runs.proofs.Runs.PositionLaws.{next_start, part_stands, points_at, width}
 use Rattle.expanded_runs.proofs.Runs.Positions.{Becomes, IsReplacedAt, Standing, becomes, block_of, frames_of, inner_standing, instrs_of, scope_of, start_of}
 use Rattle.expanded_runs.proofs.Runs.StandingLaws.{as_replaced, becomes_as}
@@ -25,16 +27,14 @@ use Rattle.expanded_runs.proofs.Types.OwnPoints.{TypingLaws, goes_to, number_is,
 use Rattle.expanded_runs.proofs.Types.ReturnFrames.{behind_call, return_assignable}
 use Rattle.expanded_runs.proofs.Types.ReturnPoints.{return_points_typed}
 use Rattle.expanded_runs.proofs.Types.ThroughClass.{ArrayInterfaces}
-use Rattle.expanded_code.specs.Callees.{LeavesResult, ResultSaysAtMost}
-use Rattle.expanded_code.specs.Expanded.{callee_of, expanded, points_of_callee, return_points, set_frame}
-use Rattle.expanded_code.specs.Expansions.{Coded, Expansion}
 use Rattle.expanded_runs.specs.ReadTypes.{MayGoToPoint, TypesPoint, read_frame}
+use Rattle.flow_code.specs.TypedFrames.{FolderFrames}
+use Rattle.flow_code.specs.declared.point.Point.{Point}
 use Rattle.member_link.specs.BodyTyping.{RowHolds}
 use Rattle.member_link.specs.Rows.MemberRows.{return_row}
 use Rattle.member_link.specs.Rows.Table.{row_of}
 use Rattle.member_link.specs.Scope.{Scope, own_descriptor, row_scope}
 use Rattle.member_link.specs.Signatures.{result_of}
-use Rattle.flow_code.specs.TypedFrames.{FolderFrames}
 use Rattle.type_rules.specs.Verified.{TypesFolder}
 
 module _ (laws : TypingLaws) {classes : Classes} {typed : FolderFrames} (folder : TypesFolder classes typed) (facts : FrameFacts classes typed)

@@ -3,10 +3,10 @@ use Rattle.std.proofs.Common.{Option}
 use Rattle.class_model.specs.declared.frame.Frame.{Frame}
 use Rattle.class_model.specs.declared.instr.Placed.{Placed}
 use Rattle.class_tree.specs.Headers.{Classes, Name}
-use Rattle.flow_code.specs.FlatCode.{FlatCode}
+use Rattle.expanded_code.specs.Expanded.{Setting}
 use Rattle.expanded_runs.proofs.Types.FlatPlaces.{HasDepth, HasUnits, StandsInFlat, ThisIs}
 use Rattle.expanded_runs.proofs.Types.FlatRows.{FlatRow, StaysInFlat, flat_row_holds, own_row}
-use Rattle.expanded_code.specs.Expanded.{Setting}
+use Rattle.flow_code.specs.FlatCode.{FlatCode}
 use Rattle.member_link.specs.BodyTyping.{RowHolds}
 use Rattle.member_link.specs.RowScope.{RowScope}
 use Rattle.member_link.specs.Rows.Row.{Row, access_aside}

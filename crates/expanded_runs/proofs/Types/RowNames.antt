@@ -16,9 +16,9 @@ use Rattle.class_model.specs.declared.instr.Imm.TheVariants as imms
 use Rattle.class_model.specs.declared.instr.Instr.{Instr}
 use Rattle.class_model.specs.declared.instr.Instr.TheVariants.{Nop, Const, Ldc, Ldc2, Load, Store, Iinc, ArrayLoad, ArrayStore, Shuffle, Pure, Divide, FloatAsk, If, If2, IfSame, IfNull, Goto, Table, Lookup, Return, GetStatic, PutStatic, GetField, PutField, Invoke, Dynamic, New, NewArray, NewRefArray, NewMulti, Length, Throw, Cast, InstanceOf, Enter, Leave}
 use Rattle.class_model.specs.declared.opcodes.TheConstants.{AALOAD, IALOAD, AASTORE, IASTORE, IFEQ, IFLE, IF_ICMPEQ, IF_ICMPLE, IF_ACMPEQ, IF_ACMPNE, IFNULL, IFNONNULL, INVOKESPECIAL, INVOKESTATIC}
-use Rattle.class_tree.specs.Headers.{Headers, Name, class_named}
 use Rattle.class_model.specs.declared.pool.Const.{Const as Constant}
 use Rattle.class_model.specs.declared.pool.Const.TheVariants as consts
+use Rattle.class_tree.specs.Headers.{Headers, Name, class_named}
 use Rattle.class_tree.specs.Names.{throwable}
 use Rattle.class_tree.specs.Subtype.{IsArray}
 use Rattle.expanded_runs.proofs.Types.NamedTypes.{AreNamed, AreNamedTypes, IsNamedType, component_there, named_append, named_drop, named_get, named_map, named_set, named_take}

@@ -11,16 +11,16 @@ use Rattle.class_model.specs.declared.frame.VType.TheVariants as types
 use Rattle.class_model.specs.declared.instr.Instr.{Instr}
 use Rattle.class_model.specs.declared.instr.Instr.TheVariants.{Goto, If, If2, IfNull, IfSame, Iinc, Invoke, Load, Lookup, New, Return, Store, Table}
 use Rattle.class_tree.specs.Headers.{Name}
+use Rattle.expanded_code.specs.Expanded.{overlaid}
 use Rattle.expanded_runs.proofs.Types.PlacedLocals.{HasBlock}
 use Rattle.expanded_runs.proofs.Types.PlacedMembers.{IsNoSite, IsWithout, KeepsNews, SameMethod, of_method}
 use Rattle.expanded_runs.proofs.Types.PlacedRows.{Moves, frame_moves}
 use Rattle.expanded_runs.proofs.Types.PlacedTable.{Stays, placed_instr, row_moves}
 use Rattle.expanded_runs.proofs.Types.PlacedTypes.{Place, flat_scope, placed_frame, placed_locals, placed_type}
-use Rattle.expanded_code.specs.Expanded.{overlaid}
 use Rattle.member_link.specs.BodyTyping.{RowHolds}
 use Rattle.member_link.specs.RowScope.{RowScope}
-use Rattle.member_link.specs.Rows.Row.{Row, access_aside, row_frame}
 use Rattle.member_link.specs.Rows.MemberRows.{receiver}
+use Rattle.member_link.specs.Rows.Row.{Row, access_aside, row_frame}
 use Rattle.member_link.specs.Rows.Table.{row_of}
 
 tops_all : (P : VType → Type 0) → P types.Top → (count : ℕ) → AllByRecursion P (replicate count types.Top)

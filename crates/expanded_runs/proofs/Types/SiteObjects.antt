@@ -4,14 +4,14 @@ use Rattle.std.specs.Prelude.{is_some}
 use Rattle.std.proofs.lemmas.Bool.{eq-eqb}
 use Rattle.std.proofs.lemmas.Option.{same_Some}
 use Rattle.std.proofs.lemmas.Slice.Eq.{bytes_eq-Decides}
+use Rattle.std.proofs.lemmas.List.{length-map}
 use Rattle.class_model.specs.Code.{verification_type}
 use Rattle.class_model.specs.Descriptors.{parameters_of}
-use Rattle.class_model.specs.declared.descriptor.FieldType.{FieldType}
-use Rattle.std.proofs.lemmas.List.{length-map}
 use Rattle.class_model.specs.Header.{header_of}
 use Rattle.class_model.specs.Names.{init}
 use Rattle.class_model.specs.Pool.{constant_at}
 use Rattle.class_model.specs.declared.class_file.MethodAt.{MethodAt}
+use Rattle.class_model.specs.declared.descriptor.FieldType.{FieldType}
 use Rattle.class_model.specs.declared.frame.Frame.{Frame}
 use Rattle.class_model.specs.declared.frame.VType.{VType}
 use Rattle.class_model.specs.declared.frame.VType.TheVariants as types
@@ -22,15 +22,19 @@ use Rattle.class_model.specs.declared.opcodes.TheConstants.{INVOKESPECIAL}
 use Rattle.class_tree.specs.Headers.{Headers, Name, headers_of}
 use Rattle.class_tree.specs.Laws.Above.{below_more, hierarchy_is_sound, there_is_no_array}
 use Rattle.class_tree.specs.Subtype.{IsArray, IsBelow, directly, superclass}
+use Rattle.expanded_code.specs.Callees.{InitialisesAt, own_name}
+use Rattle.expanded_code.specs.Expanded.{expanded, set_type}
+use Rattle.expanded_code.specs.Expansions.{Coded, Expansion}
+use Rattle.expanded_code.specs.Laws.Instructions.{new_there}
+use Rattle.expanded_code.specs.Laws.Instructions.{calls_of}
+use Rattle.expanded_code.specs.Sites.{IsReplaced, IsSite}
 use Rattle.expanded_runs.proofs.Runs.CallLaws.{CallLaws}
 use Rattle.expanded_runs.proofs.Runs.CalleeLaws.{site_makes}
 use Rattle.expanded_runs.proofs.Runs.FlatSites.{becomes_site}
-use Rattle.expanded_code.specs.Laws.Instructions.{new_there}
 use Rattle.expanded_runs.proofs.Runs.LinkedInstrs.{instr_there}
 use Rattle.expanded_runs.proofs.Runs.Positions.{IsReplacedAt, Standing, becomes, block_of, frames_of, inner_setting, instrs_of, makes_site, scope_of, start_of}
 use Rattle.expanded_runs.proofs.Runs.Setup.{IsSetup, Setup}
 use Rattle.expanded_runs.proofs.Runs.SiteInitialisers.{own_class_named}
-use Rattle.expanded_code.specs.Laws.Instructions.{calls_of}
 use Rattle.expanded_runs.proofs.Runs.StandingLaws.{BecomesAs, becomes_as}
 use Rattle.expanded_runs.proofs.Runs.Standings.{IsStanding, Stands, callee_stands, host_stands}
 use Rattle.expanded_runs.proofs.Types.FlatParts.{IsOwn, own_site}
@@ -42,11 +46,7 @@ use Rattle.expanded_runs.proofs.Types.OwnPoints.{TypingLaws, row_at, scope_heade
 use Rattle.expanded_runs.proofs.Types.PlacedRows.{has_enough}
 use Rattle.expanded_runs.proofs.Types.SitesThere.{made_by, site_here}
 use Rattle.expanded_runs.proofs.Types.StandingPlaces.{CalleeHere, callee_here, host_scope_is, number_of_instr, start_number}
-use Rattle.expanded_code.specs.Callees.{InitialisesAt, own_name}
-use Rattle.expanded_code.specs.Expanded.{expanded, set_type}
-use Rattle.expanded_code.specs.Expansions.{Coded, Expansion}
 use Rattle.expanded_runs.specs.ReadTypes.{class_of_site}
-use Rattle.expanded_code.specs.Sites.{IsReplaced, IsSite}
 use Rattle.member_link.specs.Access.{IsAtOrBelow}
 use Rattle.member_link.specs.BodyTyping.{RowHolds}
 use Rattle.member_link.specs.References.{Reference}

@@ -5,15 +5,15 @@ use Rattle.std.proofs.lemmas.Option.{none-some}
 use Rattle.class_model.specs.declared.class_file.MethodAt.{MethodAt}
 use Rattle.class_model.specs.declared.instr.Placed.{Placed}
 use Rattle.class_tree.specs.Headers.{Headers, Name}
-use Rattle.flow_code.specs.declared.point.Site.{Site}
+use Rattle.expanded_code.specs.Expanded.{callee_of, expanded, own_points, points_before, points_of, points_of_callee, sites_from}
+use Rattle.expanded_code.specs.Expansions.{Coded, Expansion, no_more, replaced, site, stays}
 use Rattle.expanded_runs.proofs.Runs.PositionLaws.{last_start, start_least, width, width_within}
 use Rattle.expanded_runs.proofs.Runs.Positions.{Becomes, Standing, becomes, instrs_of, is_replaced, makes_site, remains, start_from, start_of}
 use Rattle.expanded_runs.proofs.Runs.Standings.{IsStanding, callee_stands, host_stands}
 use Rattle.expanded_runs.proofs.Types.FlatParts.{IsOwn, own_remains, own_site}
 use Rattle.expanded_runs.proofs.Types.InstrStarts.{own_least}
-use Rattle.expanded_code.specs.Expanded.{callee_of, expanded, own_points, points_before, points_of, points_of_callee, sites_from}
-use Rattle.expanded_code.specs.Expansions.{Coded, Expansion, no_more, replaced, site, stays}
 use Rattle.expanded_runs.specs.ReadTypes.{class_of_site}
+use Rattle.flow_code.specs.declared.point.Site.{Site}
 use Rattle.member_link.specs.Scope.{Scope, instructions}
 
 -- ---- sites joined

@@ -14,7 +14,9 @@ use Rattle.class_model.specs.declared.instr.Instr.{Instr}
 use Rattle.class_model.specs.declared.instr.Instr.TheVariants.{Invoke}
 use Rattle.class_model.specs.declared.instr.Placed.{Placed}
 use Rattle.class_model.specs.declared.opcodes.TheConstants.{INVOKESPECIAL}
-use Rattle.flow_code.specs.FlatCode.{FlatCode}
+use Rattle.expanded_code.specs.Callees.{own_name}
+use Rattle.expanded_code.specs.Expanded.{arguments}
+use Rattle.expanded_code.specs.Expansions.{Coded, Expansion}
 use Rattle.expanded_runs.proofs.Runs.Positions.{Standing, inner_setting, scope_of}
 use Rattle.expanded_runs.proofs.Types.CallFacts.{CallFacts}
 use Rattle.expanded_runs.proofs.Types.Edges.{placed_type}
@@ -22,9 +24,7 @@ use Rattle.expanded_runs.proofs.Types.EntryFrames.{PassedValues, passed_object, 
 use Rattle.expanded_runs.proofs.Types.EntryTypes.{named_below}
 use Rattle.expanded_runs.proofs.Types.PlainCalls.{args_fit, known_top, object_count, plain_facts}
 use Rattle.expanded_runs.proofs.Types.ThroughClass.{IsKnown}
-use Rattle.expanded_code.specs.Callees.{own_name}
-use Rattle.expanded_code.specs.Expanded.{arguments}
-use Rattle.expanded_code.specs.Expansions.{Coded, Expansion}
+use Rattle.flow_code.specs.FlatCode.{FlatCode}
 use Rattle.member_link.specs.Assignability.{IsAssignable}
 use Rattle.member_link.specs.BodyTyping.{RowHolds}
 use Rattle.member_link.specs.References.{Reference}

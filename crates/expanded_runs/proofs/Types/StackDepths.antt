@@ -10,8 +10,9 @@ use Rattle.class_model.specs.declared.instr.Instr.{Instr}
 use Rattle.class_model.specs.declared.instr.Instr.TheVariants.{Goto, Lookup, Return, Table, Throw}
 use Rattle.class_model.specs.declared.instr.Placed.{Placed}
 use Rattle.class_tree.specs.Headers.{Classes, headers_of}
-use Rattle.flow_code.specs.FlatRoom.{deepest}
-use Rattle.flow_code.specs.declared.point.Point.{Point}
+use Rattle.expanded_code.specs.Alone.{number_in}
+use Rattle.expanded_code.specs.Expanded.{expanded, set_type}
+use Rattle.expanded_code.specs.Expansions.{Coded, Expansion}
 use Rattle.expanded_runs.proofs.Runs.Positions.{Standing, frames_of, instrs_of, scope_of, start_of}
 use Rattle.expanded_runs.proofs.Runs.Standings.{IsStanding, Stands}
 use Rattle.expanded_runs.proofs.TypedAloneNumbers.{frame_found}
@@ -21,16 +22,15 @@ use Rattle.expanded_runs.proofs.Types.FrameFacts.{FrameFacts}
 use Rattle.expanded_runs.proofs.Types.OwnPoints.{TypingLaws, edges_at, flows_to, instr_there, next_at, one_frame}
 use Rattle.expanded_runs.proofs.Types.Starts.{start_typed}
 use Rattle.expanded_runs.proofs.Types.Units.{as_long}
-use Rattle.expanded_code.specs.Alone.{number_in}
-use Rattle.expanded_code.specs.Expanded.{expanded, set_type}
-use Rattle.expanded_code.specs.Expansions.{Coded, Expansion}
+use Rattle.flow_code.specs.FlatRoom.{deepest}
+use Rattle.flow_code.specs.TypedFrames.{FolderFrames}
+use Rattle.flow_code.specs.declared.point.Point.{Point}
 use Rattle.member_link.specs.Bodies.{falls_through}
 use Rattle.member_link.specs.BodyTyping.{FlowsInto, GoesInto, frame_at}
 use Rattle.member_link.specs.Rows.Row.{row_frame}
 use Rattle.member_link.specs.Rows.Table.{row_of}
 use Rattle.member_link.specs.Scope.{Scope, row_scope}
 use Rattle.type_rules.specs.MethodBodies.{body_of}
-use Rattle.flow_code.specs.TypedFrames.{FolderFrames}
 use Rattle.type_rules.specs.Verified.{TypesFolder}
 
 -- ---- the deepest

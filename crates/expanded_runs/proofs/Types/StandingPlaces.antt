@@ -12,31 +12,31 @@ use Rattle.class_model.specs.declared.instr.Instr.{Instr}
 use Rattle.class_model.specs.declared.instr.Instr.TheVariants.{Invoke, New}
 use Rattle.class_model.specs.declared.instr.Placed.{Placed}
 use Rattle.class_tree.specs.Headers.{Classes, Name}
-use Rattle.flow_code.specs.FlatCode.{FlatCode}
-use Rattle.flow_code.specs.declared.point.FlatInstr.{FlatInstr}
-use Rattle.flow_code.specs.declared.point.FlatInstr.TheVariants.{Of}
-use Rattle.flow_code.specs.declared.point.Point.{Point}
+use Rattle.expanded_code.specs.Alone.{number_in}
+use Rattle.expanded_code.specs.Callees.{Calls, IsCallee, is_callee}
+use Rattle.expanded_code.specs.Expanded.{Setting, callee_of, class_of, expanded, instr_points, set_instr}
+use Rattle.expanded_code.specs.Expansions.{Coded, Expansion}
+use Rattle.expanded_code.specs.Laws.Instructions.{calls_of}
 use Rattle.expanded_code.specs.Laws.NumberedInstrs.{number-within}
+use Rattle.expanded_code.specs.Sites.{HasFrames, IsReplaced}
 use Rattle.expanded_runs.proofs.Runs.CallTargets.{scope_has}
 use Rattle.expanded_runs.proofs.Runs.LinkedInstrs.{instr_there}
 use Rattle.expanded_runs.proofs.Runs.PositionLaws.{length_fits, part_stands, points_at}
 use Rattle.expanded_runs.proofs.Runs.Positions.{Becomes, IsReplacedAt, Standing, becomes, block_of, frames_of, instrs_of, scope_of, start_of}
 use Rattle.expanded_runs.proofs.Runs.StandingLaws.{BecomesAs, as_replaced, becomes_as, it_is_replaced, it_makes_site, it_remains}
 use Rattle.expanded_runs.proofs.Runs.Standings.{IsStanding, Stands, callee_stands, host_stands}
-use Rattle.expanded_code.specs.Laws.Instructions.{calls_of}
 use Rattle.expanded_runs.proofs.TypedAloneNumbers.{IsNumber, is_number, number_of_placed}
 use Rattle.expanded_runs.proofs.Types.FlatParts.{IsOwn, own_remains, own_site}
 use Rattle.expanded_runs.proofs.Types.InstrStarts.{one_start}
 use Rattle.expanded_runs.proofs.Types.OwnPoints.{TypingLaws, own_point}
 use Rattle.expanded_runs.proofs.Types.Units.{item_there}
-use Rattle.expanded_code.specs.Alone.{number_in}
-use Rattle.expanded_code.specs.Callees.{Calls, IsCallee, is_callee}
-use Rattle.expanded_code.specs.Expanded.{Setting, callee_of, class_of, expanded, instr_points, set_instr}
-use Rattle.expanded_code.specs.Expansions.{Coded, Expansion}
-use Rattle.expanded_code.specs.Sites.{HasFrames, IsReplaced}
+use Rattle.flow_code.specs.FlatCode.{FlatCode}
+use Rattle.flow_code.specs.TypedFrames.{FolderFrames}
+use Rattle.flow_code.specs.declared.point.FlatInstr.{FlatInstr}
+use Rattle.flow_code.specs.declared.point.FlatInstr.TheVariants.{Of}
+use Rattle.flow_code.specs.declared.point.Point.{Point}
 use Rattle.member_link.specs.Scope.{Scope, class_of_new, instructions, scope_at}
 use Rattle.same_runs.specs.Flats.{class_of_flat_new, pool_of}
-use Rattle.flow_code.specs.TypedFrames.{FolderFrames}
 
 -- ---- a new, by its offset
 

@@ -15,7 +15,10 @@ use Rattle.class_model.specs.declared.instr.Instr.TheVariants.{Invoke, New, Retu
 use Rattle.class_model.specs.declared.instr.Placed.{Placed}
 use Rattle.class_model.specs.declared.opcodes.TheConstants.{INVOKESPECIAL}
 use Rattle.class_tree.specs.Headers.{Classes, Name, headers_of}
-use Rattle.flow_code.specs.FlatCode.{FlatCode}
+use Rattle.expanded_code.specs.Callees.{NamesInitialiser}
+use Rattle.expanded_code.specs.ExpandAnswers.{IsNoHost, is_initialiser}
+use Rattle.expanded_code.specs.Expanded.{Setting, expanded, host_setting}
+use Rattle.expanded_code.specs.Expansions.{Coded, Expansion}
 use Rattle.expanded_runs.proofs.Runs.CallLaws.{CallLaws}
 use Rattle.expanded_runs.proofs.Runs.CalleeLaws.{replaced_callee}
 use Rattle.expanded_runs.proofs.Runs.Positions.{Standing, becomes, frames_of, inner_setting, inner_standing, instrs_of, scope_of, start_of}
@@ -36,10 +39,7 @@ use Rattle.expanded_runs.proofs.Types.StandingPlaces.{callee_here, new_apart, ne
 use Rattle.expanded_runs.proofs.Types.StandingUnits.{HasNarrowThis, folder_paired, has_units}
 use Rattle.expanded_runs.proofs.Types.StayingCalls.{no_result, on_new, on_this}
 use Rattle.expanded_runs.proofs.Types.ThisWithin.{NoThisStanding}
-use Rattle.expanded_code.specs.Callees.{NamesInitialiser}
-use Rattle.expanded_code.specs.Expanded.{Setting, expanded, host_setting}
-use Rattle.expanded_code.specs.ExpandAnswers.{IsNoHost, is_initialiser}
-use Rattle.expanded_code.specs.Expansions.{Coded, Expansion}
+use Rattle.flow_code.specs.FlatCode.{FlatCode}
 use Rattle.member_link.specs.References.{Reference}
 use Rattle.member_link.specs.Scope.{Scope, class_of_new, instructions, is_init, scope_at}
 

@@ -8,6 +8,9 @@ use Rattle.class_model.specs.declared.frame.Frame.{Frame}
 use Rattle.class_model.specs.declared.frame.VType.{VType}
 use Rattle.class_model.specs.declared.frame.VType.TheVariants as types
 use Rattle.class_tree.specs.Headers.{Classes}
+use Rattle.expanded_code.specs.Expanded.{Setting, set_frame, set_type}
+use Rattle.expanded_code.specs.Expansions.{Coded, Expansion}
+use Rattle.expanded_code.specs.Sites.{HasFrames}
 use Rattle.expanded_runs.proofs.Runs.PositionLaws.{block_least}
 use Rattle.expanded_runs.proofs.Runs.Positions.{Standing, block_of, frames_of, scope_of}
 use Rattle.expanded_runs.proofs.Runs.Standings.{IsStanding, Stands, callee_stands, host_stands}
@@ -17,14 +20,11 @@ use Rattle.expanded_runs.proofs.Types.OwnPoints.{TypingLaws, typed_method}
 use Rattle.expanded_runs.proofs.Types.RowUnits.{ArePaired, NarrowBefore, narrow_end}
 use Rattle.expanded_runs.proofs.Types.TypedUnits.{typed_units}
 use Rattle.expanded_runs.proofs.Types.Units.{Where, get_inside, get_outside, inside, outside, where_is}
-use Rattle.expanded_code.specs.Expanded.{Setting, set_frame, set_type}
-use Rattle.expanded_code.specs.Expansions.{Coded, Expansion}
-use Rattle.expanded_code.specs.Sites.{HasFrames}
+use Rattle.flow_code.specs.TypedFrames.{FolderFrames}
 use Rattle.member_link.specs.Rows.MemberRows.{NoUninitThis}
 use Rattle.member_link.specs.Scope.{Scope, instructions}
 use Rattle.type_rules.specs.MethodBodies.{point_of}
 use Rattle.type_rules.specs.Stated.{entry}
-use Rattle.flow_code.specs.TypedFrames.{FolderFrames}
 use Rattle.type_rules.specs.Verified.{TypesFolder}
 
 -- ---- of each method of a folder

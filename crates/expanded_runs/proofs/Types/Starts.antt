@@ -13,7 +13,8 @@ use Rattle.class_model.specs.declared.instr.Instr.{Instr}
 use Rattle.class_model.specs.declared.instr.Instr.TheVariants.{Goto, Return}
 use Rattle.class_model.specs.declared.instr.Placed.{Placed}
 use Rattle.class_tree.specs.Headers.{Classes}
-use Rattle.flow_code.specs.declared.point.Point.{Point}
+use Rattle.expanded_code.specs.Expanded.{Argument, Narrowing, Setting, arguments, arguments_from, expanded, frame_behind_stores, instr_points, narrowing, own_narrowing, point_in, points_from, points_of_entry, return_points, set_frame, set_instr, set_type, store_points, test_points, tests_receiver}
+use Rattle.expanded_code.specs.Expansions.{Coded, Expansion, replaced}
 use Rattle.expanded_runs.proofs.Runs.PositionLaws.{Fits, fits_none, fits_replaced, fits_site, fits_stays, length_fits, part_stands, points_at, slice_left}
 use Rattle.expanded_runs.proofs.Runs.Positions.{Becomes, IsReplacedAt, Standing, becomes, block_of, frames_of, inner_setting, inner_standing, instrs_of, is_replaced, start_of}
 use Rattle.expanded_runs.proofs.Runs.StandingLaws.{BecomesAs, becomes_as, it_is_replaced, it_makes_site, it_remains}
@@ -21,12 +22,11 @@ use Rattle.expanded_runs.proofs.Runs.Standings.{IsStanding, Stands, callee_stand
 use Rattle.expanded_runs.proofs.Types.FlatParts.{IsTail, first_becomes, first_has, first_is}
 use Rattle.expanded_runs.proofs.Types.FrameFacts.{FrameFacts, frame_fits, has_room, nothing_entered, tops_reached}
 use Rattle.expanded_runs.proofs.Types.Units.{TopsFrom, item_there, tops_over}
-use Rattle.expanded_code.specs.Expanded.{Argument, Narrowing, Setting, arguments, arguments_from, expanded, frame_behind_stores, instr_points, narrowing, own_narrowing, point_in, points_from, points_of_entry, return_points, set_frame, set_instr, set_type, store_points, test_points, tests_receiver}
-use Rattle.expanded_code.specs.Expansions.{Coded, Expansion, replaced}
+use Rattle.flow_code.specs.TypedFrames.{FolderFrames}
+use Rattle.flow_code.specs.declared.point.Point.{Point}
 use Rattle.member_link.specs.Rows.FrameAssignability.{AreAssignable}
 use Rattle.member_link.specs.Rows.Operands.{under}
 use Rattle.member_link.specs.Scope.{Scope, instructions, own_descriptor}
-use Rattle.flow_code.specs.TypedFrames.{FolderFrames}
 
 -- ---- the first of some points
 

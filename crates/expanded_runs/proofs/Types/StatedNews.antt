@@ -4,17 +4,17 @@ use Rattle.std.specs.Prelude.{◌==◌, ◌||◌, ◌&&◌, nat_lt, nat_le}
 use Rattle.std.specs.List.{AllByRecursion}
 use Rattle.std.proofs.lemmas.List.{reverse-append}
 use Rattle.std.proofs.lemmas.Option.{none-some, same_Some}
-use Rattle.class_model.specs.Members.{STATIC, has, is_text}
-use Rattle.class_model.specs.Names.{init}
 use Rattle.class_model.specs.Checks.{Fault}
 use Rattle.class_model.specs.Code.{inner_is_named, entry_frame, stack_map_table, verification_type}
 use Rattle.class_model.specs.Cutting.{Rest, behind}
+use Rattle.class_model.specs.Descriptors.{parameters_of}
 use Rattle.class_model.specs.Frames.{FrameForm, NoOperand, ClassIndex, NewOffset, Setting, Stated, TypeOperand, SameFrame, ItemFrame, ReservedFrame, ItemFrameExtended, ChopFrame, SameFrameExtended, AppendFrame, FullFrame, chopped, counted_types_at, depth, entries_of_units, filled, fits_at, frame_at, frame_behind, frames_at, is_new_at, is_top, is_wide, item_at, item_frame_at, listed, missing, object_of, stack_map_table_at, stated_frame, table_u2_at, type_behind, type_rows, units, units_of_entries, verification_type_at, verification_types_at, without_tops}
 use Rattle.class_model.specs.Instructions.{decoded, is_start, u1_in}
 use Rattle.class_model.specs.Laws.Cuts.{bind_ok, same_done}
+use Rattle.class_model.specs.Members.{STATIC, has, is_text}
 use Rattle.class_model.specs.Methods.{Home, entry_of}
+use Rattle.class_model.specs.Names.{init}
 use Rattle.class_model.specs.PoolChecks.{class_at, text_or_empty, utf8_at}
-use Rattle.class_model.specs.Descriptors.{parameters_of}
 use Rattle.class_model.specs.Stated.{frame_for, read_or_none, stated_frames, stated_in}
 use Rattle.class_model.specs.Tables.{Row, given_in}
 use Rattle.class_model.specs.declared.class_file.CodePart.{CodePart}

@@ -15,13 +15,18 @@ use Rattle.class_model.specs.declared.instr.Placed.{Placed}
 use Rattle.class_model.specs.declared.opcodes.TheConstants.{INVOKESPECIAL}
 use Rattle.class_tree.specs.Headers.{Classes, Name}
 use Rattle.class_tree.specs.Names.{object}
+use Rattle.expanded_code.specs.Alone.{number_in}
+use Rattle.expanded_code.specs.Callees.{InitialisesAt, IsCall, IsCallee}
+use Rattle.expanded_code.specs.Expanded.{expanded}
+use Rattle.expanded_code.specs.Expansions.{Coded, Expansion}
+use Rattle.expanded_code.specs.Laws.Instructions.{calls_of}
+use Rattle.expanded_code.specs.Sites.{Constructs, HasFrames, IsReplaced, IsSite, constructs}
 use Rattle.expanded_runs.proofs.Runs.CallLaws.{CallLaws}
 use Rattle.expanded_runs.proofs.Runs.CallTargets.{placed_is}
 use Rattle.expanded_runs.proofs.Runs.CalleeLaws.{site_makes, typed_here}
 use Rattle.expanded_runs.proofs.Runs.FlatCodes.{own_point, point_before}
 use Rattle.expanded_runs.proofs.Runs.Positions.{Becomes, Standing, becomes, frames_of, instrs_of, scope_of, start_of}
 use Rattle.expanded_runs.proofs.Runs.Setup.{IsSetup, Setup, before}
-use Rattle.expanded_code.specs.Laws.Instructions.{calls_of}
 use Rattle.expanded_runs.proofs.Runs.StandingLaws.{BecomesAs, becomes_as, it_is_replaced, it_makes_site, it_remains}
 use Rattle.expanded_runs.proofs.Runs.Standings.{IsStanding, Stands, callee_stands, host_stands}
 use Rattle.expanded_runs.proofs.Types.FlatParts.{IsOwn}
@@ -34,12 +39,8 @@ use Rattle.expanded_runs.proofs.Types.SiteObjects.{call, init_row_at, initialise
 use Rattle.expanded_runs.proofs.Types.SitesThere.{is_own, made_by, own_true, site_here}
 use Rattle.expanded_runs.proofs.Types.StandingPlaces.{host_scope_is, new_at, new_is_own, number_of_instr, start_number}
 use Rattle.expanded_runs.proofs.Types.ThisWithin.{NoThisStanding}
-use Rattle.expanded_code.specs.Alone.{number_in}
-use Rattle.expanded_code.specs.Callees.{InitialisesAt, IsCall, IsCallee}
-use Rattle.expanded_code.specs.Expanded.{expanded}
-use Rattle.expanded_code.specs.Expansions.{Coded, Expansion}
 use Rattle.expanded_runs.specs.ReadTypes.{class_of_site, is_site_object}
-use Rattle.expanded_code.specs.Sites.{Constructs, HasFrames, IsReplaced, IsSite, constructs}
+use Rattle.flow_code.specs.TypedFrames.{FolderFrames, typed_frames_at}
 use Rattle.member_link.specs.BodyTyping.{RowHolds}
 use Rattle.member_link.specs.Machine.CallSteps.{is_object_init}
 use Rattle.member_link.specs.Machine.Codes.{call_op, instr_op, or_meaningless, special_start}
@@ -49,7 +50,6 @@ use Rattle.member_link.specs.References.{Reference}
 use Rattle.member_link.specs.Rows.MemberRows.{MayInitialise, init_row, receiver}
 use Rattle.member_link.specs.Scope.{Scope, is_init, row_scope, scope_at}
 use Rattle.member_link.specs.Signatures.{result_of}
-use Rattle.flow_code.specs.TypedFrames.{FolderFrames, typed_frames_at}
 use Rattle.typed_runs.specs.LinkedCalls.{IsLinkedCall}
 
 -- ---- constructed objects

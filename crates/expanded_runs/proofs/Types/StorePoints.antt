@@ -11,8 +11,7 @@ use Rattle.class_model.specs.declared.frame.VType.{VType}
 use Rattle.class_model.specs.declared.frame.VType.TheVariants as types
 use Rattle.class_model.specs.declared.instr.Instr.TheVariants.{Store}
 use Rattle.class_tree.specs.Headers.{Classes}
-use Rattle.flow_code.specs.FlatCode.{FlatCode, point_at}
-use Rattle.flow_code.specs.declared.point.Point.{Point}
+use Rattle.expanded_code.specs.Expanded.{Argument, Setting, frame_behind_stores, frame_stored, overlaid, point_in, store_points}
 use Rattle.expanded_runs.proofs.Runs.PositionLaws.{length_stores, slice_left}
 use Rattle.expanded_runs.proofs.StackRoom.{no_deeper, two_each}
 use Rattle.expanded_runs.proofs.Types.FlatParts.{InSecond, slice_either}
@@ -22,8 +21,9 @@ use Rattle.expanded_runs.proofs.Types.PlainPoints.{goes_typed, read_there}
 use Rattle.expanded_runs.proofs.Types.ReturnFrames.{lowest_back, topmost_back, under_back}
 use Rattle.expanded_runs.proofs.Types.StoredUnits.{ArgumentsLaid, IsClear, clear_tops, last_reversed, later_tops, none_laid, one_more_laid, read_kind, some_units, stored_over, stored_read, stores_over}
 use Rattle.expanded_runs.proofs.Types.Units.{TopsFrom, block_long, get_back, get_inside, get_outside, inside, outside, where_is}
-use Rattle.expanded_code.specs.Expanded.{Argument, Setting, frame_behind_stores, frame_stored, overlaid, point_in, store_points}
 use Rattle.expanded_runs.specs.ReadTypes.{MayGoToPoint, TypesPoint, read_frame, read_type}
+use Rattle.flow_code.specs.FlatCode.{FlatCode, point_at}
+use Rattle.flow_code.specs.declared.point.Point.{Point}
 use Rattle.member_link.specs.Bodies.{caught_type}
 use Rattle.member_link.specs.BodyTyping.{MayGoTo}
 use Rattle.member_link.specs.Rows.LocalRows.{HasRoom, stored}

@@ -9,12 +9,12 @@ use Rattle.class_model.specs.declared.descriptor.Kind.TheVariants as kinds
 use Rattle.class_model.specs.declared.frame.Frame.{Frame}
 use Rattle.class_model.specs.declared.frame.VType.{VType}
 use Rattle.class_model.specs.declared.frame.VType.TheVariants as types
-use Rattle.flow_code.specs.FlatCode.{FlatCode}
+use Rattle.class_tree.specs.Headers.{Name}
+use Rattle.expanded_code.specs.Expanded.{Argument, frame_behind_stores, frame_stored, overlaid}
 use Rattle.expanded_runs.proofs.Types.ReturnFrames.{lowest_back, under_back}
 use Rattle.expanded_runs.proofs.Types.Units.{TopsFrom, get_outside}
-use Rattle.expanded_code.specs.Expanded.{Argument, frame_behind_stores, frame_stored, overlaid}
 use Rattle.expanded_runs.specs.ReadTypes.{class_of_site, read_type}
-use Rattle.class_tree.specs.Headers.{Name}
+use Rattle.flow_code.specs.FlatCode.{FlatCode}
 use Rattle.member_link.specs.Rows.LocalRows.{cut_before, stored, with_units}
 use Rattle.member_link.specs.Rows.Operands.{IsOfKind}
 

@@ -3,9 +3,9 @@ use Rattle.std.proofs.Common.{◌≡◌, ℕ, zero, suc, false, List, slice_get,
 use Rattle.class_model.specs.Laws.Lists.{at_index}
 use Rattle.class_model.specs.declared.class_file.MethodAt.{MethodAt}
 use Rattle.class_model.specs.declared.frame.Frame.{Frame}
+use Rattle.expanded_code.specs.Expansions.{Coded, Expansion, no_more, replaced, site, stays}
 use Rattle.expanded_runs.proofs.Runs.Positions.{Becomes, Standing, becomes, frames_of, is_replaced, scope_of}
 use Rattle.expanded_runs.proofs.Runs.Standings.{IsStanding, callee_stands, host_stands}
-use Rattle.expanded_code.specs.Expansions.{Coded, Expansion, no_more, replaced, site, stays}
 use Rattle.expanded_runs.specs.ReadTypes.{NoThisIn, NoThisWithin}
 use Rattle.member_link.specs.Rows.MemberRows.{NoUninitThis}
 use Rattle.member_link.specs.Scope.{is_init}

@@ -4,7 +4,10 @@ use Rattle.class_model.specs.declared.class_file.MethodAt.{MethodAt}
 use Rattle.class_model.specs.declared.frame.Frame.{Frame}
 use Rattle.class_model.specs.declared.instr.Placed.{Placed}
 use Rattle.class_tree.specs.Headers.{Headers, headers_of}
-use Rattle.flow_code.specs.FlatCode.{FlatCode}
+use Rattle.expanded_code.specs.ExpandAnswers.{IsExpanded, IsNoHost}
+use Rattle.expanded_code.specs.Expanded.{expanded}
+use Rattle.expanded_code.specs.Expansions.{Coded, Expands, Expansion}
+use Rattle.expanded_code.specs.Sites.{HasFrames}
 use Rattle.expanded_runs.proofs.AloneProgram.{OneEach}
 use Rattle.expanded_runs.proofs.Runs.CallLaws.{CallLaws}
 use Rattle.expanded_runs.proofs.Runs.Positions.{IsReplacedAt, Standing}
@@ -21,11 +24,8 @@ use Rattle.expanded_runs.proofs.Types.ReplacedRows.{RowSays}
 use Rattle.expanded_runs.proofs.Types.StandingRows.{host_no_init}
 use Rattle.expanded_runs.proofs.Types.ThisWithin.{NoThisStanding, no_this_standing}
 use Rattle.expanded_runs.proofs.Types.ThroughClass.{ArrayInterfaces}
-use Rattle.expanded_code.specs.ExpandAnswers.{IsExpanded, IsNoHost}
-use Rattle.expanded_code.specs.Expanded.{expanded}
-use Rattle.expanded_code.specs.Expansions.{Coded, Expands, Expansion}
 use Rattle.expanded_runs.specs.ReadTypes.{NoThisOutside, TypesFlat}
-use Rattle.expanded_code.specs.Sites.{HasFrames}
+use Rattle.flow_code.specs.FlatCode.{FlatCode}
 use Rattle.member_link.specs.Linked.{IsLinked}
 use Rattle.member_link.specs.Scope.{Scope, instructions, scope_at}
 

@@ -3,9 +3,9 @@ use Rattle.std.specs.Prelude.{◌≡◌, ◌+◌, ◌≤◌, ◌<◌, ◌++◌, 
 use Rattle.std.specs.List.{AllByRecursion}
 use Rattle.class_model.specs.declared.frame.Frame.{Frame}
 use Rattle.class_model.specs.declared.instr.Placed.{Placed}
+use Rattle.expanded_code.specs.Expanded.{Setting, callee_setting, own_narrowing, points_before, points_from, points_of, points_of_callee, points_of_entry, units_in}
 use Rattle.flow_code.specs.FlatCode.{HasLocal}
 use Rattle.flow_code.specs.declared.point.Point.{Point}
-use Rattle.expanded_code.specs.Expanded.{Setting, callee_setting, own_narrowing, points_before, points_from, points_of, points_of_callee, points_of_entry, units_in}
 use Rattle.inline_expand.specs.Inner.Layouts.{AreLayouts, IsLayout, narrowing_of, replacing, starts_from, units_of_callee}
 use Rattle.inline_expand.specs.Inner.Steps.{Callee, IsBody, callee_by, callees_of, expansion_by}
 use Rattle.inline_expand.specs.declared.expanded.layouts.Layout.{Layout}

@@ -6,9 +6,9 @@ use Rattle.class_model.specs.declared.instr.Instr.{Instr}
 use Rattle.class_model.specs.declared.instr.Instr.TheVariants.{Invoke}
 use Rattle.class_tree.specs.Headers.{Name, Classes, headers_of}
 use Rattle.expanded_code.specs.Callees.{Calls, Runs, StandsAt, instr_at}
-use Rattle.member_link.specs.MemberRefs.{reference_meant}
 use Rattle.inline_expand.specs.declared.calls.Call.{Call}
 use Rattle.member_link.specs.DeclaredMembers.{Declared}
+use Rattle.member_link.specs.MemberRefs.{reference_meant}
 use Rattle.member_link.specs.References.{Reference}
 use Rattle.member_link.specs.Scope.{Scope}
 use Rattle.member_link.specs.Signatures.{reference_of}

@@ -11,15 +11,15 @@ use Rattle.class_tree.specs.Headers.{Name, Classes, headers_of}
 use Rattle.class_tree.specs.Order.{place_of}
 use Rattle.class_tree.specs.Subtype.{IsChain}
 use Rattle.class_tree.specs.declared.place.Place.{Place}
-use Rattle.inline_expand.specs.declared.candidates.Judged.{Judged}
-use Rattle.inline_expand.specs.declared.candidates.Judged.TheVariants.{Unknown, Unsound, Sound}
 use Rattle.class_tree.specs.declared.place.Place.TheVariants.{Folder}
 use Rattle.expanded_code.specs.Candidates.{HasNoFinalizer, HasRoom, declares_finalizer}
 use Rattle.expanded_code.specs.FieldConstructors.{field_types}
+use Rattle.expanded_code.specs.Quiet.{chain}
 use Rattle.inline_expand.specs.Inner.ConstructorWords.{AreHandled, field_descs, handled_of}
 use Rattle.inline_expand.specs.Inner.QuietWords.{IsQuietItself}
 use Rattle.inline_expand.specs.Inner.StoreWords.{IsStored, StoredBefore}
-use Rattle.expanded_code.specs.Quiet.{chain}
+use Rattle.inline_expand.specs.declared.candidates.Judged.{Judged}
+use Rattle.inline_expand.specs.declared.candidates.Judged.TheVariants.{Unknown, Unsound, Sound}
 
 -- a class by itself
 pub record IsFit (classes : Classes) (name : Name) : Type 0 where

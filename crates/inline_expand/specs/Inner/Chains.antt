@@ -3,9 +3,9 @@ use Rattle.std.specs.Prelude.{◌≢◌, ℕ, zero, suc, List}
 use Rattle.std.specs.List.{AllByRecursion}
 use Rattle.class_model.specs.declared.class_file.MethodAt.{MethodAt}
 use Rattle.class_tree.specs.Headers.{Classes}
+use Rattle.flow_code.specs.TypedFrames.{FolderFrames}
 use Rattle.inline_expand.specs.Inner.Ready.{IsReady, Needs}
 use Rattle.inline_expand.specs.Inner.Stacks.{IsAmong}
-use Rattle.flow_code.specs.TypedFrames.{FolderFrames}
 
 -- a method is none of these
 abbrev pub IsNoneOf : List MethodAt → MethodAt → Type 0

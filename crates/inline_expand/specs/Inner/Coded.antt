@@ -4,9 +4,9 @@ use Rattle.class_model.specs.declared.class_file.MethodAt.{MethodAt}
 use Rattle.class_model.specs.declared.frame.Frame.{Frame}
 use Rattle.class_tree.specs.Headers.{Classes}
 use Rattle.expanded_code.specs.Sites.{HasFrames}
+use Rattle.flow_code.specs.TypedFrames.{FolderFrames}
 use Rattle.inline_expand.specs.declared.coded.CodedMethod.{CodedMethod}
 use Rattle.member_link.specs.Scope.{Scope}
-use Rattle.flow_code.specs.TypedFrames.{FolderFrames}
 
 -- it is the method of its numbers
 abbrev pub Stands : Classes → FolderFrames → CodedMethod → Type 0

@@ -9,8 +9,8 @@ use Rattle.class_model.specs.declared.header.Header.{Header}
 use Rattle.class_tree.specs.Headers.{Name, Headers}
 use Rattle.class_tree.specs.Layouts.{instance_fields}
 use Rattle.class_tree.specs.Names.{is_member}
-use Rattle.member_link.specs.References.{Reference}
 use Rattle.expanded_code.specs.FieldConstructors.{handled}
+use Rattle.member_link.specs.References.{Reference}
 
 -- the descriptors of the fields of an object of a class
 abbrev pub field_descs : Headers → Name → List (List ℕ)

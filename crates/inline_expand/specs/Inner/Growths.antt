@@ -6,9 +6,10 @@ use Rattle.class_model.specs.declared.instr.Placed.{Placed}
 use Rattle.class_tree.specs.Headers.{Name, Classes}
 use Rattle.expanded_code.specs.Expanded.{points_of}
 use Rattle.expanded_code.specs.Expansions.{Expands, Expansion, no_more, replaced, site, stays}
+use Rattle.expanded_code.specs.Sites.{HasFrames, IsReplaced, IsSite}
+use Rattle.flow_code.specs.TypedFrames.{FolderFrames}
 use Rattle.inline_expand.specs.Inner.Steps.{Callee, callees_of, coded_of, expansion_by}
 use Rattle.inline_expand.specs.Inner.Walks.{AreRight}
-use Rattle.expanded_code.specs.Sites.{HasFrames, IsReplaced, IsSite}
 use Rattle.inline_expand.specs.declared.coded.CodedMethod.{CodedMethod}
 use Rattle.inline_expand.specs.declared.expansions.Body.{Body}
 use Rattle.inline_expand.specs.declared.expansions.Growth.{Growth}
@@ -17,7 +18,6 @@ use Rattle.inline_expand.specs.declared.expansions.Step.{Step}
 use Rattle.inline_expand.specs.declared.expansions.Step.TheVariants as steps
 use Rattle.inline_expand.specs.declared.ready.HostClass.{HostClass}
 use Rattle.member_link.specs.Scope.{instructions}
-use Rattle.flow_code.specs.TypedFrames.{FolderFrames}
 
 -- how many instructions are left in their place: no more than there are points
 abbrev pub kept_in : Expansion → ℕ

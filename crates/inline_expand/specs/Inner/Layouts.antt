@@ -14,9 +14,9 @@ use Rattle.expanded_code.specs.Expanded.{Argument, Narrowing, arguments, argumen
 use Rattle.expanded_code.specs.Expansions.{Expansion, replaced, site, stays}
 use Rattle.inline_expand.specs.Inner.Steps.{Callee}
 use Rattle.inline_expand.specs.declared.expanded.layouts.Layout.{Layout}
-use Rattle.inline_expand.specs.declared.expanded.shapes.Parameter.{Parameter}
 use Rattle.inline_expand.specs.declared.expanded.shapes.Narrowed.{Narrowed}
 use Rattle.inline_expand.specs.declared.expanded.shapes.Narrowed.TheVariants.{Same, ToBool, ToByte, ToChar, ToShort}
+use Rattle.inline_expand.specs.declared.expanded.shapes.Parameter.{Parameter}
 use Rattle.inline_expand.specs.declared.expanded.shapes.Shape.{Shape}
 use Rattle.inline_expand.specs.declared.expansions.Step.{Step}
 use Rattle.inline_expand.specs.declared.expansions.Step.TheVariants.{Replaced}

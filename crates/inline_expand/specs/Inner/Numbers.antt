@@ -1,8 +1,8 @@
 -- Words of the numbers of points.
 use Rattle.std.specs.Prelude.{◌≡◌, ◌+◌, ◌≤◌, ◌<◌, ℕ, List, get_or, Option, Some, None, option_map}
 use Rattle.class_model.specs.declared.class_file.Handler.{Handler}
-use Rattle.flow_code.specs.declared.handlers.FlatHandler.{FlatHandler}
 use Rattle.expanded_code.specs.Alone.{handler_by, handlers_by, number_at}
+use Rattle.flow_code.specs.declared.handlers.FlatHandler.{FlatHandler}
 use Rattle.inline_expand.specs.declared.handlers.Around.{Around}
 use Rattle.inline_expand.specs.declared.numbers.Numbers.{Numbers}
 

@@ -6,8 +6,8 @@ use Rattle.class_tree.specs.Headers.{Name, Headers, named, class_named}
 use Rattle.class_tree.specs.Names.{is_interface}
 use Rattle.class_tree.specs.declared.place.Place.{Place}
 use Rattle.class_tree.specs.declared.place.Place.TheVariants.{Folder, Library}
-use Rattle.member_link.specs.Access.{IsAtOrBelow}
 use Rattle.expanded_code.specs.Quiet.{IsOfFolder, declares_initialiser}
+use Rattle.member_link.specs.Access.{IsAtOrBelow}
 
 -- where it is of the folder, it declares no class initialiser
 pub record IsSilentItself (headers : Headers) (name : Name) : Type 0 where

@@ -7,12 +7,12 @@ use Rattle.class_model.specs.declared.frame.VType.TheVariants.{UninitThis}
 use Rattle.class_tree.specs.Headers.{Classes, headers_of}
 use Rattle.class_tree.specs.Names.{object}
 use Rattle.expanded_code.specs.Callees.{Calls, InitialisesAt, MayStandIn, ResultSaysAtMost, frame_behind}
-use Rattle.inline_expand.specs.Inner.Founded.{Founded}
 use Rattle.expanded_code.specs.Sites.{HasFrames}
+use Rattle.flow_code.specs.TypedFrames.{FolderFrames}
+use Rattle.inline_expand.specs.Inner.Founded.{Founded}
 use Rattle.member_link.specs.References.{Reference}
 use Rattle.member_link.specs.Scope.{Scope, is_init, own_descriptor}
 use Rattle.member_link.specs.Signatures.{result_of}
-use Rattle.flow_code.specs.TypedFrames.{FolderFrames}
 
 -- The call at an offset runs the callee, and the frame behind it says no more of the result than the callee declares.
 pub record CallsAtMost (classes : Classes) (typed : FolderFrames) (from : MethodAt) (at : ℕ)

@@ -4,13 +4,13 @@ use Rattle.class_model.specs.declared.class_file.MethodAt.{MethodAt}
 use Rattle.class_model.specs.declared.instr.Placed.{Placed}
 use Rattle.class_tree.specs.Headers.{Classes}
 use Rattle.expanded_code.specs.Callees.{IsCallee}
+use Rattle.flow_code.specs.TypedFrames.{FolderFrames}
 use Rattle.inline_expand.specs.Inner.Coded.{Stands}
 use Rattle.inline_expand.specs.Inner.Ready.{CallsAtMost, CallsOnThis, IsReady, Needs}
 use Rattle.inline_expand.specs.Inner.Stacks.{IsAmong}
 use Rattle.inline_expand.specs.declared.coded.CodedMethod.{CodedMethod}
 use Rattle.inline_expand.specs.declared.ready.HostClass.{HostClass}
 use Rattle.member_link.specs.Scope.{instructions}
-use Rattle.flow_code.specs.TypedFrames.{FolderFrames}
 
 -- the class of that number, and the methods of the same folder
 pub record IsHostClass (host : HostClass) : Type 0 where

@@ -4,12 +4,12 @@ use Rattle.class_model.specs.declared.class_file.MethodAt.{MethodAt}
 use Rattle.class_model.specs.declared.frame.VType.TheVariants.{Uninit, UninitThis}
 use Rattle.class_tree.specs.Headers.{Name, Classes}
 use Rattle.expanded_code.specs.Callees.{InitialisesAt}
-use Rattle.inline_expand.specs.Inner.Coded.{Stands}
 use Rattle.expanded_code.specs.Sites.{Constructs, IsReplaced, IsSite}
+use Rattle.flow_code.specs.TypedFrames.{FolderFrames}
+use Rattle.inline_expand.specs.Inner.Coded.{Stands}
 use Rattle.inline_expand.specs.declared.coded.CodedMethod.{CodedMethod}
 use Rattle.member_link.specs.References.{Reference}
 use Rattle.member_link.specs.Scope.{is_init}
-use Rattle.flow_code.specs.TypedFrames.{FolderFrames}
 
 -- the object on which an initialiser is called may be kept in locals: that of a site, or an initialiser's own
 pub record InitialisesKept (classes : Classes) (typed : FolderFrames) (host : MethodAt)

@@ -1,18 +1,18 @@
 -- Words of a method in its place.
 use Rattle.std.specs.Prelude.{◌≡◌, ◌<◌, ◌≤◌, ℕ, List, [], ◌∷◌, ◌++◌, map, Option, Some, None, option_map}
-use Rattle.flow_code.specs.declared.handlers.FlatHandler.{FlatHandler}
-use Rattle.expanded_code.specs.Alone.{handlers_by, number_at}
 use Rattle.class_model.specs.declared.frame.Frame.{Frame}
 use Rattle.class_model.specs.declared.instr.Placed.{Placed}
-use Rattle.flow_code.specs.declared.point.Point.{Point}
+use Rattle.expanded_code.specs.Alone.{handlers_by, number_at}
 use Rattle.expanded_code.specs.Expanded.{Setting, class_of, point_in, set_instr}
+use Rattle.flow_code.specs.declared.handlers.FlatHandler.{FlatHandler}
+use Rattle.flow_code.specs.declared.point.Point.{Point}
 use Rattle.inline_expand.specs.Inner.Layouts.{narrowing_of}
-use Rattle.inline_expand.specs.declared.expanded.shapes.Narrowed.{Narrowed}
 use Rattle.inline_expand.specs.Inner.Numbers.{placed_by}
 use Rattle.inline_expand.specs.Inner.Steps.{coded_of}
 use Rattle.inline_expand.specs.declared.expanded.settings.Call.{Call}
 use Rattle.inline_expand.specs.declared.expanded.settings.Setting.{Setting as Placing}
 use Rattle.inline_expand.specs.declared.expanded.settings.Spot.{Spot}
+use Rattle.inline_expand.specs.declared.expanded.shapes.Narrowed.{Narrowed}
 use Rattle.inline_expand.specs.declared.handlers.Around.{Around}
 
 -- a callee has the handlers of its call

@@ -1,9 +1,9 @@
 -- Words of the candidate sites of a method in its place.
 use Rattle.std.specs.Prelude.{◌≡◌, ◌+◌, ◌≤◌, ℕ, Bool, true, false, List, [], ◌∷◌, length, map, Option, Some, None}
 use Rattle.class_tree.specs.Headers.{Headers}
-use Rattle.flow_code.specs.declared.point.Site.{Site}
 use Rattle.expanded_code.specs.Expanded.{points_before, points_of}
 use Rattle.expanded_code.specs.FieldConstructors.{field_types}
+use Rattle.flow_code.specs.declared.point.Site.{Site}
 use Rattle.inline_expand.specs.Inner.Layouts.{starts_from}
 use Rattle.inline_expand.specs.Inner.Steps.{Callee, expansion_by}
 use Rattle.inline_expand.specs.declared.expanded.places.Found.{Found}

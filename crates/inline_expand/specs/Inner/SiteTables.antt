@@ -11,13 +11,13 @@ use Rattle.expanded_code.specs.Alone.{number_at}
 use Rattle.expanded_code.specs.Callees.{InitialisesAt}
 use Rattle.expanded_code.specs.Candidates.{IsCandidate}
 use Rattle.expanded_code.specs.Sites.{Constructs, IsSite}
+use Rattle.flow_code.specs.TypedFrames.{FolderFrames}
+use Rattle.inline_expand.specs.declared.coded.CodedMethod.{CodedMethod}
 use Rattle.inline_expand.specs.declared.initialised.Object.{Object}
 use Rattle.inline_expand.specs.declared.initialised.Object.TheVariants as made
-use Rattle.inline_expand.specs.declared.coded.CodedMethod.{CodedMethod}
 use Rattle.member_link.specs.CodedMethods.{placed_at}
 use Rattle.member_link.specs.References.{Reference}
 use Rattle.member_link.specs.Scope.{Scope, class_of_new, instructions}
-use Rattle.flow_code.specs.TypedFrames.{FolderFrames}
 
 -- ---- candidates
 

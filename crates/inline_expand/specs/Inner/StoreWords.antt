@@ -18,12 +18,12 @@ use Rattle.class_model.specs.declared.instr.Placed.{Placed}
 use Rattle.class_tree.specs.Headers.{Name, Classes, Headers}
 use Rattle.class_tree.specs.Order.{place_of}
 use Rattle.class_tree.specs.declared.place.Place.TheVariants.{Folder}
+use Rattle.expanded_code.specs.Candidates.{Initialises, StoresInto}
 use Rattle.member_link.specs.DeclaredMembers.{Declared}
 use Rattle.member_link.specs.Fields.{FindsField}
 use Rattle.member_link.specs.References.{Reference}
 use Rattle.member_link.specs.Scope.{Scope, instructions, scope_at}
 use Rattle.member_link.specs.Signatures.{reference_of}
-use Rattle.expanded_code.specs.Candidates.{Initialises, StoresInto}
 
 -- a method of the folder stores into a final field of a class, and is none of its instance initialisers
 pub record IsStored (classes : Classes) (class : Name) : Type 0 where

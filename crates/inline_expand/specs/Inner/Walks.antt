@@ -1,14 +1,14 @@
 -- A walk over the methods that a method needs.
 use Rattle.std.specs.Prelude.{◌≡◌, ◌≢◌, ◌⊎◌, ℕ, true, false, List, [], ◌∷◌, Option, Some, None}
+use Rattle.class_model.specs.declared.class_file.MethodAt.{MethodAt}
 use Rattle.class_tree.specs.Headers.{Classes}
 use Rattle.flow_code.specs.TypedFrames.{FolderFrames}
-use Rattle.class_model.specs.declared.class_file.MethodAt.{MethodAt}
 use Rattle.inline_expand.specs.Inner.Ready.{Fits, IsReady, Needs}
 use Rattle.inline_expand.specs.Inner.Stacks.{IsAmong, IsLeft, method_of, nearest}
 use Rattle.inline_expand.specs.Inner.Verdicts.{verdict}
+use Rattle.inline_expand.specs.declared.verdicts.Verdicts.{Verdicts}
 use Rattle.inline_expand.specs.declared.visits.Visit.{Visit}
 use Rattle.inline_expand.specs.declared.visits.Visit.TheVariants.{Enter, Leave}
-use Rattle.inline_expand.specs.declared.verdicts.Verdicts.{Verdicts}
 
 -- ---- verdicts
 

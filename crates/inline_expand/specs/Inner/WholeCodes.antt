@@ -5,21 +5,21 @@ use Rattle.class_model.specs.declared.class_file.MethodAt.{MethodAt}
 use Rattle.class_model.specs.declared.instr.Instr.{Instr}
 use Rattle.class_model.specs.declared.instr.Instr.TheVariants.{FloatAsk}
 use Rattle.class_tree.specs.Headers.{Classes, headers_of}
+use Rattle.expanded_code.specs.Candidates.{IsCandidate}
+use Rattle.expanded_code.specs.ExpandAnswers.{HasFloat, HasNoSite, IsNoHost, IsOpenHost, IsTooLong, IsWide}
+use Rattle.expanded_code.specs.Expanded.{expanded, points_of}
 use Rattle.flow_code.specs.FlatCode.{FlatCode, IsFlat}
+use Rattle.flow_code.specs.TypedFrames.{FolderFrames}
 use Rattle.flow_code.specs.declared.point.Site.{Site}
 use Rattle.flow_code.specs.declared.reason.KeptFault.{KeptFault}
 use Rattle.flow_code.specs.declared.reason.KeptFault.TheVariants as faults
 use Rattle.flow_code.specs.declared.reason.Reason.TheVariants as reasons
-use Rattle.expanded_code.specs.Candidates.{IsCandidate}
-use Rattle.expanded_code.specs.ExpandAnswers.{HasFloat, HasNoSite, IsNoHost, IsOpenHost, IsTooLong, IsWide}
-use Rattle.expanded_code.specs.Expanded.{expanded, points_of}
 use Rattle.inline_expand.specs.Inner.Coded.{Stands}
 use Rattle.inline_expand.specs.Inner.Measures.{host_expansion}
 use Rattle.inline_expand.specs.Inner.Steps.{IsBody, coded_of}
 use Rattle.inline_expand.specs.declared.coded.CodedMethod.{CodedMethod}
 use Rattle.inline_expand.specs.declared.expansions.HostBodies.{HostBodies}
 use Rattle.member_link.specs.Scope.{instructions}
-use Rattle.flow_code.specs.TypedFrames.{FolderFrames}
 
 -- arithmetic of float or double
 abbrev pub asks_float : Instr → Bool

@@ -1,8 +1,8 @@
 //! The places of callees.
 ghost use Rattle.std.specs.Prelude.{◌≡◌, ℕ, None, length, IfOk, IfSome, IfNone};
 ghost use Rattle.expanded_code.specs.Expanded.{Setting as Standing, callee_setting};
-ghost use Rattle.inline_expand.specs.Inner.Layouts.{replacing};
 ghost use Rattle.inline_expand.specs.Inner.CalleePlaces.{CanEnter, HasPlace, IsFound, StandsFrom, callee_in};
+ghost use Rattle.inline_expand.specs.Inner.Layouts.{replacing};
 ghost use Rattle.inline_expand.specs.Inner.Settings.{IsSpot, setting_of};
 ghost use Rattle.inline_expand.specs.Inner.Steps.{callees_of};
 ghost use Rattle.member_link.specs.Rows.Operands.{lowest_of, under};

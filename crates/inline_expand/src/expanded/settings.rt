@@ -1,8 +1,8 @@
 //! A method in its place in flat code.
 ghost use Rattle.std.specs.Prelude.{◌≡◌, ◌+◌, ◌≤◌, IfOk};
+ghost use Rattle.expanded_code.specs.Expanded.{set_instr, set_type};
 ghost use Rattle.flow_code.specs.FlatCode.{HasLocal};
 ghost use Rattle.flow_code.specs.declared.point.FlatInstr.TheVariants.{NullTest, Of};
-ghost use Rattle.expanded_code.specs.Expanded.{set_instr, set_type};
 ghost use Rattle.inline_expand.specs.Inner.Numbers.{number_by};
 ghost use Rattle.inline_expand.specs.Inner.Settings.{AreCaught, number_in, setting_of};
 

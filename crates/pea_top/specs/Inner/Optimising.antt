@@ -8,8 +8,8 @@ use Rattle.class_rewrite.specs.declared.folder.Optimised.{Optimised}
 use Rattle.class_tree.specs.Headers.{Classes, Name, headers_of}
 use Rattle.class_tree.specs.Order.{place_of}
 use Rattle.class_tree.specs.declared.place.Place.TheVariants.{Folder}
-use Rattle.host_tree.specs.Host.{Bytes}
 use Rattle.flow_code.specs.TypedFrames.{FolderFrames}
+use Rattle.host_tree.specs.Host.{Bytes}
 use Rattle.pea_top.specs.Inner.ReadFiles.{IsReadAs}
 use Rattle.pea_top.specs.Lines.{report_text, summary_line}
 use Rattle.pea_top.specs.Optimising.{IsFinal}

@@ -2,14 +2,14 @@
 use Rattle.std.specs.Prelude.{Option, None, Some, Result, Ok, Err}
 use Rattle.class_tree.specs.Headers.{Classes}
 use Rattle.flow_code.specs.TypedFrames.{FolderFrames}
+use Rattle.pea_top.specs.declared.status.Status.{Status}
+use Rattle.pea_top.specs.declared.status.Status.TheVariants as statuses
+use Rattle.pea_top.specs.declared.work.Work.{Work}
+use Rattle.pea_top.specs.declared.work.Work.TheVariants as works
 use Rattle.type_rules.specs.Verified.{TypesFolder}
 use Rattle.type_rules.specs.declared.fault.VerifyFault.{VerifyFault}
 use Rattle.type_rules.specs.declared.fault.VerifyFault.TheVariants as faults
 use Rattle.verify_folder.specs.Verifying.{FolderIsTyped}
-use Rattle.pea_top.specs.declared.work.Work.{Work}
-use Rattle.pea_top.specs.declared.work.Work.TheVariants as works
-use Rattle.pea_top.specs.declared.status.Status.{Status}
-use Rattle.pea_top.specs.declared.status.Status.TheVariants as statuses
 
 -- the status of a command whose class files do not verify
 abbrev pub verify_status : VerifyFault → Status

@@ -1,10 +1,10 @@
 use Rattle.std.proofs.Common.{◌≡◌, List, Option, Some, sym, ap, subst, ◌∙◌}
 use Rattle.std.specs.Option.{option_copied}
 use Rattle.class_model.specs.declared.frame.Frame.{Frame}
+use Rattle.flow_code.specs.TypedFrames.{typed_frames_at}
 use Rattle.inline_expand.proofs.alone.flat_alone.Goals as goal
 use Rattle.member_link.specs.Scope.{Scope, scope_at}
 use Rattle.type_rules.specs.Typed.{Typed}
-use Rattle.flow_code.specs.TypedFrames.{typed_frames_at}
 use Rattle.type_rules.specs.Verified.{TypesMethod}
 
 pub unreachable-requires : goal.unreachable-requires

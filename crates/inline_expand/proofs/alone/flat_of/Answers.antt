@@ -1,10 +1,10 @@
 use Rattle.std.proofs.Common.{◌≡◌, sym, subst}
 use Rattle.std.proofs.Common.{◌∙◌}
 use Rattle.std.proofs.lemmas.List.{length-map}
+use Rattle.expanded_code.specs.Alone.{flat_alone}
 use Rattle.flow_code.specs.FlatCode.{FlatCode, IsFlat}
 use Rattle.inline_expand.proofs.AloneFlat.{alone-is-flat}
 use Rattle.inline_expand.proofs.alone.flat_of.Goals as goal
-use Rattle.expanded_code.specs.Alone.{flat_alone}
 use Rattle.member_link.specs.Scope.{instructions}
 use Rattle.type_rules.specs.MethodBodies.{body_of, point_of}
 

@@ -1,10 +1,10 @@
 use Rattle.std.proofs.Common.{◌≡◌, ◌<◌, ◌++◌, ◌∷◌, [], List, length, take, refl, sym, ap, ◌∙◌, arith}
 use Rattle.std.proofs.lemmas.Option.{slice_get_read}
 use Rattle.class_model.specs.declared.instr.Placed.{Placed}
+use Rattle.expanded_code.specs.Alone.{alone_points}
 use Rattle.flow_code.specs.declared.point.Point.{Point}
 use Rattle.inline_expand.proofs.AlonePoints.{points-more}
 use Rattle.inline_expand.proofs.alone.points_of.Goals as goal
-use Rattle.expanded_code.specs.Alone.{alone_points}
 
 pub loop-number-preserved : goal.loop-number-preserved
 loop-number-preserved c =

@@ -1,7 +1,7 @@
 use Rattle.std.proofs.Common.{◌≡◌, take}
 use Rattle.expanded_code.specs.Alone.{alone_points}
-use Rattle.inline_expand.specs.Inner.Numbers.{AreAround}
 use Rattle.inline_expand.proofs.alone.points_of.Given as goal
+use Rattle.inline_expand.specs.Inner.Numbers.{AreAround}
 
 abbrev pub invariant-loop-number : goal.invariant-loop-number
 invariant-loop-number l =

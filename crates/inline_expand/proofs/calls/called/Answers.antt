@@ -3,9 +3,9 @@ use Rattle.class_model.specs.Header.{header_of}
 use Rattle.class_model.specs.declared.class_file.ClassFile.{ClassFile}
 use Rattle.class_tree.specs.Headers.{Name}
 use Rattle.expanded_code.specs.Callees.{own_name}
-use Rattle.inline_expand.specs.Inner.Calls.{DecidesRun, call_meant}
 use Rattle.inline_expand.proofs.CalledMethods.{decides_call}
 use Rattle.inline_expand.proofs.calls.called.Goals as goal
+use Rattle.inline_expand.specs.Inner.Calls.{DecidesRun, call_meant}
 
 pub returns : goal.returns
 returns c =

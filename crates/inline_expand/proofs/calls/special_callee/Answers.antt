@@ -6,12 +6,12 @@ use Rattle.class_model.specs.declared.class_file.MethodAt.{MethodAt}
 use Rattle.class_model.specs.declared.opcodes.TheConstants.{INVOKESPECIAL}
 use Rattle.class_tree.specs.Headers.{headers_of}
 use Rattle.expanded_code.specs.Callees.{IsClass, Runs, runs_special}
-use Rattle.inline_expand.specs.Inner.Calls.{Decides}
-use Rattle.member_link.specs.MemberRefs.{reference_meant}
 use Rattle.inline_expand.proofs.DecidedRuns.{HasLaws, chosen_found, decided, finds_nothing, finds_once, looked_up, looked_up_none, nothing_chosen, of_special, same_choice, special_selects, undecided}
 use Rattle.inline_expand.proofs.calls.special_callee.Goals as goal
+use Rattle.inline_expand.specs.Inner.Calls.{Decides}
 use Rattle.member_link.specs.DeclaredMembers.{Declared}
 use Rattle.member_link.specs.Found.{IsChoice}
+use Rattle.member_link.specs.MemberRefs.{reference_meant}
 use Rattle.member_link.specs.Methods.{IsPolymorphic}
 use Rattle.member_link.specs.Selection.{Choice, Selects}
 use Rattle.member_link.specs.declared.selection.CallForm.TheVariants.{Special}

@@ -3,10 +3,10 @@ use Rattle.class_model.specs.declared.class_file.MethodAt.{MethodAt}
 use Rattle.class_model.specs.declared.opcodes.TheConstants.{INVOKESTATIC}
 use Rattle.class_tree.specs.Headers.{headers_of}
 use Rattle.expanded_code.specs.Callees.{Runs, runs_static}
-use Rattle.inline_expand.specs.Inner.Calls.{Decides}
-use Rattle.member_link.specs.MemberRefs.{reference_meant}
 use Rattle.inline_expand.proofs.DecidedRuns.{decided, finds_nothing, finds_once, looked_up, looked_up_none, of_static, undecided}
 use Rattle.inline_expand.proofs.calls.static_callee.Goals as goal
+use Rattle.inline_expand.specs.Inner.Calls.{Decides}
+use Rattle.member_link.specs.MemberRefs.{reference_meant}
 
 pub returns-in-Some : goal.returns-in-Some
 returns-in-Some c = λ own.

@@ -4,14 +4,14 @@ use Rattle.class_model.specs.declared.class_file.MethodAt.{MethodAt}
 use Rattle.class_model.specs.declared.opcodes.TheConstants.{INVOKEVIRTUAL}
 use Rattle.class_tree.specs.Headers.{Classes, headers_of}
 use Rattle.expanded_code.specs.Callees.{IsClass, IsOverriddenByNone, Runs, runs_virtual}
-use Rattle.inline_expand.specs.Inner.Calls.{DecidesRun}
-use Rattle.member_link.specs.MemberRefs.{reference_meant}
 use Rattle.inline_expand.proofs.DecidedRuns.{finds_nothing, finds_once, looked_up, looked_up_none, no_interface, of_virtual, outside, undecided}
 use Rattle.inline_expand.proofs.FoundMethods.{found_class, numbers_stand}
 use Rattle.inline_expand.proofs.calls.virtual_callee.Goals as goal
 use Rattle.inline_expand.proofs.calls.virtual_callee.Goals.{else-is_class_at-via-then-is_class_at+else-is_overridden_by_none, else-is_class_at-via-else-is_class_at}
+use Rattle.inline_expand.specs.Inner.Calls.{DecidesRun}
 use Rattle.member_link.specs.DeclaredMembers.{Declared}
 use Rattle.member_link.specs.Found.{IsMethodFound}
+use Rattle.member_link.specs.MemberRefs.{reference_meant}
 
 pub returns-in_err-found : goal.returns-in_err-found
 returns-in_err-found c = λ own.

@@ -1,7 +1,7 @@
 use Rattle.std.proofs.Common.{ap, subst, ◌∙◌, arith}
+use Rattle.expanded_code.specs.Expansions.{Coded}
 use Rattle.inline_expand.proofs.HostParts.{body-expands, too-long, whole-answers, whole-code}
 use Rattle.inline_expand.proofs.expanding.expand_with.Goals as goal
-use Rattle.expanded_code.specs.Expansions.{Coded}
 use Rattle.inline_expand.specs.Inner.Growths.{IsExpansionFound}
 use Rattle.inline_expand.specs.Inner.Measures.{host_expansion}
 use Rattle.inline_expand.specs.Inner.Steps.{coded_of}

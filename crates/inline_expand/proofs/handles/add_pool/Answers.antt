@@ -5,10 +5,10 @@ use Rattle.std.specs.Option.{option_copied}
 use Rattle.class_model.specs.Pool.{Constants, constant_at}
 use Rattle.class_model.specs.declared.pool.Const.{Const}
 use Rattle.class_tree.specs.Headers.{headers_of}
-use Rattle.inline_expand.proofs.HandledLists.{flat_all, flat_more, flat_none, handled_same}
 use Rattle.expanded_code.specs.FieldConstructors.{handled}
-use Rattle.inline_expand.specs.Inner.ConstructorWords.{handled_in}
+use Rattle.inline_expand.proofs.HandledLists.{flat_all, flat_more, flat_none, handled_same}
 use Rattle.inline_expand.proofs.handles.add_pool.Goals as goal
+use Rattle.inline_expand.specs.Inner.ConstructorWords.{handled_in}
 
 -- the entry at an index
 entry_at : (pool : Constants) (index : ℕ) → index < length pool → (entry : Option Const) × (slice_get pool index ≡ Some entry) × (constant_at pool index ≡ entry)

@@ -1,14 +1,14 @@
 use Rattle.std.proofs.Common.{◌≡◌, List, ℕ, ap, sym, ◌∙◌, Some, rules}
+use Rattle.std.specs.Option.{option_copied, option_map}
 use Rattle.class_model.specs.Names.{init}
 use Rattle.class_model.specs.declared.frame.VType.{VType}
 use Rattle.class_model.specs.declared.opcodes.TheConstants.{INVOKESPECIAL}
-use Rattle.inline_expand.proofs.Initialisations.{top_is_none, with_object}
 use Rattle.expanded_code.specs.Callees.{frame_before}
+use Rattle.inline_expand.proofs.Initialisations.{top_is_none, with_object}
+use Rattle.inline_expand.proofs.initialised.initialisation_at.Goals as goal
 use Rattle.inline_expand.specs.Inner.Calls.{call_at, call_meant}
 use Rattle.inline_expand.specs.Inner.Initialised.{object_of}
-use Rattle.std.specs.Option.{option_copied, option_map}
 use Rattle.member_link.specs.Rows.MemberRows.{receiver}
-use Rattle.inline_expand.proofs.initialised.initialisation_at.Goals as goal
 
 pub returns : goal.returns
 returns c =

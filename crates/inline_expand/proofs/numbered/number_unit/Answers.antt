@@ -1,7 +1,7 @@
 use Rattle.std.proofs.Common.{sym, ap, ◌∙◌}
+use Rattle.expanded_code.specs.Alone.{number_at}
 use Rattle.inline_expand.proofs.NumberedLocals.{unit-kept}
 use Rattle.inline_expand.proofs.numbered.number_unit.Goals as goal
-use Rattle.expanded_code.specs.Alone.{number_at}
 use Rattle.inline_expand.specs.Inner.Hosts.{uninit_of}
 
 pub returns-in-None : goal.returns-in-None

@@ -1,7 +1,7 @@
 use Rattle.std.proofs.Common.{◌≡◌, ℕ, subst, ◌∙◌, arith}
+use Rattle.expanded_code.specs.Alone.{number_at, numbered_type}
 use Rattle.inline_expand.proofs.NumberedLocals.{all-numbered, one-changed, some-changed}
 use Rattle.inline_expand.proofs.numbered.numbered_locals.Goals as goal
-use Rattle.expanded_code.specs.Alone.{number_at, numbered_type}
 
 pub loop-unit-preserved : goal.loop-unit-preserved
 loop-unit-preserved c =

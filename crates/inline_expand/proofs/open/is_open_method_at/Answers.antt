@@ -1,8 +1,8 @@
 use Rattle.class_tree.specs.Headers.{Headers, headers_of}
 use Rattle.expanded_code.specs.Callees.{IsOpenMethodReference}
-use Rattle.member_link.specs.MemberRefs.{reference_meant}
 use Rattle.inline_expand.proofs.OpenMembers.{of_reference}
 use Rattle.inline_expand.proofs.open.is_open_method_at.Goals as goal
+use Rattle.member_link.specs.MemberRefs.{reference_meant}
 use Rattle.member_link.specs.References.{Reference}
 
 pub returns-in-Some : goal.returns-in-Some

@@ -1,10 +1,10 @@
 use Rattle.std.proofs.Common.{◌≡◌, None, length, ℕ}
+use Rattle.class_model.specs.declared.class_file.MethodAt.{MethodAt}
 use Rattle.class_tree.specs.Headers.{Classes}
 use Rattle.flow_code.specs.TypedFrames.{FolderFrames}
-use Rattle.class_model.specs.declared.class_file.MethodAt.{MethodAt}
+use Rattle.inline_expand.proofs.ready.next.Given as goal
 use Rattle.inline_expand.specs.Inner.Verdicts.{verdict}
 use Rattle.inline_expand.specs.Inner.Walks.{Walks}
-use Rattle.inline_expand.proofs.ready.next.Given as goal
 
 abbrev pub invariant-loop-visit : goal.invariant-loop-visit
 invariant-loop-visit l = record {

@@ -1,10 +1,10 @@
 use Rattle.std.proofs.Common.{refl, sym, ◌∙◌, subst}
-use Rattle.inline_expand.proofs.ReplacedCalls.{found_if_kept, kept_if_found, kept_this, none_kept, this_kept}
 use Rattle.expanded_code.specs.Callees.{InitialisesAt}
+use Rattle.inline_expand.proofs.ReplacedCalls.{found_if_kept, kept_if_found, kept_this, none_kept, this_kept}
+use Rattle.inline_expand.proofs.replaced.initialises_kept.Goals as goal
 use Rattle.inline_expand.specs.Inner.Initialised.{type_of_object}
 use Rattle.inline_expand.specs.Inner.Places.{chain_of, host_of}
 use Rattle.inline_expand.specs.declared.initialised.Object.{Object}
-use Rattle.inline_expand.proofs.replaced.initialises_kept.Goals as goal
 
 pub returns-in_default-clause-kept : goal.returns-in_default-clause-kept
 returns-in_default-clause-kept c =

@@ -1,11 +1,11 @@
 use Rattle.std.proofs.Common.{ℕ, List, Option, None, slice_get, slice_set, sym, ap, ◌∙◌, subst}
 use Rattle.std.specs.Option.{option_copied}
 use Rattle.class_tree.specs.Headers.{Name}
-use Rattle.inline_expand.proofs.SiteLaws.{copied_some, is_none_there, joined_within, no_site_stays, none_new_stays, one_falls, replaced_stays}
 use Rattle.expanded_code.specs.Alone.{number_at}
+use Rattle.inline_expand.proofs.SiteLaws.{copied_some, is_none_there, joined_within, no_site_stays, none_new_stays, one_falls, replaced_stays}
+use Rattle.inline_expand.proofs.sites.spoil.Goals as goal
 use Rattle.inline_expand.specs.Inner.Places.{chain_of, host_of}
 use Rattle.inline_expand.specs.Inner.SiteTables.{SpoilsAt, joined}
-use Rattle.inline_expand.proofs.sites.spoil.Goals as goal
 
 pub returns-in_default-clause-sites : goal.returns-in_default-clause-sites
 returns-in_default-clause-sites c =

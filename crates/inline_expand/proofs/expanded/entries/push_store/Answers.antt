@@ -1,8 +1,8 @@
 use Rattle.std.proofs.Common.{◌≡◌, ◌+◌, refl}
 use Rattle.std.proofs.lemmas.Result.{IfOk-weaker}
 use Rattle.class_model.specs.declared.frame.Frame.{Frame}
-use Rattle.inline_expand.proofs.expanded.entries.push_store.Goals as goal
 use Rattle.expanded_code.specs.Expanded.{Argument, frame_stored}
+use Rattle.inline_expand.proofs.expanded.entries.push_store.Goals as goal
 use Rattle.inline_expand.specs.Inner.Layouts.{argument_from}
 
 pub returns-clause-behind : goal.returns-clause-behind

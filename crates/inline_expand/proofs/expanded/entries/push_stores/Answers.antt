@@ -3,10 +3,10 @@ use Rattle.std.proofs.lemmas.Option.{slice_get_read}
 use Rattle.class_model.specs.Laws.Lists.{at_index}
 use Rattle.class_model.specs.declared.frame.Frame.{Frame}
 use Rattle.class_model.specs.declared.instr.Instr.TheVariants.{Store}
+use Rattle.expanded_code.specs.Expanded.{Argument, frame_behind_stores, frame_stored, point_in, store_points}
 use Rattle.flow_code.specs.declared.point.Point.{Point}
 use Rattle.inline_expand.proofs.FrameParts.{last-first}
 use Rattle.inline_expand.proofs.expanded.entries.push_stores.Goals as goal
-use Rattle.expanded_code.specs.Expanded.{Argument, frame_behind_stores, frame_stored, point_in, store_points}
 use Rattle.inline_expand.specs.Inner.Layouts.{argument_from}
 use Rattle.inline_expand.specs.declared.expanded.shapes.Parameter.{Parameter}
 

@@ -1,8 +1,8 @@
 use Rattle.std.proofs.Common.{◌≡◌, ◌++◌, ◌≤◌, ℕ, length, map, reverse, take}
 use Rattle.expanded_code.specs.Expanded.{Setting, frame_behind_stores, store_points}
+use Rattle.inline_expand.proofs.expanded.entries.push_stores.Given as goal
 use Rattle.inline_expand.specs.Inner.Layouts.{argument_from}
 use Rattle.inline_expand.specs.Inner.Settings.{IsSpot}
-use Rattle.inline_expand.proofs.expanded.entries.push_stores.Given as goal
 
 abbrev pub invariant-loop-left : goal.invariant-loop-left
 invariant-loop-left l = record {

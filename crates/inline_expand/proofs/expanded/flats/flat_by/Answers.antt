@@ -2,11 +2,11 @@ use Rattle.std.proofs.Common.{◌≡◌, ◌+◌, List, sym, ap, subst, ◌∙�
 use Rattle.std.proofs.lemmas.Bool.{eq-eqb, false≢true}
 use Rattle.std.specs.List.{AllByRecursion}
 use Rattle.class_tree.specs.Headers.{Headers, headers_of}
-use Rattle.inline_expand.proofs.WholeParts.{news-are-candidates, no-news, whole-sites}
-use Rattle.inline_expand.proofs.expanded.flats.flat_by.Goals as goal
 use Rattle.expanded_code.specs.Candidates.{IsCandidate}
 use Rattle.expanded_code.specs.ExpandAnswers.{IsWide}
 use Rattle.expanded_code.specs.Expanded.{host_setting, points_from, units_in}
+use Rattle.inline_expand.proofs.WholeParts.{news-are-candidates, no-news, whole-sites}
+use Rattle.inline_expand.proofs.expanded.flats.flat_by.Goals as goal
 use Rattle.inline_expand.specs.Inner.Measures.{host_expansion}
 use Rattle.inline_expand.specs.Inner.SiteNumbers.{sites_by}
 use Rattle.inline_expand.specs.Inner.Steps.{coded_of}

@@ -2,9 +2,9 @@ use Rattle.std.proofs.Common.{◌≡◌, ◌∷◌, ◌++◌, ◌+◌, ◌≤◌
 use Rattle.std.proofs.lemmas.List.{length-map, length-take-le, map-append}
 use Rattle.class_model.specs.Laws.Lists.{take_item}
 use Rattle.class_model.specs.declared.frame.VType.{VType}
+use Rattle.expanded_code.specs.Expanded.{overlaid, set_type}
 use Rattle.inline_expand.proofs.Overlays.{laid-more}
 use Rattle.inline_expand.proofs.expanded.frames.set_locals.Goals as goal
-use Rattle.expanded_code.specs.Expanded.{overlaid, set_type}
 use Rattle.inline_expand.specs.Inner.Frames.{put_at}
 use Rattle.inline_expand.specs.Inner.Settings.{setting_of}
 

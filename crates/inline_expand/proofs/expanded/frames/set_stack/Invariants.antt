@@ -1,7 +1,7 @@
 use Rattle.std.proofs.Common.{◌≡◌, ◌++◌, map, take}
 use Rattle.expanded_code.specs.Expanded.{set_type}
-use Rattle.inline_expand.specs.Inner.Settings.{setting_of}
 use Rattle.inline_expand.proofs.expanded.frames.set_stack.Given as goal
+use Rattle.inline_expand.specs.Inner.Settings.{setting_of}
 
 abbrev pub invariant-loop-type_ : goal.invariant-loop-type_
 invariant-loop-type_ l = l.stack.items ≡ take l.type_-index l.type_-items

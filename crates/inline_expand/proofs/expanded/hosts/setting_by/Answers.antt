@@ -2,11 +2,11 @@ use Rattle.std.proofs.Common.{◌≡◌, ◌+◌, ◌-◌, ◌++◌, ℕ, List, 
 use mathlib.Core.Path.{fun_ext}
 use Rattle.class_model.specs.declared.frame.VType.{VType}
 use Rattle.class_model.specs.declared.frame.VType.TheVariants.{Top, UninitThis}
+use Rattle.expanded_code.specs.Alone.{handlers_by, number_at}
+use Rattle.expanded_code.specs.Expanded.{number_from, units_in}
 use Rattle.inline_expand.proofs.LayoutParts.{as-long}
 use Rattle.inline_expand.proofs.PlaceParts.{few-starts, number-placed}
 use Rattle.inline_expand.proofs.expanded.hosts.setting_by.Goals as goal
-use Rattle.expanded_code.specs.Alone.{handlers_by, number_at}
-use Rattle.expanded_code.specs.Expanded.{number_from, units_in}
 use Rattle.inline_expand.specs.Inner.Measures.{host_expansion}
 use Rattle.inline_expand.specs.Inner.Numbers.{placed_by}
 use Rattle.inline_expand.specs.Inner.Steps.{callees_of, coded_of}

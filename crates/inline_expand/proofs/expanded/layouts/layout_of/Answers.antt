@@ -1,9 +1,9 @@
 use Rattle.std.proofs.Common.{◌≡◌, ◌+◌, ◌<◌, ℕ, List, Some, get_or, length, sym, ap, ◌∙◌, arith}
 use Rattle.std.proofs.lemmas.List.{get_or_read}
 use Rattle.class_model.specs.declared.instr.Placed.{Placed}
+use Rattle.expanded_code.specs.Expanded.{Narrowing, units_in}
 use Rattle.inline_expand.proofs.LayoutParts.{as-long, layout-is}
 use Rattle.inline_expand.proofs.expanded.layouts.layout_of.Goals as goal
-use Rattle.expanded_code.specs.Expanded.{Narrowing, units_in}
 use Rattle.inline_expand.specs.Inner.Layouts.{capped, return_width}
 use Rattle.inline_expand.specs.Inner.Steps.{callee_by, expansion_by}
 use Rattle.inline_expand.specs.declared.expansions.Step.{Step}

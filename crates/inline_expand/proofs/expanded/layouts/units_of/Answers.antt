@@ -2,10 +2,10 @@ use Rattle.std.proofs.Common.{◌≡◌, ◌∷◌, ◌+◌, ◌<◌, List, Opti
 use Rattle.std.proofs.lemmas.List.{drop_all}
 use Rattle.std.proofs.lemmas.Option.{slice_get_read}
 use Rattle.class_model.specs.Laws.Lists.{drop_item}
+use Rattle.expanded_code.specs.Expanded.{units_in}
 use Rattle.inline_expand.proofs.LayoutParts.{HasLayout, has-layout, layout-units, next-units, no-units, units-more}
 use Rattle.inline_expand.proofs.expanded.layouts.units_of.Goals as goal
 use Rattle.inline_expand.proofs.expanded.layouts.units_of.Goals.{in-Some, in_default}
-use Rattle.expanded_code.specs.Expanded.{units_in}
 use Rattle.inline_expand.specs.Inner.Layouts.{capped, replacing}
 use Rattle.inline_expand.specs.Inner.Steps.{expansion_by}
 use Rattle.inline_expand.specs.declared.expanded.layouts.Layout.{Layout}

@@ -1,8 +1,8 @@
 use Rattle.std.proofs.Common.{◌≡◌, ◌+◌, ◌≤◌, List, drop}
 use Rattle.expanded_code.specs.Expanded.{units_in}
+use Rattle.inline_expand.proofs.expanded.layouts.units_of.Given as goal
 use Rattle.inline_expand.specs.Inner.Layouts.{AreLayouts, capped}
 use Rattle.inline_expand.specs.Inner.Steps.{Callee, expansion_by}
-use Rattle.inline_expand.proofs.expanded.layouts.units_of.Given as goal
 
 abbrev pub invariant-loop-step : goal.invariant-loop-step
 invariant-loop-step l = record {

@@ -1,9 +1,9 @@
 use Rattle.std.proofs.Common.{◌≡◌, ◌+◌, ◌<◌, ℕ, List, None, get_or, length, refl, sym, ap, subst, ◌∙◌, arith}
 use Rattle.std.proofs.lemmas.List.{get_or_read}
 use Rattle.class_model.specs.declared.instr.Placed.{Placed}
+use Rattle.expanded_code.specs.Expanded.{units_in}
 use Rattle.inline_expand.proofs.LayoutParts.{as-long, points-by}
 use Rattle.inline_expand.proofs.expanded.measures.measure_of.Goals as goal
-use Rattle.expanded_code.specs.Expanded.{units_in}
 use Rattle.inline_expand.specs.Inner.Layouts.{AreLayouts, capped}
 use Rattle.inline_expand.specs.Inner.Measures.{host_expansion}
 use Rattle.inline_expand.specs.Inner.Steps.{callees_of, expansion_by}

@@ -1,11 +1,11 @@
 use Rattle.std.proofs.Common.{◌≡◌, ◌+◌, ℕ, Some, length, refl, ap, ◌∙◌, arith}
 use mathlib.Core.Path.{fun_ext}
-use Rattle.inline_expand.proofs.PlaceParts.{exact-before, exact-points, exact-starts, its-number, many-arguments}
-use Rattle.inline_expand.proofs.expanded.places.enter.Goals as goal
 use Rattle.expanded_code.specs.Alone.{number_at}
 use Rattle.expanded_code.specs.Expanded.{arguments, number_from, points_before}
-use Rattle.inline_expand.specs.Inner.Numbers.{placed_by}
+use Rattle.inline_expand.proofs.PlaceParts.{exact-before, exact-points, exact-starts, its-number, many-arguments}
+use Rattle.inline_expand.proofs.expanded.places.enter.Goals as goal
 use Rattle.inline_expand.specs.Inner.CalleePlaces.{callee_in}
+use Rattle.inline_expand.specs.Inner.Numbers.{placed_by}
 use Rattle.member_link.specs.Rows.Operands.{lowest_of, under}
 use Rattle.member_link.specs.Scope.{Scope, instructions}
 

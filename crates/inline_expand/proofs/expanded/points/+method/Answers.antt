@@ -4,14 +4,14 @@ use Rattle.std.proofs.lemmas.Result.{on_ok_weaker}
 use Rattle.class_model.specs.Laws.Lists.{drop_item}
 use Rattle.class_model.specs.declared.frame.Frame.{Frame}
 use Rattle.class_model.specs.declared.instr.Placed.{Placed}
+use Rattle.expanded_code.specs.Expanded.{points_from, set_frame}
 use Rattle.flow_code.specs.declared.point.Point.{Point}
 use Rattle.inline_expand.proofs.CalleeParts.{length-layouts}
 use Rattle.inline_expand.proofs.MethodParts.{HasDone, callee-done, done-callee, done-own, room-points, room-units}
 use Rattle.inline_expand.proofs.expanded.points.+method.Goals as goal
 use Rattle.inline_expand.proofs.expanded.points.+method.Goals.{push_method-in-None+in_ok-push_own-in-None, push_method-in-Some+in_ok-entry-in-Some+in_ok-push_callee-in-Some}
-use Rattle.expanded_code.specs.Expanded.{points_from, set_frame}
-use Rattle.inline_expand.specs.Inner.Layouts.{replacing, units_of_callee}
 use Rattle.inline_expand.specs.Inner.CalleePlaces.{callee_in, callee_points}
+use Rattle.inline_expand.specs.Inner.Layouts.{replacing, units_of_callee}
 use Rattle.inline_expand.specs.Inner.Settings.{setting_of}
 use Rattle.inline_expand.specs.Inner.Steps.{callees_of, expansion_by}
 use Rattle.inline_expand.specs.declared.expansions.Step.{Step}

@@ -1,9 +1,9 @@
 use Rattle.std.proofs.Common.{◌++◌, ◌+◌, ◌*◌, length}
-use Rattle.inline_expand.proofs.MethodParts.{HasDone}
 use Rattle.expanded_code.specs.Expanded.{points_from}
+use Rattle.inline_expand.proofs.MethodParts.{HasDone}
+use Rattle.inline_expand.proofs.expanded.points.+method.Given as goal
 use Rattle.inline_expand.specs.Inner.Settings.{AreCaught, setting_of}
 use Rattle.inline_expand.specs.Inner.Steps.{callees_of, expansion_by}
-use Rattle.inline_expand.proofs.expanded.points.+method.Given as goal
 
 abbrev pub decreases-push_method : goal.decreases-push_method
 decreases-push_method l = 2 * length l.bodies.now

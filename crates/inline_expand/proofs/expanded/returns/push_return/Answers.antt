@@ -1,10 +1,10 @@
 use Rattle.std.proofs.Common.{◌∷◌, ◌++◌, ℕ, List, [], ap, ◌∙◌, append_assoc}
 use Rattle.class_model.specs.declared.instr.Instr.TheVariants.{Goto}
+use Rattle.expanded_code.specs.Expanded.{point_in}
 use Rattle.flow_code.specs.declared.point.FlatInstr.TheVariants.{Of}
 use Rattle.flow_code.specs.declared.point.Point.{Point}
 use Rattle.inline_expand.proofs.SettingParts.{spot-point}
 use Rattle.inline_expand.proofs.expanded.returns.push_return.Goals as goal
-use Rattle.expanded_code.specs.Expanded.{point_in}
 use Rattle.inline_expand.specs.Inner.Settings.{narrowed_points}
 
 pub returns : goal.returns

@@ -6,10 +6,10 @@ use Rattle.class_model.specs.Laws.Lists.{drop_item}
 use Rattle.class_model.specs.declared.descriptor.FieldType.{FieldType}
 use Rattle.class_model.specs.declared.descriptor.Kind.{Kind}
 use Rattle.expanded_code.specs.Expanded.{arguments_from}
-use Rattle.inline_expand.specs.Inner.Layouts.{EndsBy, argument_from}
-use Rattle.inline_expand.specs.declared.expanded.shapes.Parameter.{Parameter}
 use Rattle.inline_expand.proofs.ShapeParts.{next-units, one-inside, one-parameter, units-cons}
 use Rattle.inline_expand.proofs.expanded.shapes.push_parameters.Goals as goal
+use Rattle.inline_expand.specs.Inner.Layouts.{EndsBy, argument_from}
+use Rattle.inline_expand.specs.declared.expanded.shapes.Parameter.{Parameter}
 
 pub loop-field_type-preserved : goal.loop-field_type-preserved
 loop-field_type-preserved c =

@@ -2,8 +2,8 @@ use Rattle.std.proofs.Common.{◌≡◌, ◌+◌, ◌≤◌, ◌++◌, ℕ, drop
 use Rattle.std.specs.List.{AllByRecursion}
 use Rattle.class_model.specs.Descriptors.{parameter_units}
 use Rattle.expanded_code.specs.Expanded.{arguments_from}
-use Rattle.inline_expand.specs.Inner.Layouts.{EndsBy, argument_from}
 use Rattle.inline_expand.proofs.expanded.shapes.push_parameters.Given as goal
+use Rattle.inline_expand.specs.Inner.Layouts.{EndsBy, argument_from}
 
 abbrev pub invariant-loop-field_type : goal.invariant-loop-field_type
 invariant-loop-field_type l = record {

@@ -1,9 +1,9 @@
 use Rattle.std.proofs.Common.{Bool, List, not, refl, sym, ap, subst, ◌∙◌}
 use Rattle.class_model.specs.Members.{STATIC, has}
 use Rattle.class_model.specs.declared.descriptor.FieldType.{FieldType}
+use Rattle.expanded_code.specs.Expanded.{narrowing}
 use Rattle.inline_expand.proofs.ShapeParts.{its-arguments, its-units}
 use Rattle.inline_expand.proofs.expanded.shapes.shape_of.Goals as goal
-use Rattle.expanded_code.specs.Expanded.{narrowing}
 use Rattle.inline_expand.specs.Inner.Layouts.{AreParameters}
 
 pub returns : goal.returns

@@ -1,12 +1,12 @@
 use Rattle.std.proofs.Common.{Vec, Global, ◌≡◌, ◌++◌, ◌+◌, ◌<◌, List, drop, get_or, length, refl, ap, ◌∙◌, arith}
 use Rattle.std.proofs.lemmas.Option.{slice_get_read}
 use Rattle.class_model.specs.Laws.Lists.{drop_item}
+use Rattle.expanded_code.specs.Expanded.{sites_from}
 use Rattle.inline_expand.proofs.CalleeParts.{length-layouts}
 use Rattle.inline_expand.proofs.MethodParts.{number-there}
 use Rattle.inline_expand.proofs.SiteParts.{callee-done, item-at, numbered-next, room-callee, sites-callee, sites-own}
 use Rattle.inline_expand.proofs.expanded.sites.+push_sites.Goals as goal
 use Rattle.inline_expand.proofs.expanded.sites.+push_sites.Goals.{in-None+in_ok-push_site-in-None, in-Some+in_ok-push_sites-in-Some}
-use Rattle.expanded_code.specs.Expanded.{sites_from}
 use Rattle.inline_expand.specs.Inner.CalleePlaces.{callee_in}
 use Rattle.inline_expand.specs.Inner.SiteNumbers.{method_at, sites_by}
 use Rattle.inline_expand.specs.Inner.Steps.{callees_of, expansion_by}

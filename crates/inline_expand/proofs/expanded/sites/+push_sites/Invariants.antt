@@ -1,10 +1,10 @@
 use Rattle.std.proofs.Common.{◌++◌, length}
 use Rattle.class_tree.specs.Headers.{Headers}
-use Rattle.inline_expand.proofs.SiteParts.{HasNumbered, HasSites}
 use Rattle.expanded_code.specs.Expanded.{sites_from}
+use Rattle.inline_expand.proofs.SiteParts.{HasNumbered, HasSites}
+use Rattle.inline_expand.proofs.expanded.sites.+push_sites.Given as goal
 use Rattle.inline_expand.specs.Inner.SiteNumbers.{method_at, sites_by}
 use Rattle.inline_expand.specs.Inner.Steps.{callees_of, expansion_by}
-use Rattle.inline_expand.proofs.expanded.sites.+push_sites.Given as goal
 use Rattle.member_link.specs.Scope.{instructions}
 
 abbrev pub decreases-push_sites : goal.decreases-push_sites

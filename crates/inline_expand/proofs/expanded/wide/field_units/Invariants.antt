@@ -1,7 +1,7 @@
 use Rattle.std.proofs.Common.{◌≡◌, ◌+◌, ◌≤◌, drop}
 use Rattle.expanded_code.specs.ExpandAnswers.{field_units}
-use Rattle.inline_expand.specs.Inner.WideWords.{counted}
 use Rattle.inline_expand.proofs.expanded.wide.field_units.Given as goal
+use Rattle.inline_expand.specs.Inner.WideWords.{counted}
 
 abbrev pub invariant-loop-site : goal.invariant-loop-site
 invariant-loop-site l = record {

@@ -1,7 +1,7 @@
 use Rattle.std.proofs.Common.{◌≡◌, ◌≤◌, drop, max}
 use Rattle.expanded_code.specs.ExpandAnswers.{greatest_depth}
-use Rattle.inline_expand.specs.Inner.WideWords.{counted}
 use Rattle.inline_expand.proofs.expanded.wide.greatest_depth.Given as goal
+use Rattle.inline_expand.specs.Inner.WideWords.{counted}
 
 abbrev pub invariant-loop-at : goal.invariant-loop-at
 invariant-loop-at l = record {

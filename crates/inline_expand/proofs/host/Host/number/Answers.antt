@@ -1,8 +1,8 @@
 use Rattle.std.proofs.Common.{ap, ◌∙◌, arith}
 use Rattle.class_model.specs.OffsetIndexes.{number_in}
+use Rattle.expanded_code.specs.Alone.{number_at}
 use Rattle.inline_expand.proofs.HostCodes.{number-few, number-none, number-there}
 use Rattle.inline_expand.proofs.host.Host.number.Goals as goal
-use Rattle.expanded_code.specs.Alone.{number_at}
 use Rattle.member_link.specs.Scope.{Scope}
 
 pub overflow_cast-result : goal.overflow_cast-result

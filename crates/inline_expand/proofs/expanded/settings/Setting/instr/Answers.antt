@@ -1,10 +1,10 @@
 use Rattle.std.proofs.Common.{◌≡◌, ℕ, IfOk, sym, ap, subst, ◌∙◌}
 use Rattle.class_model.specs.declared.instr.Instr.{Instr}
+use Rattle.expanded_code.specs.Expanded.{set_instr}
 use Rattle.inline_expand.proofs.SettingParts.{kept-unit}
 use Rattle.inline_expand.proofs.expanded.settings.Setting.instr.Goals as goal
 use Rattle.inline_expand.specs.Inner.Numbers.{number_by}
 use Rattle.inline_expand.specs.Inner.Settings.{number_in, setting_of}
-use Rattle.expanded_code.specs.Expanded.{set_instr}
 use Rattle.member_link.specs.Targets.{with_targets}
 
 pub returns-in_default : goal.returns-in_default
