@@ -250,25 +250,25 @@ def colliding(count):
     made.write("T.class")
 
 
-def ranges(count):
-    """A method of 7,900 instructions and so many handlers, whose ranges end with it; no two begin at one place but by turns."""
+def within_handlers(starts):
+    """A method of 7,900 instructions, and a handler from each of these places to its end."""
     candidate()
     made = Class("T")
     body = made.site("C") + NOP * 7_900
     end = len(body)
-    table = [(4 + number % 7_900, end, end + 1, 0) for number in range(count)]
+    table = [(start, end, end + 1, 0) for start in starts]
     made.method("m", "()V", body + RETURN + ATHROW, 1, 0, table, caught_frames(made, end + 1, 1))
     made.write("T.class")
 
 
+def ranges(count):
+    """A method of 7,900 instructions and so many handlers, whose ranges end with it; no two begin at one place but by turns."""
+    within_handlers([4 + number % 7_900 for number in range(count)])
+
+
 def same_ranges(count):
     """A method of 7,900 instructions inside so many handlers."""
-    candidate()
-    made = Class("T")
-    body = made.site("C") + NOP * 7_900
-    end = len(body)
-    made.method("m", "()V", body + RETURN + ATHROW, 1, 0, [(0, end, end + 1, 0)] * count, caught_frames(made, end + 1, 1))
-    made.write("T.class")
+    within_handlers([0] * count)
 
 
 def units(count):
