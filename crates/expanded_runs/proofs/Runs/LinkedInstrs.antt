@@ -16,6 +16,7 @@ use Rattle.class_model.specs.declared.opcodes.TheConstants.{INVOKESPECIAL}
 use Rattle.class_tree.specs.Headers.{Classes}
 use Rattle.expanded_code.specs.Alone.{number_at, number_in}
 use Rattle.expanded_code.specs.Callees.{IsCall, instr_at}
+use Rattle.expanded_code.specs.Laws.Instructions.{first_there}
 use Rattle.expanded_code.specs.Sites.{HasFrames}
 use Rattle.expanded_runs.proofs.AloneProgram.{EachTyped}
 use Rattle.expanded_runs.proofs.Runs.CalleeLaws.{typed_here}

@@ -21,7 +21,7 @@ use Rattle.class_tree.specs.declared.place.Place.TheVariants.{Folder}
 use Rattle.expanded_code.specs.Callees.{Calls, InitialisesAt, IsCall, IsCallee, Runs, is_callee, own_name, runs_special, runs_static, runs_virtual}
 use Rattle.expanded_code.specs.Expanded.{expanded}
 use Rattle.expanded_code.specs.Expansions.{Coded, Expands, Expansion}
-use Rattle.expanded_code.specs.Laws.Instructions.{new_there}
+use Rattle.expanded_code.specs.Laws.Instructions.{calls_of, new_there}
 use Rattle.expanded_code.specs.Laws.SuperChains.{chain_is, chain_of_object, has_superclass, of_each_class, super_there}
 use Rattle.expanded_code.specs.Quiet.{chain}
 use Rattle.expanded_code.specs.Sites.{HasFrames, IsReplaced, IsSite}
