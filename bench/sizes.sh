@@ -150,7 +150,7 @@ constructors-one 4000 - - 32093
 candidates 8000 - - 24000
 ask-others 2000 - - 802000
 handles 10000 - - 401
-final-stores 8000 - - 24000
+final-stores 8000 - 160 24000
 same-ranges 65535 - - 7904
 EXPANSIONS
 
