@@ -1,26 +1,19 @@
 -- The sites of a flat code: those that the methods that stand in it make, each of a candidate class.
-use Rattle.std.proofs.Common.{◌≡◌, ◌≢◌, ◌==◌, ◌+◌, ◌++◌, ◌⊎◌, ℕ, zero, suc, Bool, true, false, List, [], ◌∷◌, slice_get, Option, Some, None, option_map, if◌then◌else◌, refl, sym, ap, subst, ◌∙◌, inl, inr}
-use Rattle.std.specs.Prelude.{option_and_then}
+use Rattle.std.proofs.Common.{◌≡◌, ◌+◌, ◌++◌, ◌⊎◌, ℕ, zero, suc, List, [], ◌∷◌, slice_get, Option, Some, None, refl, sym, ap, subst, inl, inr}
 use Rattle.std.proofs.lemmas.Option.{none-some, same_Some}
-use Rattle.class_model.specs.PoolChecks.{class_at}
 use Rattle.class_model.specs.declared.class_file.MethodAt.{MethodAt}
-use Rattle.class_model.specs.declared.instr.Instr.{Instr}
-use Rattle.class_model.specs.declared.instr.Instr.TheVariants.{Invoke, New}
 use Rattle.class_model.specs.declared.instr.Placed.{Placed}
 use Rattle.class_tree.specs.Headers.{Classes, Headers, Name}
-use Rattle.expanded_code.specs.Callees.{instr_at}
 use Rattle.expanded_code.specs.Candidates.{IsCandidate}
 use Rattle.expanded_code.specs.Expanded.{callee_of, expanded, own_points, points_before, points_of_callee, sites_from}
 use Rattle.expanded_code.specs.Expansions.{Coded, Expands, Expansion, expands_none, expands_replaced, expands_site, expands_stays, no_more, replaced, site, stays}
-use Rattle.expanded_code.specs.Laws.Instructions.{first_there}
 use Rattle.expanded_code.specs.Sites.{IsReplaced, IsSite}
 use Rattle.expanded_runs.proofs.Runs.Positions.{Becomes, Standing, becomes, instrs_of, is_replaced, makes_site, start_from}
 use Rattle.expanded_runs.proofs.Runs.StandingLaws.{BecomesAs, it_is_replaced, it_makes_site, it_remains}
 use Rattle.expanded_runs.proofs.Runs.Standings.{IsStanding, callee_stands, host_stands}
 use Rattle.flow_code.specs.TypedFrames.{FolderFrames}
 use Rattle.flow_code.specs.declared.point.Site.{Site}
-use Rattle.member_link.specs.CodedMethods.{placed_at}
-use Rattle.member_link.specs.Scope.{Scope, class_of_new, instructions}
+use Rattle.member_link.specs.Scope.{Scope, instructions}
 
 -- ---- sites of a class
 

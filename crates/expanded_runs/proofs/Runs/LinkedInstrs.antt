@@ -1,6 +1,5 @@
 -- Instructions of a folder's methods by their offsets, and what linking and typing say of them.
-use Rattle.std.proofs.Common.{◌≡◌, ◌==◌, ◌++◌, ℕ, zero, suc, Bool, true, false, List, [], ◌∷◌, bytes_eq, slice_get, Option, Some, None, option_map, refl, sym, ap, subst, ◌∙◌, if◌then◌else◌}
-use Rattle.std.proofs.lemmas.Bool.{eqb-true}
+use Rattle.std.proofs.Common.{◌≡◌, ◌++◌, ℕ, Bool, true, List, bytes_eq, slice_get, Option, Some, None, option_map, refl, ap, subst, ◌∙◌}
 use Rattle.std.proofs.lemmas.Option.{none-some, same_Some, slice_get-map}
 use Rattle.std.proofs.lemmas.Slice.Eq.{bytes_eq-Decides}
 use Rattle.class_model.specs.Checks.{AllHold}
@@ -28,7 +27,7 @@ use Rattle.member_link.specs.CodedMethods.{placed_at}
 use Rattle.member_link.specs.Forms.{IsInstanceForm, IsStaticForm}
 use Rattle.member_link.specs.Machine.Codes.{call_op, initialises, instr_op, or_meaningless}
 use Rattle.member_link.specs.Machine.Ops.{put_field, put_static}
-use Rattle.member_link.specs.Machine.Programs.{headers_in, number_of_first}
+use Rattle.member_link.specs.Machine.Programs.{headers_in}
 use Rattle.member_link.specs.References.{Reference}
 use Rattle.member_link.specs.RowScope.{RowScope}
 use Rattle.member_link.specs.Rows.MemberRows.{MayInitialise, call_row, init_row, receiver, special_row}

@@ -18,7 +18,7 @@ use Rattle.class_tree.specs.Hierarchy.{IsHierarchy}
 use Rattle.class_tree.specs.Laws.Names.{one_name_first, one_of_first}
 use Rattle.class_tree.specs.Names.{object}
 use Rattle.class_tree.specs.declared.place.Place.TheVariants.{Folder}
-use Rattle.expanded_code.specs.Callees.{Calls, InitialisesAt, IsCall, IsCallee, Runs, is_callee, own_name, runs_special, runs_static, runs_virtual}
+use Rattle.expanded_code.specs.Callees.{Calls, InitialisesAt, IsCall, Runs, own_name, runs_special, runs_static, runs_virtual}
 use Rattle.expanded_code.specs.Expanded.{expanded}
 use Rattle.expanded_code.specs.Expansions.{Coded, Expands, Expansion}
 use Rattle.expanded_code.specs.Laws.Instructions.{calls_of, new_there}
